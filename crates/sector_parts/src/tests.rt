@@ -1,0 +1,33 @@
+use super::*;
+
+#[test]
+fn numbers_stand_lowest_byte_first(rt: HostRuntime) {
+    let mut sector: Sector = [0; 512];
+    put_u16(&mut sector, 510, 0xAA55);
+    put_u32(&mut sector, 8, 0x0102_0304);
+    assert_eq!(rt; part(&sector, 510, 2), [0x55, 0xAA].as_slice());
+    assert_eq!(rt; part(&sector, 7, 6), [0, 4, 3, 2, 1, 0].as_slice());
+    assert_eq!(rt; u16_at(&sector, 10), 0x0102);
+    assert_eq!(rt; u32_at(&sector, 508), 0xAA55_0000);
+}
+
+#[test]
+fn fields_read_what_was_written(rt: HostRuntime) {
+    let mut bytes = [0xFF; 24];
+    let mut fields = FieldMut { bytes: &mut bytes };
+    fields.put_u8(0, 7);
+    fields.put_u16(1, 0x0506);
+    fields.put_u32(3, 0x0102_0304);
+    fields.put_name(7, 8, b"linux");
+    assert_eq!(rt;
+        bytes.as_slice(),
+        b"\x07\x06\x05\x04\x03\x02\x01linux\0\0\0\xFF\xFF\xFF\xFF\xFF\xFF\xFF\xFF\xFF".as_slice()
+    );
+    let fields = FieldRef { bytes: &bytes };
+    assert_eq!(rt; fields.u8_at(0), 7);
+    assert_eq!(rt; fields.u16_at(1), 0x0506);
+    assert_eq!(rt; fields.u32_at(3), 0x0102_0304);
+    assert_eq!(rt; fields.name(7, 8), b"linux".as_slice());
+    // A name that fills its field has no zero byte.
+    assert_eq!(rt; fields.name(7, 5), b"linux".as_slice());
+}

@@ -55,3 +55,10 @@ Told (Some past) P = P (now_of past)
 abbrev pub appended : Event → Option Past → Option Past
 appended event None = None
 appended event (Some past) = Some (record past { events = event ∷ past.events })
+
+-- A call changed no disk: it made no event, and what never changes is as before.
+pub record SameDisks {D G : Type 0} (past : D → Option Past) (size_of : D → ℕ → ℕ) (count_of : D → ℕ) (geometry_of : D → ℕ → G) (old new : D) : Type 0 where
+  pub same_past : past new ≡ past old
+  pub same_size : size_of new ≡ size_of old
+  pub same_count : count_of new ≡ count_of old
+  pub same_geometry : geometry_of new ≡ geometry_of old

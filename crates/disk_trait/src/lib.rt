@@ -7,7 +7,12 @@
 mod disks;
 mod event;
 mod geometry;
+mod held_disk;
+mod mem_disk;
+mod mem_disks;
 
 pub use disks::{DiskFault, Disks, Phase, Span};
 pub use event::Event;
 pub use geometry::{Geometry, GeometryFault};
+pub use mem_disk::{Failing, MemDisk};
+pub use mem_disks::MemDisks;

@@ -1,0 +1,86 @@
+-- What disks in memory are: what they held at first, what was done since, and which calls fail.
+use Rattle.std.specs.Prelude.{◌≡◌, ◌⊎◌, ◌&&◌, ◌==◌, ◌+◌, ◌<◌, ◌≤◌, ℕ, Bool, false, nat_lt, min, List, [], ◌∷◌, length, map, find, replicate, slice_index_or, Option, Some, IsSome}
+use Rattle.std.specs.Option.{option_map_or}
+use Rattle.disk_trait.specs.declared.geometry.Geometry.{Geometry}
+use Rattle.disk_trait.specs.declared.event.Event.{Event}
+use Rattle.disk_trait.specs.declared.mem_disk.MemDisk.{MemDisk}
+use Rattle.disk_trait.specs.declared.mem_disk.Failing.{Failing}
+use Rattle.disk_trait.specs.Count.{risen}
+use Rattle.disk_trait.specs.Past.{Image, Past}
+use Rattle.disk_trait.specs.Absent.{absent_geometry}
+
+-- a disk as it was at first: the bytes of each sector, and how it is divided
+pub record StartDisk : Type 0 where
+  pub sectors : List (List ℕ)
+  pub geometry : Geometry
+
+-- a disk that isn't there
+abbrev pub absent_disk : StartDisk
+absent_disk = record { sectors = []; geometry = absent_geometry }
+
+-- 512 zero bytes
+unfoldable pub zero_sector : List ℕ
+zero_sector = replicate 512 0
+
+-- a disk of zero bytes
+abbrev pub zero_disk : MemDisk → StartDisk
+zero_disk disk = record { sectors = replicate disk.sectors zero_sector; geometry = disk.geometry }
+
+-- the disk of a number
+abbrev pub disk_at : List StartDisk → ℕ → StartDisk
+disk_at disks disk = slice_index_or disks disk absent_disk
+
+-- how many sectors each disk has
+abbrev pub sizes_of : List StartDisk → ℕ → ℕ
+sizes_of disks disk = length (disk_at disks disk).sectors
+
+-- how each disk is divided
+abbrev pub geometries_of : List StartDisk → ℕ → Geometry
+geometries_of disks disk = (disk_at disks disk).geometry
+
+-- the bytes of each sector, zeros where there is none
+abbrev pub image_of : List StartDisk → Image
+image_of disks disk sector = slice_index_or (disk_at disks disk).sectors sector zero_sector
+
+-- disks in memory
+pub record MemState : Type 0 where
+  -- the disks as they were at first
+  pub start : List StartDisk
+  -- each write that was made and each flush since, the newest first
+  pub events : List Event
+  -- how many events they have room for
+  pub room : ℕ
+  -- the calls that fail
+  pub failing : List Failing
+  -- how many calls in range there were
+  pub calls : ℕ
+  -- how many of them failed
+  pub faults : ℕ
+
+-- their past
+abbrev pub past_of : MemState → Past
+past_of disks = record { start = image_of disks.start; events = disks.events }
+
+-- what the list of failing calls says of the next call
+abbrev pub planned : MemState → Option Failing
+planned disks = find (λ failing. failing.call == disks.calls) disks.failing
+
+-- there is no room for another event
+abbrev pub IsFull : MemState → Type 0
+IsFull disks = disks.room ≤ length disks.events
+
+-- a call in range was made
+abbrev pub counted : MemState → MemState
+counted disks = record disks { calls = risen disks.calls }
+
+-- a call in range failed
+abbrev pub failed : MemState → MemState
+failed disks = record disks { calls = risen disks.calls; faults = risen disks.faults }
+
+-- an event was added
+abbrev pub with_event : Event → MemState → MemState
+with_event event disks = record disks { events = event ∷ disks.events }
+
+-- the next write, which fails, is made all the same
+abbrev pub is_made : MemState → Bool
+is_made disks = nat_lt (length disks.events) disks.room && option_map_or (λ failing. failing.made) (planned disks) false

@@ -1,11 +1,11 @@
 // Disks in memory.
-ghost use Rattle.std.specs.Prelude.{◌≡◌, ◌↔◌, ◌⊎◌, ◌<◌, ◌≤◌, [], ◌∷◌, ℕ, length, map, unwrap_or, slice_index_or, IfOk, IsSome, OnOk, OnErr, IsErrOf, if◌then◌else◌, IsTrue};
-ghost use Rattle.std.specs.VecDeque.{deque_capacity};
+ghost use Rattle.std.specs.Prelude.{◌≡◌, ◌↔◌, ◌⊎◌, ◌<◌, ◌≤◌, ◌==◌, find, [], ◌∷◌, ℕ, length, map, unwrap_or, slice_index_or, IfOk, IsSome, OnOk, OnErr, IsErrOf, if◌then◌else◌, IsTrue};
 ghost use Rattle.disk_trait.specs.Absent.{absent_geometry};
 ghost use Rattle.disk_trait.specs.declared.event.Event.{Event as EventOf};
 ghost use Rattle.disk_trait.specs.declared.event.Event.TheVariants.{Write, Flush};
 ghost use Rattle.disk_trait.specs.Cause.{HasCause, HasFlushCause};
 ghost use Rattle.disk_trait.specs.MemDisks.{MemState, zero_disk, zero_sector, disk_at, sizes_of, geometries_of, image_of, past_of, planned, IsFull, counted, failed, with_event, is_made};
+ghost use Rattle.disk_trait.specs.HasRoom.{HasRoom};
 ghost use Rattle.disk_trait.specs.Count.{risen};
 ghost use Rattle.disk_trait.specs.Past.{Image, Told, appended, with_sector, now_after};
 
@@ -33,7 +33,7 @@ impl Model for MemDisks {
 
     ghost view = { λ m. record { start = m.start.items; events = m.events.items; room = m.room; failing = m.failing.items; calls = m.calls; faults = m.faults } };
 
-    ghost invariant = { λ m. (length m.start.items ≤ 4) × (length m.events.items ≤ m.room) × (m.room ≤ deque_capacity m.events) };
+    ghost invariant = { λ m. HasRoom m.start.items m.events m.room };
 }
 
 impl MemDisks {
@@ -98,12 +98,9 @@ impl MemDisks {
         ensures answer { result ≡ planned self.old }
         ensures counted { self.new ≡ counted self.old }
     {
-        let call = self.calls;
-        self.calls = call.saturating_add(1);
-        self.failing
-            .iter()
-            .find(|failing| failing.call == call)
-            .copied()
+        let answer = failing_at(&self.failing, self.calls);
+        self.calls = self.calls.saturating_add(1);
+        answer
     }
 
     // Counts a failure.
@@ -137,6 +134,18 @@ fn last_write(events: &VecDeque<Event>, disk: u8, sector: u64) -> Option<Sector>
             && *written_sector == sector
         {
             return Some(*bytes);
+        }
+    }
+    None
+}
+
+// What a list of failing calls says of one call.
+fn failing_at(failing: &[Failing], call: u64) -> Option<Failing>
+    ensures { result ≡ find (λ listed. listed.call == call) failing.now }
+{
+    for listed in failing {
+        if listed.call == call {
+            return Some(*listed);
         }
     }
     None

@@ -1,8 +1,11 @@
 -- What disks in memory are: what they held at first, what was done since, and which calls fail.
-use Rattle.std.specs.Prelude.{◌≡◌, ◌⊎◌, ◌&&◌, ◌==◌, ◌+◌, ◌<◌, ◌≤◌, ℕ, Bool, false, nat_lt, min, List, [], ◌∷◌, length, map, find, replicate, slice_index_or, Option, Some, IsSome}
+use Rattle.std.specs.Prelude.{◌≡◌, ◌⊎◌, ◌&&◌, ◌==◌, ◌+◌, ◌<◌, ◌≤◌, ℕ, Bool, false, nat_lt, min, List, [], ◌∷◌, length, map, find, replicate, slice_index_or, Option, Result, Ok, Err, if◌then◌else◌}
 use Rattle.std.specs.Option.{option_map_or}
 use Rattle.disk_trait.specs.declared.geometry.Geometry.{Geometry}
 use Rattle.disk_trait.specs.declared.event.Event.{Event}
+use Rattle.disk_trait.specs.declared.event.Event.TheVariants.{Write, Flush}
+use Rattle.disk_trait.specs.declared.disks.DiskFault.{DiskFault}
+use Rattle.disk_trait.specs.declared.disks.DiskFault.TheVariants.{Failed, OutOfRange}
 use Rattle.disk_trait.specs.declared.mem_disk.MemDisk.{MemDisk}
 use Rattle.disk_trait.specs.declared.mem_disk.Failing.{Failing}
 use Rattle.disk_trait.specs.Count.{risen}
@@ -73,14 +76,32 @@ IsFull disks = disks.room ≤ length disks.events
 abbrev pub counted : MemState → MemState
 counted disks = record disks { calls = risen disks.calls }
 
--- a call in range failed
-abbrev pub failed : MemState → MemState
-failed disks = record disks { calls = risen disks.calls; faults = risen disks.faults }
-
 -- an event was added
 abbrev pub with_event : Event → MemState → MemState
 with_event event disks = record disks { events = event ∷ disks.events }
 
--- the next write, which fails, is made all the same
+-- a call in range failed
+abbrev pub failed : MemState → MemState
+failed disks = record (counted disks) { faults = risen disks.faults }
+
+-- what a read that answered so left
+abbrev pub after_read : MemState → Result (Unit {0}) DiskFault → MemState
+after_read disks (Ok _) = counted disks
+after_read disks (Err Failed) = failed disks
+after_read disks (Err OutOfRange) = disks
+
+-- what a flush that answered so left
+abbrev pub after_flush : MemState → Result (Unit {0}) DiskFault → MemState
+after_flush disks (Ok _) = with_event Flush (counted disks)
+after_flush disks (Err Failed) = failed disks
+after_flush disks (Err OutOfRange) = disks
+
+-- a write that the list of failing calls lets fail is made all the same
 abbrev pub is_made : MemState → Bool
 is_made disks = nat_lt (length disks.events) disks.room && option_map_or (λ failing. failing.made) (planned disks) false
+
+-- what a write that answered so left
+abbrev pub after_write : MemState → ℕ → ℕ → List ℕ → Result (Unit {0}) DiskFault → MemState
+after_write disks disk sector bytes (Ok _) = with_event (Write disk sector bytes) (counted disks)
+after_write disks disk sector bytes (Err Failed) = if is_made disks then with_event (Write disk sector bytes) (failed disks) else failed disks
+after_write disks disk sector bytes (Err OutOfRange) = disks

@@ -1,13 +1,13 @@
 // Disks in memory.
-ghost use Rattle.std.specs.Prelude.{◌≡◌, ◌↔◌, ◌⊎◌, ◌<◌, ◌≤◌, ◌==◌, find, [], ◌∷◌, ℕ, length, map, unwrap_or, slice_index_or, IfOk, IsSome, OnOk, OnErr, IsErrOf, if◌then◌else◌, IsTrue};
+ghost use Rattle.std.specs.Prelude.{◌≡◌, ◌↔◌, ◌⊎◌, ◌<◌, ◌≤◌, ◌==◌, find, [], ◌∷◌, ℕ, length, map, unwrap_or, slice_index_or, IfOk, IsSome, OnOk, OnErr, IsErr, IsErrOf, IsTrue, Some};
 ghost use Rattle.disk_trait.specs.Absent.{absent_geometry};
 ghost use Rattle.disk_trait.specs.declared.event.Event.{Event as EventOf};
 ghost use Rattle.disk_trait.specs.declared.event.Event.TheVariants.{Write, Flush};
 ghost use Rattle.disk_trait.specs.Cause.{HasCause, HasFlushCause};
-ghost use Rattle.disk_trait.specs.MemDisks.{MemState, zero_disk, zero_sector, disk_at, sizes_of, geometries_of, image_of, past_of, planned, IsFull, counted, failed, with_event, is_made};
+ghost use Rattle.disk_trait.specs.MemDisks.{MemState, zero_disk, zero_sector, disk_at, sizes_of, geometries_of, image_of, past_of, planned, IsFull, counted, with_event, after_read, after_write, after_flush};
 ghost use Rattle.disk_trait.specs.HasRoom.{HasRoom};
 ghost use Rattle.disk_trait.specs.Count.{risen};
-ghost use Rattle.disk_trait.specs.Past.{Image, Told, appended, with_sector, now_after};
+ghost use Rattle.disk_trait.specs.Past.{Image, Told, appended, with_sector, now_after, now_of};
 
 use crate::held_disk::HeldDisk;
 use crate::{DiskFault, Disks, Event, Failing, Geometry, MemDisk};
@@ -104,10 +104,12 @@ impl MemDisks {
     }
 
     // Counts a failure.
-    fn count_fault(&mut self)
-        ensures { self.new ≡ record self.old { faults = risen self.old.faults } }
+    fn failure(&mut self) -> DiskFault
+        ensures answer { result ≡ DiskFault.Failed }
+        ensures counted { self.new ≡ record self.old { faults = risen self.old.faults } }
     {
         self.faults = self.faults.saturating_add(1);
+        DiskFault::Failed
     }
 
     fn is_full(&self) -> bool
@@ -121,6 +123,113 @@ impl MemDisks {
         ensures { self.new ≡ with_event event self.old }
     {
         self.events.push_front_reserved(event);
+    }
+}
+
+impl Disks for MemDisks {
+    ghost past = { λ disks. Some (past_of disks) };
+
+    ghost faults = { λ disks. disks.faults };
+
+    ghost size_of = { λ disks. sizes_of disks.start };
+
+    ghost count_of = { λ disks. length disks.start };
+
+    ghost geometry_of = { λ disks. geometries_of disks.start };
+
+    fn read(&mut self, disk: u8, sector: u64, into: &mut Sector) -> Result<(), DiskFault>
+        ensures cause { HasCause (sizes_of self.old.start disk) sector self.old.faults self.new.faults result }
+        ensures bytes { OnOk result (Told (Some (past_of self.old)) (λ now. into.new ≡ now disk sector)) }
+        ensures refused { OnErr result (into.new ≡ into.old) }
+        ensures past { Some (past_of self.new) ≡ Some (past_of self.old) }
+        ensures size { sizes_of self.new.start ≡ sizes_of self.old.start }
+        ensures count { length self.new.start ≡ length self.old.start }
+        ensures geometry { geometries_of self.new.start ≡ geometries_of self.old.start }
+
+        // A call in range fails where the list says so.
+        ensures failed { IsErrOf result DiskFault.Failed
+            ↔ ((sector < sizes_of self.old.start disk) × IsSome (planned self.old)) }
+        ensures state { self.new ≡ after_read self.old result }
+    {
+        if self.size(disk) <= sector {
+            return Err(DiskFault::OutOfRange);
+        }
+        if self.count_call().is_some() {
+            return Err(self.failure());
+        }
+        *into = self.sector(disk, sector);
+        Ok(())
+    }
+
+    fn write(&mut self, disk: u8, sector: u64, from: &Sector) -> Result<(), DiskFault>
+        ensures cause { HasCause (sizes_of self.old.start disk) sector self.old.faults self.new.faults result }
+        ensures ok { OnOk result (Some (past_of self.new) ≡ appended (Write disk sector from.now) (Some (past_of self.old))) }
+        ensures event { (Some (past_of self.new) ≡ appended (Write disk sector from.now) (Some (past_of self.old)))
+            ⊎ (Some (past_of self.new) ≡ Some (past_of self.old)) }
+        ensures out_of_range { IsErrOf result DiskFault.OutOfRange → Some (past_of self.new) ≡ Some (past_of self.old) }
+        ensures size { sizes_of self.new.start ≡ sizes_of self.old.start }
+        ensures count { length self.new.start ≡ length self.old.start }
+        ensures geometry { geometries_of self.new.start ≡ geometries_of self.old.start }
+
+        // A call in range fails where the list says so, or for want of room.
+        ensures failed { IsErrOf result DiskFault.Failed
+            ↔ ((sector < sizes_of self.old.start disk) × (IsSome (planned self.old) ⊎ IsFull self.old)) }
+        ensures state { self.new ≡ after_write self.old disk sector from.now result }
+    {
+        if self.size(disk) <= sector {
+            return Err(DiskFault::OutOfRange);
+        }
+        let event = Event::Write(disk, sector, *from);
+        match self.count_call() {
+            _ if self.is_full() => Err(self.failure()),
+            None => {
+                self.add(event);
+                Ok(())
+            }
+            Some(failing) => {
+                if failing.made {
+                    self.add(event);
+                }
+                Err(self.failure())
+            }
+        }
+    }
+
+    fn flush(&mut self) -> Result<(), DiskFault>
+        ensures cause { HasFlushCause self.old.faults self.new.faults result }
+        ensures ok { OnOk result (Some (past_of self.new) ≡ appended Flush (Some (past_of self.old))) }
+        ensures failed { OnErr result (Some (past_of self.new) ≡ Some (past_of self.old)) }
+        ensures size { sizes_of self.new.start ≡ sizes_of self.old.start }
+        ensures count { length self.new.start ≡ length self.old.start }
+        ensures geometry { geometries_of self.new.start ≡ geometries_of self.old.start }
+
+        // A call fails where the list says so, or for want of room.
+        ensures fails { IsErr result ↔ (IsSome (planned self.old) ⊎ IsFull self.old) }
+        ensures state { self.new ≡ after_flush self.old result }
+    {
+        if self.count_call().is_some() || self.is_full() {
+            return Err(self.failure());
+        }
+        self.add(Event::Flush);
+        Ok(())
+    }
+
+    fn count(&self) -> u8 {
+        self.start.len() as u8
+    }
+
+    fn size(&self, disk: u8) -> u64 {
+        match self.start.get(usize::from(disk)) {
+            Some(held) => held.size(),
+            None => 0,
+        }
+    }
+
+    fn geometry(&self, disk: u8) -> Geometry {
+        match self.start.get(usize::from(disk)) {
+            Some(held) => held.geometry(),
+            None => Geometry::absent(),
+        }
     }
 }
 

@@ -4,3 +4,4 @@ pub mod Count
 pub mod Absent
 pub mod MemDisks
 pub mod HasRoom
+pub mod FileDisks

@@ -6,6 +6,8 @@
 
 mod disks;
 mod event;
+mod file_disk;
+mod file_disks;
 mod geometry;
 mod held_disk;
 mod mem_disk;
@@ -13,6 +15,8 @@ mod mem_disks;
 
 pub use disks::{DiskFault, Disks, Phase, Span};
 pub use event::Event;
+pub use file_disk::FileDisk;
+pub use file_disks::FileDisks;
 pub use geometry::{Geometry, GeometryFault};
 pub use mem_disk::{Failing, MemDisk};
 pub use mem_disks::MemDisks;

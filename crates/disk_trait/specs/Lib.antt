@@ -3,5 +3,4 @@ pub mod Cause
 pub mod Count
 pub mod Absent
 pub mod MemDisks
-pub mod HasRoom
 pub mod FileDisks

@@ -1,6 +1,9 @@
 -- What disks in memory are: what they held at first, what was done since, and which calls fail.
-use Rattle.std.specs.Prelude.{◌≡◌, ◌⊎◌, ◌&&◌, ◌==◌, ◌+◌, ◌<◌, ◌≤◌, ℕ, Bool, false, nat_lt, min, List, [], ◌∷◌, length, map, find, replicate, slice_index_or, Option, Result, Ok, Err, if◌then◌else◌}
+use Rattle.std.specs.Prelude.{◌≡◌, ◌⊎◌, ◌^◌, All, ⊤, ◌&&◌, ◌==◌, ◌+◌, ◌<◌, ◌≤◌, ℕ, Bool, false, nat_lt, min, List, [], ◌∷◌, length, map, find, replicate, slice_index_or, Option, Result, Ok, Err, if◌then◌else◌}
 use Rattle.std.specs.Option.{option_map_or}
+use Rattle.std.specs.VecDeque.{deque_len, deque_capacity}
+use Rattle.std.specs.declared.collections.VecDeque.{VecDeque}
+use Rattle.std.specs.declared.alloc.Global.{Global}
 use Rattle.disk_trait.specs.declared.geometry.Geometry.{Geometry}
 use Rattle.disk_trait.specs.declared.event.Event.{Event}
 use Rattle.disk_trait.specs.declared.event.Event.TheVariants.{Write, Flush}
@@ -63,6 +66,24 @@ pub record MemState : Type 0 where
 -- their past
 abbrev pub past_of : MemState → Past
 past_of disks = record { start = image_of disks.start; events = disks.events }
+
+-- each of these sectors has 512 bytes
+abbrev pub HasWholeSectors : Image → Type 0
+HasWholeSectors image = (disk sector : ℕ) → length (image disk sector) ≡ 512
+
+-- what an event writes is 512 bytes
+abbrev pub WritesWholeSector : Event → Type 0
+WritesWholeSector (Write _ _ bytes) = length bytes ≡ 512
+WritesWholeSector Flush = ⊤
+
+-- there are few disks, the events have room, and each sector has 512 bytes
+pub record IsHeld (start : List StartDisk) (events : VecDeque Event Global) (room : ℕ) : Type 0 where
+  pub few : length start ≤ 4
+  pub room_small : room < 2 ^ 32
+  pub within : deque_len events ≤ room
+  pub capacity : room ≤ deque_capacity events
+  pub start_whole : HasWholeSectors (image_of start)
+  pub events_whole : All WritesWholeSector events.items
 
 -- what the list of failing calls says of the next call
 abbrev pub planned : MemState → Option Failing

@@ -1,11 +1,11 @@
 // Disks in memory.
-ghost use Rattle.std.specs.Prelude.{◌≡◌, ◌↔◌, ◌⊎◌, ◌<◌, ◌≤◌, ◌==◌, find, [], ◌∷◌, ℕ, length, map, unwrap_or, slice_index_or, IfOk, IsSome, OnOk, OnErr, IsErr, IsErrOf, IsTrue, Some};
+ghost use Rattle.std.specs.Prelude.{◌≡◌, ◌↔◌, ◌⊎◌, ◌<◌, ◌≤◌, ◌==◌, find, [], ◌∷◌, ℕ, length, map, unwrap_or, slice_index_or, IfOk, IsSome, OnOk, OnErr, IsErr, IsErrOf, IsTrue, Some, All, slice_get};
+ghost use Rattle.std.specs.Option.{option_map_or};
 ghost use Rattle.disk_trait.specs.Absent.{absent_geometry};
 ghost use Rattle.disk_trait.specs.declared.event.Event.{Event as EventOf};
 ghost use Rattle.disk_trait.specs.declared.event.Event.TheVariants.{Write, Flush};
 ghost use Rattle.disk_trait.specs.Cause.{HasCause, HasFlushCause};
-ghost use Rattle.disk_trait.specs.MemDisks.{MemState, zero_disk, zero_sector, disk_at, sizes_of, geometries_of, image_of, past_of, planned, IsFull, counted, with_event, after_read, after_write, after_flush};
-ghost use Rattle.disk_trait.specs.HasRoom.{HasRoom};
+ghost use Rattle.disk_trait.specs.MemDisks.{MemState, IsHeld, HasWholeSectors, WritesWholeSector, zero_disk, zero_sector, disk_at, sizes_of, geometries_of, image_of, past_of, planned, IsFull, counted, with_event, after_read, after_write, after_flush};
 ghost use Rattle.disk_trait.specs.Count.{risen};
 ghost use Rattle.disk_trait.specs.Past.{Image, Told, appended, with_sector, now_after, now_of};
 
@@ -33,7 +33,7 @@ impl Model for MemDisks {
 
     ghost view = { λ m. record { start = m.start.items; events = m.events.items; room = m.room; failing = m.failing.items; calls = m.calls; faults = m.faults } };
 
-    ghost invariant = { λ m. HasRoom m.start.items m.events m.room };
+    ghost invariant = { λ m. IsHeld m.start.items m.events m.room };
 }
 
 impl MemDisks {
@@ -47,11 +47,16 @@ impl MemDisks {
         requires { length disks.now ≤ 4 }
         ensures state { IfOk result (λ made. made
             ≡ record { start = map zero_disk disks.now; events = []; room = room; failing = failing.now; calls = 0; faults = 0 }) }
+
+        // In the words of the trait: zero bytes everywhere, and the sizes and geometries that were asked for.
+        ensures zeros { IfOk result (λ made. (disk sector : ℕ) → image_of made.start disk sector ≡ zero_sector) }
+        ensures size { IfOk result (λ made. (disk : ℕ)
+            → sizes_of made.start disk ≡ option_map_or (λ asked. asked.sectors) (slice_get disks.now disk) 0) }
+        ensures count { IfOk result (λ made. length made.start ≡ length disks.now) }
+        ensures geometry { IfOk result (λ made. (disk : ℕ)
+            → geometries_of made.start disk ≡ option_map_or (λ asked. asked.geometry) (slice_get disks.now disk) absent_geometry) }
     {
-        let mut start = Vec::new(alloc);
-        for disk in disks {
-            start.push(HeldDisk::new(alloc, disk)?)?;
-        }
+        let start = zero_disks(alloc, disks)?;
         Ok(MemDisks {
             start,
             events: VecDeque::with_capacity(alloc, room as usize)?,
@@ -77,7 +82,12 @@ impl MemDisks {
 
     /// How many events there were since the disks were made.
     pub fn events(&self) -> u32
-        ensures { result ≡ length self.now.events }
+        ensures count { result ≡ length self.now.events }
+
+        // Whatever was done, each sector has 512 bytes, and so has what was written.
+        ensures now_whole { HasWholeSectors (now_of (past_of self.now)) }
+        ensures start_whole { HasWholeSectors (image_of self.now.start) }
+        ensures events_whole { All WritesWholeSector self.now.events }
     {
         self.events.len() as u32
     }
@@ -119,7 +129,8 @@ impl MemDisks {
     }
 
     fn add(&mut self, event: Event)
-        requires { length self.old.events < self.old.room }
+        requires room { length self.old.events < self.old.room }
+        requires whole { WritesWholeSector event }
         ensures { self.new ≡ with_event event self.old }
     {
         self.events.push_front_reserved(event);
@@ -231,6 +242,16 @@ impl Disks for MemDisks {
             None => Geometry::absent(),
         }
     }
+}
+
+fn zero_disks(alloc: Global, disks: &[MemDisk]) -> Result<Vec<HeldDisk>, AllocError>
+    ensures { IfOk result (λ made. made.items ≡ map zero_disk disks.now) }
+{
+    let mut made = Vec::new(alloc);
+    for disk in disks {
+        made.push(HeldDisk::new(alloc, disk)?)?;
+    }
+    Ok(made)
 }
 
 // The bytes of the last of some events that writes to a sector. The newest event stands first.

@@ -77,7 +77,7 @@ set-changes disks before at disk part sector bytes read new same place piece ins
     rw all (record {
       image = image_of-changed before disk sector bytes inside;
       sizes = sizes_of-changed before disk sector bytes;
-      geometries = geometries_of-changed before disk sector bytes
+      geometries = geometries_of-changed before disk sector bytes;
     })
 
 -- other bytes in one sector, as many, leave each sector whole

@@ -1,5 +1,6 @@
 // One disk over an opened image file.
 ghost use Rattle.std.specs.Prelude.{◌≡◌, ◌*◌, ◌/◌, ◌<◌, ◌≤◌, ◌^◌, length, IfOk, IfSome, OnOk, OnSome};
+ghost use Rattle.std.specs.Io.Seek.{MovesTo};
 ghost use Rattle.std.specs.Io.KnownBytes.{Appends, Consumes};
 ghost use Rattle.disk_trait.specs.FileDisks.{DiskShape};
 
@@ -65,7 +66,7 @@ impl<F: Read + Write + Seek + OpenFile> FileDisk<F> {
         requires { sector < self.old.sectors }
         ensures { self.new ≡ self.old }
     {
-        self.file.seek(SeekFrom::Start(sector * 512))?;
+        seek_sector(&mut self.file, sector)?;
         read_sector(&mut self.file)
     }
 
@@ -74,7 +75,7 @@ impl<F: Read + Write + Seek + OpenFile> FileDisk<F> {
         requires { sector < self.old.sectors }
         ensures { self.new ≡ self.old }
     {
-        self.file.seek(SeekFrom::Start(sector * 512))?;
+        seek_sector(&mut self.file, sector)?;
         write_sector(&mut self.file, from)
     }
 
@@ -82,6 +83,15 @@ impl<F: Read + Write + Seek + OpenFile> FileDisk<F> {
     pub(crate) fn sync(&self) -> io::Result<()> {
         self.file.sync_all()
     }
+}
+
+// Goes to the start of a sector.
+fn seek_sector<F: Seek>(file: &mut F, sector: u64) -> io::Result<()>
+    requires { sector * 512 < 2 ^ 64 }
+    ensures { MovesTo (F.stream_position file.old) (F.stream_position file.new) (sector * 512) result }
+{
+    file.seek(SeekFrom::Start(sector * 512))?;
+    Ok(())
 }
 
 // Reads the next sector of a file.

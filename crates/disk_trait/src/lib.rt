@@ -12,6 +12,8 @@ mod geometry;
 mod held_disk;
 mod mem_disk;
 mod mem_disks;
+#[cfg(test)]
+mod tests;
 
 pub use disks::{DiskFault, Disks, Phase, Span};
 pub use event::Event;

@@ -11,7 +11,7 @@ loop-at-preserved g c =
     record {
       whole = same_len_mid _ _ _ _ c.read.auto.buf ∙ c.loop-at.invariant.whole;
       within = search rules;
-      filled = subst (Consumes _ _) (take-put_mid_more c.loop-at.at _ c.in_ok-count.count c.loop-at.bytes c.read.new.buf within c.in_ok-count.ensures.bound.0) (Consumes-trans _ _ _ _ _ c.loop-at.invariant.filled c.in_ok-count.ensures.bytes.0)
+      filled = subst (Consumes _ _) (take-put_mid_more c.loop-at.at _ c.in_ok-count.count c.loop-at.bytes c.read.new.buf within c.in_ok-count.ensures.bound.0) (Consumes-trans _ _ _ _ _ c.loop-at.invariant.filled c.in_ok-count.ensures.bytes.0);
     }
 
 pub returns : goal.returns

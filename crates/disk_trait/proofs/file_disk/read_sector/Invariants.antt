@@ -6,7 +6,7 @@ abbrev pub invariant-loop-at : goal.invariant-loop-at
 invariant-loop-at g l = record {
   whole : length l.bytes ≡ 512;
   within : l.at ≤ 512;
-  filled : Consumes (g.F.Read.remaining l.initial.file) (g.F.Read.remaining l.file) (take l.at l.bytes)
+  filled : Consumes (g.F.Read.remaining l.initial.file) (g.F.Read.remaining l.file) (take l.at l.bytes);
 }
 
 abbrev pub decreases-loop-at : goal.decreases-loop-at

@@ -6,13 +6,13 @@ use Rattle.disk_trait.proofs.mem_disks.MemDisks.new.Goals as goal
 
 pub invariant_of-result : goal.invariant_of-result
 invariant_of-result c = record {
-    few = rw c.in_ok-start.ensures (rw length-map c.requires);
-    room_small = search rules;
-    within = search rules;
-    capacity = search rules;
-    start_whole = rw c.in_ok-start.ensures (whole-zero c.args.disks.now);
-    events_whole = rw c.in_ok-with_capacity.ensures.items (λ k d inside. absurd (omega arith))
-  }
+  few = rw c.in_ok-start.ensures (rw length-map c.requires);
+  room_small = search rules;
+  within = search rules;
+  capacity = search rules;
+  start_whole = rw c.in_ok-start.ensures (whole-zero c.args.disks.now);
+  events_whole = rw c.in_ok-with_capacity.ensures.items (λ k d inside. absurd (omega arith));
+}
 
 pub returns-clause-zeros : goal.returns-clause-zeros
 returns-clause-zeros c = rw c.in_ok-start.ensures (image_of-zero c.args.disks.now)

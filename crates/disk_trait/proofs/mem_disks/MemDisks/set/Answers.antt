@@ -10,5 +10,5 @@ returns c =
       others = search rules;
       size = all.sizes;
       count = search rules;
-      geometry = all.geometries
+      geometry = all.geometries;
     }

@@ -1,7 +1,6 @@
 -- Disks with one sector changed.
 use Rattle.std.proofs.Common.{◌≡◌, ℕ, ◌<◌, ◌==◌, zero, suc, List, [], ◌∷◌, length, get_or, set, refl, ap, arith, if◌then◌else◌, ◌&&◌, ◌∙◌, map, replicate, true, false}
 use mathlib.Core.Path.{fun_ext}
-use Prim.Native.Nat.{compare}
 use Prim.Native.Nat.compare as compare
 use Rattle.std.proofs.lemmas.List.{length-set, length-replicate, get_or_read}
 use Rattle.std.proofs.lemmas.Grind.{common_steps}

@@ -1,5 +1,5 @@
 -- What disks in memory are: what they held at first, what was done since, and which calls fail.
-use Rattle.std.specs.Prelude.{◌≡◌, ◌⊎◌, ◌^◌, All, ⊤, ◌&&◌, ◌==◌, ◌+◌, ◌<◌, ◌≤◌, ℕ, Bool, false, nat_lt, min, List, [], ◌∷◌, length, map, find, replicate, slice_index_or, Option, Result, Ok, Err, if◌then◌else◌}
+use Rattle.std.specs.Prelude.{◌≡◌, ◌^◌, All, ⊤, ◌&&◌, ◌==◌, ◌<◌, ◌≤◌, ℕ, Bool, false, nat_lt, List, [], ◌∷◌, length, find, replicate, slice_index_or, Option, Result, Ok, Err, if◌then◌else◌}
 use Rattle.std.specs.Option.{option_map_or}
 use Rattle.std.specs.VecDeque.{deque_len, deque_capacity}
 use Rattle.std.specs.declared.collections.VecDeque.{VecDeque}

@@ -1,6 +1,5 @@
-use Rattle.std.proofs.Common.{◌≡◌, ◌≤◌, length, map, rules, arith}
+use Rattle.std.proofs.Common.{rules, arith}
 use Rattle.std.proofs.lemmas.List.{length-map}
-use Rattle.disk_trait.specs.MemDisks.{zero_disk}
 use Rattle.disk_trait.proofs.Changed.{image_of-zero, sizes_of-zero, geometries_of-zero, whole-zero}
 use Rattle.disk_trait.proofs.mem_disks.MemDisks.new.Goals as goal
 

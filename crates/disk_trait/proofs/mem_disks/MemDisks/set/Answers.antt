@@ -1,5 +1,5 @@
 use Rattle.std.proofs.Common.{rules, ap}
-use Rattle.disk_trait.proofs.Changed.{set-changes, whole-with_sector}
+use Rattle.disk_trait.proofs.Changed.{set-changes}
 use Rattle.disk_trait.proofs.mem_disks.MemDisks.set.Goals as goal
 
 pub returns : goal.returns

@@ -62,35 +62,71 @@ fn disks_begin_with_zeros_and_what_is_set(rt: HostRuntime) -> Result<(), Fail> {
     Ok(())
 }
 
+// A call, and for a write the byte that fills the sector.
+#[derive(Clone, Copy, Debug)]
+enum Call {
+    Read(u8, u64),
+    Write(u8, u64, u8),
+    Flush,
+}
+
+// Makes a call, and gives the first byte that was read, or else 0.
+fn make<D: Disks>(disks: &mut D, call: Call) -> Result<u8, DiskFault> {
+    match call {
+        Call::Read(disk, sector) => return first_byte(disks, disk, sector),
+        Call::Write(disk, sector, byte) => disks.write(disk, sector, &filled(byte))?,
+        Call::Flush => disks.flush()?,
+    }
+    Ok(0)
+}
+
+const FAILED: Result<u8, DiskFault> = Err(DiskFault::Failed);
+
+const OUT_OF_RANGE: Result<u8, DiskFault> = Err(DiskFault::OutOfRange);
+
+// Calls on disks with room for 4 events, of which the calls 1, 2, 3 and 5 fail and 2 is made: what
+// each answers, and how many events there are then.
+const CALLS: [(Call, Result<u8, DiskFault>, u32); 14] = [
+    (Call::Write(1, 1, 1), Ok(0), 1),
+    (Call::Write(1, 1, 2), FAILED, 1),
+    (Call::Write(1, 0, 3), FAILED, 2),
+    (Call::Flush, FAILED, 2),
+    // A call out of range isn't counted.
+    (Call::Read(1, 2), OUT_OF_RANGE, 2),
+    (Call::Read(1, 1), Ok(1), 2),
+    (Call::Read(1, 0), FAILED, 2),
+    (Call::Read(1, 0), Ok(3), 2),
+    (Call::Flush, Ok(0), 3),
+    (Call::Write(0, 3, 4), Ok(0), 4),
+    // Now the room is used up.
+    (Call::Write(0, 0, 5), FAILED, 4),
+    (Call::Flush, FAILED, 4),
+    (Call::Read(0, 3), Ok(4), 4),
+    (Call::Read(0, 0), Ok(0), 4),
+];
+
 #[test]
 fn listed_calls_fail(rt: HostRuntime) -> Result<(), Fail> {
     let failing = [(1, false), (2, true), (3, false), (5, false)];
     let failing = failing.map(|(call, made)| Failing { call, made });
     let mut disks = two_disks(rt.alloc(), 4, &failing)?;
-    let failed = Err(DiskFault::Failed);
-    assert_eq!(rt; disks.write(1, 1, &filled(1)), Ok(()));
-    assert_eq!(rt; disks.write(1, 1, &filled(2)), failed);
-    assert_eq!(rt; disks.events(), 1);
-    assert_eq!(rt; disks.write(1, 0, &filled(3)), failed);
-    assert_eq!(rt; disks.events(), 2);
-    assert_eq!(rt; disks.flush(), failed);
-    assert_eq!(rt; disks.events(), 2);
-    assert_eq!(rt; first_byte(&mut disks, 1, 2), Err(DiskFault::OutOfRange));
-    // That read isn't counted: the next call is the fourth.
-    expect_byte(&rt, &mut disks, 1, 1, 1);
+    for (call, answer, events) in CALLS {
+        assert_eq!(rt; make(&mut disks, call), answer, "{call:?}");
+        assert_eq!(rt; disks.events(), events, "{call:?}");
+    }
+    Ok(())
+}
+
+#[test]
+fn a_read_that_fails_leaves_its_buffer(rt: HostRuntime) -> Result<(), Fail> {
+    let failing = [Failing {
+        call: 0,
+        made: true,
+    }];
+    let mut disks = two_disks(rt.alloc(), 0, &failing)?;
     let mut bytes = filled(0xEE);
-    assert_eq!(rt; disks.read(1, 0, &mut bytes), failed);
+    assert_eq!(rt; disks.read(0, 0, &mut bytes), Err(DiskFault::Failed));
     assert_eq!(rt; bytes[511], 0xEE);
-    expect_byte(&rt, &mut disks, 1, 0, 3);
-    assert_eq!(rt; disks.flush(), Ok(()));
-    assert_eq!(rt; disks.write(0, 3, &filled(4)), Ok(()));
-    assert_eq!(rt; disks.events(), 4);
-    // The room for events is used up.
-    assert_eq!(rt; disks.write(0, 0, &filled(5)), failed);
-    assert_eq!(rt; disks.flush(), failed);
-    assert_eq!(rt; disks.events(), 4);
-    expect_byte(&rt, &mut disks, 0, 3, 4);
-    expect_byte(&rt, &mut disks, 0, 0, 0);
     Ok(())
 }
 
@@ -121,27 +157,36 @@ fn an_image_keeps_what_is_written(rt: HostRuntime) -> Result<(), Fail> {
     fs::write(&rt, IMAGE, [0xAB; 2148].as_slice())?;
     let mut disks = open_image(&rt)?;
     assert_eq!(rt; disks.count(), 2);
-    assert_eq!(rt; disks.size(0), 0);
-    assert_eq!(rt; disks.size(1), 4);
-    assert_eq!(rt; disks.geometry(0).heads, 16);
-    assert_eq!(rt; disks.geometry(1).sectors, 17);
+    assert_eq!(rt; [disks.size(0), disks.size(1)], [0, 4]);
+    assert_eq!(rt; [disks.geometry(0).heads, disks.geometry(1).heads], [16, 4]);
     assert_eq!(rt; write_ends(&mut disks, 1), Ok(()));
-    assert_eq!(rt; disks.write(1, 4, &filled(0)), Err(DiskFault::OutOfRange));
-    assert_eq!(rt; first_byte(&mut disks, 0, 0), Err(DiskFault::OutOfRange));
-    let mut again = open_image(&rt)?;
-    for (sector, byte) in [(0, 0x11), (1, 0xAB), (2, 0xAB), (3, 0x22)] {
-        expect_byte(&rt, &mut again, 1, sector, byte);
+    for (disk, sector) in [(0, 0), (1, 4)] {
+        assert_eq!(rt;
+            make(&mut disks, Call::Write(disk, sector, 0)),
+            OUT_OF_RANGE
+        );
     }
-    let bytes = fs::read(&rt, IMAGE)?;
-    assert_eq!(rt; bytes.len(), 2148);
-    assert_eq!(rt; bytes[511], 0x11);
-    assert_eq!(rt; bytes[512], 0xAB);
-    assert_eq!(rt; bytes[1535], 0xAB);
-    assert_eq!(rt; bytes[1536], 0x22);
-    assert_eq!(rt; bytes[2047], 0x22);
-    assert_eq!(rt; bytes[2048], 0xAB);
+    expect_ends(&rt, &mut open_image(&rt)?, &fs::read(&rt, IMAGE)?);
     fs::remove_file(&rt, IMAGE)?;
     Ok(())
+}
+
+// Expects the first and the last sector to have changed, by an image opened anew and by its bytes.
+fn expect_ends(rt: &impl Abort, disks: &mut FileDisks<File>, bytes: &[u8]) {
+    for (sector, byte) in [(0, 0x11), (1, 0xAB), (2, 0xAB), (3, 0x22)] {
+        expect_byte(rt, disks, 1, sector, byte);
+    }
+    assert_eq!(rt; bytes.len(), 2148);
+    for (at, byte) in [
+        (511, 0x11),
+        (512, 0xAB),
+        (1535, 0xAB),
+        (1536, 0x22),
+        (2047, 0x22),
+        (2048, 0xAB),
+    ] {
+        assert_eq!(rt; bytes.get(at), Some(&byte), "byte {at}");
+    }
 }
 
 #[test]

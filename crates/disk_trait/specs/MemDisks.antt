@@ -1,5 +1,5 @@
 -- What disks in memory are: what they held at first, what was done since, and which calls fail.
-use Rattle.std.specs.Prelude.{◌≡◌, ◌^◌, All, ⊤, ◌&&◌, ◌==◌, ◌<◌, ◌≤◌, ℕ, Bool, false, nat_lt, List, [], ◌∷◌, length, find, replicate, slice_index_or, Option, Result, Ok, Err, if◌then◌else◌}
+use Rattle.std.specs.Prelude.{◌≡◌, ◌^◌, All, ⊤, ◌&&◌, ◌==◌, ◌<◌, ◌≤◌, ℕ, Bool, false, nat_lt, List, [], ◌∷◌, length, map, find, replicate, slice_index_or, Option, Some, Result, Ok, Err, if◌then◌else◌}
 use Rattle.std.specs.Option.{option_map_or}
 use Rattle.std.specs.VecDeque.{deque_len, deque_capacity}
 use Rattle.std.specs.declared.collections.VecDeque.{VecDeque}
@@ -12,7 +12,7 @@ use Rattle.disk_trait.specs.declared.disks.DiskFault.TheVariants.{Failed, OutOfR
 use Rattle.disk_trait.specs.declared.mem_disk.MemDisk.{MemDisk}
 use Rattle.disk_trait.specs.declared.mem_disk.Failing.{Failing}
 use Rattle.disk_trait.specs.Count.{risen}
-use Rattle.disk_trait.specs.Past.{Image, Past}
+use Rattle.disk_trait.specs.Past.{Image, Past, now_after}
 use Rattle.disk_trait.specs.Absent.{absent_geometry}
 
 -- a disk as it was at first: the bytes of each sector, and how it is divided
@@ -63,9 +63,24 @@ pub record MemState : Type 0 where
   -- how many of them failed
   pub faults : ℕ
 
--- their past
-abbrev pub past_of : MemState → Past
-past_of disks = record { start = image_of disks.start; events = disks.events }
+-- disks of zero bytes, and no event yet
+abbrev pub zero_state : List MemDisk → ℕ → List Failing → MemState
+zero_state disks room failing = record {
+  start = map zero_disk disks;
+  events = [];
+  room = room;
+  failing = failing;
+  calls = 0;
+  faults = 0;
+}
+
+-- their past, which is told
+abbrev pub past_of : MemState → Option Past
+past_of disks = Some (record { start = image_of disks.start; events = disks.events })
+
+-- the bytes of each sector now
+abbrev pub now_in : MemState → Image
+now_in disks = now_after (image_of disks.start) disks.events
 
 -- each of these sectors has 512 bytes
 abbrev pub HasWholeSectors : Image → Type 0
@@ -119,10 +134,13 @@ after_flush disks (Err OutOfRange) = disks
 
 -- a write that the list of failing calls lets fail is made all the same
 abbrev pub is_made : MemState → Bool
-is_made disks = nat_lt (length disks.events) disks.room && option_map_or (λ failing. failing.made) (planned disks) false
+is_made disks = nat_lt (length disks.events) disks.room
+    && option_map_or (λ failing. failing.made) (planned disks) false
 
 -- what a write that answered so left
 abbrev pub after_write : MemState → ℕ → ℕ → List ℕ → Result (Unit {0}) DiskFault → MemState
 after_write disks disk sector bytes (Ok _) = with_event (Write disk sector bytes) (counted disks)
-after_write disks disk sector bytes (Err Failed) = if is_made disks then with_event (Write disk sector bytes) (failed disks) else failed disks
+after_write disks disk sector bytes (Err Failed) = if is_made disks
+    then with_event (Write disk sector bytes) (failed disks)
+    else failed disks
 after_write disks disk sector bytes (Err OutOfRange) = disks

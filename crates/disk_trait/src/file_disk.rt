@@ -43,7 +43,8 @@ impl<F> FileDisk<F> {
 }
 
 impl<F: Seek + Drop> FileDisk<F> {
-    /// Takes a file that is opened for reading and writing, and finds its size by a seek to the end.
+    /// Takes a file that is opened for reading and writing, and finds its size by a seek to the end,
+    /// so that a block device serves too. An error is the seek's, and drops the file.
     pub fn new(mut file: F, geometry: Geometry) -> io::Result<FileDisk<F>>
         ensures geometry { IfOk result (λ disk. disk.geometry ≡ geometry) }
 
@@ -61,7 +62,7 @@ impl<F: Seek + Drop> FileDisk<F> {
 }
 
 impl<F: Read + Write + Seek + OpenFile> FileDisk<F> {
-    /// Reads a sector.
+    /// Reads a sector. An error is the file's, or says that it ends within the sector.
     pub(crate) fn read(&mut self, sector: u64) -> io::Result<Sector>
         requires { sector < self.old.sectors }
         ensures { self.new ≡ self.old }
@@ -70,7 +71,7 @@ impl<F: Read + Write + Seek + OpenFile> FileDisk<F> {
         read_sector(&mut self.file)
     }
 
-    /// Writes a sector.
+    /// Writes a sector. After an error any part of it may be written.
     pub(crate) fn write(&mut self, sector: u64, from: &Sector) -> io::Result<()>
         requires { sector < self.old.sectors }
         ensures { self.new ≡ self.old }

@@ -12,7 +12,7 @@ use std::io::{Read, Seek, Write};
 use std::marker::Model;
 
 /// Up to four opened image files, each there or absent. They tell no past, since nothing is known of
-/// what a file keeps.
+/// what a file keeps. Each failure of a file is counted.
 #[derive(Drop)]
 pub struct FileDisks<F> {
     disks: Vec<Option<FileDisk<F>>>,

@@ -1,7 +1,8 @@
 //! Disks as an installer and a loader see them: sectors read and written by number, and flushes.
 //!
 //! A disk is numbered from 0 and has sectors of 512 bytes, numbered from 0 too. The trait says what a
-//! call does to the past: what the disks held at first and each write and flush since.
+//! call does to the past: what the disks held at first and each write and flush since. `MemDisks` keeps
+//! disks in memory, and `FileDisks` goes to opened image files.
 #![tactic(auto)]
 
 mod disks;

@@ -1,13 +1,12 @@
 // Disks in memory.
-ghost use Rattle.std.specs.Prelude.{◌≡◌, ◌↔◌, ◌⊎◌, ◌<◌, ◌≤◌, ◌==◌, find, [], ◌∷◌, ℕ, length, map, unwrap_or, slice_index_or, IfOk, IsSome, OnOk, OnErr, IsErr, IsErrOf, IsTrue, Some, All, slice_get};
+ghost use Rattle.std.specs.Prelude.{◌≡◌, ◌↔◌, ◌⊎◌, ◌<◌, ◌≤◌, ◌==◌, find, [], ℕ, length, map, unwrap_or, IfOk, IsSome, OnOk, OnErr, IsErr, IsErrOf, IsTrue, All, slice_get};
 ghost use Rattle.std.specs.Option.{option_map_or};
 ghost use Rattle.disk_trait.specs.Absent.{absent_geometry};
-ghost use Rattle.disk_trait.specs.declared.event.Event.{Event as EventOf};
 ghost use Rattle.disk_trait.specs.declared.event.Event.TheVariants.{Write, Flush};
 ghost use Rattle.disk_trait.specs.Cause.{HasCause, HasFlushCause};
-ghost use Rattle.disk_trait.specs.MemDisks.{MemState, IsHeld, HasWholeSectors, WritesWholeSector, zero_disk, zero_sector, disk_at, sizes_of, geometries_of, image_of, past_of, planned, IsFull, counted, with_event, after_read, after_write, after_flush};
+ghost use Rattle.disk_trait.specs.MemDisks.{MemState, IsHeld, HasWholeSectors, WritesWholeSector, zero_disk, zero_sector, sizes_of, geometries_of, image_of, past_of, now_in, zero_state, planned, IsFull, counted, with_event, after_read, after_write, after_flush};
 ghost use Rattle.disk_trait.specs.Count.{risen};
-ghost use Rattle.disk_trait.specs.Past.{Image, Told, appended, with_sector, now_after, now_of};
+ghost use Rattle.disk_trait.specs.Past.{Image, Told, appended, with_sector, now_after};
 
 use crate::held_disk::HeldDisk;
 use crate::{DiskFault, Disks, Event, Failing, Geometry, MemDisk};
@@ -31,7 +30,14 @@ pub struct MemDisks {
 impl Model for MemDisks {
     ghost Value = { MemState };
 
-    ghost view = { λ m. record { start = m.start.items; events = m.events.items; room = m.room; failing = m.failing.items; calls = m.calls; faults = m.faults } };
+    ghost view = { λ m. record {
+      start = m.start.items;
+      events = m.events.items;
+      room = m.room;
+      failing = m.failing.items;
+      calls = m.calls;
+      faults = m.faults;
+    } };
 
     ghost invariant = { λ m. IsHeld m.start.items m.events m.room };
 }
@@ -45,16 +51,18 @@ impl MemDisks {
         failing: &[Failing],
     ) -> Result<MemDisks, AllocError>
         requires { length disks.now ≤ 4 }
-        ensures state { IfOk result (λ made. made
-            ≡ record { start = map zero_disk disks.now; events = []; room = room; failing = failing.now; calls = 0; faults = 0 }) }
+        ensures state { IfOk result (λ made. made ≡ zero_state disks.now room failing.now) }
 
-        // In the words of the trait: zero bytes everywhere, and the sizes and geometries that were asked for.
-        ensures zeros { IfOk result (λ made. (disk sector : ℕ) → image_of made.start disk sector ≡ zero_sector) }
+        // In the words of the trait: zero bytes everywhere, and what was asked for.
+        ensures zeros { IfOk result (λ made. (disk sector : ℕ)
+            → image_of made.start disk sector ≡ zero_sector) }
         ensures size { IfOk result (λ made. (disk : ℕ)
-            → sizes_of made.start disk ≡ option_map_or (λ asked. asked.sectors) (slice_get disks.now disk) 0) }
+            → sizes_of made.start disk
+            ≡ option_map_or (λ asked. asked.sectors) (slice_get disks.now disk) 0) }
         ensures count { IfOk result (λ made. length made.start ≡ length disks.now) }
         ensures geometry { IfOk result (λ made. (disk : ℕ)
-            → geometries_of made.start disk ≡ option_map_or (λ asked. asked.geometry) (slice_get disks.now disk) absent_geometry) }
+            → geometries_of made.start disk
+            ≡ option_map_or (λ asked. asked.geometry) (slice_get disks.now disk) absent_geometry) }
     {
         let start = zero_disks(alloc, disks)?;
         Ok(MemDisks {
@@ -71,7 +79,8 @@ impl MemDisks {
     pub fn set(&mut self, disk: u8, sector: u32, bytes: &Sector)
         requires no_events { self.old.events ≡ [] }
         requires in_range { sector < sizes_of self.old.start disk }
-        ensures start { image_of self.new.start ≡ with_sector (image_of self.old.start) disk sector bytes.now }
+        ensures start { image_of self.new.start
+            ≡ with_sector (image_of self.old.start) disk sector bytes.now }
         ensures others { self.new ≡ record self.old { start = self.new.start } }
         ensures size { sizes_of self.new.start ≡ sizes_of self.old.start }
         ensures count { length self.new.start ≡ length self.old.start }
@@ -85,7 +94,7 @@ impl MemDisks {
         ensures count { result ≡ length self.now.events }
 
         // Whatever was done, each sector has 512 bytes, and so has what was written.
-        ensures now_whole { HasWholeSectors (now_of (past_of self.now)) }
+        ensures now_whole { HasWholeSectors (now_in self.now) }
         ensures start_whole { HasWholeSectors (image_of self.now.start) }
         ensures events_whole { All WritesWholeSector self.now.events }
     {
@@ -95,7 +104,7 @@ impl MemDisks {
     // The bytes that a sector has now.
     fn sector(&self, disk: u8, sector: u64) -> Sector
         requires { sector < sizes_of self.now.start disk }
-        ensures { result ≡ now_after (image_of self.now.start) self.now.events disk sector }
+        ensures { result ≡ now_in self.now disk sector }
     {
         match last_write(&self.events, disk, sector) {
             Some(bytes) => bytes,
@@ -138,7 +147,7 @@ impl MemDisks {
 }
 
 impl Disks for MemDisks {
-    ghost past = { λ disks. Some (past_of disks) };
+    ghost past = { past_of };
 
     ghost faults = { λ disks. disks.faults };
 
@@ -149,10 +158,11 @@ impl Disks for MemDisks {
     ghost geometry_of = { λ disks. geometries_of disks.start };
 
     fn read(&mut self, disk: u8, sector: u64, into: &mut Sector) -> Result<(), DiskFault>
-        ensures cause { HasCause (sizes_of self.old.start disk) sector self.old.faults self.new.faults result }
-        ensures bytes { OnOk result (Told (Some (past_of self.old)) (λ now. into.new ≡ now disk sector)) }
+        ensures cause { HasCause (sizes_of self.old.start disk) sector
+            self.old.faults self.new.faults result }
+        ensures bytes { OnOk result (Told (past_of self.old) (λ now. into.new ≡ now disk sector)) }
         ensures refused { OnErr result (into.new ≡ into.old) }
-        ensures past { Some (past_of self.new) ≡ Some (past_of self.old) }
+        ensures past { past_of self.new ≡ past_of self.old }
         ensures size { sizes_of self.new.start ≡ sizes_of self.old.start }
         ensures count { length self.new.start ≡ length self.old.start }
         ensures geometry { geometries_of self.new.start ≡ geometries_of self.old.start }
@@ -173,18 +183,21 @@ impl Disks for MemDisks {
     }
 
     fn write(&mut self, disk: u8, sector: u64, from: &Sector) -> Result<(), DiskFault>
-        ensures cause { HasCause (sizes_of self.old.start disk) sector self.old.faults self.new.faults result }
-        ensures ok { OnOk result (Some (past_of self.new) ≡ appended (Write disk sector from.now) (Some (past_of self.old))) }
-        ensures event { (Some (past_of self.new) ≡ appended (Write disk sector from.now) (Some (past_of self.old)))
-            ⊎ (Some (past_of self.new) ≡ Some (past_of self.old)) }
-        ensures out_of_range { IsErrOf result DiskFault.OutOfRange → Some (past_of self.new) ≡ Some (past_of self.old) }
+        ensures cause { HasCause (sizes_of self.old.start disk) sector
+            self.old.faults self.new.faults result }
+        ensures ok { OnOk result
+            (past_of self.new ≡ appended (Write disk sector from.now) (past_of self.old)) }
+        ensures event { (past_of self.new ≡ appended (Write disk sector from.now) (past_of self.old))
+            ⊎ (past_of self.new ≡ past_of self.old) }
+        ensures out_of_range { IsErrOf result DiskFault.OutOfRange → past_of self.new ≡ past_of self.old }
         ensures size { sizes_of self.new.start ≡ sizes_of self.old.start }
         ensures count { length self.new.start ≡ length self.old.start }
         ensures geometry { geometries_of self.new.start ≡ geometries_of self.old.start }
 
         // A call in range fails where the list says so, or for want of room.
         ensures failed { IsErrOf result DiskFault.Failed
-            ↔ ((sector < sizes_of self.old.start disk) × (IsSome (planned self.old) ⊎ IsFull self.old)) }
+            ↔ ((sector < sizes_of self.old.start disk)
+            × (IsSome (planned self.old) ⊎ IsFull self.old)) }
         ensures state { self.new ≡ after_write self.old disk sector from.now result }
     {
         if self.size(disk) <= sector {
@@ -208,8 +221,8 @@ impl Disks for MemDisks {
 
     fn flush(&mut self) -> Result<(), DiskFault>
         ensures cause { HasFlushCause self.old.faults self.new.faults result }
-        ensures ok { OnOk result (Some (past_of self.new) ≡ appended Flush (Some (past_of self.old))) }
-        ensures failed { OnErr result (Some (past_of self.new) ≡ Some (past_of self.old)) }
+        ensures ok { OnOk result (past_of self.new ≡ appended Flush (past_of self.old)) }
+        ensures failed { OnErr result (past_of self.new ≡ past_of self.old) }
         ensures size { sizes_of self.new.start ≡ sizes_of self.old.start }
         ensures count { length self.new.start ≡ length self.old.start }
         ensures geometry { geometries_of self.new.start ≡ geometries_of self.old.start }
@@ -256,7 +269,8 @@ fn zero_disks(alloc: Global, disks: &[MemDisk]) -> Result<Vec<HeldDisk>, AllocEr
 
 // The bytes of the last of some events that writes to a sector. The newest event stands first.
 fn last_write(events: &VecDeque<Event>, disk: u8, sector: u64) -> Option<Sector>
-    ensures { (start : Image) → now_after start events.now.items disk sector ≡ unwrap_or result (start disk sector) }
+    ensures { (start : Image)
+        → now_after start events.now.items disk sector ≡ unwrap_or result (start disk sector) }
 {
     for event in events {
         if let Event::Write(written_disk, written_sector, bytes) = event

@@ -1,2 +1,6 @@
 pub mod Past
 pub mod Cause
+pub mod Count
+pub mod Absent
+pub mod MemDisks
+pub mod FileDisks

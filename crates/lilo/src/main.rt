@@ -1,26 +1,28 @@
 //! `lilo IMAGE.. -- WORD..`: LILO over disk images, on a modelled PC.
 //!
 //! An IMAGE is `path`, `path:heads:sectors`, or `-` for an absent disk; the images are disks 0 to 3.
-//! Without `--` every word is an image. All text goes to standard output, faults included.
+//! Without `--` every word is an image. All text goes to standard output, faults included, and the exit
+//! status is that of the words, 14 for an image that can't be used, or 13 for want of memory.
 #![tactic(auto)]
 
 mod image;
 
-use disk_trait::FileDisks;
+use disk_trait::{Disks, FileDisks};
 use image::open_image;
 use lilo_run::{Ram, lilo};
-use std::alloc::{AllocError, Global};
-use std::env;
+use std::alloc::AllocError;
 use std::fs::File;
-use std::io;
 use std::process::ExitCode;
-use std::rt::Files;
 use std::time::SystemTime;
+use std::{env, io};
 use stream_trait::{StdSink, StdSource, Words};
 use thiserror::Error;
 
-/// The modelled PC's memory, in bytes.
+/// The memory of the modelled PC, in bytes.
 const MEMORY: u32 = 16_777_216;
+
+/// The most disks that a BIOS numbers here.
+const DISKS: u8 = 4;
 
 /// Why the program ends before its words are carried out.
 #[derive(Debug, Drop, Error)]
@@ -55,10 +57,63 @@ fn run(rt: &HostRuntime) -> Result<u8, Fault> {
     let alloc = rt.alloc();
     let mut words = Words::new(alloc);
     let mut disks = FileDisks::new(alloc);
-    sort_arguments(rt, &mut words, &mut disks)?;
+    sort_arguments(rt, &mut disks, &mut words)?;
     let mut keys = StdSource::new(rt.stdin());
     let mut out = StdSink::new(rt.stdout());
     let mut ram = Ram::new(alloc, MEMORY)?;
     let now = moment(rt);
-    Ok(lilo(alloc, &words, &mut disks, &mut keys, &mut out, &mut ram, now))
+    Ok(lilo(
+        alloc, &words, &mut disks, &mut keys, &mut out, &mut ram, now,
+    ))
+}
+
+/// Opens the images, and keeps the words behind the first `--`.
+fn sort_arguments(
+    rt: &HostRuntime,
+    disks: &mut FileDisks<File>,
+    words: &mut Words,
+) -> Result<(), Fault> {
+    let arguments = match env::args(rt) {
+        Ok(arguments) => arguments,
+        Err(error) if error.kind() == io::ErrorKind::OutOfMemory => return Err(Fault::Memory(
+            AllocError,
+        )),
+        Err(_) => return Err(Fault::NotText),
+    };
+    let mut are_words = false;
+    for argument in arguments.skip(1) {
+        if are_words {
+            words.push(rt.alloc(), argument.as_str())?;
+        } else if argument.as_str() == "--" {
+            are_words = true;
+        } else {
+            add_image(rt, disks, argument)?;
+        }
+    }
+    Ok(())
+}
+
+/// Opens an image as the next disk.
+fn add_image(rt: &HostRuntime, disks: &mut FileDisks<File>, word: String) -> Result<(), Fault> {
+    if disks.count() >= DISKS {
+        return Err(Fault::Image(word));
+    }
+    if word.as_str() == "-" {
+        return Ok(disks.push(None)?);
+    }
+    match open_image(rt, word.as_str()) {
+        Some(disk) => Ok(disks.push(Some(disk))?),
+        None => Err(Fault::Image(word)),
+    }
+}
+
+/// The seconds since the start of 1970, as far as they go.
+fn moment(rt: &HostRuntime) -> u32 {
+    let Ok(now) = SystemTime::now(rt) else {
+        return 0;
+    };
+    match now.duration_since(SystemTime::UNIX_EPOCH) {
+        Ok(since) => u32::try_from(since.as_secs()).unwrap_or(u32::MAX),
+        Err(_) => 0,
+    }
 }

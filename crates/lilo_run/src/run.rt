@@ -212,13 +212,13 @@ fn read_boot<D: Disks>(disks: &mut D, disk: u8) -> Result<BootSector, Halt>
 /// No disk is written, no key is taken, the memory stays, and nothing is allocated.
 #[tactic(auto, unfolding(crate::specs::Verdict::verdict))]
 pub fn lilo<D: Disks, I: Source, O: Sink>(
-    _alloc: Global,
+    alloc: Global,
     words: &Words,
     disks: &mut D,
     keys: &mut I,
     out: &mut O,
     ram: &mut Ram,
-    _now: u32,
+    now: u32,
 ) -> u8
     // Where the disks tell what they hold, the status is the verdict's, but for faults.
     ensures status { Told (D.past disks.old) (λ now. Answers (verdict now (D.size_of disks.old) words.now) result) }
@@ -239,8 +239,6 @@ pub fn lilo<D: Disks, I: Source, O: Sink>(
     ensures keys { keys.new ≡ keys.old }
     ensures memory { ram.new ≡ ram.old }
 {
-    let _ = keys;
-    let _ = ram;
     match query(words, disks) {
         Ok(text) => say_names(out, text.as_slice()),
         Err(halt) => say_halt(out, halt),

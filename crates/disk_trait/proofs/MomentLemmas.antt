@@ -6,7 +6,7 @@ use Rattle.std.proofs.lemmas.List.{drop_all}
 use Rattle.disk_trait.specs.declared.event.Event.{Event}
 use Rattle.disk_trait.specs.declared.event.Event.TheVariants.{Write, Flush}
 use Rattle.disk_trait.specs.Past.{Image, Past, with_sector, now_after, now_of, MayHold, first_events, Leaves, Told, appended}
-use Rattle.disk_trait.specs.Moments.{IsTold, now, begun_after, begun, moment, MayLeave, LeftSince, IsQuiet, LeftOrWritten, MayWrite, LeavesOnly, IsWholeImage, IsWhole}
+use Rattle.disk_trait.specs.Moments.{IsTold, now, begun_after, begun, moment, MayLeave, LeftSince, IsQuiet, LeftOrWritten, MayWrite, LeavesOnly, IsWholeImage, IsWhole, StaysWhole}
 
 -- the test of with_sector
 abbrev here : ℕ → ℕ → ℕ → ℕ → Bool
@@ -195,19 +195,23 @@ leaves_join old mid new P first next = record {
 whole_with : (size_of : ℕ → ℕ) (image : Image) (disk sector : ℕ) (bytes : List ℕ) → length bytes ≡ 512 → IsWholeImage size_of image → IsWholeImage size_of (with_sector image disk sector bytes)
 whole_with size_of image disk sector bytes long whole d s inside = cond_both (here disk sector d s) bytes (image d s) (λ (held : List ℕ). length held ≡ 512) (λ is. long) (λ is. whole d s inside)
 
-pub whole_same : (size_of after : ℕ → ℕ) (old new : Option Past) → after ≡ size_of → ((c : Image) → MayLeave new c → MayLeave old c) → IsWhole size_of old → IsWhole after new
-whole_same size_of after old new same left whole = subst (λ (sizes : ℕ → ℕ). IsWhole sizes new) (sym same) (λ c may. whole c (left c may))
+pub whole_same : (size_of : ℕ → ℕ) (old new : Option Past) → ((c : Image) → MayLeave new c → MayLeave old c) → LeavesOnly old new (MayLeave old) → IsWhole size_of old → StaysWhole size_of old new
+whole_same size_of old new left run whole = record {
+  after = λ c may. whole c (left c may);
+  any_moment = leaves_weaker old new (MayLeave old) (IsWholeImage size_of) run whole;
+}
 
-pub whole_write : (size_of after : ℕ → ℕ) (old new : Option Past) (disk sector : ℕ) (bytes : List ℕ) → after ≡ size_of → MayWrite disk sector bytes old new → length bytes ≡ 512 → IsWhole size_of old → IsWhole after new
-whole_write size_of after old new disk sector bytes same write long whole = subst (λ (sizes : ℕ → ℕ). IsWhole sizes new) (sym same) each
-  where
-    each : IsWhole size_of new
-    each c left =
-        let from = write c left in
-        ⊎_elim
-          (λ as_before. subst (IsWholeImage size_of) (sym as_before) (whole from.0 from.1))
-          (λ with. subst (IsWholeImage size_of) (sym with) (whole_with size_of from.0 disk sector bytes long (whole from.0 from.1)))
-          from.2
+whole_written : (size_of : ℕ → ℕ) (old : Option Past) (disk sector : ℕ) (bytes : List ℕ) → length bytes ≡ 512 → IsWhole size_of old → (c : Image) → LeftOrWritten old disk sector bytes c → IsWholeImage size_of c
+whole_written size_of old disk sector bytes long whole c from = ⊎_elim
+  (λ as_before. subst (IsWholeImage size_of) (sym as_before) (whole from.0 from.1))
+  (λ with. subst (IsWholeImage size_of) (sym with) (whole_with size_of from.0 disk sector bytes long (whole from.0 from.1)))
+  from.2
+
+pub whole_write : (size_of : ℕ → ℕ) (old new : Option Past) (disk sector : ℕ) (bytes : List ℕ) → MayWrite disk sector bytes old new → LeavesOnly old new (LeftOrWritten old disk sector bytes) → length bytes ≡ 512 → IsWhole size_of old → StaysWhole size_of old new
+whole_write size_of old new disk sector bytes write run long whole = record {
+  after = λ c left. whole_written size_of old disk sector bytes long whole c (write c left);
+  any_moment = leaves_weaker old new (LeftOrWritten old disk sector bytes) (IsWholeImage size_of) run (whole_written size_of old disk sector bytes long whole);
+}
 
 -- what a call's answer tells
 

@@ -1,3 +1,4 @@
 pub mod Past
 pub mod Cause
 pub mod Moments
+pub mod Range

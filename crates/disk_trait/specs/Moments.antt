@@ -1,6 +1,6 @@
 -- What a stop may leave, at each moment: each sector by itself holds its value at the last flush or the bytes of one
 -- write since. A moment is a number of events. Where no past is told, no image is left, and nothing is said.
-use Rattle.std.specs.Prelude.{◌≡◌, ◌⊎◌, ◌<◌, ◌≤◌, ℕ, ◌+◌, List, [], ◌∷◌, length, Option, None, Some, slice_index_or}
+use Rattle.std.specs.Prelude.{◌≡◌, ◌⊎◌, ◌<◌, ◌≤◌, ℕ, List, [], ◌∷◌, length, Option, None, Some}
 use Rattle.disk_trait.specs.declared.event.Event.{Event}
 use Rattle.disk_trait.specs.declared.event.Event.TheVariants.{Write, Flush}
 use Rattle.disk_trait.specs.Past.{Image, Past, with_sector, now_after, now_of, MayHold, Leaves}
@@ -69,25 +69,8 @@ IsWholeImage size_of image = (d s : ℕ) → s < size_of d → length (image d s
 abbrev pub IsWhole : (ℕ → ℕ) → Option Past → Type 0
 IsWhole size_of past = (c : Image) → MayLeave past c → IsWholeImage size_of c
 
--- a sector is none of count neighbouring ones
-abbrev pub IsOutside : ℕ → ℕ → ℕ → ℕ → ℕ → Type 0
-IsOutside disk start count d s = (d ≡ disk → ⊥) ⊎ (s < start) ⊎ (start + count ≤ s)
-
--- two images differ in no sector but count neighbouring ones
-abbrev pub SameOutside : ℕ → ℕ → ℕ → Image → Image → Type 0
-SameOutside disk start count old new = (d s : ℕ) → IsOutside disk start count d s → new d s ≡ old d s
-
--- the first count of these sectors stand in the new image from start on, and all else is as in the old
-pub record IsWritten (disk start : ℕ) (sectors : List (List ℕ)) (count : ℕ) (old new : Image) : Type 0 where
-  pub inside : (i : ℕ) → i < count → new disk (start + i) ≡ slice_index_or sectors i []
-  pub outside : SameOutside disk start count old new
-
--- some of the first count of these sectors stand in the new image from start on, each whole or not at all, and all
--- else is as in the old
-pub record IsPartWritten (disk start : ℕ) (sectors : List (List ℕ)) (count : ℕ) (old new : Image) : Type 0 where
-  pub inside : (i : ℕ) → i < count → (new disk (start + i) ≡ old disk (start + i)) ⊎ (new disk (start + i) ≡ slice_index_or sectors i [])
-  pub outside : SameOutside disk start count old new
-
--- an image that a stop might have left before, with some of these neighbouring sectors written
-abbrev pub LeftOrPartWritten : Option Past → ℕ → ℕ → List (List ℕ) → Image → Type 0
-LeftOrPartWritten old disk start sectors c = (b : Image) × MayLeave old b × IsPartWritten disk start sectors (length sectors) b c
+-- If all was whole, it stays so: each image has 512 bytes in each sector that is there, at any moment from old to new
+-- and after it.
+pub record StaysWhole (size_of : ℕ → ℕ) (old new : Option Past) : Type 0 where
+  pub after : IsWhole size_of new
+  pub any_moment : LeavesOnly old new (IsWholeImage size_of)

@@ -2,7 +2,7 @@
 ghost use Rattle.std.specs.Prelude.{◌≡◌, ◌⊎◌, OnOk, OnErr, IsErrOf};
 ghost use Rattle.disk_trait.specs.Past.{with_sector};
 ghost use Rattle.disk_trait.specs.Cause.{HasCause, HasFlushCause};
-ghost use Rattle.disk_trait.specs.Moments.{IsTold, now, begun, MayLeave, IsQuiet, LeftOrWritten, MayWrite, LeavesOnly, IsWhole};
+ghost use Rattle.disk_trait.specs.Moments.{IsTold, now, begun, MayLeave, IsQuiet, LeftOrWritten, MayWrite, LeavesOnly, IsWhole, StaysWhole};
 
 use crate::{DiskFault, Disks};
 use sector_parts::Sector;
@@ -15,10 +15,13 @@ pub fn read<D: Disks>(
     into: &mut Sector,
 ) -> Result<(), DiskFault>
     ensures cause { HasCause (D.size_of disks.old disk) sector (D.faults disks.old) (D.faults disks.new) result }
-    ensures bytes { OnOk result (IsTold (D.past disks.old) → into.new ≡ now (D.past disks.old) disk sector) }
+    ensures bytes { IsTold (D.past disks.old) → OnOk result (into.new ≡ now (D.past disks.old) disk sector) }
     ensures refused { OnErr result (into.new ≡ into.old) }
     ensures past { D.past disks.new ≡ D.past disks.old }
     ensures any_moment { LeavesOnly (D.past disks.old) (D.past disks.new) (MayLeave (D.past disks.old)) }
+    ensures at_now { IsTold (D.past disks.new) → MayLeave (D.past disks.new) (now (D.past disks.new)) }
+    ensures whole { IsWhole (D.size_of disks.old) (D.past disks.old)
+        → StaysWhole (D.size_of disks.old) (D.past disks.old) (D.past disks.new) }
     ensures size { D.size_of disks.new ≡ D.size_of disks.old }
     ensures count { D.count_of disks.new ≡ D.count_of disks.old }
     ensures geometry { D.geometry_of disks.new ≡ D.geometry_of disks.old }
@@ -36,15 +39,16 @@ pub fn write<D: Disks>(
     ensures cause { HasCause (D.size_of disks.old disk) sector (D.faults disks.old) (D.faults disks.new) result }
     ensures out_of_range { IsErrOf result DiskFault.OutOfRange → D.past disks.new ≡ D.past disks.old }
     ensures told { IsTold (D.past disks.old) → IsTold (D.past disks.new) }
-    ensures written { OnOk result (IsTold (D.past disks.old)
-        → now (D.past disks.new) ≡ with_sector (now (D.past disks.old)) disk sector from.now) }
+    ensures written { IsTold (D.past disks.old)
+        → OnOk result (now (D.past disks.new) ≡ with_sector (now (D.past disks.old)) disk sector from.now) }
     ensures made { (now (D.past disks.new) ≡ with_sector (now (D.past disks.old)) disk sector from.now)
         ⊎ (now (D.past disks.new) ≡ now (D.past disks.old)) }
     ensures begun { begun (D.past disks.new) ≡ begun (D.past disks.old) }
     ensures left { MayWrite disk sector from.now (D.past disks.old) (D.past disks.new) }
     ensures any_moment { LeavesOnly (D.past disks.old) (D.past disks.new) (LeftOrWritten (D.past disks.old) disk sector from.now) }
     ensures at_now { IsTold (D.past disks.new) → MayLeave (D.past disks.new) (now (D.past disks.new)) }
-    ensures whole { IsWhole (D.size_of disks.old) (D.past disks.old) → IsWhole (D.size_of disks.new) (D.past disks.new) }
+    ensures whole { IsWhole (D.size_of disks.old) (D.past disks.old)
+        → StaysWhole (D.size_of disks.old) (D.past disks.old) (D.past disks.new) }
     ensures size { D.size_of disks.new ≡ D.size_of disks.old }
     ensures count { D.count_of disks.new ≡ D.count_of disks.old }
     ensures geometry { D.geometry_of disks.new ≡ D.geometry_of disks.old }
@@ -63,10 +67,41 @@ pub fn flush<D: Disks>(disks: &mut D) -> Result<(), DiskFault>
     ensures left { (c : _) → MayLeave (D.past disks.new) c → MayLeave (D.past disks.old) c }
     ensures any_moment { LeavesOnly (D.past disks.old) (D.past disks.new) (MayLeave (D.past disks.old)) }
     ensures at_now { IsTold (D.past disks.new) → MayLeave (D.past disks.new) (now (D.past disks.new)) }
-    ensures whole { IsWhole (D.size_of disks.old) (D.past disks.old) → IsWhole (D.size_of disks.new) (D.past disks.new) }
+    ensures whole { IsWhole (D.size_of disks.old) (D.past disks.old)
+        → StaysWhole (D.size_of disks.old) (D.past disks.old) (D.past disks.new) }
     ensures size { D.size_of disks.new ≡ D.size_of disks.old }
     ensures count { D.count_of disks.new ≡ D.count_of disks.old }
     ensures geometry { D.geometry_of disks.new ≡ D.geometry_of disks.old }
 {
     disks.flush()
+}
+
+/// Writes a sector and makes it durable, with all writes before it.
+pub fn write_and_flush<D: Disks>(
+    disks: &mut D,
+    disk: u8,
+    sector: u64,
+    from: &Sector,
+) -> Result<(), DiskFault>
+    ensures cause { HasCause (D.size_of disks.old disk) sector (D.faults disks.old) (D.faults disks.new) result }
+    ensures out_of_range { IsErrOf result DiskFault.OutOfRange → D.past disks.new ≡ D.past disks.old }
+    ensures told { IsTold (D.past disks.old) → IsTold (D.past disks.new) }
+    ensures written { IsTold (D.past disks.old)
+        → OnOk result (now (D.past disks.new) ≡ with_sector (now (D.past disks.old)) disk sector from.now) }
+    ensures made { (now (D.past disks.new) ≡ with_sector (now (D.past disks.old)) disk sector from.now)
+        ⊎ (now (D.past disks.new) ≡ now (D.past disks.old)) }
+    ensures begun { OnOk result (begun (D.past disks.new) ≡ now (D.past disks.new)) }
+    ensures begun_err { OnErr result (begun (D.past disks.new) ≡ begun (D.past disks.old)) }
+    ensures quiet { OnOk result (IsQuiet (D.past disks.new)) }
+    ensures left { MayWrite disk sector from.now (D.past disks.old) (D.past disks.new) }
+    ensures any_moment { LeavesOnly (D.past disks.old) (D.past disks.new) (LeftOrWritten (D.past disks.old) disk sector from.now) }
+    ensures at_now { IsTold (D.past disks.new) → MayLeave (D.past disks.new) (now (D.past disks.new)) }
+    ensures whole { IsWhole (D.size_of disks.old) (D.past disks.old)
+        → StaysWhole (D.size_of disks.old) (D.past disks.old) (D.past disks.new) }
+    ensures size { D.size_of disks.new ≡ D.size_of disks.old }
+    ensures count { D.count_of disks.new ≡ D.count_of disks.old }
+    ensures geometry { D.geometry_of disks.new ≡ D.geometry_of disks.old }
+{
+    write(disks, disk, sector, from)?;
+    flush(disks)
 }

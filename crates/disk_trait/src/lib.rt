@@ -10,8 +10,10 @@ mod disks;
 mod event;
 mod geometry;
 mod layer;
+mod range;
 
 pub use disks::{DiskFault, Disks, Phase, Span};
 pub use event::Event;
 pub use geometry::{Geometry, GeometryFault};
-pub use layer::{flush, read, write};
+pub use layer::{flush, read, write, write_and_flush};
+pub use range::{write_range, write_sectors};

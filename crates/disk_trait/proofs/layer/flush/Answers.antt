@@ -31,4 +31,4 @@ pub returns-clause-at_now : goal.returns-clause-at_now
 returns-clause-at_now g c = at_now (g.D.Disks.past c.flush.new.self)
 
 pub returns-clause-whole : goal.returns-clause-whole
-returns-clause-whole g c = whole_same _ _ _ _ c.flush.ensures.size (left_flushed _ _ (made g c))
+returns-clause-whole g c = whole_same _ _ _ (left_flushed _ _ (made g c)) (leaves_flushed _ _ (made g c))

@@ -9,7 +9,7 @@ returns-clause-told g c = told_event _ _ _ c.write.ensures.event
 pub returns-clause-written : goal.returns-clause-written
 returns-clause-written g c =
     let old = g.D.Disks.past c.args.disks.now in
-    on_ok c.write.result _ _ c.write.ensures.ok (λ is told. ap now is ∙ now_write old c.args.disk c.args.sector c.args.from.now told)
+    λ told. on_ok c.write.result _ _ c.write.ensures.ok (λ is. ap now is ∙ now_write old c.args.disk c.args.sector c.args.from.now told)
 
 pub returns-clause-made : goal.returns-clause-made
 returns-clause-made g c = now_made _ _ _ _ _ c.write.ensures.event
@@ -27,4 +27,4 @@ pub returns-clause-at_now : goal.returns-clause-at_now
 returns-clause-at_now g c = at_now (g.D.Disks.past c.write.new.self)
 
 pub returns-clause-whole : goal.returns-clause-whole
-returns-clause-whole g c = whole_write _ _ _ _ _ _ _ c.write.ensures.size (left_made _ _ _ _ _ c.write.ensures.event) c.told-from
+returns-clause-whole g c = whole_write _ _ _ _ _ _ (left_made _ _ _ _ _ c.write.ensures.event) (leaves_made _ _ _ _ _ c.write.ensures.event) c.told-from

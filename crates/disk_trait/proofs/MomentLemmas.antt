@@ -9,13 +9,13 @@ use Rattle.disk_trait.specs.Past.{Image, Past, with_sector, now_after, now_of, M
 use Rattle.disk_trait.specs.Moments.{IsTold, now, begun_after, begun, moment, MayLeave, LeftSince, IsQuiet, LeftOrWritten, MayWrite, LeavesOnly, IsWholeImage, IsWhole, StaysWhole}
 
 -- the test of with_sector
-abbrev here : ℕ → ℕ → ℕ → ℕ → Bool
+abbrev pub here : ℕ → ℕ → ℕ → ℕ → Bool
 here disk sector d s = disk == d && sector == s
 
-here_true : (disk sector d s : ℕ) → here disk sector d s ≡ true → (disk ≡ d) × (sector ≡ s)
+pub here_true : (disk sector d s : ℕ) → here disk sector d s ≡ true → (disk ≡ d) × (sector ≡ s)
 here_true disk sector d s is = (grind (arith, nat_tests), grind (arith, nat_tests))
 
-here_is : (disk sector d s : ℕ) → disk ≡ d → sector ≡ s → here disk sector d s ≡ true
+pub here_is : (disk sector d s : ℕ) → disk ≡ d → sector ≡ s → here disk sector d s ≡ true
 here_is disk sector d s same_disk same_sector = grind (arith, nat_tests)
 
 -- the sector that was written

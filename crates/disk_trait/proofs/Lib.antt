@@ -1,2 +1,3 @@
-mod MomentLemmas
-mod RangeLemmas
+pub mod MomentLemmas
+pub mod RangeLemmas
+pub mod LawLemmas

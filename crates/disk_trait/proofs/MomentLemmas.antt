@@ -27,7 +27,7 @@ with_other : (image : Image) (disk sector : ℕ) (bytes : List ℕ) (d s : ℕ) 
 with_other image disk sector bytes d s is = rw is
 
 -- Now is one of the images that a stop may leave
-may_hold_now : (start : Image) (events : List Event) (d s : ℕ) → MayHold start events d s (now_after start events d s)
+pub may_hold_now : (start : Image) (events : List Event) (d s : ℕ) → MayHold start events d s (now_after start events d s)
 may_hold_now start [] d s = refl
 may_hold_now start (Write disk sector bytes ∷ older) d s = ⊎_elim
   (λ is. inl ((here_true disk sector d s is).0, (here_true disk sector d s is).1, with_same (now_after start older) disk sector bytes d s is))
@@ -132,14 +132,14 @@ left_flush (Some past) c left = λ d s. subst (MayHold past.start past.events d 
 
 -- how runs go on
 
-first_all : (k : ℕ) (events : List Event) → length events ≤ k → first_events k events ≡ events
+pub first_all : (k : ℕ) (events : List Event) → length events ≤ k → first_events k events ≡ events
 first_all k events le = let none : length events - k ≡ 0 = omega arith in ap (λ (n : ℕ). drop n events) none
 
 first_older : (k : ℕ) (event : Event) (events : List Event) → k ≤ length events → first_events k (event ∷ events) ≡ first_events k events
 first_older k event events le = let one : length (event ∷ events) - k ≡ suc (length events - k) = omega arith in ap (λ (n : ℕ). drop n (event ∷ events)) one
 
 -- a stop since this moment is a stop at it
-left_now : (past : Option Past) (c : Image) → LeftSince past (moment past) c → MayLeave past c
+pub left_now : (past : Option Past) (c : Image) → LeftSince past (moment past) c → MayLeave past c
 unfolding LeftSince moment MayLeave
 left_now None c left = left
 left_now (Some past) c left = subst (λ (events : List Event). (d s : ℕ) → MayHold past.start events d s (c d s)) (first_all left.0 past.events left.1) left.3

@@ -9,11 +9,15 @@
 mod disks;
 mod event;
 mod geometry;
+mod laws;
 mod layer;
 mod range;
 
 pub use disks::{DiskFault, Disks, Phase, Span};
 pub use event::Event;
 pub use geometry::{Geometry, GeometryFault};
+pub use laws::{
+    Claim, joining, last_moment, leaves_only, may_hold, now_and_begun, quiet, runs_join, weaker,
+};
 pub use layer::{flush, read, write, write_and_flush};
 pub use range::{write_range, write_sectors};

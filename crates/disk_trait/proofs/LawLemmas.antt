@@ -1,13 +1,13 @@
 -- The laws of moments.
-use Rattle.std.proofs.Common.{◌≡◌, ◌⊎◌, ◌↔◌, inl, inr, ⊎_elim, ℕ, zero, suc, ◌+◌, ◌-◌, ◌<◌, ◌≤◌, List, [], ◌∷◌, ◌++◌, length, take, drop, slice_get, Option, None, Some, refl, sym, ◌∙◌, ap, subst, arith, length-append, length-take-le, take-append-drop}
+use Rattle.std.proofs.Common.{◌≡◌, inl, inr, ⊎_elim, ℕ, zero, suc, ◌+◌, ◌-◌, ◌<◌, ◌≤◌, List, [], ◌∷◌, ◌++◌, length, take, drop, slice_get, Option, None, Some, refl, sym, ◌∙◌, ap, subst, arith, length-append, length-take-le, take-append-drop}
 use Rattle.std.proofs.Math.Seq.{drop-append-add}
 use Rattle.std.proofs.lemmas.Bool.{cases_lt}
 use Rattle.std.proofs.lemmas.List.{drop-append-le}
 use Rattle.disk_trait.specs.declared.event.Event.{Event}
 use Rattle.disk_trait.specs.declared.event.Event.TheVariants.{Write, Flush}
-use Rattle.disk_trait.specs.Past.{Image, Past, now_after, IsQuietAfter, MayHold, first_events, Leaves}
-use Rattle.disk_trait.specs.Moments.{IsTold, now, begun_after, begun, moment, MayLeave, LeftSince, IsQuiet, LeavesOnly}
-use Rattle.disk_trait.specs.Laws.{HeldOrWritten, MayHoldLaw, LastMomentLaw, NowAndBegunLaw, QuietLaw, begun_anew, JoiningLaw, continued, LeavesOnlyLaw, RunsJoinLaw, WeakerLaw}
+use Rattle.disk_trait.specs.Past.{Image, Past, now_after, IsQuietAfter, MayHold, first_events}
+use Rattle.disk_trait.specs.Moments.{IsTold, now, begun_after, begun, moment, MayLeave, LeftSince, IsQuiet}
+use Rattle.disk_trait.specs.Laws.{HeldOrWritten, MayHoldLaw, LastMomentLaw, NowAndBegunLaw, QuietLaw, begun_anew, JoiningLaw, LeavesOnlyLaw, RunsJoinLaw, WeakerLaw, EndOfRunLaw}
 use Rattle.disk_trait.proofs.MomentLemmas.{may_hold_now, at_now, first_all, left_now, leaves_join, leaves_weaker}
 
 -- all that a stop may leave after some events
@@ -50,9 +50,9 @@ held_or_written start (Write disk sector new ∷ older) d s bytes (inl same) =
     ap₃ : disk ≡ d → sector ≡ s → bytes ≡ new → Some (Write disk sector new) ≡ Some (Write d s bytes)
     ap₃ at_disk at_sector held = cc
 held_or_written start (Write disk sector new ∷ older) d s bytes (inr holds) = ⊎_elim
-  (λ held. inl held)
-  (λ written. inr (suc written.0, written.1, newer_by_one (Write disk sector new) older written.0 (is_no_flush disk sector new) written.2))
-  (held_or_written start older d s bytes holds)
+    (λ held. inl held)
+    (λ written. inr (suc written.0, written.1, newer_by_one (Write disk sector new) older written.0 (is_no_flush disk sector new) written.2))
+    (held_or_written start older d s bytes holds)
 held_or_written start (Flush ∷ older) d s bytes holds = inl holds
 
 may_hold_written : (start : Image) (events : List Event) (d s : ℕ) (bytes : List ℕ) (at : ℕ) → slice_get events at ≡ Some (Write d s bytes) → ((i : ℕ) → i < at → slice_get events i ≡ Some Flush → ⊥) → MayHold start events d s bytes
@@ -78,9 +78,9 @@ pub may_hold_law : MayHoldLaw
 may_hold_law start events d s bytes = (
   held_or_written start events d s bytes,
   (λ held. ⊎_elim
-    (λ same. subst (MayHold start events d s) (sym same) (may_hold_begun start events d s))
-    (λ written. may_hold_written start events d s bytes written.0 written.1 written.2)
-    held),
+      (λ same. subst (MayHold start events d s) (sym same) (may_hold_begun start events d s))
+      (λ written. may_hold_written start events d s bytes written.0 written.1 written.2)
+      held),
 )
 
 -- the last moment
@@ -91,6 +91,17 @@ last_moment_law past c =
     let all : first_events (length past.events) past.events ≡ past.events = first_all (length past.events) past.events (omega arith) in
     let from = λ (left : LeavesAfter past.start past.events c). subst (λ (events : List Event). LeavesAfter past.start events c) (sym all) left in
     ((from, (λ left. subst (λ (events : List Event). LeavesAfter past.start events c) all left)), (left_now (Some past) c, (λ left. (length past.events, omega arith, omega arith, from left))))
+
+since_now : (past : Option Past) (c : Image) → MayLeave past c → LeftSince past (moment past) c
+unfolding MayLeave LeftSince moment
+since_now None c left = left
+since_now (Some past) c left = ((last_moment_law past c).1).1 left
+
+-- a stop since a moment is one since any earlier one
+since_earlier : (past : Option Past) (t u : ℕ) (c : Image) → t ≤ u → LeftSince past u c → LeftSince past t c
+unfolding LeftSince
+since_earlier None t u c le left = left
+since_earlier (Some past) t u c le left = (left.0, omega arith, left.2, left.3)
 
 -- quiet pasts
 
@@ -134,9 +145,9 @@ first_parts events n k le =
 pub joining_law : JoiningLaw
 joining_law past n k c quiet le = (
   (λ left d s. joined past.start (first_events n past.events) quiet d s (c d s) (first_events (k - n) (begun_anew n past).events)
-    (subst (λ (events : List Event). MayHold past.start events d s (c d s)) (first_parts past.events n k le) (left d s))),
+      (subst (λ (events : List Event). MayHold past.start events d s (c d s)) (first_parts past.events n k le) (left d s))),
   (λ left d s. subst (λ (events : List Event). MayHold past.start events d s (c d s)) (sym (first_parts past.events n k le))
-    (parted past.start (first_events n past.events) quiet d s (c d s) (first_events (k - n) (begun_anew n past).events) (left d s))),
+      (parted past.start (first_events n past.events) quiet d s (c d s) (first_events (k - n) (begun_anew n past).events) (left d s))),
 )
 
 -- runs
@@ -156,14 +167,17 @@ module _ (P : Image → Type 0) where
       later = omega (arith, length-append newer past.events);
       each = λ c left. all left.0 c left.1 left.2 left.3;
       before = λ t c le left. ⊎_elim
-        (λ old. inl (left.0, left.1, omega arith, subst (λ (events : List Event). LeavesAfter past.start events c) (first_of_continued newer past.events left.0 (omega arith)) left.3))
-        (λ new. inr (all left.0 c new left.2 left.3))
-        (cases_lt left.0 (length past.events));
+          (λ old. inl (left.0, left.1, omega arith, subst (λ (events : List Event). LeavesAfter past.start events c) (first_of_continued newer past.events left.0 (omega arith)) left.3))
+          (λ new. inr (all left.0 c new left.2 left.3))
+          (cases_lt left.0 (length past.events));
     }),
   )
 
   pub runs_join_law : RunsJoinLaw P
   runs_join_law old mid new = leaves_join old mid new P
+
+  pub end_of_run_law : EndOfRunLaw P
+  end_of_run_law old new run c left = run.each c (since_earlier new (moment old) (moment new) c run.later (since_now new c left))
 
 pub weaker_law : (P Q : Image → Type 0) → WeakerLaw P Q
 weaker_law P Q so old new run = leaves_weaker old new P Q run so

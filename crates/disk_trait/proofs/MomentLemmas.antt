@@ -1,12 +1,11 @@
 -- What one event changes in the words of moments, and how runs go on.
-use Rattle.std.proofs.Common.{◌≡◌, ◌⊎◌, inl, inr, ⊎_elim, ℕ, suc, ◌+◌, ◌-◌, ◌<◌, ◌≤◌, ◌==◌, ◌&&◌, Bool, true, false, List, [], ◌∷◌, ◌++◌, length, take, drop, Option, None, Some, if◌then◌else◌, OnOk, OnErr, Result, Ok, Err, refl, sym, ◌∙◌, ap, ap₂, subst, subst₂, arith}
+use Rattle.std.proofs.Common.{◌≡◌, ◌⊎◌, inl, inr, ⊎_elim, ℕ, suc, ◌-◌, ◌≤◌, ◌==◌, ◌&&◌, Bool, true, false, List, [], ◌∷◌, length, drop, Option, None, Some, OnOk, OnErr, Result, Ok, Err, refl, sym, ◌∙◌, ap, ap₂, subst, subst₂, arith}
 use Rattle.std.proofs.lemmas.Bool.{cases_Bool, cases_lt, cond_both}
 use Rattle.std.proofs.lemmas.Bool.Decides.{nat_tests}
-use Rattle.std.proofs.lemmas.List.{drop_all}
 use Rattle.disk_trait.specs.declared.event.Event.{Event}
 use Rattle.disk_trait.specs.declared.event.Event.TheVariants.{Write, Flush}
-use Rattle.disk_trait.specs.Past.{Image, Past, with_sector, now_after, now_of, MayHold, first_events, Leaves, Told, appended}
-use Rattle.disk_trait.specs.Moments.{IsTold, now, begun_after, begun, moment, MayLeave, LeftSince, IsQuiet, LeftOrWritten, MayWrite, LeavesOnly, IsWholeImage, IsWhole, StaysWhole}
+use Rattle.disk_trait.specs.Past.{Image, Past, with_sector, now_after, MayHold, first_events, Told, appended}
+use Rattle.disk_trait.specs.Moments.{IsTold, now, begun, moment, MayLeave, LeftSince, IsQuiet, LeftOrWritten, MayWrite, LeavesOnly, IsWholeImage, IsWhole, StaysWhole}
 
 -- the test of with_sector
 abbrev pub here : ℕ → ℕ → ℕ → ℕ → Bool
@@ -30,9 +29,9 @@ with_other image disk sector bytes d s is = rw is
 pub may_hold_now : (start : Image) (events : List Event) (d s : ℕ) → MayHold start events d s (now_after start events d s)
 may_hold_now start [] d s = refl
 may_hold_now start (Write disk sector bytes ∷ older) d s = ⊎_elim
-  (λ is. inl ((here_true disk sector d s is).0, (here_true disk sector d s is).1, with_same (now_after start older) disk sector bytes d s is))
-  (λ is. inr (subst (MayHold start older d s) (sym (with_other (now_after start older) disk sector bytes d s is)) (may_hold_now start older d s)))
-  (cases_Bool (here disk sector d s))
+    (λ is. inl ((here_true disk sector d s is).0, (here_true disk sector d s is).1, with_same (now_after start older) disk sector bytes d s is))
+    (λ is. inr (subst (MayHold start older d s) (sym (with_other (now_after start older) disk sector bytes d s is)) (may_hold_now start older d s)))
+    (cases_Bool (here disk sector d s))
 may_hold_now start (Flush ∷ older) d s = refl
 
 pub at_now : (past : Option Past) → IsTold past → MayLeave past (now past)
@@ -75,10 +74,10 @@ module _ (start : Image) (older : List Event) (disk sector : ℕ) (bytes : List 
   unwritten_left : (c : Image) → ((d s : ℕ) → MayHold start (Write disk sector bytes ∷ older) d s (c d s)) → (d s : ℕ) → MayHold start older d s (unwritten c d s)
   unfolding unwritten
   unwritten_left c left d s = ⊎_elim
-    (λ is. let same = here_true disk sector d s is in
+      (λ is. let same = here_true disk sector d s is in
       subst (MayHold start older d s) (sym (with_same c disk sector (now_after start older disk sector) d s is ∙ ap₂ (now_after start older) same.0 same.1)) (may_hold_now start older d s))
-    (λ is. subst (MayHold start older d s) (sym (with_other c disk sector (now_after start older disk sector) d s is)) (other_holds d s (c d s) is (left d s)))
-    (cases_Bool (here disk sector d s))
+      (λ is. subst (MayHold start older d s) (sym (with_other c disk sector (now_after start older disk sector) d s is)) (other_holds d s (c d s) is (left d s)))
+      (cases_Bool (here disk sector d s))
 
   written_again : (c : Image) → c disk sector ≡ bytes → c ≡ with_sector (unwritten c) disk sector bytes
   unfolding unwritten
@@ -86,16 +85,16 @@ module _ (start : Image) (older : List Event) (disk sector : ℕ) (bytes : List 
     where
       same : (d s : ℕ) → c d s ≡ with_sector (with_sector c disk sector (now_after start older disk sector)) disk sector bytes d s
       same d s = ⊎_elim
-        (λ it_is. let place = here_true disk sector d s it_is in
+          (λ it_is. let place = here_true disk sector d s it_is in
           ap₂ c (sym place.0) (sym place.1) ∙ is ∙ sym (with_same (with_sector c disk sector (now_after start older disk sector)) disk sector bytes d s it_is))
-        (λ other. sym (with_other (with_sector c disk sector (now_after start older disk sector)) disk sector bytes d s other ∙ with_other c disk sector (now_after start older disk sector) d s other))
-        (cases_Bool (here disk sector d s))
+          (λ other. sym (with_other (with_sector c disk sector (now_after start older disk sector)) disk sector bytes d s other ∙ with_other c disk sector (now_after start older disk sector) d s other))
+          (cases_Bool (here disk sector d s))
 
   not_written : (c : Image) → ((d s : ℕ) → MayHold start (Write disk sector bytes ∷ older) d s (c d s)) → MayHold start older disk sector (c disk sector) → (d s : ℕ) → MayHold start older d s (c d s)
   not_written c left holds d s = ⊎_elim
-    (λ is. let same = here_true disk sector d s is in subst₂ (λ (x y : ℕ). MayHold start older x y (c x y)) same.0 same.1 holds)
-    (λ is. other_holds d s (c d s) is (left d s))
-    (cases_Bool (here disk sector d s))
+      (λ is. let same = here_true disk sector d s is in subst₂ (λ (x y : ℕ). MayHold start older x y (c x y)) same.0 same.1 holds)
+      (λ is. other_holds d s (c d s) is (left d s))
+      (cases_Bool (here disk sector d s))
 
   left_or_written : (c : Image) → ((d s : ℕ) → MayHold start (Write disk sector bytes ∷ older) d s (c d s))
       → ((disk ≡ disk) × (sector ≡ sector) × (c disk sector ≡ bytes)) ⊎ MayHold start older disk sector (c disk sector)
@@ -149,18 +148,31 @@ left_later : (event : Event) (past : Option Past) (t : ℕ) (c : Image) → Left
 unfolding LeftSince MayLeave
 left_later event None t c left = inl left
 left_later event (Some past) t c left = ⊎_elim
-  (λ lt. inl (left.0, left.1, omega arith, subst (λ (events : List Event). (d s : ℕ) → MayHold past.start events d s (c d s)) (first_older left.0 event past.events (omega arith)) left.3))
-  (λ le. inr (subst (λ (events : List Event). (d s : ℕ) → MayHold past.start events d s (c d s)) (first_all left.0 (event ∷ past.events) (omega arith)) left.3))
-  (cases_lt left.0 (length (event ∷ past.events)))
+    (λ lt. inl (left.0, left.1, omega arith, subst (λ (events : List Event). (d s : ℕ) → MayHold past.start events d s (c d s)) (first_older left.0 event past.events (omega arith)) left.3))
+    (λ le. inr (subst (λ (events : List Event). (d s : ℕ) → MayHold past.start events d s (c d s)) (first_all left.0 (event ∷ past.events) (omega arith)) left.3))
+    (cases_lt left.0 (length (event ∷ past.events)))
 
 later : (event : Event) (past : Option Past) → moment past ≤ moment (appended event past)
 unfolding moment
 later event None = omega arith
 later event (Some past) = omega arith
 
--- before the first event
+-- before the first event: for a function that returns before its first call
+pub leaves_none : (past : Option Past) (P : Image → Type 0) → ((c : Image) → MayLeave past c → P c) → LeavesOnly past past P
+leaves_none past P so = record { later = omega arith; each = λ c left. so c (left_now past c left); before = λ t c le left. inl left }
+
 pub leaves_same : (past : Option Past) → LeavesOnly past past (MayLeave past)
-leaves_same past = record { later = omega arith; each = left_now past; before = λ t c le left. inl left }
+leaves_same past = leaves_none past (MayLeave past) (λ c left. left)
+
+-- no past that isn't told says of a sector how long it is
+pub whole_untold : (size_of : ℕ → ℕ) (past : Option Past) → past ≡ None → IsWhole size_of past
+unfolding MayLeave
+whole_untold size_of past untold = subst (IsWhole size_of) (sym untold) (λ c left. absurd left)
+
+-- disks on which nothing was done are whole if the start is
+pub whole_start : (size_of : ℕ → ℕ) (start : Image) → IsWholeImage size_of start → IsWhole size_of (Some (record { start = start; events = [] }))
+unfolding MayLeave
+whole_start size_of start whole c left d s inside = ap length (left d s) ∙ whole d s inside
 
 -- one event
 leaves_event : (event : Event) (past : Option Past) (P : Image → Type 0) → ((c : Image) → MayLeave past c → P c) → ((c : Image) → MayLeave (appended event past) c → P c) → LeavesOnly past (appended event past) P
@@ -203,9 +215,9 @@ whole_same size_of old new left run whole = record {
 
 whole_written : (size_of : ℕ → ℕ) (old : Option Past) (disk sector : ℕ) (bytes : List ℕ) → length bytes ≡ 512 → IsWhole size_of old → (c : Image) → LeftOrWritten old disk sector bytes c → IsWholeImage size_of c
 whole_written size_of old disk sector bytes long whole c from = ⊎_elim
-  (λ as_before. subst (IsWholeImage size_of) (sym as_before) (whole from.0 from.1))
-  (λ with. subst (IsWholeImage size_of) (sym with) (whole_with size_of from.0 disk sector bytes long (whole from.0 from.1)))
-  from.2
+    (λ as_before. subst (IsWholeImage size_of) (sym as_before) (whole from.0 from.1))
+    (λ with. subst (IsWholeImage size_of) (sym with) (whole_with size_of from.0 disk sector bytes long (whole from.0 from.1)))
+    from.2
 
 pub whole_write : (size_of : ℕ → ℕ) (old new : Option Past) (disk sector : ℕ) (bytes : List ℕ) → MayWrite disk sector bytes old new → LeavesOnly old new (LeftOrWritten old disk sector bytes) → length bytes ≡ 512 → IsWhole size_of old → StaysWhole size_of old new
 whole_write size_of old new disk sector bytes write run long whole = record {
@@ -257,8 +269,8 @@ module _ (old new : Option Past) (disk sector : ℕ) (bytes : List ℕ) (made : 
 
   pub leaves_made : LeavesOnly old new (LeftOrWritten old disk sector bytes)
   leaves_made = by_cases (Write disk sector bytes) old new (λ (p : Option Past). LeavesOnly old p (LeftOrWritten old disk sector bytes)) made
-    (leaves_write old disk sector bytes)
-    (leaves_weaker old old (MayLeave old) (LeftOrWritten old disk sector bytes) (leaves_same old) (λ c left. (c, left, inl refl)))
+      (leaves_write old disk sector bytes)
+      (leaves_weaker old old (MayLeave old) (LeftOrWritten old disk sector bytes) (leaves_same old) (λ c left. (c, left, inl refl)))
 
 -- a flush that was made or not
 module _ (old new : Option Past) (made : MayAppend Flush old new) where

@@ -1,10 +1,10 @@
 -- One more sector of a range.
-use Rattle.std.proofs.Common.{◌≡◌, ◌≢◌, ◌⊎◌, inl, inr, ⊎_elim, ℕ, ◌+◌, ◌<◌, ◌≤◌, true, false, List, [], length, Option, slice_index_or, refl, sym, ◌∙◌, ap, subst, arith}
-use Rattle.std.proofs.lemmas.Bool.{cases_Bool, cases_lt, cond_both}
+use Rattle.std.proofs.Common.{◌≡◌, ◌⊎◌, inl, inr, ⊎_elim, ℕ, ◌+◌, ◌<◌, ◌≤◌, true, false, List, [], length, Option, slice_index_or, refl, sym, ◌∙◌, ap, subst, arith}
+use Rattle.std.proofs.lemmas.Bool.{cases_lt, cond_both}
 use Rattle.disk_trait.specs.Past.{Image, Past, with_sector}
 use Rattle.disk_trait.specs.Moments.{IsTold, now, begun, MayLeave, LeftOrWritten, MayWrite, LeavesOnly, IsWholeImage, IsWhole, StaysWhole}
-use Rattle.disk_trait.specs.Range.{IsOutside, SameOutside, IsWritten, IsPartWritten, LeftOrPartWritten}
-use Rattle.disk_trait.proofs.MomentLemmas.{here, here_true, here_is, leaves_same, leaves_weaker, leaves_join}
+use Rattle.disk_trait.specs.Range.{IsOutside, IsWritten, IsPartWritten, LeftOrPartWritten}
+use Rattle.disk_trait.proofs.MomentLemmas.{here, here_true, here_is, leaves_none, leaves_weaker, leaves_join}
 
 -- What the first writes of a range left, whether the last of them failed or not.
 pub record Staged (disk start : ℕ) (sectors : List (List ℕ)) (size_of : ℕ → ℕ) (old new : Option Past) : Type 0 where
@@ -13,15 +13,6 @@ pub record Staged (disk start : ℕ) (sectors : List (List ℕ)) (size_of : ℕ 
   pub same : begun new ≡ begun old
   pub left : (c : Image) → MayLeave new c → LeftOrPartWritten old disk start sectors c
   pub any_moment : LeavesOnly old new (LeftOrPartWritten old disk start sectors)
-  pub whole : IsWhole size_of old → StaysWhole size_of old new
-
--- What one write did.
-pub record Wrote (disk sector : ℕ) (bytes : List ℕ) (size_of : ℕ → ℕ) (old new : Option Past) : Type 0 where
-  pub told : IsTold old → IsTold new
-  pub made : (now new ≡ with_sector (now old) disk sector bytes) ⊎ (now new ≡ now old)
-  pub same : begun new ≡ begun old
-  pub left : MayWrite disk sector bytes old new
-  pub any_moment : LeavesOnly old new (LeftOrWritten old disk sector bytes)
   pub whole : IsWhole size_of old → StaysWhole size_of old new
 
 part_same : (disk start : ℕ) (sectors : List (List ℕ)) (image : Image) → IsPartWritten disk start sectors image image
@@ -34,8 +25,8 @@ staged_none disk start sectors size_of past = record {
   made = part_same disk start sectors (now past);
   same = refl;
   left = λ c left. (c, left, part_same disk start sectors c);
-  any_moment = leaves_weaker past past (MayLeave past) (LeftOrPartWritten past disk start sectors) (leaves_same past) (λ c left. (c, left, part_same disk start sectors c));
-  whole = λ whole. record { after = whole; any_moment = leaves_weaker past past (MayLeave past) (IsWholeImage size_of) (leaves_same past) whole };
+  any_moment = leaves_none past (LeftOrPartWritten past disk start sectors) (λ c left. (c, left, part_same disk start sectors c));
+  whole = λ whole. record { after = whole; any_moment = leaves_none past (IsWholeImage size_of) whole };
 }
 
 pub written_none : (disk start : ℕ) (sectors : List (List ℕ)) (image : Image) → IsWritten disk start sectors 0 image image
@@ -61,29 +52,29 @@ module _ (disk start : ℕ) (sectors : List (List ℕ)) (i : ℕ) (lt : i < leng
   part_with : (old mid : Image) → IsPartWritten disk start sectors old mid → IsPartWritten disk start sectors old (with_sector mid disk (start + i) bytes)
   part_with old mid part = record {
     inside = λ k inside. cond_both (here disk (start + i) disk (start + k)) bytes (mid disk (start + k))
-      (λ (held : List ℕ). (held ≡ slice_index_or sectors k []) ⊎ (held ≡ old disk (start + k)))
-      (λ at. inl (the_ith k at))
-      (λ not_at. part.inside k inside);
+        (λ (held : List ℕ). (held ≡ slice_index_or sectors k []) ⊎ (held ≡ old disk (start + k)))
+        (λ at. inl (the_ith k at))
+        (λ not_at. part.inside k inside);
     outside = λ d s out. cond_both (here disk (start + i) d s) bytes (mid d s)
-      (λ (held : List ℕ). held ≡ old d s)
-      (λ at. absurd (not_inside disk start (length sectors) i d s lt out at))
-      (λ not_at. part.outside d s out);
+        (λ (held : List ℕ). held ≡ old d s)
+        (λ at. absurd (not_inside disk start (length sectors) i d s lt out at))
+        (λ not_at. part.outside d s out);
   }
 
   part_more : (old mid new : Image) → IsPartWritten disk start sectors old mid → (new ≡ mid) ⊎ (new ≡ with_sector mid disk (start + i) bytes) → IsPartWritten disk start sectors old new
   part_more old mid new part (inl same) = subst (IsPartWritten disk start sectors old) (sym same) part
   part_more old mid new part (inr with) = subst (IsPartWritten disk start sectors old) (sym with) (part_with old mid part)
 
-  pub written_more : (old mid : Image) → IsWritten disk start sectors i old mid → IsWritten disk start sectors (i + 1) old (with_sector mid disk (start + i) bytes)
-  written_more old mid written = record {
+  written_with : (old mid : Image) → IsWritten disk start sectors i old mid → IsWritten disk start sectors (i + 1) old (with_sector mid disk (start + i) bytes)
+  written_with old mid written = record {
     inside = λ k inside. cond_both (here disk (start + i) disk (start + k)) bytes (mid disk (start + k))
-      (λ (held : List ℕ). held ≡ slice_index_or sectors k [])
-      (the_ith k)
-      (λ not_at. written.inside k (below k inside not_at));
+        (λ (held : List ℕ). held ≡ slice_index_or sectors k [])
+        (the_ith k)
+        (λ not_at. written.inside k (below k inside not_at));
     outside = λ d s out. cond_both (here disk (start + i) d s) bytes (mid d s)
-      (λ (held : List ℕ). held ≡ old d s)
-      (λ at. absurd (not_inside disk start (i + 1) i d s (omega arith) out at))
-      (λ not_at. written.outside d s (fewer d s out));
+        (λ (held : List ℕ). held ≡ old d s)
+        (λ at. absurd (not_inside disk start (i + 1) i d s (omega arith) out at))
+        (λ not_at. written.outside d s (fewer d s out));
   }
     where
       below : (k : ℕ) → k < i + 1 → here disk (start + i) disk (start + k) ≡ false → k < i
@@ -95,15 +86,26 @@ module _ (disk start : ℕ) (sectors : List (List ℕ)) (i : ℕ) (lt : i < leng
       fewer : (d s : ℕ) → IsOutside disk start (i + 1) d s → IsOutside disk start i d s
       fewer d s out = ⊎_elim (λ other. inl other) (λ side. ⊎_elim (λ before. inr (inl before)) (λ after. inr (inr (omega arith))) side) out
 
-  pub staged_more : (size_of after : ℕ → ℕ) (old mid new : Option Past) → after ≡ size_of → Staged disk start sectors size_of old mid → Wrote disk (start + i) bytes after mid new → Staged disk start sectors size_of old new
-  staged_more size_of after old mid new sizes so_far wrote = record {
-    told = λ told. wrote.told (so_far.told told);
-    made = part_more (now old) (now mid) (now new) so_far.made (⊎_elim (λ with. inr with) (λ same. inl same) wrote.made);
-    same = wrote.same ∙ so_far.same;
-    left = λ c left. joined c (wrote.left c left);
+  pub written_more : (old mid new : Image) → IsWritten disk start sectors i old mid → new ≡ with_sector mid disk (start + i) bytes → IsWritten disk start sectors (i + 1) old new
+  written_more old mid new written is_with = subst (IsWritten disk start sectors (i + 1) old) (sym is_with) (written_with old mid written)
+
+  -- after one write more, made or not
+  pub staged_more : (size_of after : ℕ → ℕ) (old mid new : Option Past) → after ≡ size_of → Staged disk start sectors size_of old mid
+      → (IsTold mid → IsTold new)
+      → (now new ≡ with_sector (now mid) disk (start + i) bytes) ⊎ (now new ≡ now mid)
+      → begun new ≡ begun mid
+      → MayWrite disk (start + i) bytes mid new
+      → LeavesOnly mid new (LeftOrWritten mid disk (start + i) bytes)
+      → (IsWhole after mid → StaysWhole after mid new)
+      → Staged disk start sectors size_of old new
+  staged_more size_of after old mid new sizes so_far told made same write run whole = record {
+    told = λ it_is. told (so_far.told it_is);
+    made = part_more (now old) (now mid) (now new) so_far.made (⊎_elim (λ with. inr with) (λ as_before. inl as_before) made);
+    same = same ∙ so_far.same;
+    left = λ c left. joined c (write c left);
     any_moment = leaves_join old mid new (LeftOrPartWritten old disk start sectors) so_far.any_moment
-      (leaves_weaker mid new (LeftOrWritten mid disk (start + i) bytes) (LeftOrPartWritten old disk start sectors) wrote.any_moment joined);
-    whole = λ whole. let first = so_far.whole whole in let next = subst (λ (sizes : ℕ → ℕ). IsWhole sizes mid → StaysWhole sizes mid new) sizes wrote.whole first.after in record {
+        (leaves_weaker mid new (LeftOrWritten mid disk (start + i) bytes) (LeftOrPartWritten old disk start sectors) run joined);
+    whole = λ it_is. let first = so_far.whole it_is in let next = subst (λ (s : ℕ → ℕ). IsWhole s mid → StaysWhole s mid new) sizes whole first.after in record {
       after = next.after;
       any_moment = leaves_join old mid new (IsWholeImage size_of) first.any_moment next.any_moment;
     };

@@ -1,5 +1,5 @@
 -- What the words of moments say, as laws.
-use Rattle.std.specs.Prelude.{◌≡◌, ◌⊎◌, ◌↔◌, ◌≤◌, ◌<◌, ℕ, ◌-◌, List, ◌++◌, length, take, slice_get, Option, Some, slice_index_or}
+use Rattle.std.specs.Prelude.{◌≡◌, ◌⊎◌, ◌↔◌, ◌≤◌, ◌<◌, ℕ, ◌-◌, List, ◌++◌, length, take, slice_get, Option, Some}
 use Rattle.disk_trait.specs.declared.event.Event.{Event}
 use Rattle.disk_trait.specs.declared.event.Event.TheVariants.{Write, Flush}
 use Rattle.disk_trait.specs.Past.{Image, Past, now_after, IsQuietAfter, MayHold, first_events, Leaves}
@@ -52,3 +52,7 @@ RunsJoinLaw P = (old mid new : Option Past) → LeavesOnly old mid P → LeavesO
 -- a run that leaves only what has P leaves only what has Q, if P means Q
 abbrev pub WeakerLaw : (Image → Type 0) → (Image → Type 0) → Type 0
 WeakerLaw P Q = ((c : Image) → P c → Q c) → (old new : Option Past) → LeavesOnly old new P → LeavesOnly old new Q
+
+-- what a stop may leave after a run that leaves only what has P has P
+abbrev pub EndOfRunLaw : (Image → Type 0) → Type 0
+EndOfRunLaw P = (old new : Option Past) → LeavesOnly old new P → (c : Image) → MayLeave new c → P c

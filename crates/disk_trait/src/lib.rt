@@ -17,7 +17,8 @@ pub use disks::{DiskFault, Disks, Phase, Span};
 pub use event::Event;
 pub use geometry::{Geometry, GeometryFault};
 pub use laws::{
-    Claim, joining, last_moment, leaves_only, may_hold, now_and_begun, quiet, runs_join, weaker,
+    Claim, end_of_run, joining, last_moment, leaves_only, may_hold, now_and_begun, quiet,
+    runs_join, weaker,
 };
 pub use layer::{flush, read, write, write_and_flush};
 pub use range::{write_range, write_sectors};

@@ -157,7 +157,10 @@ unfolding moment
 later event None = omega arith
 later event (Some past) = omega arith
 
--- before the first event: for a function that returns before its first call
+-- for a function that returns before its first call, or begins with a loop
+pub ruleset at_entry = (at_now, left_now)
+
+-- before the first event
 pub leaves_none : (past : Option Past) (P : Image → Type 0) → ((c : Image) → MayLeave past c → P c) → LeavesOnly past past P
 leaves_none past P so = record { later = omega arith; each = λ c left. so c (left_now past c left); before = λ t c le left. inl left }
 

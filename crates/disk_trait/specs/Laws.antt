@@ -33,7 +33,8 @@ begun_anew n past = record { start = now_after past.start (first_events n past.e
 -- Joining: where the first n events leave a quiet past, a stop at k from n on leaves what it leaves at k - n in the past
 -- that is begun anew there.
 abbrev pub JoiningLaw : Type 0
-JoiningLaw = (past : Past) (n k : ℕ) (c : Image) → IsQuietAfter (first_events n past.events) → n ≤ k → Leaves past k c ↔ Leaves (begun_anew n past) (k - n) c
+JoiningLaw = (past : Past) (n k : ℕ) (c : Image) → IsQuietAfter (first_events n past.events) → n ≤ k
+    → (Leaves past k c ↔ Leaves (begun_anew n past) (k - n) c)
 
 -- a past with further events
 abbrev pub continued : List Event → Past → Past
@@ -42,7 +43,7 @@ continued newer past = record { start = past.start; events = newer ++ past.event
 -- LeavesOnly in other words: at every k from the number of events before to that after, every image with Leaves at k
 -- has P
 abbrev pub LeavesOnlyLaw : (Image → Type 0) → Type 0
-LeavesOnlyLaw P = (past : Past) (newer : List Event) → LeavesOnly (Some past) (Some (continued newer past)) P
+LeavesOnlyLaw P = (past : Past) (newer : List Event) → (LeavesOnly (Some past) (Some (continued newer past)) P)
     ↔ ((k : ℕ) (c : Image) → length past.events ≤ k → k ≤ length (newer ++ past.events) → Leaves (continued newer past) k c → P c)
 
 -- two runs in a row are one

@@ -48,7 +48,7 @@ pub fn write_range<D: Disks>(
 
 /// Writes neighbouring sectors, the first of them first. Until the next flush a stop may leave any of them
 /// written. Nothing is written where one of them isn't there.
-#[tactic(auto, using(crate::proofs::MomentLemmas::at_now, crate::proofs::MomentLemmas::left_now))]
+#[tactic(auto, using(crate::proofs::MomentLemmas::at_entry))]
 pub fn write_sectors<D: Disks>(
     disks: &mut D,
     disk: u8,

@@ -82,7 +82,7 @@ pub trait Boot {
 
 /// Writes the same bytes into sectors that no boot depends on, and makes them durable. A stop at any moment
 /// leaves what boots as before, whatever is typed.
-#[tactic(auto, using(disk_trait::proofs::MomentLemmas::left_now))]
+#[tactic(auto, using(disk_trait::proofs::MomentLemmas::at_entry))]
 pub fn fill<D: Disks, B: Boot>(
     disks: &mut D,
     disk: u8,

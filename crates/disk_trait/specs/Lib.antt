@@ -3,3 +3,7 @@ pub mod Cause
 pub mod Moments
 pub mod Range
 pub mod Laws
+pub mod Count
+pub mod Absent
+pub mod MemDisks
+pub mod FileDisks

@@ -69,8 +69,7 @@ IsWholeImage size_of image = (d s : ℕ) → s < size_of d → length (image d s
 abbrev pub IsWhole : (ℕ → ℕ) → Option Past → Type 0
 IsWhole size_of past = (c : Image) → MayLeave past c → IsWholeImage size_of c
 
--- If all was whole, it stays so: each image has 512 bytes in each sector that is there, at any moment from old to new
--- and after it.
+-- Each image that a stop leaves, at any moment from old to new and after it, has 512 bytes in each sector that is there.
 pub record StaysWhole (size_of : ℕ → ℕ) (old new : Option Past) : Type 0 where
   pub after : IsWhole size_of new
   pub any_moment : LeavesOnly old new (IsWholeImage size_of)

@@ -22,6 +22,8 @@ pub enum GeometryFault {
 }
 
 impl Geometry {
+    ghost use Rattle.disk_trait.specs.Absent.{absent_geometry};
+
     /// A geometry of 1 to 255 heads and 1 to 63 sectors per track. The heads are judged first.
     pub fn new(heads: u16, sectors: u8) -> Result<Geometry, GeometryFault>
         ensures ok { IfOk result (λ geometry. (geometry.heads ≡ heads) × (geometry.sectors ≡ sectors)) }
@@ -36,5 +38,15 @@ impl Geometry {
             return Err(GeometryFault::Sectors);
         }
         Ok(Geometry { heads, sectors })
+    }
+
+    /// What is said of a disk that isn't there: 16 heads of 63 sectors.
+    pub(crate) fn absent() -> Geometry
+        ensures { result ≡ absent_geometry }
+    {
+        Geometry {
+            heads: 16,
+            sectors: 63,
+        }
     }
 }

@@ -1,0 +1,125 @@
+// One disk over an opened image file.
+ghost use Rattle.std.specs.Prelude.{◌≡◌, ◌*◌, ◌/◌, ◌<◌, ◌≤◌, ◌^◌, length, IfOk, IfSome, OnOk, OnSome};
+ghost use Rattle.std.specs.Io.Seek.{MovesTo};
+ghost use Rattle.std.specs.Io.KnownBytes.{Appends, Consumes};
+ghost use Rattle.disk_trait.specs.FileDisks.{DiskShape};
+
+use crate::Geometry;
+use sector_parts::Sector;
+use std::fs::OpenFile;
+use std::io;
+use std::io::{ErrorKind, Read, Seek, SeekFrom, Write};
+use std::marker::Model;
+
+/// An opened image file or block device. Bytes past its last whole sector aren't part of the disk.
+#[derive(Drop)]
+pub struct FileDisk<F> {
+    file: F,
+    sectors: u64,
+    geometry: Geometry,
+}
+
+impl<F> Model for FileDisk<F> {
+    ghost Value = { DiskShape };
+
+    ghost view = { λ disk. record { sectors = disk.sectors; geometry = disk.geometry } };
+
+    ghost invariant = { λ disk. disk.sectors * 512 < 2 ^ 64 };
+}
+
+impl<F> FileDisk<F> {
+    /// The size of the disk in sectors of 512 bytes.
+    pub fn sectors(&self) -> u64
+        ensures { result ≡ self.now.sectors }
+    {
+        self.sectors
+    }
+
+    pub fn geometry(&self) -> Geometry
+        ensures { result ≡ self.now.geometry }
+    {
+        self.geometry
+    }
+}
+
+impl<F: Seek + Drop> FileDisk<F> {
+    /// Takes a file that is opened for reading and writing, and finds its size by a seek to the end,
+    /// so that a block device serves too. An error is the seek's, and drops the file.
+    pub fn new(mut file: F, geometry: Geometry) -> io::Result<FileDisk<F>>
+        ensures geometry { IfOk result (λ disk. disk.geometry ≡ geometry) }
+
+        // Where the file's bytes are known, they give the size.
+        ensures size { OnSome (F.stream_position file) (IfSome (F.stream_bytes file)
+            (λ bytes. IfOk result (λ disk. disk.sectors ≡ length bytes / 512))) }
+    {
+        let bytes = file.seek(SeekFrom::End(0))?;
+        Ok(FileDisk {
+            file,
+            sectors: bytes / 512,
+            geometry,
+        })
+    }
+}
+
+impl<F: Read + Write + Seek + OpenFile> FileDisk<F> {
+    /// Reads a sector. An error is the file's, or says that it ends within the sector.
+    pub(crate) fn read(&mut self, sector: u64) -> io::Result<Sector>
+        requires { sector < self.old.sectors }
+        ensures { self.new ≡ self.old }
+    {
+        seek_sector(&mut self.file, sector)?;
+        read_sector(&mut self.file)
+    }
+
+    /// Writes a sector. After an error any part of it may be written.
+    pub(crate) fn write(&mut self, sector: u64, from: &Sector) -> io::Result<()>
+        requires { sector < self.old.sectors }
+        ensures { self.new ≡ self.old }
+    {
+        seek_sector(&mut self.file, sector)?;
+        write_sector(&mut self.file, from)
+    }
+
+    /// Makes the writes so far durable.
+    pub(crate) fn sync(&self) -> io::Result<()> {
+        self.file.sync_all()
+    }
+}
+
+// Goes to the start of a sector.
+fn seek_sector<F: Seek>(file: &mut F, sector: u64) -> io::Result<()>
+    requires { sector * 512 < 2 ^ 64 }
+    ensures { MovesTo (F.stream_position file.old) (F.stream_position file.new) (sector * 512) result }
+{
+    file.seek(SeekFrom::Start(sector * 512))?;
+    Ok(())
+}
+
+// Reads the next sector of a file.
+fn read_sector<F: Read>(file: &mut F) -> io::Result<Sector>
+    ensures { IfOk result (Consumes (F.remaining file.old) (F.remaining file.new)) }
+{
+    let mut bytes = [0; 512];
+    let mut at = 0;
+    while at < 512 {
+        match file.read(&mut bytes[at..])? {
+            0 => return Err(io::Error::from(ErrorKind::UnexpectedEof)),
+            count => at += count,
+        }
+    }
+    Ok(bytes)
+}
+
+// Writes a sector where the file stands.
+fn write_sector<F: Write>(file: &mut F, from: &Sector) -> io::Result<()>
+    ensures { OnOk result (Appends (F.contents file.old) (F.contents file.new) from.now) }
+{
+    let mut rest = from.as_slice();
+    while !rest.is_empty() {
+        match file.write(rest)? {
+            0 => return Err(io::Error::from(ErrorKind::WriteZero)),
+            count => rest = &rest[count..],
+        }
+    }
+    Ok(())
+}

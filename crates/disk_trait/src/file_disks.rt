@@ -1,0 +1,157 @@
+// Disks over opened image files.
+ghost use Rattle.std.specs.Prelude.{◌≡◌, ◌<◌, ◌≤◌, [], ◌∷◌, ◌++◌, length, OnOk, OnErr, None};
+ghost use Rattle.disk_trait.specs.Count.{risen};
+ghost use Rattle.disk_trait.specs.FileDisks.{FileState, file_sizes_of, file_geometries_of};
+
+use crate::{DiskFault, Disks, FileDisk, Geometry};
+use sector_parts::Sector;
+use std::alloc::{AllocError, Global};
+use std::fs::OpenFile;
+use std::io;
+use std::io::{Read, Seek, Write};
+use std::marker::Model;
+
+/// Up to four opened image files, each there or absent. They tell no past, since nothing is known of
+/// what a file keeps. Each failure of a file is counted.
+#[derive(Drop)]
+pub struct FileDisks<F> {
+    disks: Vec<Option<FileDisk<F>>>,
+    faults: u64,
+}
+
+impl<F> Model for FileDisks<F> {
+    ghost Value = { FileState };
+
+    ghost view = { λ files. record { disks = files.disks.items; faults = files.faults } };
+
+    ghost invariant = { λ files. length files.disks.items ≤ 4 };
+}
+
+impl<F> FileDisks<F> {
+    /// No disks.
+    pub fn new(alloc: Global) -> FileDisks<F>
+        ensures { result ≡ record { disks = []; faults = 0 } }
+    {
+        FileDisks {
+            disks: Vec::new(alloc),
+            faults: 0,
+        }
+    }
+
+    // Counts a failure.
+    fn failure(&mut self) -> DiskFault
+        ensures answer { result ≡ DiskFault.Failed }
+        ensures counted { self.new ≡ record self.old { faults = risen self.old.faults } }
+    {
+        self.faults = self.faults.saturating_add(1);
+        DiskFault::Failed
+    }
+}
+
+impl<F: Drop> FileDisks<F> {
+    /// Adds a disk behind the others, or with `None` one that is absent. An error drops it.
+    pub fn push(&mut self, disk: Option<FileDisk<F>>) -> Result<(), AllocError>
+        requires { length self.old.disks < 4 }
+        ensures ok { OnOk result (self.new ≡ record self.old { disks = self.old.disks ++ disk ∷ [] }) }
+        ensures err { OnErr result (self.new ≡ self.old) }
+    {
+        self.disks.push(disk)?;
+        Ok(())
+    }
+}
+
+impl<F: Read + Write + Seek + OpenFile> FileDisks<F> {
+    fn read_sector(&mut self, disk: u8, sector: u64) -> io::Result<Sector>
+        requires { sector < file_sizes_of self.old disk }
+        ensures { self.new ≡ self.old }
+    {
+        match &mut self.disks[usize::from(disk)] {
+            Some(file) => file.read(sector),
+            None => unreachable!(),
+        }
+    }
+
+    fn write_sector(&mut self, disk: u8, sector: u64, from: &Sector) -> io::Result<()>
+        requires { sector < file_sizes_of self.old disk }
+        ensures { self.new ≡ self.old }
+    {
+        match &mut self.disks[usize::from(disk)] {
+            Some(file) => file.write(sector, from),
+            None => unreachable!(),
+        }
+    }
+
+    // Syncs each file, also after one has failed, and says whether all did.
+    fn sync_all(&self) -> bool {
+        let mut done = true;
+        for disk in &self.disks {
+            if let Some(file) = disk
+                && file.sync().is_err()
+            {
+                done = false;
+            }
+        }
+        done
+    }
+}
+
+impl<F: Read + Write + Seek + OpenFile + Drop> Disks for FileDisks<F> {
+    ghost past = { λ _. None };
+
+    ghost faults = { λ files. files.faults };
+
+    ghost size_of = { λ files. file_sizes_of files };
+
+    ghost count_of = { λ files. length files.disks };
+
+    ghost geometry_of = { λ files. file_geometries_of files };
+
+    fn read(&mut self, disk: u8, sector: u64, into: &mut Sector) -> Result<(), DiskFault> {
+        if self.size(disk) <= sector {
+            return Err(DiskFault::OutOfRange);
+        }
+        match self.read_sector(disk, sector) {
+            Ok(bytes) => {
+                *into = bytes;
+                Ok(())
+            }
+            Err(_) => Err(self.failure()),
+        }
+    }
+
+    fn write(&mut self, disk: u8, sector: u64, from: &Sector) -> Result<(), DiskFault> {
+        if self.size(disk) <= sector {
+            return Err(DiskFault::OutOfRange);
+        }
+        match self.write_sector(disk, sector, from) {
+            Ok(()) => Ok(()),
+            Err(_) => Err(self.failure()),
+        }
+    }
+
+    /// Syncs each file that is there, also after one has failed.
+    fn flush(&mut self) -> Result<(), DiskFault> {
+        if self.sync_all() {
+            return Ok(());
+        }
+        Err(self.failure())
+    }
+
+    fn count(&self) -> u8 {
+        self.disks.len() as u8
+    }
+
+    fn size(&self, disk: u8) -> u64 {
+        match self.disks.get(usize::from(disk)) {
+            Some(Some(file)) => file.sectors(),
+            _ => 0,
+        }
+    }
+
+    fn geometry(&self, disk: u8) -> Geometry {
+        match self.disks.get(usize::from(disk)) {
+            Some(Some(file)) => file.geometry(),
+            _ => Geometry::absent(),
+        }
+    }
+}

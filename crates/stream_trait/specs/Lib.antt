@@ -1,0 +1,7 @@
+pub mod Fault
+pub mod Source
+pub mod Sink
+pub mod MemSource
+pub mod MemSink
+pub mod StdSource
+pub mod StdSink

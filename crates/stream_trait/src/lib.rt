@@ -1,0 +1,22 @@
+//! Where bytes come from, one at a time, and where texts go: the traits, and types that have them
+//! over memory and over std's readers and writers. And the words of a command line.
+#![tactic(auto)]
+
+mod mem_sink;
+mod mem_source;
+mod sink;
+mod source;
+mod std_sink;
+mod std_source;
+mod words;
+
+pub use mem_sink::MemSink;
+pub use mem_source::MemSource;
+pub use sink::{Sink, SinkFailed};
+pub use source::{Next, Source};
+pub use std_sink::StdSink;
+pub use std_source::StdSource;
+pub use words::Words;
+
+#[cfg(test)]
+mod tests;

@@ -1,0 +1,51 @@
+"""What the test scripts share: the built program, images in a folder of their own, and the count."""
+
+import os
+import subprocess
+import sys
+import tempfile
+
+TOP = os.path.dirname(os.path.dirname(os.path.abspath(__file__)))
+
+
+def built(name):
+    """The program, built from the present sources."""
+    folder = os.path.join(TOP, 'crates', name)
+    done = subprocess.run(['rt', 'run', '--', '-'], cwd=folder, stdin=subprocess.DEVNULL,
+                          stdout=subprocess.PIPE, stderr=subprocess.STDOUT)
+    program = os.path.join(folder, 'out', name)
+    fresh = b'logic=proved' in done.stdout or b'nothing has changed' in done.stdout
+    if not fresh or not os.path.exists(program):
+        sys.stdout.buffer.write(done.stdout[-4000:])
+        print('0 passed, 1 failed')
+        sys.exit(1)
+    return program
+
+
+class Harness:
+    """Counts the cases and prints each that fails."""
+
+    def __init__(self):
+        self.folder = tempfile.TemporaryDirectory()
+        os.chmod(self.folder.name, 0o755)
+        self.passed = self.failed = 0
+
+    def path(self, name):
+        return os.path.join(self.folder.name, name)
+
+    def image(self, name, data):
+        """Writes an image file."""
+        with open(self.path(name), 'wb') as file:
+            file.write(data)
+        return self.path(name)
+
+    def check(self, what, found, wanted):
+        if found == wanted:
+            self.passed += 1
+        else:
+            self.failed += 1
+            print(f'FAILED {what}: found {found!r}, wanted {wanted!r}')
+
+    def end(self):
+        print(f'{self.passed} passed, {self.failed} failed')
+        sys.exit(1 if self.failed else 0)

@@ -1,14 +1,15 @@
 -- The laws of moments.
-use Rattle.std.proofs.Common.{◌≡◌, inl, inr, ⊎_elim, ℕ, zero, suc, ◌+◌, ◌-◌, ◌<◌, ◌≤◌, List, [], ◌∷◌, ◌++◌, length, take, drop, slice_get, Option, None, Some, refl, sym, ◌∙◌, ap, subst, arith, length-append, length-take-le, take-append-drop}
+use Rattle.std.proofs.Common.{◌≡◌, inl, inr, ⊎_elim, ℕ, zero, suc, ◌+◌, ◌-◌, ◌<◌, ◌≤◌, List, [], ◌∷◌, ◌++◌, length, take, drop, slice_get, All, Option, None, Some, refl, sym, ◌∙◌, ap, subst, arith, length-append, length-take-le, take-append-drop}
 use Rattle.std.proofs.Math.Seq.{drop-append-add}
 use Rattle.std.proofs.lemmas.Bool.{cases_lt}
 use Rattle.std.proofs.lemmas.List.{drop-append-le}
 use Rattle.disk_trait.specs.declared.event.Event.{Event}
 use Rattle.disk_trait.specs.declared.event.Event.TheVariants.{Write, Flush}
 use Rattle.disk_trait.specs.Past.{Image, Past, now_after, IsQuietAfter, MayHold, first_events}
-use Rattle.disk_trait.specs.Moments.{IsTold, now, begun_after, begun, moment, MayLeave, LeftSince, IsQuiet}
-use Rattle.disk_trait.specs.Laws.{HeldOrWritten, MayHoldLaw, LastMomentLaw, NowAndBegunLaw, QuietLaw, begun_anew, JoiningLaw, LeavesOnlyLaw, RunsJoinLaw, WeakerLaw, EndOfRunLaw}
-use Rattle.disk_trait.proofs.MomentLemmas.{may_hold_now, at_now, first_all, left_now, leaves_join, leaves_weaker}
+use Rattle.disk_trait.specs.MemDisks.{WritesWholeSector}
+use Rattle.disk_trait.specs.Moments.{IsTold, now, begun_after, begun, moment, MayLeave, LeftSince, IsQuiet, IsWholeImage, IsWhole}
+use Rattle.disk_trait.specs.Laws.{HeldOrWritten, MayHoldLaw, LastMomentLaw, NowAndBegunLaw, QuietLaw, begun_anew, JoiningLaw, LeavesOnlyLaw, RunsJoinLaw, WeakerLaw, EndOfRunLaw, WholeLaw, UntoldLaw}
+use Rattle.disk_trait.proofs.MomentLemmas.{may_hold_now, whole_with, at_now, first_all, left_now, leaves_join, leaves_weaker}
 
 -- all that a stop may leave after some events
 abbrev LeavesAfter : Image → List Event → Image → Type 0
@@ -181,3 +182,32 @@ module _ (P : Image → Type 0) where
 
 pub weaker_law : (P Q : Image → Type 0) → WeakerLaw P Q
 weaker_law P Q so old new run = leaves_weaker old new P Q run so
+
+-- sectors of 512 bytes
+
+older_write : (event : Event) (older : List Event) → All WritesWholeSector (event ∷ older) → All WritesWholeSector older
+older_write event older writes k other lt = writes (suc k) other (omega arith)
+
+newest_write : (event : Event) (older : List Event) → All WritesWholeSector (event ∷ older) → WritesWholeSector event
+newest_write event older writes = writes 0 event (omega arith)
+
+now_whole : (size_of : ℕ → ℕ) (start : Image) (events : List Event) → IsWholeImage size_of start → All WritesWholeSector events → IsWholeImage size_of (now_after start events)
+now_whole size_of start [] whole writes = whole
+now_whole size_of start (Write disk sector bytes ∷ older) whole writes = whole_with size_of (now_after start older) disk sector bytes (newest_write (Write disk sector bytes) older writes) (now_whole size_of start older whole (older_write (Write disk sector bytes) older writes))
+now_whole size_of start (Flush ∷ older) whole writes = now_whole size_of start older whole (older_write Flush older writes)
+
+held_whole : (size_of : ℕ → ℕ) (start : Image) (events : List Event) → IsWholeImage size_of start → All WritesWholeSector events → (d s : ℕ) → s < size_of d → (bytes : List ℕ) → MayHold start events d s bytes → length bytes ≡ 512
+held_whole size_of start [] whole writes d s inside bytes held = ap length held ∙ whole d s inside
+held_whole size_of start (Write disk sector new ∷ older) whole writes d s inside bytes held = ⊎_elim
+    (λ same. ap length same.2 ∙ newest_write (Write disk sector new) older writes)
+    (λ before. held_whole size_of start older whole (older_write (Write disk sector new) older writes) d s inside bytes before)
+    held
+held_whole size_of start (Flush ∷ older) whole writes d s inside bytes held = ap length held ∙ now_whole size_of start older whole (older_write Flush older writes) d s inside
+
+pub whole_law : WholeLaw
+unfolding MayLeave
+whole_law past size_of whole writes c left d s inside = held_whole size_of past.start past.events whole writes d s inside (c d s) (left d s)
+
+pub untold_law : UntoldLaw
+unfolding MayLeave
+untold_law size_of c left = absurd left

@@ -167,16 +167,6 @@ leaves_none past P so = record { later = omega arith; each = λ c left. so c (le
 pub leaves_same : (past : Option Past) → LeavesOnly past past (MayLeave past)
 leaves_same past = leaves_none past (MayLeave past) (λ c left. left)
 
--- no past that isn't told says of a sector how long it is
-pub whole_untold : (size_of : ℕ → ℕ) (past : Option Past) → past ≡ None → IsWhole size_of past
-unfolding MayLeave
-whole_untold size_of past untold = subst (IsWhole size_of) (sym untold) (λ c left. absurd left)
-
--- disks on which nothing was done are whole if the start is
-pub whole_start : (size_of : ℕ → ℕ) (start : Image) → IsWholeImage size_of start → IsWhole size_of (Some (record { start = start; events = [] }))
-unfolding MayLeave
-whole_start size_of start whole c left d s inside = ap length (left d s) ∙ whole d s inside
-
 -- one event
 leaves_event : (event : Event) (past : Option Past) (P : Image → Type 0) → ((c : Image) → MayLeave past c → P c) → ((c : Image) → MayLeave (appended event past) c → P c) → LeavesOnly past (appended event past) P
 leaves_event event past P first next = record {
@@ -207,7 +197,7 @@ leaves_join old mid new P first next = record {
 
 -- sectors of 512 bytes
 
-whole_with : (size_of : ℕ → ℕ) (image : Image) (disk sector : ℕ) (bytes : List ℕ) → length bytes ≡ 512 → IsWholeImage size_of image → IsWholeImage size_of (with_sector image disk sector bytes)
+pub whole_with : (size_of : ℕ → ℕ) (image : Image) (disk sector : ℕ) (bytes : List ℕ) → length bytes ≡ 512 → IsWholeImage size_of image → IsWholeImage size_of (with_sector image disk sector bytes)
 whole_with size_of image disk sector bytes long whole d s inside = cond_both (here disk sector d s) bytes (image d s) (λ (held : List ℕ). length held ≡ 512) (λ is. long) (λ is. whole d s inside)
 
 pub whole_same : (size_of : ℕ → ℕ) (old new : Option Past) → ((c : Image) → MayLeave new c → MayLeave old c) → LeavesOnly old new (MayLeave old) → IsWhole size_of old → StaysWhole size_of old new

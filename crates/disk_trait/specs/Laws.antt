@@ -1,9 +1,10 @@
 -- What the words of moments say, as laws.
-use Rattle.std.specs.Prelude.{◌≡◌, ◌⊎◌, ◌↔◌, ◌≤◌, ◌<◌, ℕ, ◌-◌, List, ◌++◌, length, take, slice_get, Option, Some}
+use Rattle.std.specs.Prelude.{◌≡◌, ◌⊎◌, ◌↔◌, ◌≤◌, ◌<◌, ℕ, ◌-◌, List, ◌++◌, length, take, slice_get, All, Option, None, Some}
 use Rattle.disk_trait.specs.declared.event.Event.{Event}
 use Rattle.disk_trait.specs.declared.event.Event.TheVariants.{Write, Flush}
 use Rattle.disk_trait.specs.Past.{Image, Past, now_after, IsQuietAfter, MayHold, first_events, Leaves}
-use Rattle.disk_trait.specs.Moments.{IsTold, now, begun_after, begun, moment, MayLeave, LeftSince, IsQuiet, LeavesOnly}
+use Rattle.disk_trait.specs.MemDisks.{WritesWholeSector}
+use Rattle.disk_trait.specs.Moments.{IsTold, now, begun_after, begun, moment, MayLeave, LeftSince, IsQuiet, LeavesOnly, IsWholeImage, IsWhole}
 
 -- MayHold in other words: the bytes are those of the last flush, or those of one write to the sector with no flush
 -- after it (the newest event is the one at 0)
@@ -57,3 +58,11 @@ WeakerLaw P Q = ((c : Image) → P c → Q c) → (old new : Option Past) → Le
 -- what a stop may leave after a run that leaves only what has P has P
 abbrev pub EndOfRunLaw : (Image → Type 0) → Type 0
 EndOfRunLaw P = (old new : Option Past) → LeavesOnly old new P → (c : Image) → MayLeave new c → P c
+
+-- where the start and all that was written is whole, so is each image that a stop may leave
+abbrev pub WholeLaw : Type 0
+WholeLaw = (past : Past) (size_of : ℕ → ℕ) → IsWholeImage size_of past.start → All WritesWholeSector past.events → IsWhole size_of (Some past)
+
+-- a past that isn't told leaves no image, and so none that isn't whole
+abbrev pub UntoldLaw : Type 0
+UntoldLaw = (size_of : ℕ → ℕ) → IsWhole size_of None

@@ -1,6 +1,6 @@
 // What the words of moments say: laws, which no code needs to call.
 ghost use Rattle.disk_trait.specs.Past.{Image};
-ghost use Rattle.disk_trait.specs.Laws.{MayHoldLaw, LastMomentLaw, NowAndBegunLaw, QuietLaw, JoiningLaw, LeavesOnlyLaw, RunsJoinLaw, WeakerLaw, EndOfRunLaw};
+ghost use Rattle.disk_trait.specs.Laws.{MayHoldLaw, LastMomentLaw, NowAndBegunLaw, QuietLaw, JoiningLaw, LeavesOnlyLaw, RunsJoinLaw, WeakerLaw, EndOfRunLaw, WholeLaw, UntoldLaw};
 
 use std::marker::Brand;
 
@@ -57,4 +57,14 @@ pub fn weaker<C: Claim, W: Claim>()
 /// After a run that leaves only what has the fact, a stop leaves only what has it.
 pub fn end_of_run<C: Claim>()
     ensures { EndOfRunLaw C.holds }
+{}
+
+/// Where each sector had 512 bytes at the start, and so has each that was written, a stop leaves no other.
+pub fn whole()
+    ensures { WholeLaw }
+{}
+
+/// Where no past is told, nothing is said of how long a sector is.
+pub fn untold()
+    ensures { UntoldLaw }
 {}

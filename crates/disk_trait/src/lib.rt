@@ -28,7 +28,7 @@ pub use file_disks::FileDisks;
 pub use geometry::{Geometry, GeometryFault};
 pub use laws::{
     Claim, end_of_run, joining, last_moment, leaves_only, may_hold, now_and_begun, quiet,
-    runs_join, weaker,
+    runs_join, untold, weaker, whole,
 };
 pub use layer::{flush, read, write, write_and_flush};
 pub use mem_disk::{Failing, MemDisk};

@@ -7,7 +7,7 @@ use Rattle.disk_trait.specs.declared.event.Event.{Event}
 use Rattle.disk_trait.specs.declared.event.Event.TheVariants.{Write, Flush}
 use Rattle.disk_trait.specs.Past.{Image, Past, now_after, IsQuietAfter, MayHold, first_events}
 use Rattle.disk_trait.specs.MemDisks.{WritesWholeSector}
-use Rattle.disk_trait.specs.Moments.{IsTold, now, begun_after, begun, moment, MayLeave, LeftSince, IsQuiet, IsWholeImage, IsWhole}
+use Rattle.disk_trait.specs.Moments.{IsTold, now, begun_after, begun, moment, MayLeave, LeftSince, IsQuiet, IsWholeImage}
 use Rattle.disk_trait.specs.Laws.{HeldOrWritten, MayHoldLaw, LastMomentLaw, NowAndBegunLaw, QuietLaw, begun_anew, JoiningLaw, LeavesOnlyLaw, RunsJoinLaw, WeakerLaw, EndOfRunLaw, WholeLaw, UntoldLaw}
 use Rattle.disk_trait.proofs.MomentLemmas.{may_hold_now, whole_with, at_now, first_all, left_now, leaves_join, leaves_weaker}
 

@@ -1,2 +1,5 @@
+pub mod MomentLemmas
+pub mod RangeLemmas
+pub mod LawLemmas
 pub mod Changed
 pub mod Streams

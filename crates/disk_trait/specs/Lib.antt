@@ -1,5 +1,8 @@
 pub mod Past
 pub mod Cause
+pub mod Moments
+pub mod Range
+pub mod Laws
 pub mod Count
 pub mod Absent
 pub mod MemDisks

@@ -1,0 +1,68 @@
+-- What the words of moments say, as laws.
+use Rattle.std.specs.Prelude.{◌≡◌, ◌⊎◌, ◌↔◌, ◌≤◌, ◌<◌, ℕ, ◌-◌, List, ◌++◌, length, take, slice_get, All, Option, None, Some}
+use Rattle.disk_trait.specs.declared.event.Event.{Event}
+use Rattle.disk_trait.specs.declared.event.Event.TheVariants.{Write, Flush}
+use Rattle.disk_trait.specs.Past.{Image, Past, now_after, IsQuietAfter, MayHold, first_events, Leaves}
+use Rattle.disk_trait.specs.MemDisks.{WritesWholeSector}
+use Rattle.disk_trait.specs.Moments.{IsTold, now, begun_after, begun, moment, MayLeave, LeftSince, IsQuiet, LeavesOnly, IsWholeImage, IsWhole}
+
+-- MayHold in other words: the bytes are those of the last flush, or those of one write to the sector with no flush
+-- after it (the newest event is the one at 0)
+abbrev pub HeldOrWritten : Image → List Event → ℕ → ℕ → List ℕ → Type 0
+HeldOrWritten start events d s bytes = (bytes ≡ begun_after start events d s)
+    ⊎ ((at : ℕ) × (slice_get events at ≡ Some (Write d s bytes)) × ((i : ℕ) → i < at → slice_get events i ≡ Some Flush → ⊥))
+
+abbrev pub MayHoldLaw : Type 0
+MayHoldLaw = (start : Image) (events : List Event) (d s : ℕ) (bytes : List ℕ) → MayHold start events d s bytes ↔ HeldOrWritten start events d s bytes
+
+-- what a stop may leave is what it may leave after all events, and what it may leave since this moment
+abbrev pub LastMomentLaw : Type 0
+LastMomentLaw = (past : Past) (c : Image) → (MayLeave (Some past) c ↔ Leaves past (length past.events) c) × (LeftSince (Some past) (moment (Some past)) c ↔ MayLeave (Some past) c)
+
+-- what the disks hold now, and what they held at the last flush, are two of the images that a stop may leave
+abbrev pub NowAndBegunLaw : Type 0
+NowAndBegunLaw = (past : Option Past) → IsTold past → MayLeave past (now past) × MayLeave past (begun past)
+
+-- a past with no write after its last flush is quiet
+abbrev pub QuietLaw : Type 0
+QuietLaw = (past : Past) → IsQuietAfter past.events → IsQuiet (Some past)
+
+-- a past begun anew at Now of its first n events, with only the events after them
+abbrev pub begun_anew : ℕ → Past → Past
+begun_anew n past = record { start = now_after past.start (first_events n past.events); events = take (length past.events - n) past.events }
+
+-- Joining: where the first n events leave a quiet past, a stop at k from n on leaves what it leaves at k - n in the past
+-- that is begun anew there.
+abbrev pub JoiningLaw : Type 0
+JoiningLaw = (past : Past) (n k : ℕ) (c : Image) → IsQuietAfter (first_events n past.events) → n ≤ k
+    → (Leaves past k c ↔ Leaves (begun_anew n past) (k - n) c)
+
+-- a past with further events
+abbrev pub continued : List Event → Past → Past
+continued newer past = record { start = past.start; events = newer ++ past.events }
+
+-- LeavesOnly in other words: at every k from the number of events before to that after, every image with Leaves at k
+-- has P
+abbrev pub LeavesOnlyLaw : (Image → Type 0) → Type 0
+LeavesOnlyLaw P = (past : Past) (newer : List Event) → (LeavesOnly (Some past) (Some (continued newer past)) P)
+    ↔ ((k : ℕ) (c : Image) → length past.events ≤ k → k ≤ length (newer ++ past.events) → Leaves (continued newer past) k c → P c)
+
+-- two runs in a row are one
+abbrev pub RunsJoinLaw : (Image → Type 0) → Type 0
+RunsJoinLaw P = (old mid new : Option Past) → LeavesOnly old mid P → LeavesOnly mid new P → LeavesOnly old new P
+
+-- a run that leaves only what has P leaves only what has Q, if P means Q
+abbrev pub WeakerLaw : (Image → Type 0) → (Image → Type 0) → Type 0
+WeakerLaw P Q = ((c : Image) → P c → Q c) → (old new : Option Past) → LeavesOnly old new P → LeavesOnly old new Q
+
+-- what a stop may leave after a run that leaves only what has P has P
+abbrev pub EndOfRunLaw : (Image → Type 0) → Type 0
+EndOfRunLaw P = (old new : Option Past) → LeavesOnly old new P → (c : Image) → MayLeave new c → P c
+
+-- where the start and all that was written is whole, so is each image that a stop may leave
+abbrev pub WholeLaw : Type 0
+WholeLaw = (past : Past) (size_of : ℕ → ℕ) → IsWholeImage size_of past.start → All WritesWholeSector past.events → IsWhole size_of (Some past)
+
+-- a past that isn't told leaves no image, and so none that isn't whole
+abbrev pub UntoldLaw : Type 0
+UntoldLaw = (size_of : ℕ → ℕ) → IsWhole size_of None

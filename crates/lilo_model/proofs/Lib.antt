@@ -1,0 +1,4 @@
+pub mod LeftLemmas
+pub mod PlaceLaws
+pub mod SectionLaws
+pub mod TurnLemmas

@@ -84,7 +84,7 @@ pub whole-with_sector : (image : Image) (disk sector : ℕ) (bytes : List ℕ) �
 whole-with_sector image disk sector bytes whole new d s = elim (disk == d && sector == s) as (λ same. length (if same then bytes else image d s) ≡ 512) [ true ↦ new | false ↦ whole d s ]
 
 -- what holds of all events holds of the older ones
-older_whole : (event : Event) (older : List Event) → All WritesWholeSector (event ∷ older) → All WritesWholeSector older
+pub older_whole : (event : Event) (older : List Event) → All WritesWholeSector (event ∷ older) → All WritesWholeSector older
 older_whole event older all k d inside = all (suc k) d (omega arith)
 
 -- and so do events that write whole sectors

@@ -2,4 +2,5 @@ pub mod MomentLemmas
 pub mod RangeLemmas
 pub mod LawLemmas
 pub mod Changed
+pub mod LeftLemmas
 pub mod Streams

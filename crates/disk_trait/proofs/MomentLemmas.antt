@@ -18,11 +18,11 @@ pub here_is : (disk sector d s : ℕ) → disk ≡ d → sector ≡ s → here d
 here_is disk sector d s same_disk same_sector = grind (arith, nat_tests)
 
 -- the sector that was written
-with_same : (image : Image) (disk sector : ℕ) (bytes : List ℕ) (d s : ℕ) → here disk sector d s ≡ true → with_sector image disk sector bytes d s ≡ bytes
+pub with_same : (image : Image) (disk sector : ℕ) (bytes : List ℕ) (d s : ℕ) → here disk sector d s ≡ true → with_sector image disk sector bytes d s ≡ bytes
 with_same image disk sector bytes d s is = rw is
 
 -- any other sector
-with_other : (image : Image) (disk sector : ℕ) (bytes : List ℕ) (d s : ℕ) → here disk sector d s ≡ false → with_sector image disk sector bytes d s ≡ image d s
+pub with_other : (image : Image) (disk sector : ℕ) (bytes : List ℕ) (d s : ℕ) → here disk sector d s ≡ false → with_sector image disk sector bytes d s ≡ image d s
 with_other image disk sector bytes d s is = rw is
 
 -- Now is one of the images that a stop may leave
@@ -60,7 +60,7 @@ begun_write (Some past) disk sector bytes = refl
 
 -- What a write may leave: the image before, or that with the sector written.
 module _ (start : Image) (older : List Event) (disk sector : ℕ) (bytes : List ℕ) where
-  other_holds : (d s : ℕ) (held : List ℕ) → here disk sector d s ≡ false → MayHold start (Write disk sector bytes ∷ older) d s held → MayHold start older d s held
+  pub other_holds : (d s : ℕ) (held : List ℕ) → here disk sector d s ≡ false → MayHold start (Write disk sector bytes ∷ older) d s held → MayHold start older d s held
   other_holds d s held other (inl same) = absurd (both_ways (here_is disk sector d s same.0 same.1))
     where
       both_ways : here disk sector d s ≡ true → ⊥

@@ -1,9 +1,10 @@
 -- What the words of moments say, as laws.
-use Rattle.std.specs.Prelude.{◌≡◌, ◌⊎◌, ◌↔◌, ◌≤◌, ◌<◌, ℕ, ◌-◌, List, ◌++◌, length, take, slice_get, All, Option, None, Some}
+use Rattle.std.specs.Prelude.{◌≡◌, ◌⊎◌, ◌↔◌, ◌≤◌, ◌<◌, ℕ, ◌-◌, Bool, List, ◌++◌, length, take, slice_get, All, Option, None, Some}
 use Rattle.disk_trait.specs.declared.event.Event.{Event}
 use Rattle.disk_trait.specs.declared.event.Event.TheVariants.{Write, Flush}
 use Rattle.disk_trait.specs.Past.{Image, Past, now_after, IsQuietAfter, MayHold, first_events, Leaves}
 use Rattle.disk_trait.specs.MemDisks.{WritesWholeSector}
+use Rattle.disk_trait.specs.Left.{unflushed_count, left_image}
 use Rattle.disk_trait.specs.Moments.{IsTold, now, begun_after, begun, moment, MayLeave, LeftSince, IsQuiet, LeavesOnly, IsWholeImage, IsWhole}
 
 -- MayHold in other words: the bytes are those of the last flush, or those of one write to the sector with no flush
@@ -66,3 +67,10 @@ WholeLaw = (past : Past) (size_of : ℕ → ℕ) → IsWholeImage size_of past.s
 -- a past that isn't told leaves no image, and so none that isn't whole
 abbrev pub UntoldLaw : Type 0
 UntoldLaw = (size_of : ℕ → ℕ) → IsWhole size_of None
+
+-- The images that a stop after the first k events may leave are those that some keep makes, with one entry for each
+-- write after their last flush: each keep makes one of them, and each of them has a keep that makes it. Images are
+-- the same where they hold the same bytes at every disk and sector.
+abbrev pub LeftImagesLaw : Type 0
+LeftImagesLaw = (past : Past) (k : ℕ) (c : Image)
+    → Leaves past k c ↔ ((keep : List Bool) × (length keep ≡ unflushed_count (first_events k past.events)) × (c ≡ left_image past k keep))

@@ -6,4 +6,5 @@ pub mod Laws
 pub mod Count
 pub mod Absent
 pub mod MemDisks
+pub mod Left
 pub mod FileDisks

@@ -63,10 +63,10 @@ pub record MemState : Type 0 where
   -- how many of them failed
   pub faults : ℕ
 
--- disks of zero bytes, and no event yet
-abbrev pub zero_state : List MemDisk → ℕ → List Failing → MemState
-zero_state disks room failing = record {
-  start = map zero_disk disks;
+-- disks with no event yet
+abbrev pub fresh_state : List StartDisk → ℕ → List Failing → MemState
+fresh_state start room failing = record {
+  start = start;
   events = [];
   room = room;
   failing = failing;
@@ -74,9 +74,17 @@ zero_state disks room failing = record {
   faults = 0;
 }
 
+-- disks of zero bytes, and no event yet
+abbrev pub zero_state : List MemDisk → ℕ → List Failing → MemState
+zero_state disks room failing = fresh_state (map zero_disk disks) room failing
+
+-- what they held at first, and all that was done since
+abbrev pub past_in : MemState → Past
+past_in disks = record { start = image_of disks.start; events = disks.events }
+
 -- their past, which is told
 abbrev pub past_of : MemState → Option Past
-past_of disks = Some (record { start = image_of disks.start; events = disks.events })
+past_of disks = Some (past_in disks)
 
 -- the bytes of each sector now
 abbrev pub now_in : MemState → Image
@@ -91,7 +99,12 @@ abbrev pub WritesWholeSector : Event → Type 0
 WritesWholeSector (Write _ _ bytes) = length bytes ≡ 512
 WritesWholeSector Flush = ⊤
 
--- there are few disks, the events have room, and each sector has 512 bytes
+-- an event writes to no sector but one that is there
+abbrev pub IsInRange : (ℕ → ℕ) → Event → Type 0
+IsInRange size_of (Write disk sector _) = sector < size_of disk
+IsInRange size_of Flush = ⊤
+
+-- there are few disks, the events have room and write to sectors that are there, and each sector has 512 bytes
 pub record IsHeld (start : List StartDisk) (events : VecDeque Event Global) (room : ℕ) : Type 0 where
   pub few : length start ≤ 4
   pub room_small : room < 2 ^ 32
@@ -99,6 +112,7 @@ pub record IsHeld (start : List StartDisk) (events : VecDeque Event Global) (roo
   pub capacity : room ≤ deque_capacity events
   pub start_whole : HasWholeSectors (image_of start)
   pub events_whole : All WritesWholeSector events.items
+  pub events_in_range : All (IsInRange (sizes_of start)) events.items
 
 -- what the list of failing calls says of the next call
 abbrev pub planned : MemState → Option Failing

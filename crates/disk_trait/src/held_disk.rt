@@ -33,6 +33,16 @@ impl HeldDisk {
         })
     }
 
+    /// Another disk with the same bytes.
+    pub(crate) fn copy(&self, alloc: Global) -> Result<HeldDisk, AllocError>
+        ensures { IfOk result (λ made. made ≡ self.now) }
+    {
+        Ok(HeldDisk {
+            sectors: Vec::from_slice(alloc, &self.sectors)?,
+            geometry: self.geometry,
+        })
+    }
+
     /// How many sectors there are.
     pub(crate) fn size(&self) -> u64
         ensures { result ≡ length self.now.sectors }

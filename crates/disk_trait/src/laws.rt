@@ -1,6 +1,6 @@
 // What the words of moments say: laws, which no code needs to call.
 ghost use Rattle.disk_trait.specs.Past.{Image};
-ghost use Rattle.disk_trait.specs.Laws.{MayHoldLaw, LastMomentLaw, NowAndBegunLaw, QuietLaw, JoiningLaw, LeavesOnlyLaw, RunsJoinLaw, WeakerLaw, EndOfRunLaw, WholeLaw, UntoldLaw};
+ghost use Rattle.disk_trait.specs.Laws.{MayHoldLaw, LastMomentLaw, NowAndBegunLaw, QuietLaw, JoiningLaw, LeavesOnlyLaw, RunsJoinLaw, WeakerLaw, EndOfRunLaw, WholeLaw, UntoldLaw, LeftImagesLaw};
 
 use std::marker::Brand;
 
@@ -67,4 +67,9 @@ pub fn whole()
 /// Where no past is told, nothing is said of how long a sector is.
 pub fn untold()
     ensures { UntoldLaw }
+{}
+
+/// The images that a stop may leave are those that come of a choice for each write since the last flush.
+pub fn left_images()
+    ensures { LeftImagesLaw }
 {}

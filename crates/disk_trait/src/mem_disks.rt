@@ -4,11 +4,13 @@ ghost use Rattle.std.specs.Option.{option_map_or};
 ghost use Rattle.disk_trait.specs.Absent.{absent_geometry};
 ghost use Rattle.disk_trait.specs.declared.event.Event.TheVariants.{Write, Flush};
 ghost use Rattle.disk_trait.specs.Cause.{HasCause, HasFlushCause};
-ghost use Rattle.disk_trait.specs.MemDisks.{MemState, IsHeld, HasWholeSectors, WritesWholeSector, zero_disk, zero_sector, sizes_of, geometries_of, image_of, past_of, now_in, zero_state, planned, IsFull, counted, with_event, after_read, after_write, after_flush};
+ghost use Rattle.disk_trait.specs.MemDisks.{MemState, IsHeld, HasWholeSectors, WritesWholeSector, zero_disk, zero_sector, sizes_of, geometries_of, image_of, past_of, now_in, past_in, IsInRange, fresh_state, zero_state, planned, IsFull, counted, with_event, after_read, after_write, after_flush};
 ghost use Rattle.disk_trait.specs.Count.{risen};
-ghost use Rattle.disk_trait.specs.Past.{Image, Told, appended, with_sector, now_after};
+ghost use Rattle.disk_trait.specs.Past.{Image, Leaves, Told, appended, with_sector, now_after, first_events};
+ghost use Rattle.disk_trait.specs.Left.{unflushed_count, left_image};
 
 use crate::held_disk::HeldDisk;
+use crate::left::{copy_disks, count_unflushed, make_left};
 use crate::{DiskFault, Disks, Event, Failing, Geometry, MemDisk};
 use sector_parts::Sector;
 use std::alloc::{AllocError, Global};
@@ -65,6 +67,20 @@ impl MemDisks {
             ≡ option_map_or (λ asked. asked.geometry) (slice_get disks.now disk) absent_geometry) }
     {
         let start = zero_disks(alloc, disks)?;
+        MemDisks::fresh(alloc, start, room, failing)
+    }
+
+    // Disks with no event yet.
+    fn fresh(
+        alloc: Global,
+        start: Vec<HeldDisk>,
+        room: u32,
+        failing: &[Failing],
+    ) -> Result<MemDisks, AllocError>
+        requires few { length start.items ≤ 4 }
+        requires whole { HasWholeSectors (image_of start.items) }
+        ensures { IfOk result (λ made. made ≡ fresh_state start.items room failing.now) }
+    {
         Ok(MemDisks {
             start,
             events: VecDeque::with_capacity(alloc, room as usize)?,
@@ -97,8 +113,49 @@ impl MemDisks {
         ensures now_whole { HasWholeSectors (now_in self.now) }
         ensures start_whole { HasWholeSectors (image_of self.now.start) }
         ensures events_whole { All WritesWholeSector self.now.events }
+
+        // No event writes to a sector that isn't there.
+        ensures events_in_range { All (IsInRange (sizes_of self.now.start)) self.now.events }
     {
         self.events.len() as u32
+    }
+
+    /// How many of the first `prefix` events stand after their last flush.
+    pub fn unflushed(&self, prefix: u32) -> u32
+        requires { prefix ≤ length self.now.events }
+        ensures { result ≡ unflushed_count (first_events prefix self.now.events) }
+    {
+        count_unflushed(&self.events, prefix as usize) as u32
+    }
+
+    /// Disks that begin with what a stop leaves: the first `prefix` events were made, but of the writes after
+    /// their last flush only those that `keep` says, counted in the order in which they were made.
+    pub fn left(
+        &self,
+        alloc: Global,
+        prefix: u32,
+        keep: &[bool],
+        room: u32,
+        failing: &[Failing],
+    ) -> Result<MemDisks, AllocError>
+        requires within { prefix ≤ length self.now.events }
+        requires each { length keep.now ≡ unflushed_count (first_events prefix self.now.events) }
+
+        // At every number of a disk and sector: one that isn't there has zeros in both images.
+        ensures image { IfOk result (λ made. image_of made.start
+            ≡ left_image (past_in self.now) prefix keep.now) }
+        ensures leaves { IfOk result (λ made. Leaves (past_in self.now) prefix (image_of made.start)) }
+
+        // All else is new, and the disks are as many, as long and divided as before.
+        ensures fresh { IfOk result (λ made. made ≡ fresh_state made.start room failing.now) }
+        ensures size { IfOk result (λ made. sizes_of made.start ≡ sizes_of self.now.start) }
+        ensures count { IfOk result (λ made. length made.start ≡ length self.now.start) }
+        ensures geometry { IfOk result (λ made.
+            geometries_of made.start ≡ geometries_of self.now.start) }
+    {
+        let mut start = copy_disks(alloc, &self.start)?;
+        make_left(&mut start, &self.events, prefix as usize, keep);
+        MemDisks::fresh(alloc, start, room, failing)
     }
 
     // The bytes that a sector has now.
@@ -140,6 +197,7 @@ impl MemDisks {
     fn add(&mut self, event: Event)
         requires room { length self.old.events < self.old.room }
         requires whole { WritesWholeSector event }
+        requires in_range { IsInRange (sizes_of self.old.start) event }
         ensures { self.new ≡ with_event event self.old }
     {
         self.events.push_front_reserved(event);

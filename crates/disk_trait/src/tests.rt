@@ -1,3 +1,5 @@
+mod left;
+
 use super::*;
 use sector_parts::Sector;
 use std::alloc::{AllocError, Global};

@@ -1,11 +1,10 @@
 -- Names of whole disks, and no other names, are those of disks.
-use Rattle.std.proofs.Common.{◌≡◌, ◌≤◌, ◌==◌, ℕ, zero, suc, List, Bool, true, false, refl, arith}
-use Rattle.std.specs.Prelude.{Option, Some, None, bytes_eq}
+use Rattle.std.proofs.Common.{◌≡◌, ◌≤◌, ℕ, zero, suc, List, false, refl, arith}
+use Rattle.std.specs.Prelude.{Some, None, bytes_eq}
 use Rattle.std.proofs.lemmas.Bool.{false_from_ne_true}
 use Rattle.std.proofs.lemmas.Slice.Eq.{bytes_eq-Decides}
 use Rattle.lilo_run.specs.Device.{name_of, disk_name, number_of, IsDevice}
 use Rattle.lilo_run.specs.declared.device.Device.{Device}
-use Rattle.lilo_run.specs.Table.{first_below}
 use Rattle.lilo_run.specs.Verdict.{whole_disk}
 
 -- a disk as a whole

@@ -1,7 +1,7 @@
 -- Names of devices, as Linux gives them to the first two IDE and the first two SCSI disks, and to their
 -- partitions.
 use Rattle.std.specs.Prelude.{ℕ, ◌+◌, ◌-◌, ◌*◌, ◌≤◌, ◌==◌, nat_le, ◌&&◌, if◌then◌else◌, List, [], ◌∷◌, ◌++◌, codes, decimal, Option, Some, None}
-use Rattle.lilo_run.specs.Slot.{is_between}
+use Rattle.lilo_model.specs.Bytes.{is_between}
 use Rattle.lilo_run.specs.declared.device.Device.{Device}
 
 -- the name of a whole disk

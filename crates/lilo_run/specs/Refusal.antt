@@ -1,36 +1,31 @@
--- The exit status and the line of each refusal of `lilo` (this project's own).
-use Rattle.std.specs.Prelude.{ℕ, List, ◌++◌, codes, decimal}
+-- For which of the model's refusals each refusal of `lilo` stands, and what is answered and printed.
+use Rattle.std.specs.Prelude.{codes, Err}
+use Rattle.lilo_model.specs.Reason as reasons
+use Rattle.lilo_model.specs.Refusal as model
+use Rattle.lilo_model.specs.Verdict.{Verdict, verdict_of}
 use Rattle.lilo_run.specs.declared.refusal.Refusal.{Refusal}
-use Rattle.lilo_run.specs.declared.refusal.Refusal.TheVariants.{NotBuilt, NoDisk, NotOurs, BadTable, NotFound}
+use Rattle.lilo_run.specs.declared.refusal.Refusal.TheVariants.{NoDisk, NotOurs, BadTable, BadLine, NotFound}
 use Rattle.lilo_run.specs.declared.refusal.Halt.{Halt}
-use Rattle.lilo_run.specs.declared.refusal.Halt.TheVariants.{Device, Refused}
+use Rattle.lilo_run.specs.declared.refusal.Halt.TheVariants.{Device, NotBuilt, Refused}
 
--- the exit status
-abbrev pub status_of : Refusal → ℕ
-status_of NotBuilt = 15
-status_of NoDisk = 3
-status_of NotOurs = 6
-status_of (BadTable entry) = 7
-status_of NotFound = 7
+-- a refusal
+abbrev pub refusal_view : Refusal → model.Refusal
+refusal_view NoDisk = model.Device model.NoDisk
+refusal_view NotOurs = model.NotOurs
+refusal_view (BadTable entry) = model.Boot (reasons.BadTable entry)
+refusal_view BadLine = model.Boot reasons.BadLine
+refusal_view NotFound = model.Boot reasons.NotFound
 
--- what is printed
-abbrev pub line_of : Refusal → List ℕ
-line_of NotBuilt = codes "lilo: not built\n"
-line_of NoDisk = codes "lilo: volume: no disk\n"
-line_of NotOurs = codes "lilo: not ours\n"
-line_of (BadTable entry) = codes "lilo: boot: bad table " ++ decimal entry ++ codes "\n"
-line_of NotFound = codes "lilo: boot: not found\n"
+-- what is answered and printed of parts that aren't built yet
+abbrev pub not_built : Verdict
+not_built = record { status = 15; text = codes "lilo: not built\n" }
 
--- what is printed where a device failed
-abbrev pub device_line : List ℕ
-device_line = codes "lilo: device\n"
+-- what is answered and printed where a device failed
+abbrev pub device_failed : Verdict
+device_failed = record { status = 8; text = codes "lilo: device\n" }
 
--- the exit status where a command ended early
-abbrev pub halt_status : Halt → ℕ
-halt_status Device = 8
-halt_status (Refused refusal) = status_of refusal
-
--- what is printed there
-abbrev pub halt_line : Halt → List ℕ
-halt_line Device = device_line
-halt_line (Refused refusal) = line_of refusal
+-- what is answered and printed where a command ended early
+abbrev pub halt_verdict : Halt → Verdict
+halt_verdict Device = device_failed
+halt_verdict NotBuilt = not_built
+halt_verdict (Refused refusal) = verdict_of (Err (refusal_view refusal))

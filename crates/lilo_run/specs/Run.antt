@@ -3,20 +3,32 @@ use Rattle.std.specs.Prelude.{◌≡◌, ◌⊎◌, ℕ, ◌==◌, Bool, List, [
 use Rattle.std.specs.List.{list_any}
 use Rattle.disk_trait.specs.Cause.{Rose}
 use Rattle.stream_trait.specs.Sink.{Takes, TakesFront}
-use Rattle.lilo_run.specs.declared.refusal.Refusal.{Refusal}
+use Rattle.lilo_model.specs.Refusal as model
+use Rattle.lilo_model.specs.Verdict.{Verdict}
 use Rattle.lilo_run.specs.declared.refusal.Halt.{Halt}
-use Rattle.lilo_run.specs.declared.refusal.Halt.TheVariants.{Device, Refused}
-use Rattle.lilo_run.specs.Refusal.{device_line}
-use Rattle.lilo_run.specs.Verdict.{Verdict}
+use Rattle.lilo_run.specs.declared.refusal.Halt.TheVariants.{Device, NotBuilt, Refused}
+use Rattle.lilo_run.specs.Refusal.{refusal_view, device_failed}
+use Rattle.lilo_run.specs.Verdict.{Stop, Unbuilt, Told}
 
--- What a reader returned, seen by view, is what the definition gives, unless a device failed.
-abbrev pub Halts : {B : Type 0} → Halt → Result B Refusal → Type 0
+-- What a reader returned, seen by view, is what the model gives, unless a device failed.
+abbrev pub Halts : {B : Type 0} → Halt → Result B model.Refusal → Type 0
 Halts Device read = Unit {0}
-Halts (Refused refusal) read = read ≡ Err refusal
+Halts NotBuilt read = ⊥
+Halts (Refused refusal) read = read ≡ Err (refusal_view refusal)
 
-abbrev pub Gives : {A B : Type 0} → (A → B) → Result A Halt → Result B Refusal → Type 0
+abbrev pub Gives : {A B : Type 0} → (A → B) → Result A Halt → Result B model.Refusal → Type 0
 Gives view (Ok value) read = read ≡ Ok (view value)
 Gives view (Err halt) read = Halts halt read
+
+-- The same where a part may not be built yet.
+abbrev pub Stops : {B : Type 0} → Halt → Result B Stop → Type 0
+Stops Device read = Unit {0}
+Stops NotBuilt read = read ≡ Err Unbuilt
+Stops (Refused refusal) read = read ≡ Err (Told (refusal_view refusal))
+
+abbrev pub GivesToday : {A B : Type 0} → (A → B) → Result A Halt → Result B Stop → Type 0
+GivesToday view (Ok value) read = read ≡ Ok (view value)
+GivesToday view (Err halt) read = Stops halt read
 
 -- The status is the verdict's, or 8, or in the place of 0 it is 12.
 abbrev pub Answers : Verdict → ℕ → Type 0
@@ -24,7 +36,7 @@ Answers verdict status = (status ≡ verdict.status) ⊎ ((status ≡ 8) ⊎ ((s
 
 -- what a run with this status prints: after a fault of a device its line alone
 abbrev pub printed : Verdict → ℕ → List ℕ
-printed verdict status = if status == 8 then device_line else verdict.text
+printed verdict status = if status == 8 then device_failed.text else verdict.text
 
 -- A sink took a text whole, or its faults rose and it took a front.
 abbrev pub Prints : Option (List ℕ) → List ℕ → Option (List ℕ) → ℕ → ℕ → Type 0

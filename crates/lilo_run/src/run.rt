@@ -1,39 +1,36 @@
 //! The top call: what the program `lilo` does with its words.
-ghost use Rattle.std.specs.Prelude.{◌≡◌, ◌≤◌, ◌⊎◌, ℕ, length, All, IsTrue, IfOk, IsErrOf, IsNone};
+ghost use Rattle.std.specs.Prelude.{◌≡◌, ◌≤◌, ◌⊎◌, ℕ, true, length, map, All, IsTrue, IfOk, IsErrOf, IsNone};
 ghost use Rattle.std.specs.List.{list_all};
 ghost use Rattle.disk_trait.specs.Past.{Told, SameDisks};
 ghost use Rattle.disk_trait.specs.Cause.{Rose};
 ghost use Rattle.stream_trait.specs.Sink.{Takes};
-ghost use Rattle.lilo_run.specs.Verdict.{verdict, query, queried_disk, whole_disk, there, told, refusal_of, names_behind, sector_number, sector_at, sectors_at, is_numbered, lines_from, name_line};
-ghost use Rattle.lilo_run.specs.BootSector.{boot_at};
-ghost use Rattle.lilo_run.specs.Refusal.{halt_status, halt_line};
-ghost use Rattle.lilo_run.specs.Table.{IsNamed};
-ghost use Rattle.lilo_run.specs.Run.{Gives, Answers, Prints, printed, is_status};
+ghost use Rattle.lilo_model.specs.Checks.{with_fault};
+ghost use Rattle.lilo_model.specs.BootSector.{boot_at};
+ghost use Rattle.lilo_model.specs.Boot.{slot_bytes_at};
+ghost use Rattle.lilo_model.specs.Reason as reasons;
+ghost use Rattle.lilo_model.specs.Refusal as model;
+ghost use Rattle.lilo_model.specs.Verdict.{map_refusal, table_sectors, names_text, name_line, lines_from};
+ghost use Rattle.sector_address.specs.View.{slot_view};
+ghost use Rattle.bios_model.specs.Machine.{machine_of};
+ghost use Rattle.boot_map.specs.View.{boot_view, map_fault_view, table_view};
+ghost use Rattle.boot_map.specs.Ranges.{IsNamed, IsOneSector};
+ghost use Rattle.lilo_run.specs.Refusal.{refusal_view, halt_verdict};
+ghost use Rattle.lilo_run.specs.Verdict.{queried_disk, whole_disk, is_numbered, names_today, disk_names, names_for, verdict};
+ghost use Rattle.lilo_run.specs.Run.{Gives, GivesToday, Answers, Prints, printed, is_status};
 
-use crate::boot_sector::{BootSector, MapFault};
 use crate::device::device_of;
-use crate::ram::Ram;
 use crate::refusal::{Halt, Refusal};
-use crate::slot::{Address, Slot};
-use crate::table::Table;
 use arrayvec::ArrayVec;
-use disk_trait::{DiskFault, Disks};
+use bios_model::{BiosFault, Ram};
+use boot_map::{BootSector, MapFault, Table};
+use disk_trait::Disks;
+use sector_address::{Address, Slot};
 use sector_parts::Sector;
 use std::alloc::Global;
 use stream_trait::{Sink, SinkFailed, Source, Words};
 
 /// The names of a map as `-q` prints them, at most 48 lines of 18 bytes.
 type Listing = ArrayVec<u8, 1024>;
-
-/// The number in an address that is one.
-fn sector_number(address: Address) -> u32
-    ensures { result ≡ sector_number address }
-{
-    match address {
-        Address::Chs(_) => 0,
-        Address::Linear(number) | Address::Lba32(number) => number,
-    }
-}
 
 /// The disk that has this name as a whole.
 fn whole_disk(name: &[u8]) -> Option<u8>
@@ -56,38 +53,49 @@ fn queried_disk(words: &Words) -> Option<u8>
     }
 }
 
-/// Reads the sector that a slot names by its number.
-#[tactic(auto, unfolding(crate::specs::Verdict::sector_at))]
+/// Reads the first sector that a slot names.
+#[tactic(auto, unfolding(lilo_model::specs::Boot::slot_bytes_at))]
 fn read_slot<D: Disks>(disks: &mut D, slot: &Slot, into: &mut Sector) -> Result<(), Halt>
-    ensures sector { Told (D.past disks.old) (λ now. Gives (λ _. into.new) result (sector_at now (D.size_of disks.old) slot.now)) }
+    requires { 1 ≤ slot.now.count }
+    ensures sector { Told (D.past disks.old) (λ now. Gives (λ _. into.new) result
+        (with_fault (λ _. model.Boot reasons.NotFound) (slot_bytes_at now (machine_of (D.size_of disks.old) (D.geometry_of disks.old)) (slot_view slot.now)))) }
     ensures same { SameDisks D.past D.size_of D.count_of D.geometry_of disks.old disks.new }
     ensures later { D.faults disks.old ≤ D.faults disks.new }
     ensures device { IsErrOf result Halt.Device → Rose (D.faults disks.old) (D.faults disks.new) }
+    ensures built { IsErrOf result Halt.NotBuilt → ⊥ }
 {
-    match disks.read(slot.disk, u64::from(sector_number(slot.address)), into) {
+    match bios_model::read_slot(disks, slot, 0, into) {
         Ok(()) => Ok(()),
-        Err(DiskFault::Failed) => Err(Halt::Device),
-        Err(DiskFault::OutOfRange) => Err(Halt::Refused(Refusal::NotFound)),
+        Err(BiosFault::NotFound) => Err(Halt::Refused(Refusal::NotFound)),
+        Err(_) => Err(Halt::Device),
     }
 }
 
 /// Whether slots all name their sectors by number.
 fn are_numbered(slots: &[Slot]) -> bool
-    ensures { result ≡ list_all is_numbered slots.now }
+    ensures { result ≡ list_all is_numbered (map slot_view slots.now) }
+{
+    each_is_number(slots)
+}
+
+fn each_is_number(slots: &[Slot]) -> bool
+    ensures { result ≡ list_all (λ slot. is_numbered (slot_view slot)) slots.now }
 {
     slots.iter().all(is_number)
 }
 
 fn is_number(slot: &Slot) -> bool
-    ensures { result ≡ is_numbered slot.now }
+    ensures { result ≡ is_numbered (slot_view slot.now) }
 {
     matches!(slot.address, Address::Lba32(_))
 }
 
 /// Reads the sectors that slots name by number, in order.
 fn read_slots<D: Disks>(disks: &mut D, slots: &[Slot], into: &mut [Sector]) -> Result<(), Halt>
-    requires { length slots.now ≡ length into.old }
-    ensures sectors { Told (D.past disks.old) (λ now. Gives (λ _. into.new) result (sectors_at now (D.size_of disks.old) slots.now)) }
+    requires room { length slots.now ≡ length into.old }
+    requires slots { All IsOneSector slots.now }
+    ensures sectors { Told (D.past disks.old) (λ now. Gives (λ _. into.new) result
+        (table_sectors now (machine_of (D.size_of disks.old) (D.geometry_of disks.old)) (map slot_view slots.now))) }
     ensures same { SameDisks D.past D.size_of D.count_of D.geometry_of disks.old disks.new }
     ensures later { D.faults disks.old ≤ D.faults disks.new }
     ensures device { IsErrOf result Halt.Device → Rose (D.faults disks.old) (D.faults disks.new) }
@@ -113,7 +121,7 @@ fn name_line(is_default: bool, name: &[u8]) -> ArrayVec<u8, 18>
 /// The names of a table, a line each.
 fn listing(default_entry: u16, table: &Table) -> Listing
     requires { All IsNamed table.now.entries.items }
-    ensures { result.items ≡ lines_from default_entry 0 table.now.entries.items }
+    ensures { result.items ≡ lines_from default_entry 0 (table_view table.now) }
 {
     let mut text = Listing::new();
     for (place, entry) in table.entries.iter().enumerate() {
@@ -124,17 +132,19 @@ fn listing(default_entry: u16, table: &Table) -> Listing
 }
 
 /// The names that stand behind a boot sector, a line each.
-#[tactic(auto, unfolding(crate::specs::Verdict::names_behind))]
+#[tactic(auto, unfolding(crate::specs::Verdict::names_today, lilo_model::specs::Verdict::names_behind))]
 fn read_names<D: Disks>(disks: &mut D, boot: &BootSector) -> Result<Listing, Halt>
     requires table { length boot.now.table.items ≡ 3 }
+    requires slots { All IsOneSector boot.now.table.items }
     requires names { boot.now.names ≤ 19 }
-    ensures names { Told (D.past disks.old) (λ now. Gives (λ text. text.items) result (names_behind now (D.size_of disks.old) boot.now)) }
+    ensures names { Told (D.past disks.old) (λ now. GivesToday (λ text. text.items) result
+        (names_today now (machine_of (D.size_of disks.old) (D.geometry_of disks.old)) (boot_view boot.now))) }
     ensures same { SameDisks D.past D.size_of D.count_of D.geometry_of disks.old disks.new }
     ensures later { D.faults disks.old ≤ D.faults disks.new }
     ensures device { IsErrOf result Halt.Device → Rose (D.faults disks.old) (D.faults disks.new) }
 {
     if !are_numbered(boot.table.as_slice()) {
-        return Err(Halt::Refused(Refusal::NotBuilt));
+        return Err(Halt::NotBuilt);
     }
     let mut sectors = [[0; 512]; 3];
     read_slots(disks, boot.table.as_slice(), &mut sectors)?;
@@ -146,20 +156,20 @@ fn read_names<D: Disks>(disks: &mut D, boot: &BootSector) -> Result<Listing, Hal
 
 /// How `-q` tells what is wrong with a map.
 fn refusal_of(fault: MapFault) -> Refusal
-    ensures { result ≡ refusal_of fault }
+    ensures { refusal_view result ≡ map_refusal (map_fault_view fault) }
 {
     match fault {
         MapFault::NotOurs | MapFault::BadVersion(_) => Refusal::NotOurs,
         MapFault::BadTable(entry) => Refusal::BadTable(entry),
-        MapFault::BadLine => Refusal::BadTable(255),
+        MapFault::BadLine => Refusal::BadLine,
     }
 }
 
 /// What `-q` prints.
-#[tactic(auto, unfolding(crate::specs::Verdict::query))]
 fn query<D: Disks>(words: &Words, disks: &mut D) -> Result<Listing, Halt>
-    ensures names { Told (D.past disks.old) (λ now. Gives (λ text. text.items) result (query now (D.size_of disks.old) words.now)) }
-    ensures unbuilt { IsNone (queried_disk words.now) → result ≡ Err (Halt.Refused Refusal.NotBuilt) }
+    ensures names { Told (D.past disks.old) (λ now. GivesToday (λ text. text.items) result
+        (names_for now (machine_of (D.size_of disks.old) (D.geometry_of disks.old)) (queried_disk words.now))) }
+    ensures unbuilt { IsNone (queried_disk words.now) → result ≡ Err Halt.NotBuilt }
     ensures no_disk { (disk : ℕ) → queried_disk words.now ≡ Some disk → D.size_of disks.old disk ≡ 0
         → result ≡ Err (Halt.Refused Refusal.NoDisk) }
     ensures same { SameDisks D.past D.size_of D.count_of D.geometry_of disks.old disks.new }
@@ -167,8 +177,21 @@ fn query<D: Disks>(words: &Words, disks: &mut D) -> Result<Listing, Halt>
     ensures device { IsErrOf result Halt.Device → Rose (D.faults disks.old) (D.faults disks.new) }
 {
     let Some(disk) = queried_disk(words) else {
-        return Err(Halt::Refused(Refusal::NotBuilt));
+        return Err(Halt::NotBuilt);
     };
+    query_disk(disks, disk)
+}
+
+/// What `-q` prints of a whole disk.
+#[tactic(auto, unfolding(crate::specs::Verdict::disk_names, crate::specs::Verdict::names_today, lilo_model::specs::Verdict::names_text))]
+fn query_disk<D: Disks>(disks: &mut D, disk: u8) -> Result<Listing, Halt>
+    ensures names { Told (D.past disks.old) (λ now. GivesToday (λ text. text.items) result
+        (disk_names now (machine_of (D.size_of disks.old) (D.geometry_of disks.old)) disk)) }
+    ensures no_disk { D.size_of disks.old disk ≡ 0 → result ≡ Err (Halt.Refused Refusal.NoDisk) }
+    ensures same { SameDisks D.past D.size_of D.count_of D.geometry_of disks.old disks.new }
+    ensures later { D.faults disks.old ≤ D.faults disks.new }
+    ensures device { IsErrOf result Halt.Device → Rose (D.faults disks.old) (D.faults disks.new) }
+{
     if disks.size(disk) == 0 {
         return Err(Halt::Refused(Refusal::NoDisk));
     }
@@ -179,8 +202,9 @@ fn query<D: Disks>(words: &Words, disks: &mut D) -> Result<Listing, Halt>
 /// The boot sector of a disk that is there.
 fn read_boot<D: Disks>(disks: &mut D, disk: u8) -> Result<BootSector, Halt>
     requires { 1 ≤ D.size_of disks.old disk }
-    ensures boot { Told (D.past disks.old) (λ now. Gives (λ boot. boot) result (told (boot_at (now disk 0)))) }
+    ensures boot { Told (D.past disks.old) (λ now. Gives boot_view result (with_fault map_refusal (boot_at (now disk 0)))) }
     ensures table { IfOk result (λ boot. length boot.table.items ≡ 3) }
+    ensures slots { IfOk result (λ boot. All IsOneSector boot.table.items) }
     ensures names { IfOk result (λ boot. boot.names ≤ 19) }
     ensures same { SameDisks D.past D.size_of D.count_of D.geometry_of disks.old disks.new }
     ensures later { D.faults disks.old ≤ D.faults disks.new }
@@ -221,13 +245,13 @@ pub fn lilo<D: Disks, I: Source, O: Sink>(
     now: u32,
 ) -> u8
     // Where the disks tell what they hold, the status is the verdict's, but for faults.
-    ensures status { Told (D.past disks.old) (λ now. Answers (verdict now (D.size_of disks.old) words.now) result) }
+    ensures status { Told (D.past disks.old) (λ now. Answers (verdict now (machine_of (D.size_of disks.old) (D.geometry_of disks.old)) words.now) result) }
     ensures device { result ≡ 8 → Rose (D.faults disks.old) (D.faults disks.new) }
     ensures sink { result ≡ 12 → Rose (O.faults out.old) (O.faults out.new) }
 
     // The text is the verdict's, or the line of a device's fault. Only a failed sink may have cut it short.
-    ensures text { Told (D.past disks.old) (λ now. Prints (O.taken out.old) (printed (verdict now (D.size_of disks.old) words.now) result) (O.taken out.new) (O.faults out.old) (O.faults out.new)) }
-    ensures whole { result ≡ 0 → Told (D.past disks.old) (λ now. Takes (O.taken out.old) (verdict now (D.size_of disks.old) words.now).text (O.taken out.new)) }
+    ensures text { Told (D.past disks.old) (λ now. Prints (O.taken out.old) (printed (verdict now (machine_of (D.size_of disks.old) (D.geometry_of disks.old)) words.now) result) (O.taken out.new) (O.faults out.old) (O.faults out.new)) }
+    ensures whole { result ≡ 0 → Told (D.past disks.old) (λ now. Takes (O.taken out.old) (verdict now (machine_of (D.size_of disks.old) (D.geometry_of disks.old)) words.now).text (O.taken out.new)) }
 
     // Whatever the disks tell, these are the statuses, and two of them have their cause in the words and sizes.
     ensures statuses { IsTrue (is_status result) }
@@ -260,8 +284,8 @@ fn say_names<O: Sink>(out: &mut O, text: &[u8]) -> u8
 
 /// Prints the line that tells why a command ended, and gives its status.
 fn say_halt<O: Sink>(out: &mut O, halt: Halt) -> u8
-    ensures status { result ≡ halt_status halt }
-    ensures text { Prints (O.taken out.old) (halt_line halt) (O.taken out.new) (O.faults out.old) (O.faults out.new) }
+    ensures status { result ≡ (halt_verdict halt).status }
+    ensures text { Prints (O.taken out.old) (halt_verdict halt).text (O.taken out.new) (O.faults out.old) (O.faults out.new) }
 {
     // A line that the sink refused leaves the status as it is.
     let _ = out.put(halt.line().as_slice());

@@ -1,7 +1,6 @@
 // Fields of any length, written.
 ghost use Rattle.std.specs.Prelude.{◌≡◌, ◌+◌, ◌<◌, ◌≤◌, ◌∷◌, [], length, replicate};
-ghost use Rattle.std.specs.Int.{w16, w32, to_le_bytes};
-ghost use Rattle.sector_parts.specs.Parts.{with_part, name_field};
+ghost use Rattle.lilo_model.specs.Bytes.{with_part, bytes16, bytes32, filled_bytes};
 
 use byteorder::{ByteOrder, LittleEndian};
 
@@ -15,7 +14,7 @@ impl FieldMut<'_> {
     /// Writes the byte at offset `at`.
     pub fn put_u8(&mut self, at: usize, value: u8)
         requires { at < length self.old.bytes.now }
-        ensures bytes { self.new.bytes.now ≡ with_part self.old.bytes.now at 1 (value ∷ []) }
+        ensures bytes { self.new.bytes.now ≡ with_part self.old.bytes.now at (value ∷ []) }
         ensures same_reference { self.new.bytes.ghost_name ≡ self.old.bytes.ghost_name }
     {
         put(self.bytes, at, &[value]);
@@ -24,7 +23,7 @@ impl FieldMut<'_> {
     /// Writes a number into the two bytes from offset `at`.
     pub fn put_u16(&mut self, at: usize, value: u16)
         requires { at + 2 ≤ length self.old.bytes.now }
-        ensures bytes { self.new.bytes.now ≡ with_part self.old.bytes.now at 2 (to_le_bytes w16 value) }
+        ensures bytes { self.new.bytes.now ≡ with_part self.old.bytes.now at (bytes16 value) }
         ensures same_reference { self.new.bytes.ghost_name ≡ self.old.bytes.ghost_name }
     {
         let mut bytes = [0; 2];
@@ -35,7 +34,7 @@ impl FieldMut<'_> {
     /// Writes a number into the four bytes from offset `at`.
     pub fn put_u32(&mut self, at: usize, value: u32)
         requires { at + 4 ≤ length self.old.bytes.now }
-        ensures bytes { self.new.bytes.now ≡ with_part self.old.bytes.now at 4 (to_le_bytes w32 value) }
+        ensures bytes { self.new.bytes.now ≡ with_part self.old.bytes.now at (bytes32 value) }
         ensures same_reference { self.new.bytes.ghost_name ≡ self.old.bytes.ghost_name }
     {
         let mut bytes = [0; 4];
@@ -47,7 +46,7 @@ impl FieldMut<'_> {
     pub fn put_name(&mut self, at: usize, len: usize, name: &[u8])
         requires inside { at + len ≤ length self.old.bytes.now }
         requires fits { length name.now ≤ len }
-        ensures bytes { self.new.bytes.now ≡ with_part self.old.bytes.now at len (name_field name.now len) }
+        ensures bytes { self.new.bytes.now ≡ with_part self.old.bytes.now at (filled_bytes len name.now) }
         ensures same_reference { self.new.bytes.ghost_name ≡ self.old.bytes.ghost_name }
     {
         fill_field(&mut self.bytes[at..at + len], name);
@@ -57,7 +56,7 @@ impl FieldMut<'_> {
 // Writes some bytes over those from an offset on.
 fn put(bytes: &mut [u8], at: usize, new: &[u8])
     requires { at + length new.now ≤ length bytes.old }
-    ensures { bytes.new ≡ with_part bytes.old at (length new.now) new.now }
+    ensures { bytes.new ≡ with_part bytes.old at new.now }
 {
     bytes[at..at + new.len()].copy_from_slice(new);
 }
@@ -65,7 +64,7 @@ fn put(bytes: &mut [u8], at: usize, new: &[u8])
 // Fills a field with a name, and zeros after it.
 fn fill_field(field: &mut [u8], name: &[u8])
     requires { length name.now ≤ length field.old }
-    ensures { field.new ≡ name_field name.now (length field.old) }
+    ensures { field.new ≡ filled_bytes (length field.old) name.now }
 {
     field[..name.len()].copy_from_slice(name);
     clear(&mut field[name.len()..]);

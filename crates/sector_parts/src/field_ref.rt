@@ -1,7 +1,7 @@
 // Fields of any length, read.
 ghost use Rattle.std.specs.Prelude.{◌≡◌, ◌+◌, ◌<◌, ◌≤◌, ◌==◌, length, slice_index};
 ghost use Rattle.std.specs.List.{position_or_len};
-ghost use Rattle.sector_parts.specs.Parts.{number16, number32, name_in};
+ghost use Rattle.lilo_model.specs.Bytes.{number16, number32, name_in};
 
 use byteorder::{ByteOrder, LittleEndian};
 
@@ -21,7 +21,7 @@ impl<'a> FieldRef<'a> {
     }
 
     /// The number in the two bytes from offset `at`.
-    #[tactic(auto, unfolding(crate::specs::Parts::number16))]
+    #[tactic(auto, unfolding(lilo_model::specs::Bytes::number16))]
     pub fn u16_at(&self, at: usize) -> u16
         requires { at + 2 ≤ length self.now.bytes.now }
         ensures { result ≡ number16 self.now.bytes.now at }
@@ -30,7 +30,7 @@ impl<'a> FieldRef<'a> {
     }
 
     /// The number in the four bytes from offset `at`.
-    #[tactic(auto, unfolding(crate::specs::Parts::number32))]
+    #[tactic(auto, unfolding(lilo_model::specs::Bytes::number32))]
     pub fn u32_at(&self, at: usize) -> u32
         requires { at + 4 ≤ length self.now.bytes.now }
         ensures { result ≡ number32 self.now.bytes.now at }

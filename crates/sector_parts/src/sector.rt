@@ -1,7 +1,6 @@
 // A sector as an array of bytes.
 ghost use Rattle.std.specs.Prelude.{◌≡◌, ◌+◌, ◌≤◌, length};
-ghost use Rattle.std.specs.Int.{w16, w32, to_le_bytes};
-ghost use Rattle.sector_parts.specs.Parts.{part_of, with_part, number16, number32};
+ghost use Rattle.lilo_model.specs.Bytes.{part_of, with_part, number16, number32, bytes16, bytes32};
 
 use byteorder::{ByteOrder, LittleEndian};
 
@@ -20,13 +19,13 @@ pub fn part<'a>(sector: &'a Sector, at: usize, len: usize) -> &'a [u8]
 /// Writes bytes from offset `at` on. All others stay.
 pub fn put_part(sector: &mut Sector, at: usize, bytes: &[u8])
     requires { at + length bytes.now ≤ 512 }
-    ensures { sector.new ≡ with_part sector.old at (length bytes.now) bytes.now }
+    ensures { sector.new ≡ with_part sector.old at bytes.now }
 {
     sector[at..at + bytes.len()].copy_from_slice(bytes);
 }
 
 /// The number in the two bytes from offset `at`.
-#[tactic(auto, unfolding(crate::specs::Parts::number16))]
+#[tactic(auto, unfolding(lilo_model::specs::Bytes::number16))]
 pub fn u16_at(sector: &Sector, at: usize) -> u16
     requires { at ≤ 510 }
     ensures { result ≡ number16 sector.now at }
@@ -37,7 +36,7 @@ pub fn u16_at(sector: &Sector, at: usize) -> u16
 /// Writes a number into the two bytes from offset `at`. All others stay.
 pub fn put_u16(sector: &mut Sector, at: usize, value: u16)
     requires { at ≤ 510 }
-    ensures { sector.new ≡ with_part sector.old at 2 (to_le_bytes w16 value) }
+    ensures { sector.new ≡ with_part sector.old at (bytes16 value) }
 {
     let mut bytes = [0; 2];
     LittleEndian::write_u16(&mut bytes, value);
@@ -45,7 +44,7 @@ pub fn put_u16(sector: &mut Sector, at: usize, value: u16)
 }
 
 /// The number in the four bytes from offset `at`.
-#[tactic(auto, unfolding(crate::specs::Parts::number32))]
+#[tactic(auto, unfolding(lilo_model::specs::Bytes::number32))]
 pub fn u32_at(sector: &Sector, at: usize) -> u32
     requires { at ≤ 508 }
     ensures { result ≡ number32 sector.now at }
@@ -56,7 +55,7 @@ pub fn u32_at(sector: &Sector, at: usize) -> u32
 /// Writes a number into the four bytes from offset `at`. All others stay.
 pub fn put_u32(sector: &mut Sector, at: usize, value: u32)
     requires { at ≤ 508 }
-    ensures { sector.new ≡ with_part sector.old at 4 (to_le_bytes w32 value) }
+    ensures { sector.new ≡ with_part sector.old at (bytes32 value) }
 {
     let mut bytes = [0; 4];
     LittleEndian::write_u32(&mut bytes, value);

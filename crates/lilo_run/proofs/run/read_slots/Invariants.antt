@@ -1,6 +1,9 @@
-use Rattle.std.proofs.Common.{◌≡◌, ◌≤◌, Ok, take, drop}
+use Rattle.std.proofs.Common.{◌≡◌, ◌≤◌, take, drop}
+use Rattle.std.specs.Prelude.{map}
 use Rattle.disk_trait.specs.Past.{Told, SameDisks}
-use Rattle.lilo_run.specs.Verdict.{sectors_at}
+use Rattle.lilo_model.specs.Verdict.{table_sectors}
+use Rattle.sector_address.specs.View.{slot_view}
+use Rattle.bios_model.specs.Machine.{machine_of}
 use Rattle.lilo_run.proofs.Reading.{behind}
 use Rattle.lilo_run.proofs.run.read_slots.Given as goal
 
@@ -8,8 +11,9 @@ use Rattle.lilo_run.proofs.run.read_slots.Given as goal
 abbrev pub invariant-loop-place : goal.invariant-loop-place
 invariant-loop-place g l =
     let disks = g.D.Disks in
+    let machine = machine_of (disks.size_of l.fn.disks) (disks.geometry_of l.fn.disks) in
     record {
-      sectors : Told (disks.past l.fn.disks) (λ now. sectors_at now (disks.size_of l.fn.disks) l.slots ≡ behind (take l.place l.into) (sectors_at now (disks.size_of l.fn.disks) (drop l.place l.slots)));
+      sectors : Told (disks.past l.fn.disks) (λ now. table_sectors now machine (map slot_view l.slots) ≡ behind (take l.place l.into) (table_sectors now machine (map slot_view (drop l.place l.slots))));
       same : SameDisks disks.past disks.size_of disks.count_of disks.geometry_of l.fn.disks l.disks;
       later : disks.faults l.fn.disks ≤ disks.faults l.disks;
     }

@@ -1,6 +1,5 @@
 -- A device's name is read exactly, so that of a whole disk is, and no other.
-use Rattle.std.proofs.Common.{◌≡◌, ◌≤◌, ℕ, sym, ap, arith, ◌∙◌}
-use Rattle.std.specs.Prelude.{Ok, Some}
+use Rattle.std.proofs.Common.{◌≡◌, ℕ, sym, ap, ◌∙◌}
 use Rattle.lilo_run.specs.Device.{name_of}
 use Rattle.lilo_run.specs.declared.device.Device.{Device}
 use Rattle.lilo_run.proofs.WholeDisk.{whole, is_device-whole, whole_disk-found, whole_disk-none}

@@ -1,0 +1,4 @@
+pub mod BootLemmas
+pub mod FirstBelow
+pub mod SlotLemmas
+pub mod TableLemmas

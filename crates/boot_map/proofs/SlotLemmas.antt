@@ -1,0 +1,64 @@
+-- What bytes that may be a slot are decoded to.
+use Rattle.std.proofs.Common.{◌≡◌, ℕ, List, [], ◌∷◌, Bool, true, false, refl, arith}
+use Rattle.std.specs.Prelude.{◌==◌, Option, Some, None, Result, Ok, Err, if◌then◌else◌}
+use Rattle.lilo_model.specs.Bytes.{is_zero}
+use Rattle.lilo_model.specs.Slots as model
+use Rattle.lilo_model.specs.Slots.{is_slot, is_one_slot, has_ranges, slot_of, slot_at}
+use Rattle.sector_address.specs.View.{slot_view}
+use Rattle.sector_address.specs.declared.slot.Slot.{Slot}
+use Rattle.boot_map.specs.Ranges.{IsOneSector}
+
+-- a slot isn't all zeros, since its mode is at least 1
+is_slot-not_zero : (bytes : List ℕ) → is_slot bytes ≡ true → is_zero bytes ≡ false
+unfolding is_slot has_ranges is_zero
+is_slot-not_zero [] good = grind arith
+is_slot-not_zero (byte ∷ bytes) good = grind arith
+
+-- the slot that was decoded, if any
+abbrev pub slot_or_none : Result (Option model.Slot) model.AddressFault → Option model.Slot
+slot_or_none (Ok slot) = slot
+slot_or_none (Err _) = None
+
+by_cases :
+    (bytes : List ℕ) (none some : Bool) → is_zero bytes ≡ none → is_slot bytes ≡ some
+    → slot_or_none (slot_at bytes) ≡ (if some then Some (slot_of bytes) else None)
+unfolding slot_at
+by_cases bytes true true is_none is_some =
+    let other : is_zero bytes ≡ false = is_slot-not_zero bytes is_some in cc
+by_cases bytes true false is_none is_some = rw is_none refl
+by_cases bytes false true is_none is_some = rw (is_none, is_some) refl
+by_cases bytes false false is_none is_some = rw (is_none, is_some) refl
+
+-- bytes are decoded as a slot exactly where they are one
+pub slot_at-is_slot :
+    (bytes : List ℕ) → slot_or_none (slot_at bytes) ≡ (if is_slot bytes then Some (slot_of bytes) else None)
+slot_at-is_slot bytes = by_cases bytes (is_zero bytes) (is_slot bytes) refl refl
+
+-- bytes are a slot of one sector where the slot in them is
+pub some-is_one :
+    (bytes : List ℕ) (slot : Slot) → Some (slot_view slot) ≡ (if is_slot bytes then Some (slot_of bytes) else None)
+    → (slot.count == 1) ≡ is_one_slot bytes
+unfolding is_one_slot slot_of
+some-is_one bytes slot found = grind arith
+
+-- bytes without a slot are no slot of one sector
+pub none-not_one :
+    (bytes : List ℕ) → None ≡ (if is_slot bytes then Some (slot_of bytes) else None) → is_one_slot bytes ≡ false
+unfolding is_one_slot
+none-not_one bytes found = grind arith
+
+-- the slot in bytes that are a slot of one sector
+pub some-slot_of :
+    (bytes : List ℕ) (slot : Slot) → Some (slot_view slot) ≡ (if is_slot bytes then Some (slot_of bytes) else None)
+    → is_one_slot bytes ≡ true → slot_view slot ≡ slot_of bytes
+unfolding is_one_slot
+some-slot_of bytes slot found one = let is_one : is_slot bytes ≡ true = grind arith in cc (rw is_one at found)
+
+-- it has the count 1, and lies on one of the disks 0 to 3
+pub slot_of-ranges :
+    (bytes : List ℕ) (slot : Slot) → slot_view slot ≡ slot_of bytes → is_one_slot bytes ≡ true → IsOneSector slot
+unfolding is_one_slot is_slot has_ranges slot_of
+slot_of-ranges bytes slot same one =
+    let count : slot.count ≡ (slot_of bytes).count = cc in
+    let disk : slot.disk ≡ (slot_of bytes).disk = cc in
+    (grind arith, grind arith)

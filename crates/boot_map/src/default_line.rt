@@ -1,0 +1,65 @@
+ghost use Rattle.std.specs.Prelude.{◌≡◌, ◌≤◌, true, length, IfOk};
+ghost use Rattle.lilo_model.specs.Checks.{seen};
+ghost use Rattle.lilo_model.specs.LineSector.{is_line, line_of, line_at};
+ghost use Rattle.boot_map.specs.View.{line_view, map_fault_view};
+ghost use Rattle.boot_map.specs.Ranges.{IsLine};
+
+use crate::map_fault::MapFault;
+use crate::text::copy_of;
+use arrayvec::ArrayVec;
+use sector_parts::{Sector, part, u16_at};
+
+/// The default line: what an installation chooses without keys.
+#[derive(Clone, Debug, PartialEq, Eq, Drop)]
+pub enum DefaultLine {
+    /// There is no line.
+    Empty,
+    /// A line for one boot, 1 to 255 bytes.
+    Once(ArrayVec<u8, 470>),
+    /// A line for each boot, 1 to 255 bytes.
+    Kept(ArrayVec<u8, 470>),
+}
+
+impl DefaultLine {
+    /// Reads the sector of the default line. `BadLine` is for one that doesn't begin with `LINE`, for a
+    /// state or a length out of its range, for a text where there is no line, and for a line without one.
+    #[tactic(auto, unfolding(lilo_model::specs::LineSector::line_at))]
+    pub fn read(sector: &Sector) -> Result<DefaultLine, MapFault>
+        ensures read { seen line_view map_fault_view result ≡ line_at sector.now }
+        ensures text { IfOk result IsLine }
+    {
+        if !is_line(sector) {
+            return Err(MapFault::BadLine);
+        }
+        Ok(line_of(sector))
+    }
+}
+
+// Whether the sector begins as one of a line, its state and length are in their ranges, and there is a
+// text exactly where there is a line.
+#[tactic(auto, unfolding(lilo_model::specs::LineSector::is_line))]
+fn is_line(sector: &Sector) -> bool
+    ensures { result ≡ is_line sector.now }
+{
+    let state = u16_at(sector, 4);
+    let length = u16_at(sector, 6);
+    part(sector, 0, 4) == b"LINE".as_slice()
+        && state <= 2
+        && length <= 255
+        && (state == 0) == (length == 0)
+}
+
+// The line in a sector that has one.
+#[tactic(auto, unfolding(lilo_model::specs::LineSector::is_line, lilo_model::specs::LineSector::line_of))]
+fn line_of(sector: &Sector) -> DefaultLine
+    requires { is_line sector.now ≡ true }
+    ensures value { line_view result ≡ line_of sector.now }
+    ensures text { IsLine result }
+{
+    let text = copy_of(part(sector, 8, usize::from(u16_at(sector, 6))));
+    match u16_at(sector, 4) {
+        0 => DefaultLine::Empty,
+        1 => DefaultLine::Once(text),
+        _ => DefaultLine::Kept(text),
+    }
+}

@@ -1,0 +1,159 @@
+use crate::fixture::{boot_sector, line_sector, two_entries};
+use crate::text::copy_of;
+use crate::{BootSector, DefaultLine, Extra, MapFault, Options, Table, flags};
+use sector_address::{Address, Slot};
+use sector_parts::{put_part, put_u16};
+use std::test::Fail;
+
+// The slot of one sector of the first disk, by its number.
+fn one_sector(number: u32) -> Slot {
+    Slot {
+        disk: 0,
+        count: 1,
+        address: Address::Lba32(number),
+    }
+}
+
+#[test]
+fn boot_sectors_are_read(rt: HostRuntime) -> Result<(), Fail> {
+    let boot = BootSector::read(&boot_sector())?;
+    assert_eq!(rt; boot.line, one_sector(94));
+    assert_eq!(rt; boot.zero, one_sector(98));
+    assert_eq!(rt; boot.timeout, Some(50));
+    assert!(rt; boot.prompt && boot.message.is_none());
+    assert_eq!(rt;
+        boot.table.as_slice(),
+        [one_sector(95), one_sector(96), one_sector(97)].as_slice()
+    );
+    assert_eq!(rt; BootSector::read(&[0; 512]), Err(MapFault::NotOurs));
+    Ok(())
+}
+
+#[test]
+fn broken_boot_sectors_are_refused(rt: HostRuntime) {
+    for (at, value, fault) in [
+        (0x00, 0, MapFault::NotOurs),
+        (0x1FE, 0, MapFault::NotOurs),
+        (0x06, 3, MapFault::BadVersion(3)),
+        (0x12, 20, MapFault::BadTable(255)),
+        (0x12, 0, MapFault::BadTable(255)),
+        (0x0C, 2, MapFault::BadTable(255)),
+        (0x0E, 65535, MapFault::BadTable(255)),
+        (0x60, 1, MapFault::BadTable(255)),
+        (0x7E, 1, MapFault::BadTable(255)),
+        (0x48, 0x8003, MapFault::BadTable(255)),
+        (0x14, 1, MapFault::BadTable(255)),
+        (0x1A, 2, MapFault::BadTable(255)),
+    ] {
+        let mut sector = boot_sector();
+        assert!(rt; at <= 510);
+        put_u16(&mut sector, at, value);
+        assert_eq!(rt; BootSector::read(&sector), Err(fault), "at {at}");
+    }
+}
+
+#[test]
+fn tables_are_read(rt: HostRuntime) -> Result<(), Fail> {
+    let (sector, first) = two_entries();
+    let boot = BootSector::read(&sector)?;
+    let table = Table::read(&boot, &[first, [0; 512], [0; 512]])?;
+    assert_eq!(rt; table.entries.len(), 2);
+    let linux = &table.entries.as_slice()[0];
+    assert_eq!(rt; linux.name.as_slice(), b"linux".as_slice());
+    assert_eq!(rt; linux.flags, flags::INITRD);
+    assert_eq!(rt;
+        (linux.length, linux.initrd_length, linux.chain),
+        (1029, 700, 1)
+    );
+    assert_eq!(rt; linux.options, one_sector(99));
+    assert_eq!(rt; linux.first, one_sector(100));
+    assert_eq!(rt; linux.initrd, Some(one_sector(101)));
+    assert_eq!(rt; linux.extra, None);
+    let next = &table.entries.as_slice()[1];
+    assert_eq!(rt; next.name.as_slice(), b"next".as_slice());
+    assert_eq!(rt; (next.initrd, next.extra), (None, Some(one_sector(104))));
+    Ok(())
+}
+
+#[test]
+fn broken_tables_are_refused(rt: HostRuntime) -> Result<(), Fail> {
+    let (sector, whole) = two_entries();
+    let boot = BootSector::read(&sector)?;
+    for (at, bytes, entry) in [
+        // The name of the first entry.
+        (64, b"linux\0", 1),
+        // Lock and fallback.
+        (80, b"\x18\0\0\0\x84\x03", 1),
+        // A lock alone, where the extra sector is that of a fallback.
+        (80, b"\x08\0\0\0\x84\x03", 1),
+        // Two sectors in the slot of the options.
+        (92, b"\x03\x80\x02\0\x66\0", 1),
+        // No name.
+        (0, b"\0\0\0\0\0\0", 0),
+        // The slot of the initrd.
+        (44, b"\0\0\0\0\0\0", 0),
+    ] {
+        let mut first = whole;
+        assert!(rt; at <= 506);
+        put_part(&mut first, at, bytes);
+        assert_eq!(rt;
+            Table::read(&boot, &[first, [0; 512], [0; 512]]),
+            Err(MapFault::BadTable(entry)),
+            "at {at}: {bytes:?}"
+        );
+    }
+    Ok(())
+}
+
+#[test]
+fn options_are_read(rt: HostRuntime) -> Result<(), Fail> {
+    let mut sector = [0; 512];
+    put_u16(&mut sector, 0, 12);
+    put_part(&mut sector, 8, b" ro root=301");
+    let options = Options::read(&sector)?;
+    assert_eq!(rt; options.middle.as_slice(), b" ro root=301".as_slice());
+    put_u16(&mut sector, 0, 256);
+    assert_eq!(rt; Options::read(&sector), Err(MapFault::BadTable(255)));
+    Ok(())
+}
+
+#[test]
+fn extra_sectors_are_read(rt: HostRuntime) -> Result<(), Fail> {
+    let mut sector = [0; 512];
+    put_u16(&mut sector, 0, 3);
+    put_u16(&mut sector, 2, 3);
+    put_part(&mut sector, 4, b"old");
+    put_part(&mut sector, 480, b"tux");
+    let extra = Extra::read(&sector)?;
+    assert_eq!(rt; extra.fallback.as_slice(), b"old".as_slice());
+    assert_eq!(rt; extra.password.as_slice(), b"tux".as_slice());
+    for (fallback, password) in [(3, 32), (256, 3)] {
+        put_u16(&mut sector, 0, fallback);
+        put_u16(&mut sector, 2, password);
+        assert_eq!(rt;
+            Extra::read(&sector),
+            Err(MapFault::BadTable(255)),
+            "at {fallback}, {password}"
+        );
+    }
+    Ok(())
+}
+
+#[test]
+fn default_lines_are_read(rt: HostRuntime) {
+    for (state, length, line) in [
+        (0, 0, Ok(DefaultLine::Empty)),
+        (1, 12, Ok(DefaultLine::Once(copy_of(b"linux single")))),
+        (2, 12, Ok(DefaultLine::Kept(copy_of(b"linux single")))),
+        (0, 1, Err(MapFault::BadLine)),
+        (1, 0, Err(MapFault::BadLine)),
+        (1, 256, Err(MapFault::BadLine)),
+        (3, 12, Err(MapFault::BadLine)),
+    ] {
+        let sector = line_sector(state, length);
+        assert_eq!(rt; DefaultLine::read(&sector), line, "at {state}, {length}");
+    }
+    let mut foreign = line_sector(1, 12);
+    foreign[3] = b'X';
+    assert_eq!(rt; DefaultLine::read(&foreign), Err(MapFault::BadLine));
+}

@@ -1,0 +1,4 @@
+pub mod Laws
+pub mod Reader
+pub mod Run
+pub mod View

@@ -1,0 +1,3 @@
+pub mod Sectors
+pub mod Replaced
+pub mod Reading

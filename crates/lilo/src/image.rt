@@ -1,4 +1,6 @@
 // An IMAGE word of the command line.
+ghost use Rattle.std.specs.Prelude.{◌≤◌, IfSome};
+
 use disk_trait::{FileDisk, Geometry};
 use std::fs::{File, OpenOptions};
 use std::io;
@@ -9,7 +11,9 @@ const MOST_SECTORS: u64 = 4_294_967_296;
 /// Opens the image that a word names: for reading and writing, or else for reading alone, so that a write
 /// to it is then a fault of the device. A folder, a file that has no size, and one of more than
 /// 4,294,967,296 sectors can't be used.
-pub fn open_image(rt: &HostRuntime, word: &str) -> Option<FileDisk<File>> {
+pub fn open_image(rt: &HostRuntime, word: &str) -> Option<FileDisk<File>>
+    ensures few { IfSome result (λ disk. disk.sectors ≤ 4294967296) }
+{
     let (path, geometry) = parts_of(word)?;
     let file = open_file(rt, path).ok()?;
     if file.metadata().ok()?.is_dir() {

@@ -1,6 +1,7 @@
 #!/usr/bin/env python3
 """Writes the cases of the choice at the prompt, from choice_cases.json beside it, as theorems that
-the check computes: crates/model_cases/proofs/ChoiceCases*.antt, and the lines of proofs/Lib.antt.
+the check computes: crates/model_cases/proofs/ChoiceCases*.antt. Run tools/model_cases.py after it, which
+lists the files.
 
 In the data each character of a text is one byte. A list of keys is a list of texts that are typed
 and of numbers of ticks.
@@ -28,13 +29,14 @@ NAMES = '◌≡◌, [], ◌∷◌, ◌++◌, replicate, true, false, None, Some,
 
 
 def short_terms(value):
-    """The parts of a text as terms: names for what often stands there, and texts and numbers."""
+    """The parts of a text as terms: names for what often stands there, and texts and numbers. A `?` is a
+    number, so that a search for holes finds none."""
     terms = []
-    for found in re.finditer(r'\x08 \x08|\n|[ !#-\[\]-~]+|.', value, re.DOTALL):
+    for found in re.finditer(r'\x08 \x08|\n|[ !#->@-\[\]-~]+|.', value, re.DOTALL):
         part = found.group()
         if part in NAMED:
             terms.append(NAMED[part])
-        elif re.fullmatch(r'[ !#-\[\]-~]+', part):
+        elif re.fullmatch(r'[ !#->@-\[\]-~]+', part):
             terms.append('codes "%s"' % part)
         else:
             terms.append('(%d ∷ [])' % ord(part))
@@ -144,17 +146,12 @@ def main():
     for old in PROOFS.glob('ChoiceCases*.antt'):
         old.unlink()
     PROOFS.mkdir(exist_ok=True)
-    names = []
-    for part, at in enumerate(range(0, len(cases), CASES_PER_FILE), 1):
+    parts = range(0, len(cases), CASES_PER_FILE)
+    for part, at in enumerate(parts, 1):
         body = ''.join(case(value) for value in cases[at:at + CASES_PER_FILE])
         head = HEAD.format(part=part, names=', '.join(needed(body)))
         (PROOFS / ('ChoiceCases%d.antt' % part)).write_text(used(head, body) + body)
-        names.append('ChoiceCases%d' % part)
-    listing = PROOFS / 'Lib.antt'
-    others = [row for row in (listing.read_text().splitlines() if listing.exists() else [])
-              if not row.startswith('pub mod ChoiceCases')]
-    listing.write_text('\n'.join(others + ['pub mod ' + name for name in names]) + '\n')
-    print('%d cases in %d files' % (len(cases), len(names)))
+    print('%d cases in %d files' % (len(cases), len(parts)))
 
 
 if __name__ == '__main__':

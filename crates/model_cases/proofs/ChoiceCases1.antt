@@ -333,7 +333,7 @@ delay_tab_is_first_key = refl
 delay_question_mark_is_first_key : answers (settings false 5 None 0 255)
     (listed (codes "linux") None false false None ∷ listed (codes "dos") None false false None ∷ [])
     Empty None
-    (waiting 1 ++ typing (codes "?dos" ++ newline))
+    (waiting 1 ++ typing ((63 ∷ []) ++ codes "dos" ++ newline))
     ≡ expected (Some (chosen 1 [] false None))
     (codes "boot: " ++ newline ++ codes "linux" ++ newline ++ codes "dos" ++ newline ++ codes "boot: dos" ++ newline)
     Empty []

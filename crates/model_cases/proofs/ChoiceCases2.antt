@@ -22,11 +22,11 @@ prompt_tab_later = refl
 prompt_question_mark_later : answers (settings true 0 None 0 255)
     (listed (codes "linux") None false false None ∷ listed (codes "dos") None false false None ∷ [])
     Empty None
-    (typing (codes "dos a?" ++ newline))
-    ≡ expected (Some (chosen 1 (codes "a?") false None))
-    (codes "boot: dos a?" ++ newline)
+    (typing (codes "dos a" ++ (63 ∷ []) ++ newline))
+    ≡ expected (Some (chosen 1 (codes "a" ++ (63 ∷ [])) false None))
+    (codes "boot: dos a" ++ (63 ∷ []) ++ newline)
     Empty []
-    (Some (opened [] (typing (codes "dos a?" ++ newline))))
+    (Some (opened [] (typing (codes "dos a" ++ (63 ∷ []) ++ newline))))
 unfolding words_of meaning course_of
 prompt_question_mark_later = refl
 
@@ -34,11 +34,11 @@ prompt_question_mark_later = refl
 prompt_question_mark_lists : answers (settings true 0 None 0 255)
     (listed (codes "linux") None false false None ∷ listed (codes "dos") None false false None ∷ [])
     Empty None
-    (typing (codes "?dos" ++ newline))
+    (typing ((63 ∷ []) ++ codes "dos" ++ newline))
     ≡ expected (Some (chosen 1 [] false None))
     (codes "boot: " ++ newline ++ codes "linux" ++ newline ++ codes "dos" ++ newline ++ codes "boot: dos" ++ newline)
     Empty []
-    (Some (opened [] (typing (codes "?dos" ++ newline))))
+    (Some (opened [] (typing ((63 ∷ []) ++ codes "dos" ++ newline))))
 unfolding words_of meaning course_of
 prompt_question_mark_lists = refl
 
@@ -46,11 +46,11 @@ prompt_question_mark_lists = refl
 prompt_list_twice : answers (settings true 0 None 0 255)
     (listed (codes "linux") None false false None ∷ listed (codes "dos") None false false None ∷ [])
     Empty None
-    (typing ((9 ∷ []) ++ codes "?" ++ (9 ∷ []) ++ codes "dos" ++ newline))
+    (typing ((9 ∷ []) ++ (63 ∷ []) ++ (9 ∷ []) ++ codes "dos" ++ newline))
     ≡ expected (Some (chosen 1 [] false None))
     (codes "boot: " ++ newline ++ codes "linux" ++ newline ++ codes "dos" ++ newline ++ codes "boot: " ++ newline ++ codes "linux" ++ newline ++ codes "dos" ++ newline ++ codes "boot: " ++ newline ++ codes "linux" ++ newline ++ codes "dos" ++ newline ++ codes "boot: dos" ++ newline)
     Empty []
-    (Some (opened [] (typing ((9 ∷ []) ++ codes "?" ++ (9 ∷ []) ++ codes "dos" ++ newline))))
+    (Some (opened [] (typing ((9 ∷ []) ++ (63 ∷ []) ++ (9 ∷ []) ++ codes "dos" ++ newline))))
 unfolding words_of meaning course_of
 prompt_list_twice = refl
 
@@ -130,11 +130,11 @@ prompt_tab_after_erased_to_none = refl
 prompt_question_after_erased_to_none : answers (settings true 0 None 0 255)
     (listed (codes "linux") None false false None ∷ listed (codes "dos") None false false None ∷ [])
     Empty None
-    (typing (codes "ab" ++ (127 ∷ []) ++ (127 ∷ []) ++ codes "?" ++ newline))
+    (typing (codes "ab" ++ (127 ∷ []) ++ (127 ∷ []) ++ (63 ∷ []) ++ newline))
     ≡ expected None
-    (codes "boot: ab" ++ erasing_text ++ erasing_text ++ codes "?" ++ newline ++ codes "No such image." ++ newline ++ codes "boot: ")
+    (codes "boot: ab" ++ erasing_text ++ erasing_text ++ (63 ∷ []) ++ newline ++ codes "No such image." ++ newline ++ codes "boot: ")
     Empty []
-    (Some (opened [] (typing (codes "ab" ++ (127 ∷ []) ++ (127 ∷ []) ++ codes "?" ++ newline))))
+    (Some (opened [] (typing (codes "ab" ++ (127 ∷ []) ++ (127 ∷ []) ++ (63 ∷ []) ++ newline))))
 unfolding words_of meaning course_of
 prompt_question_after_erased_to_none = refl
 

@@ -7,13 +7,13 @@ use Rattle.model_cases.specs.Cases.{typing, waiting, settings, listed, chosen, a
 
 -- a question mark is a byte of a password
 password_question_mark : answers (settings true 0 None 0 255)
-    (listed (codes "q") (Some (codes "?")) false false None ∷ listed (codes "dos") None false false None ∷ [])
+    (listed (codes "q") (Some (63 ∷ [])) false false None ∷ listed (codes "dos") None false false None ∷ [])
     Empty None
-    (typing (codes "q" ++ newline ++ codes "?" ++ newline))
+    (typing (codes "q" ++ newline ++ (63 ∷ []) ++ newline))
     ≡ expected (Some (chosen 0 [] false None))
     (codes "boot: q" ++ newline ++ codes "Password: " ++ newline)
     Empty []
-    (Some (opened [] (typing (codes "q" ++ newline ++ codes "?" ++ newline))))
+    (Some (opened [] (typing (codes "q" ++ newline ++ (63 ∷ []) ++ newline))))
 unfolding words_of meaning course_of
 password_question_mark = refl
 

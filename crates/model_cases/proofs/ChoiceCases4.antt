@@ -490,11 +490,11 @@ drawn_001 = refl
 drawn_002 : answers (settings false 2 None 0 255)
     (listed (codes "rescue") None false false (Some (codes "none")) ∷ [])
     Empty None
-    (typing (codes "tux" ++ newline ++ codes "rescue ? root=/dev/hda1 single" ++ (13 ∷ [])))
-    ≡ expected (Some (chosen 0 (codes "? root=/dev/hda1 single") false None))
-    (codes "boot: tux" ++ newline ++ codes "No such image." ++ newline ++ codes "boot: rescue ? root=/dev/hda1 single" ++ newline)
+    (typing (codes "tux" ++ newline ++ codes "rescue " ++ (63 ∷ []) ++ codes " root=/dev/hda1 single" ++ (13 ∷ [])))
+    ≡ expected (Some (chosen 0 ((63 ∷ []) ++ codes " root=/dev/hda1 single") false None))
+    (codes "boot: tux" ++ newline ++ codes "No such image." ++ newline ++ codes "boot: rescue " ++ (63 ∷ []) ++ codes " root=/dev/hda1 single" ++ newline)
     (Kept (codes "none")) []
-    (Some (opened [] (typing (codes "ux" ++ newline ++ codes "rescue ? root=/dev/hda1 single" ++ (13 ∷ [])))))
+    (Some (opened [] (typing (codes "ux" ++ newline ++ codes "rescue " ++ (63 ∷ []) ++ codes " root=/dev/hda1 single" ++ (13 ∷ [])))))
 unfolding words_of meaning course_of
 drawn_002 = refl
 
@@ -512,7 +512,7 @@ drawn_003 = refl
 
 -- drawn at random: a typed choice
 drawn_004 : answers (settings false 1 None 2 5)
-    (listed (codes "x") None false false (Some (codes "dos vga=ask vga=bad")) ∷ listed (codes "old") (Some []) false false (Some (codes "x ? a ro")) ∷ listed (codes "dos") None false false None ∷ [])
+    (listed (codes "x") None false false (Some (codes "dos vga=ask vga=bad")) ∷ listed (codes "old") (Some []) false false (Some (codes "x " ++ (63 ∷ []) ++ codes " a ro")) ∷ listed (codes "dos") None false false None ∷ [])
     Empty (Some [])
     (typing (codes "dos" ++ newline))
     ≡ expected (Some (chosen 2 [] false None))
@@ -610,11 +610,11 @@ drawn_011 = refl
 drawn_012 : answers (settings true 3 None 1 5)
     (listed (codes "x") (Some (codes "secret")) false false None ∷ listed (codes "linux") None false true None ∷ [])
     (Kept (codes "x ro")) None
-    (typing (codes "a b" ++ newline) ++ waiting 598 ++ typing ((127 ∷ []) ++ codes "vga=bad ?" ++ newline))
+    (typing (codes "a b" ++ newline) ++ waiting 598 ++ typing ((127 ∷ []) ++ codes "vga=bad " ++ (63 ∷ []) ++ newline))
     ≡ expected None
     (codes "boot: a b" ++ newline ++ codes "No such image." ++ newline ++ codes "boot: vga=b" ++ newline ++ codes "No such image." ++ newline ++ codes "boot: ")
     (Kept (codes "x ro")) []
-    (Some (opened [] (typing (codes " b" ++ newline) ++ waiting 598 ++ typing ((127 ∷ []) ++ codes "vga=bad ?" ++ newline))))
+    (Some (opened [] (typing (codes " b" ++ newline) ++ waiting 598 ++ typing ((127 ∷ []) ++ codes "vga=bad " ++ (63 ∷ []) ++ newline))))
 unfolding words_of meaning course_of
 drawn_012 = refl
 
@@ -682,11 +682,11 @@ drawn_017 = refl
 drawn_018 : answers (settings true 5 (Some 9) 1 255)
     (listed (codes "rescue") (Some (codes "tux")) false true None ∷ listed (codes "dos") None false false None ∷ [])
     (Once (codes "dos")) (Some (codes "boot: "))
-    (typing ((21 ∷ []) ++ codes "dos lock" ++ newline ++ codes "rescue ? root=/dev/hda1 vga=bad" ++ (13 ∷ []) ++ codes "rescue" ++ newline ++ codes "dos vga=ask" ++ newline ++ codes "vga= ro" ++ (13 ∷ []) ++ codes "none vga=ask" ++ (13 ∷ []) ++ codes "dos" ++ newline ++ codes "none vga=ask" ++ newline ++ codes "rescue lock ?a lock" ++ newline))
+    (typing ((21 ∷ []) ++ codes "dos lock" ++ newline ++ codes "rescue " ++ (63 ∷ []) ++ codes " root=/dev/hda1 vga=bad" ++ (13 ∷ []) ++ codes "rescue" ++ newline ++ codes "dos vga=ask" ++ newline ++ codes "vga= ro" ++ (13 ∷ []) ++ codes "none vga=ask" ++ (13 ∷ []) ++ codes "dos" ++ newline ++ codes "none vga=ask" ++ newline ++ codes "rescue lock " ++ (63 ∷ []) ++ codes "a lock" ++ newline))
     ≡ expected (Some (chosen 1 [] false None))
     (codes "boot: boot: " ++ newline ++ codes "boot: dos lock" ++ newline)
-    (Kept (codes "dos")) (typing (codes "rescue ? root=/dev/hda1 vga=bad" ++ (13 ∷ []) ++ codes "rescue" ++ newline ++ codes "dos vga=ask" ++ newline ++ codes "vga= ro" ++ (13 ∷ []) ++ codes "none vga=ask" ++ (13 ∷ []) ++ codes "dos" ++ newline ++ codes "none vga=ask" ++ newline ++ codes "rescue lock ?a lock" ++ newline))
-    (Some (opened [] (typing (codes "dos lock" ++ newline ++ codes "rescue ? root=/dev/hda1 vga=bad" ++ (13 ∷ []) ++ codes "rescue" ++ newline ++ codes "dos vga=ask" ++ newline ++ codes "vga= ro" ++ (13 ∷ []) ++ codes "none vga=ask" ++ (13 ∷ []) ++ codes "dos" ++ newline ++ codes "none vga=ask" ++ newline ++ codes "rescue lock ?a lock" ++ newline))))
+    (Kept (codes "dos")) (typing (codes "rescue " ++ (63 ∷ []) ++ codes " root=/dev/hda1 vga=bad" ++ (13 ∷ []) ++ codes "rescue" ++ newline ++ codes "dos vga=ask" ++ newline ++ codes "vga= ro" ++ (13 ∷ []) ++ codes "none vga=ask" ++ (13 ∷ []) ++ codes "dos" ++ newline ++ codes "none vga=ask" ++ newline ++ codes "rescue lock " ++ (63 ∷ []) ++ codes "a lock" ++ newline))
+    (Some (opened [] (typing (codes "dos lock" ++ newline ++ codes "rescue " ++ (63 ∷ []) ++ codes " root=/dev/hda1 vga=bad" ++ (13 ∷ []) ++ codes "rescue" ++ newline ++ codes "dos vga=ask" ++ newline ++ codes "vga= ro" ++ (13 ∷ []) ++ codes "none vga=ask" ++ (13 ∷ []) ++ codes "dos" ++ newline ++ codes "none vga=ask" ++ newline ++ codes "rescue lock " ++ (63 ∷ []) ++ codes "a lock" ++ newline))))
 unfolding words_of meaning course_of
 drawn_018 = refl
 

@@ -34,10 +34,10 @@ drawn_023 = refl
 drawn_024 : answers (settings false 2 None 2 12)
     (listed (codes "old") (Some []) true false None ∷ listed (codes "rescue") (Some (codes "a b")) false false None ∷ listed (codes "dos") None false true None ∷ listed (codes "lock") None false true None ∷ [])
     Empty None
-    (waiting 5 ++ typing (codes "none ro ? vga=0x1F" ++ newline ++ (127 ∷ [])))
+    (waiting 5 ++ typing (codes "none ro " ++ (63 ∷ []) ++ codes " vga=0x1F" ++ newline ++ (127 ∷ [])))
     ≡ expected (Some (chosen 2 [] true None))
     []
-    (Kept (codes "dos")) (waiting 3 ++ typing (codes "none ro ? vga=0x1F" ++ newline ++ (127 ∷ [])))
+    (Kept (codes "dos")) (waiting 3 ++ typing (codes "none ro " ++ (63 ∷ []) ++ codes " vga=0x1F" ++ newline ++ (127 ∷ [])))
     None
 unfolding words_of meaning course_of
 drawn_024 = refl
@@ -46,11 +46,11 @@ drawn_024 = refl
 drawn_025 : answers (settings true 0 (Some 4) 1 470)
     (listed (codes "a1") None false false None ∷ listed (codes "rescue") None false false None ∷ [])
     (Once (codes "none")) (Some (codes "boot: "))
-    (typing ((21 ∷ []) ++ (21 ∷ []) ++ codes "?" ++ (127 ∷ []) ++ (127 ∷ []) ++ (127 ∷ []) ++ (127 ∷ []) ++ (127 ∷ []) ++ codes "rescue" ++ newline ++ (9 ∷ []) ++ codes "rescuea1" ++ (13 ∷ []) ++ codes "a1a1 vga=5" ++ (13 ∷ []) ++ (21 ∷ [])))
+    (typing ((21 ∷ []) ++ (21 ∷ []) ++ (63 ∷ []) ++ (127 ∷ []) ++ (127 ∷ []) ++ (127 ∷ []) ++ (127 ∷ []) ++ (127 ∷ []) ++ codes "rescue" ++ newline ++ (9 ∷ []) ++ codes "rescuea1" ++ (13 ∷ []) ++ codes "a1a1 vga=5" ++ (13 ∷ []) ++ (21 ∷ [])))
     ≡ expected (Some (chosen 1 [] false None))
     (codes "boot: boot: " ++ newline ++ codes "boot: " ++ newline ++ codes "boot: " ++ newline ++ codes "a1" ++ newline ++ codes "rescue" ++ newline ++ codes "boot: rescue" ++ newline)
     Empty (typing ((9 ∷ []) ++ codes "rescuea1" ++ (13 ∷ []) ++ codes "a1a1 vga=5" ++ (13 ∷ []) ++ (21 ∷ [])))
-    (Some (opened [] (typing ((21 ∷ []) ++ (21 ∷ []) ++ codes "?" ++ (127 ∷ []) ++ (127 ∷ []) ++ (127 ∷ []) ++ (127 ∷ []) ++ (127 ∷ []) ++ codes "rescue" ++ newline ++ (9 ∷ []) ++ codes "rescuea1" ++ (13 ∷ []) ++ codes "a1a1 vga=5" ++ (13 ∷ []) ++ (21 ∷ [])))))
+    (Some (opened [] (typing ((21 ∷ []) ++ (21 ∷ []) ++ (63 ∷ []) ++ (127 ∷ []) ++ (127 ∷ []) ++ (127 ∷ []) ++ (127 ∷ []) ++ (127 ∷ []) ++ codes "rescue" ++ newline ++ (9 ∷ []) ++ codes "rescuea1" ++ (13 ∷ []) ++ codes "a1a1 vga=5" ++ (13 ∷ []) ++ (21 ∷ [])))))
 unfolding words_of meaning course_of
 drawn_025 = refl
 
@@ -58,7 +58,7 @@ drawn_025 = refl
 drawn_026 : answers (settings false 0 None 2 5)
     (listed (codes "x") (Some (codes "secret")) true false None ∷ listed (codes "lock") None false false None ∷ listed (codes "old") (Some (codes "secret")) false true None ∷ listed (codes "a1") (Some (replicate 31 112)) false true None ∷ [])
     Empty None
-    (waiting 2 ++ typing (codes "none ?" ++ newline ++ codes "a1 vga=normallock vga= vga=bad" ++ newline ++ codes "old" ++ newline ++ codes "x vga=ask ro" ++ (13 ∷ []) ++ replicate 31 112 ++ newline ++ (9 ∷ []) ++ codes "secret" ++ newline ++ replicate 31 112 ++ newline ++ codes "lock" ++ newline))
+    (waiting 2 ++ typing (codes "none " ++ (63 ∷ []) ++ newline ++ codes "a1 vga=normallock vga= vga=bad" ++ newline ++ codes "old" ++ newline ++ codes "x vga=ask ro" ++ (13 ∷ []) ++ replicate 31 112 ++ newline ++ (9 ∷ []) ++ codes "secret" ++ newline ++ replicate 31 112 ++ newline ++ codes "lock" ++ newline))
     ≡ expected (Some (chosen 1 [] false None))
     (codes "Password: " ++ newline ++ codes "Sorry." ++ newline ++ codes "boot: a1 vg" ++ newline ++ codes "Password: " ++ newline ++ codes "Sorry." ++ newline ++ codes "boot: x vga" ++ newline ++ codes "Password: " ++ newline ++ codes "Sorry." ++ newline ++ codes "boot: " ++ newline ++ codes "x" ++ newline ++ codes "lock" ++ newline ++ codes "old" ++ newline ++ codes "a1" ++ newline ++ codes "boot: secre" ++ newline ++ codes "No such image." ++ newline ++ codes "boot: ppppp" ++ newline ++ codes "No such image." ++ newline ++ codes "boot: lock" ++ newline)
     Empty []
@@ -70,11 +70,11 @@ drawn_026 = refl
 drawn_027 : answers (settings false 5 (Some 4) 0 255)
     (listed (codes "lock") (Some (replicate 31 112)) true false (Some []) ∷ listed (codes "rescue") None false false None ∷ listed (codes "x") None false false None ∷ listed (codes "a1") None false false None ∷ [])
     (Once (codes "x")) (Some [])
-    (typing (codes "root=/dev/hda1 ?" ++ (13 ∷ []) ++ codes "lock vga=0x1F" ++ (13 ∷ []) ++ codes "rescue" ++ newline) ++ waiting 599 ++ typing (codes "rescue" ++ newline ++ (21 ∷ []) ++ codes "rescue vga=ask vga=normal singlelock" ++ newline ++ (127 ∷ []) ++ (127 ∷ [])) ++ waiting 9 ++ typing (codes "none quiet vga=5"))
+    (typing (codes "root=/dev/hda1 " ++ (63 ∷ []) ++ (13 ∷ []) ++ codes "lock vga=0x1F" ++ (13 ∷ []) ++ codes "rescue" ++ newline) ++ waiting 599 ++ typing (codes "rescue" ++ newline ++ (21 ∷ []) ++ codes "rescue vga=ask vga=normal singlelock" ++ newline ++ (127 ∷ []) ++ (127 ∷ [])) ++ waiting 9 ++ typing (codes "none quiet vga=5"))
     ≡ expected (Some (chosen 0 [] false (Some 31)))
-    (codes "boot: root=/dev/hda1 ?" ++ newline ++ codes "No such image." ++ newline ++ codes "boot: lock vga=0x1F" ++ newline)
+    (codes "boot: root=/dev/hda1 " ++ (63 ∷ []) ++ newline ++ codes "No such image." ++ newline ++ codes "boot: lock vga=0x1F" ++ newline)
     Empty (typing (codes "rescue" ++ newline) ++ waiting 599 ++ typing (codes "rescue" ++ newline ++ (21 ∷ []) ++ codes "rescue vga=ask vga=normal singlelock" ++ newline ++ (127 ∷ []) ++ (127 ∷ [])) ++ waiting 9 ++ typing (codes "none quiet vga=5"))
-    (Some (opened [] (typing (codes "oot=/dev/hda1 ?" ++ (13 ∷ []) ++ codes "lock vga=0x1F" ++ (13 ∷ []) ++ codes "rescue" ++ newline) ++ waiting 599 ++ typing (codes "rescue" ++ newline ++ (21 ∷ []) ++ codes "rescue vga=ask vga=normal singlelock" ++ newline ++ (127 ∷ []) ++ (127 ∷ [])) ++ waiting 9 ++ typing (codes "none quiet vga=5"))))
+    (Some (opened [] (typing (codes "oot=/dev/hda1 " ++ (63 ∷ []) ++ (13 ∷ []) ++ codes "lock vga=0x1F" ++ (13 ∷ []) ++ codes "rescue" ++ newline) ++ waiting 599 ++ typing (codes "rescue" ++ newline ++ (21 ∷ []) ++ codes "rescue vga=ask vga=normal singlelock" ++ newline ++ (127 ∷ []) ++ (127 ∷ [])) ++ waiting 9 ++ typing (codes "none quiet vga=5"))))
 unfolding words_of meaning course_of
 drawn_027 = refl
 
@@ -82,7 +82,7 @@ drawn_027 = refl
 drawn_028 : answers (settings true 0 (Some 1) 1 255)
     (listed (codes "dos") (Some (codes "tux")) false false None ∷ listed (codes "x") None false false (Some []) ∷ [])
     (Once (codes "dos vga=65536")) None
-    (typing (codes "none ? ? a" ++ newline ++ codes "secret" ++ newline ++ codes "x" ++ (13 ∷ [])))
+    (typing (codes "none " ++ (63 ∷ []) ++ codes " " ++ (63 ∷ []) ++ codes " a" ++ newline ++ codes "secret" ++ newline ++ codes "x" ++ (13 ∷ [])))
     ≡ expected (Some (chosen 1 [] false None))
     (codes "Password: " ++ newline ++ codes "Sorry." ++ newline ++ codes "boot: secret" ++ newline ++ codes "No such image." ++ newline ++ codes "boot: x" ++ newline)
     Empty []
@@ -142,11 +142,11 @@ drawn_032 = refl
 drawn_033 : answers (settings true 1 (Some 1) 0 255)
     (listed (codes "lock") None false true None ∷ listed (codes "dos") (Some (replicate 31 112)) false false (Some (codes "dos quiet")) ∷ listed (codes "old") (Some (codes "abc")) true true None ∷ listed (codes "a1") None false false (Some []) ∷ [])
     Empty (Some (codes "boot: "))
-    (typing (codes "? a") ++ waiting 10 ++ typing (codes "  " ++ (127 ∷ []) ++ (127 ∷ []) ++ (127 ∷ []) ++ (127 ∷ []) ++ (127 ∷ []) ++ codes "a1" ++ (13 ∷ []) ++ codes "old vga=bad vga=65536") ++ waiting 650 ++ typing ((9 ∷ []) ++ codes "a1" ++ newline) ++ waiting 599)
+    (typing ((63 ∷ []) ++ codes " a") ++ waiting 10 ++ typing (codes "  " ++ (127 ∷ []) ++ (127 ∷ []) ++ (127 ∷ []) ++ (127 ∷ []) ++ (127 ∷ []) ++ codes "a1" ++ (13 ∷ []) ++ codes "old vga=bad vga=65536") ++ waiting 650 ++ typing ((9 ∷ []) ++ codes "a1" ++ newline) ++ waiting 599)
     ≡ expected (Some (chosen 3 [] false None))
     (codes "boot: boot: " ++ newline ++ codes "lock" ++ newline ++ codes "dos" ++ newline ++ codes "old" ++ newline ++ codes "a1" ++ newline ++ codes "boot:  a  " ++ erasing_text ++ erasing_text ++ erasing_text ++ erasing_text ++ codes "a1" ++ newline)
     Empty (typing (codes "old vga=bad vga=65536") ++ waiting 650 ++ typing ((9 ∷ []) ++ codes "a1" ++ newline) ++ waiting 599)
-    (Some (opened [] (typing (codes "? a") ++ waiting 10 ++ typing (codes "  " ++ (127 ∷ []) ++ (127 ∷ []) ++ (127 ∷ []) ++ (127 ∷ []) ++ (127 ∷ []) ++ codes "a1" ++ (13 ∷ []) ++ codes "old vga=bad vga=65536") ++ waiting 650 ++ typing ((9 ∷ []) ++ codes "a1" ++ newline) ++ waiting 599)))
+    (Some (opened [] (typing ((63 ∷ []) ++ codes " a") ++ waiting 10 ++ typing (codes "  " ++ (127 ∷ []) ++ (127 ∷ []) ++ (127 ∷ []) ++ (127 ∷ []) ++ (127 ∷ []) ++ codes "a1" ++ (13 ∷ []) ++ codes "old vga=bad vga=65536") ++ waiting 650 ++ typing ((9 ∷ []) ++ codes "a1" ++ newline) ++ waiting 599)))
 unfolding words_of meaning course_of
 drawn_033 = refl
 
@@ -190,11 +190,11 @@ drawn_036 = refl
 drawn_037 : answers (settings true 5 None 2 12)
     (listed (codes "lock") None false false (Some (codes "none")) ∷ listed (codes "a1") (Some (replicate 31 112)) false false (Some (codes "rescue vga=0x1F ro vga=ask")) ∷ listed (codes "rescue") (Some (codes "secret")) true false None ∷ listed (codes "x") (Some (codes "secret")) false true None ∷ [])
     (Once (codes "a1 vga=bad vga=65536 vga=")) (Some (codes "boot: "))
-    (typing (codes "rescuelock" ++ replicate 31 112 ++ newline ++ (8 ∷ []) ++ (8 ∷ []) ++ codes "lock vga=5 ?" ++ newline ++ codes "rescue vga=normal" ++ newline ++ replicate 31 112 ++ newline ++ codes "secret" ++ newline ++ codes "secret" ++ newline ++ codes "x" ++ newline) ++ waiting 3)
-    ≡ expected (Some (chosen 0 (codes "?") false (Some 5)))
-    (codes "boot: boot: rescuelockpp" ++ newline ++ codes "No such image." ++ newline ++ codes "boot: lock vga=5 ?" ++ newline)
+    (typing (codes "rescuelock" ++ replicate 31 112 ++ newline ++ (8 ∷ []) ++ (8 ∷ []) ++ codes "lock vga=5 " ++ (63 ∷ []) ++ newline ++ codes "rescue vga=normal" ++ newline ++ replicate 31 112 ++ newline ++ codes "secret" ++ newline ++ codes "secret" ++ newline ++ codes "x" ++ newline) ++ waiting 3)
+    ≡ expected (Some (chosen 0 (63 ∷ []) false (Some 5)))
+    (codes "boot: boot: rescuelockpp" ++ newline ++ codes "No such image." ++ newline ++ codes "boot: lock vga=5 " ++ (63 ∷ []) ++ newline)
     (Kept (codes "none")) (typing (codes "rescue vga=normal" ++ newline ++ replicate 31 112 ++ newline ++ codes "secret" ++ newline ++ codes "secret" ++ newline ++ codes "x" ++ newline) ++ waiting 3)
-    (Some (opened [] (typing (codes "escuelock" ++ replicate 31 112 ++ newline ++ (8 ∷ []) ++ (8 ∷ []) ++ codes "lock vga=5 ?" ++ newline ++ codes "rescue vga=normal" ++ newline ++ replicate 31 112 ++ newline ++ codes "secret" ++ newline ++ codes "secret" ++ newline ++ codes "x" ++ newline) ++ waiting 3)))
+    (Some (opened [] (typing (codes "escuelock" ++ replicate 31 112 ++ newline ++ (8 ∷ []) ++ (8 ∷ []) ++ codes "lock vga=5 " ++ (63 ∷ []) ++ newline ++ codes "rescue vga=normal" ++ newline ++ replicate 31 112 ++ newline ++ codes "secret" ++ newline ++ codes "secret" ++ newline ++ codes "x" ++ newline) ++ waiting 3)))
 unfolding words_of meaning course_of
 drawn_037 = refl
 
@@ -225,9 +225,9 @@ drawn_039 = refl
 -- drawn at random: an automatic choice, no prompt, a new default line
 drawn_040 : answers (settings true 1 (Some 9) 1 5)
     (listed (codes "x") None false false None ∷ listed (codes "linux") None false false None ∷ listed (codes "lock") None false false None ∷ [])
-    (Once (codes "lock ? quiet ?")) None
+    (Once (codes "lock " ++ (63 ∷ []) ++ codes " quiet " ++ (63 ∷ []))) None
     []
-    ≡ expected (Some (chosen 2 (codes "? quiet ?") true None))
+    ≡ expected (Some (chosen 2 ((63 ∷ []) ++ codes " quiet " ++ (63 ∷ [])) true None))
     []
     Empty []
     None
@@ -346,23 +346,23 @@ drawn_049 = refl
 drawn_050 : answers (settings false 3 (Some 0) 0 255)
     (listed (codes "old") (Some (codes "tux")) true true None ∷ [])
     Empty None
-    (typing (codes "abc" ++ newline ++ codes "vga=normal a ?" ++ newline))
+    (typing (codes "abc" ++ newline ++ codes "vga=normal a " ++ (63 ∷ []) ++ newline))
     ≡ expected None
-    (codes "boot: abc" ++ newline ++ codes "No such image." ++ newline ++ codes "boot: vga=normal a ?" ++ newline ++ codes "No such image." ++ newline ++ codes "boot: ")
+    (codes "boot: abc" ++ newline ++ codes "No such image." ++ newline ++ codes "boot: vga=normal a " ++ (63 ∷ []) ++ newline ++ codes "No such image." ++ newline ++ codes "boot: ")
     Empty []
-    (Some (opened [] (typing (codes "bc" ++ newline ++ codes "vga=normal a ?" ++ newline))))
+    (Some (opened [] (typing (codes "bc" ++ newline ++ codes "vga=normal a " ++ (63 ∷ []) ++ newline))))
 unfolding words_of meaning course_of
 drawn_050 = refl
 
 -- drawn at random: a typed choice, keys are left
 drawn_051 : answers (settings true 8 (Some 4) 0 255)
-    (listed (codes "x") None false false None ∷ listed (codes "linux") (Some []) false true None ∷ listed (codes "dos") None false false (Some (codes "lock ? vga=5 vga=")) ∷ listed (codes "lock") None false false None ∷ [])
+    (listed (codes "x") None false false None ∷ listed (codes "linux") (Some []) false true None ∷ listed (codes "dos") None false false (Some (codes "lock " ++ (63 ∷ []) ++ codes " vga=5 vga=")) ∷ listed (codes "lock") None false false None ∷ [])
     (Kept (codes "lock")) (Some (codes "Hello" ++ newline))
-    (typing (codes "lock" ++ newline ++ newline ++ codes "none a vga= single" ++ newline ++ codes "dos vga=0x1Fabc" ++ newline ++ codes "abc" ++ newline ++ codes "x vga=ask vga=0x1F" ++ newline ++ (127 ∷ []) ++ newline ++ codes "?" ++ (127 ∷ [])))
+    (typing (codes "lock" ++ newline ++ newline ++ codes "none a vga= single" ++ newline ++ codes "dos vga=0x1Fabc" ++ newline ++ codes "abc" ++ newline ++ codes "x vga=ask vga=0x1F" ++ newline ++ (127 ∷ []) ++ newline ++ (63 ∷ []) ++ (127 ∷ [])))
     ≡ expected (Some (chosen 3 [] false None))
     (codes "Hello" ++ newline ++ codes "boot: lock" ++ newline)
-    (Kept (codes "lock")) (typing (newline ++ codes "none a vga= single" ++ newline ++ codes "dos vga=0x1Fabc" ++ newline ++ codes "abc" ++ newline ++ codes "x vga=ask vga=0x1F" ++ newline ++ (127 ∷ []) ++ newline ++ codes "?" ++ (127 ∷ [])))
-    (Some (opened [] (typing (codes "ock" ++ newline ++ newline ++ codes "none a vga= single" ++ newline ++ codes "dos vga=0x1Fabc" ++ newline ++ codes "abc" ++ newline ++ codes "x vga=ask vga=0x1F" ++ newline ++ (127 ∷ []) ++ newline ++ codes "?" ++ (127 ∷ [])))))
+    (Kept (codes "lock")) (typing (newline ++ codes "none a vga= single" ++ newline ++ codes "dos vga=0x1Fabc" ++ newline ++ codes "abc" ++ newline ++ codes "x vga=ask vga=0x1F" ++ newline ++ (127 ∷ []) ++ newline ++ (63 ∷ []) ++ (127 ∷ [])))
+    (Some (opened [] (typing (codes "ock" ++ newline ++ newline ++ codes "none a vga= single" ++ newline ++ codes "dos vga=0x1Fabc" ++ newline ++ codes "abc" ++ newline ++ codes "x vga=ask vga=0x1F" ++ newline ++ (127 ∷ []) ++ newline ++ (63 ∷ []) ++ (127 ∷ [])))))
 unfolding words_of meaning course_of
 drawn_051 = refl
 
@@ -370,11 +370,11 @@ drawn_051 = refl
 drawn_052 : answers (settings true 5 (Some 9) 3 5)
     (listed (codes "a1") (Some []) false false None ∷ listed (codes "rescue") None false false None ∷ listed (codes "linux") None false false (Some []) ∷ listed (codes "x") None false false None ∷ [])
     (Kept (codes "a1")) None
-    (typing (codes "linux" ++ newline ++ (127 ∷ []) ++ (127 ∷ []) ++ (127 ∷ []) ++ (127 ∷ []) ++ (127 ∷ []) ++ codes "linux" ++ newline ++ codes "a1 ?" ++ newline ++ codes "vga=bad    " ++ newline))
+    (typing (codes "linux" ++ newline ++ (127 ∷ []) ++ (127 ∷ []) ++ (127 ∷ []) ++ (127 ∷ []) ++ (127 ∷ []) ++ codes "linux" ++ newline ++ codes "a1 " ++ (63 ∷ []) ++ newline ++ codes "vga=bad    " ++ newline))
     ≡ expected (Some (chosen 2 [] false None))
     (codes "boot: linux" ++ newline)
-    (Kept (codes "a1")) (typing ((127 ∷ []) ++ (127 ∷ []) ++ (127 ∷ []) ++ (127 ∷ []) ++ (127 ∷ []) ++ codes "linux" ++ newline ++ codes "a1 ?" ++ newline ++ codes "vga=bad    " ++ newline))
-    (Some (opened [] (typing (codes "inux" ++ newline ++ (127 ∷ []) ++ (127 ∷ []) ++ (127 ∷ []) ++ (127 ∷ []) ++ (127 ∷ []) ++ codes "linux" ++ newline ++ codes "a1 ?" ++ newline ++ codes "vga=bad    " ++ newline))))
+    (Kept (codes "a1")) (typing ((127 ∷ []) ++ (127 ∷ []) ++ (127 ∷ []) ++ (127 ∷ []) ++ (127 ∷ []) ++ codes "linux" ++ newline ++ codes "a1 " ++ (63 ∷ []) ++ newline ++ codes "vga=bad    " ++ newline))
+    (Some (opened [] (typing (codes "inux" ++ newline ++ (127 ∷ []) ++ (127 ∷ []) ++ (127 ∷ []) ++ (127 ∷ []) ++ (127 ∷ []) ++ codes "linux" ++ newline ++ codes "a1 " ++ (63 ∷ []) ++ newline ++ codes "vga=bad    " ++ newline))))
 unfolding words_of meaning course_of
 drawn_052 = refl
 
@@ -382,11 +382,11 @@ drawn_052 = refl
 drawn_053 : answers (settings true 0 (Some 0) 1 12)
     (listed (codes "lock") None false false None ∷ listed (codes "x") None false false None ∷ listed (codes "linux") None false false None ∷ [])
     Empty None
-    (typing (codes "lock" ++ newline ++ codes "linux ? single vga=65536" ++ (13 ∷ [])))
+    (typing (codes "lock" ++ newline ++ codes "linux " ++ (63 ∷ []) ++ codes " single vga=65536" ++ (13 ∷ [])))
     ≡ expected (Some (chosen 1 [] true None))
     (codes "boot: " ++ newline)
-    Empty (typing (codes "lock" ++ newline ++ codes "linux ? single vga=65536" ++ (13 ∷ [])))
-    (Some (opened [] (typing (codes "lock" ++ newline ++ codes "linux ? single vga=65536" ++ (13 ∷ [])))))
+    Empty (typing (codes "lock" ++ newline ++ codes "linux " ++ (63 ∷ []) ++ codes " single vga=65536" ++ (13 ∷ [])))
+    (Some (opened [] (typing (codes "lock" ++ newline ++ codes "linux " ++ (63 ∷ []) ++ codes " single vga=65536" ++ (13 ∷ [])))))
 unfolding words_of meaning course_of
 drawn_053 = refl
 
@@ -466,10 +466,10 @@ drawn_059 = refl
 drawn_060 : answers (settings false 0 (Some 1) 0 470)
     (listed (codes "lock") None false false None ∷ listed (codes "a1") None false false None ∷ [])
     (Kept (codes "none root=/dev/hda1 vga=0x1F")) (Some [])
-    (typing (newline ++ codes "none ro ?" ++ newline ++ codes "a1" ++ (13 ∷ []) ++ newline) ++ waiting 3 ++ typing (codes "a1 vga=5" ++ newline))
+    (typing (newline ++ codes "none ro " ++ (63 ∷ []) ++ newline ++ codes "a1" ++ (13 ∷ []) ++ newline) ++ waiting 3 ++ typing (codes "a1 vga=5" ++ newline))
     ≡ expected (Some (chosen 0 [] true None))
     []
-    (Kept (codes "none root=/dev/hda1 vga=0x1F")) (typing (newline ++ codes "none ro ?" ++ newline ++ codes "a1" ++ (13 ∷ []) ++ newline) ++ waiting 3 ++ typing (codes "a1 vga=5" ++ newline))
+    (Kept (codes "none root=/dev/hda1 vga=0x1F")) (typing (newline ++ codes "none ro " ++ (63 ∷ []) ++ newline ++ codes "a1" ++ (13 ∷ []) ++ newline) ++ waiting 3 ++ typing (codes "a1 vga=5" ++ newline))
     None
 unfolding words_of meaning course_of
 drawn_060 = refl
@@ -656,7 +656,7 @@ drawn_075 = refl
 
 -- drawn at random: a typed choice, a new default line
 drawn_076 : answers (settings false 1 None 2 255)
-    (listed (codes "lock") None false false None ∷ listed (codes "a1") None false false (Some (codes "none quiet vga=bad ?")) ∷ listed (codes "x") None false true None ∷ listed (codes "old") (Some (codes "abc")) false false None ∷ [])
+    (listed (codes "lock") None false false None ∷ listed (codes "a1") None false false (Some (codes "none quiet vga=bad " ++ (63 ∷ []))) ∷ listed (codes "x") None false true None ∷ listed (codes "old") (Some (codes "abc")) false false None ∷ [])
     Empty (Some (codes "boot: "))
     (typing (codes "x vga=bad vga=ask" ++ newline))
     ≡ expected (Some (chosen 2 [] false (Some 65533)))
@@ -669,7 +669,7 @@ drawn_076 = refl
 -- drawn at random: a typed choice, 1 unknown name, a new default line, keys are left
 drawn_077 : answers (settings false 3 None 2 255)
     (listed (codes "linux") None false false (Some (codes "dos a vga= vga=ask")) ∷ listed (codes "lock") (Some (codes "a b")) false false (Some (codes "linux vga=65536")) ∷ listed (codes "x") None false false None ∷ listed (codes "dos") None false true None ∷ [])
-    (Kept (codes "root=/dev/hda1 ? lock")) (Some [])
+    (Kept (codes "root=/dev/hda1 " ++ (63 ∷ []) ++ codes " lock")) (Some [])
     (typing (codes "root=/dev/hda1 vga=normal vga=normal" ++ (13 ∷ []) ++ codes "dos" ++ newline ++ codes "none" ++ newline ++ codes "abc" ++ newline))
     ≡ expected (Some (chosen 3 [] false None))
     (codes "boot: root=/dev/hda1 vga=normal vga=normal" ++ newline ++ codes "No such image." ++ newline ++ codes "boot: dos" ++ newline)
@@ -681,11 +681,11 @@ drawn_077 = refl
 -- drawn at random: a typed choice, keys are left
 drawn_078 : answers (settings true 8 (Some 1) 1 255)
     (listed (codes "old") None false false None ∷ listed (codes "rescue") (Some (codes "secret")) true false None ∷ [])
-    (Kept (codes "? single vga=5")) None
+    (Kept ((63 ∷ []) ++ codes " single vga=5")) None
     (typing (codes "rescue" ++ newline ++ codes "rescue" ++ newline ++ codes "old" ++ newline ++ codes "rescue" ++ newline ++ codes "old" ++ newline) ++ waiting 3 ++ typing (newline ++ codes "secret" ++ newline))
     ≡ expected (Some (chosen 1 [] false None))
     (codes "boot: rescue" ++ newline)
-    (Kept (codes "? single vga=5")) (typing (codes "rescue" ++ newline ++ codes "old" ++ newline ++ codes "rescue" ++ newline ++ codes "old" ++ newline) ++ waiting 3 ++ typing (newline ++ codes "secret" ++ newline))
+    (Kept ((63 ∷ []) ++ codes " single vga=5")) (typing (codes "rescue" ++ newline ++ codes "old" ++ newline ++ codes "rescue" ++ newline ++ codes "old" ++ newline) ++ waiting 3 ++ typing (newline ++ codes "secret" ++ newline))
     (Some (opened [] (typing (codes "rescue" ++ newline ++ codes "rescue" ++ newline ++ codes "old" ++ newline ++ codes "rescue" ++ newline ++ codes "old" ++ newline) ++ waiting 3 ++ typing (newline ++ codes "secret" ++ newline))))
 unfolding words_of meaning course_of
 drawn_078 = refl
@@ -706,10 +706,10 @@ drawn_079 = refl
 drawn_080 : answers (settings false 0 (Some 9) 0 255)
     (listed (codes "a1") None false true None ∷ [])
     (Kept (codes "a1 vga=0x1F")) None
-    (typing (newline ++ codes "vga= ?" ++ newline ++ codes "none ro" ++ (13 ∷ []) ++ codes "a1" ++ newline ++ (1 ∷ []) ++ codes "none" ++ (13 ∷ []) ++ codes "  a1 vga=ask ro vga=0x1F" ++ newline) ++ waiting 9 ++ typing (replicate 31 112 ++ newline ++ (9 ∷ [])))
+    (typing (newline ++ codes "vga= " ++ (63 ∷ []) ++ newline ++ codes "none ro" ++ (13 ∷ []) ++ codes "a1" ++ newline ++ (1 ∷ []) ++ codes "none" ++ (13 ∷ []) ++ codes "  a1 vga=ask ro vga=0x1F" ++ newline) ++ waiting 9 ++ typing (replicate 31 112 ++ newline ++ (9 ∷ [])))
     ≡ expected (Some (chosen 0 [] true (Some 31)))
     []
-    (Kept (codes "a1 vga=0x1F")) (typing (newline ++ codes "vga= ?" ++ newline ++ codes "none ro" ++ (13 ∷ []) ++ codes "a1" ++ newline ++ (1 ∷ []) ++ codes "none" ++ (13 ∷ []) ++ codes "  a1 vga=ask ro vga=0x1F" ++ newline) ++ waiting 9 ++ typing (replicate 31 112 ++ newline ++ (9 ∷ [])))
+    (Kept (codes "a1 vga=0x1F")) (typing (newline ++ codes "vga= " ++ (63 ∷ []) ++ newline ++ codes "none ro" ++ (13 ∷ []) ++ codes "a1" ++ newline ++ (1 ∷ []) ++ codes "none" ++ (13 ∷ []) ++ codes "  a1 vga=ask ro vga=0x1F" ++ newline) ++ waiting 9 ++ typing (replicate 31 112 ++ newline ++ (9 ∷ [])))
     None
 unfolding words_of meaning course_of
 drawn_080 = refl

@@ -7,7 +7,7 @@ use Rattle.model_cases.specs.Cases.{typing, waiting, settings, listed, chosen, a
 
 -- drawn at random: a typed choice, 2 unknown names, a new default line, keys are left
 drawn_082 : answers (settings false 5 None 0 12)
-    (listed (codes "x") None false false (Some (codes "none vga=0x1F")) ∷ listed (codes "lock") (Some (codes "tux")) false false (Some (codes "x vga= ?")) ∷ listed (codes "linux") None false false (Some (codes "linux quiet single vga=5")) ∷ [])
+    (listed (codes "x") None false false (Some (codes "none vga=0x1F")) ∷ listed (codes "lock") (Some (codes "tux")) false false (Some (codes "x vga= " ++ (63 ∷ []))) ∷ listed (codes "linux") None false false (Some (codes "linux quiet single vga=5")) ∷ [])
     (Once (codes "none vga=0x1F")) (Some [])
     (typing (codes "a b" ++ newline ++ codes "a b" ++ newline ++ codes "linux" ++ newline ++ codes "x vga=0x1F quiet" ++ newline ++ codes "linux single single lock" ++ newline ++ codes "lock" ++ newline))
     ≡ expected (Some (chosen 2 [] false None))
@@ -69,11 +69,11 @@ drawn_086 = refl
 drawn_087 : answers (settings true 0 (Some 4) 3 12)
     (listed (codes "rescue") (Some (codes "tux")) true false None ∷ listed (codes "old") (Some (codes "tux")) false true None ∷ listed (codes "x") None false false (Some []) ∷ listed (codes "linux") None false false (Some (codes "x")) ∷ [])
     Empty None
-    (typing ((200 ∷ []) ++ codes "  ??rescue" ++ newline ++ codes "?"))
+    (typing ((200 ∷ []) ++ codes "  " ++ (63 ∷ []) ++ (63 ∷ []) ++ codes "rescue" ++ newline ++ (63 ∷ [])))
     ≡ expected None
-    (codes "boot:   ??rescue" ++ newline ++ codes "No such image." ++ newline ++ codes "boot: " ++ newline ++ codes "rescue" ++ newline ++ codes "old" ++ newline ++ codes "x" ++ newline ++ codes "linux" ++ newline ++ codes "boot: ")
+    (codes "boot:   " ++ (63 ∷ []) ++ (63 ∷ []) ++ codes "rescue" ++ newline ++ codes "No such image." ++ newline ++ codes "boot: " ++ newline ++ codes "rescue" ++ newline ++ codes "old" ++ newline ++ codes "x" ++ newline ++ codes "linux" ++ newline ++ codes "boot: ")
     Empty []
-    (Some (opened [] (typing ((200 ∷ []) ++ codes "  ??rescue" ++ newline ++ codes "?"))))
+    (Some (opened [] (typing ((200 ∷ []) ++ codes "  " ++ (63 ∷ []) ++ (63 ∷ []) ++ codes "rescue" ++ newline ++ (63 ∷ [])))))
 unfolding words_of meaning course_of
 drawn_087 = refl
 
@@ -141,11 +141,11 @@ drawn_092 = refl
 drawn_093 : answers (settings true 8 (Some 1) 1 255)
     (listed (codes "rescue") (Some (replicate 31 112)) false false (Some []) ∷ listed (codes "x") (Some (replicate 31 112)) false false None ∷ [])
     Empty (Some [])
-    (typing (8 ∷ []) ++ waiting 9 ++ typing (codes "rescue single vga=bad single" ++ newline ++ codes "none" ++ (13 ∷ []) ++ (11 ∷ []) ++ codes "?") ++ waiting 601 ++ typing (codes "rescue ? vga=bad" ++ (13 ∷ []) ++ codes "rescue vga=bad" ++ newline) ++ waiting 599 ++ typing (codes "x" ++ newline))
+    (typing (8 ∷ []) ++ waiting 9 ++ typing (codes "rescue single vga=bad single" ++ newline ++ codes "none" ++ (13 ∷ []) ++ (11 ∷ []) ++ (63 ∷ [])) ++ waiting 601 ++ typing (codes "rescue " ++ (63 ∷ []) ++ codes " vga=bad" ++ (13 ∷ []) ++ codes "rescue vga=bad" ++ newline) ++ waiting 599 ++ typing (codes "x" ++ newline))
     ≡ expected None
-    (codes "boot: rescue single vga=bad single" ++ newline ++ codes "Password: " ++ newline ++ codes "Sorry." ++ newline ++ codes "boot: ?rescue ? vga=bad" ++ newline ++ codes "No such image." ++ newline ++ codes "boot: rescue vga=bad" ++ newline ++ codes "Password: " ++ newline ++ codes "Sorry." ++ newline ++ codes "boot: ")
+    (codes "boot: rescue single vga=bad single" ++ newline ++ codes "Password: " ++ newline ++ codes "Sorry." ++ newline ++ codes "boot: " ++ (63 ∷ []) ++ codes "rescue " ++ (63 ∷ []) ++ codes " vga=bad" ++ newline ++ codes "No such image." ++ newline ++ codes "boot: rescue vga=bad" ++ newline ++ codes "Password: " ++ newline ++ codes "Sorry." ++ newline ++ codes "boot: ")
     Empty []
-    (Some (opened [] (typing (8 ∷ []) ++ waiting 9 ++ typing (codes "rescue single vga=bad single" ++ newline ++ codes "none" ++ (13 ∷ []) ++ (11 ∷ []) ++ codes "?") ++ waiting 601 ++ typing (codes "rescue ? vga=bad" ++ (13 ∷ []) ++ codes "rescue vga=bad" ++ newline) ++ waiting 599 ++ typing (codes "x" ++ newline))))
+    (Some (opened [] (typing (8 ∷ []) ++ waiting 9 ++ typing (codes "rescue single vga=bad single" ++ newline ++ codes "none" ++ (13 ∷ []) ++ (11 ∷ []) ++ (63 ∷ [])) ++ waiting 601 ++ typing (codes "rescue " ++ (63 ∷ []) ++ codes " vga=bad" ++ (13 ∷ []) ++ codes "rescue vga=bad" ++ newline) ++ waiting 599 ++ typing (codes "x" ++ newline))))
 unfolding words_of meaning course_of
 drawn_093 = refl
 
@@ -188,19 +188,19 @@ drawn_096 = refl
 -- drawn at random: nothing is chosen, 2 questions, 2 wrong
 drawn_097 : answers (settings false 0 (Some 9) 0 255)
     (listed (codes "old") (Some (codes "secret")) false false None ∷ [])
-    (Once (codes "old vga= ? lock")) (Some (codes "Hello" ++ newline))
-    (typing ((127 ∷ []) ++ (127 ∷ []) ++ codes "a b" ++ newline ++ newline ++ codes "quiet ro vga=65536 ?" ++ (13 ∷ [])))
+    (Once (codes "old vga= " ++ (63 ∷ []) ++ codes " lock")) (Some (codes "Hello" ++ newline))
+    (typing ((127 ∷ []) ++ (127 ∷ []) ++ codes "a b" ++ newline ++ newline ++ codes "quiet ro vga=65536 " ++ (63 ∷ []) ++ (13 ∷ [])))
     ≡ expected None
     (codes "Password: " ++ newline ++ codes "Sorry." ++ newline ++ codes "Hello" ++ newline ++ codes "boot: " ++ newline ++ codes "Password: " ++ newline ++ codes "Sorry." ++ newline ++ codes "boot: ")
-    (Once (codes "old vga= ? lock")) []
-    (Some (opened (codes "Password: " ++ newline ++ codes "Sorry." ++ newline) (typing (newline ++ codes "quiet ro vga=65536 ?" ++ (13 ∷ [])))))
+    (Once (codes "old vga= " ++ (63 ∷ []) ++ codes " lock")) []
+    (Some (opened (codes "Password: " ++ newline ++ codes "Sorry." ++ newline) (typing (newline ++ codes "quiet ro vga=65536 " ++ (63 ∷ []) ++ (13 ∷ [])))))
 unfolding words_of meaning course_of
 drawn_097 = refl
 
 -- drawn at random: an automatic choice, a new default line, keys are left
 drawn_098 : answers (settings true 5 (Some 0) 0 255)
     (listed (codes "dos") None false false None ∷ listed (codes "rescue") (Some []) true false None ∷ listed (codes "x") None false false (Some []) ∷ listed (codes "lock") None false false (Some (codes "dos vga=65536 vga=bad")) ∷ [])
-    (Once (codes "vga=5 vga= lock ?")) (Some (codes "boot: "))
+    (Once (codes "vga=5 vga= lock " ++ (63 ∷ []))) (Some (codes "boot: "))
     (typing ((9 ∷ []) ++ codes "rescue vga=65536 ro quiet" ++ (13 ∷ []) ++ codes "x" ++ newline))
     ≡ expected (Some (chosen 0 [] true None))
     (codes "boot: boot: " ++ newline)
@@ -260,11 +260,11 @@ drawn_102 = refl
 -- drawn at random: nothing is chosen, 1 question
 drawn_103 : answers (settings true 0 None 1 12)
     (listed (codes "rescue") None false false None ∷ listed (codes "x") None false false (Some (codes "none vga=bad vga=ask")) ∷ listed (codes "old") (Some (codes "secret")) false false (Some (codes "a")) ∷ [])
-    (Kept (codes "old ?")) (Some (codes "Hello" ++ newline))
+    (Kept (codes "old " ++ (63 ∷ []))) (Some (codes "Hello" ++ newline))
     (waiting 9 ++ typing ((127 ∷ []) ++ (127 ∷ [])))
     ≡ expected None
     (codes "Password: " ++ newline ++ codes "Hello" ++ newline ++ codes "boot: ")
-    (Kept (codes "old ?")) []
+    (Kept (codes "old " ++ (63 ∷ []))) []
     (Some (opened (codes "Password: " ++ newline) []))
 unfolding words_of meaning course_of
 drawn_103 = refl
@@ -309,11 +309,11 @@ drawn_106 = refl
 drawn_107 : answers (settings true 2 (Some 1) 0 255)
     (listed (codes "old") (Some (codes "secret")) false false None ∷ listed (codes "dos") None false false (Some []) ∷ listed (codes "rescue") (Some (codes "secret")) false false None ∷ listed (codes "x") (Some (codes "secret")) true false None ∷ [])
     (Once (codes "x vga=ask")) (Some [])
-    (typing (codes "rescue single vga=ask vga=65536" ++ newline) ++ waiting 9 ++ typing (codes "x vga=0x1F ?" ++ newline ++ codes "  none" ++ newline ++ replicate 31 112 ++ newline))
+    (typing (codes "rescue single vga=ask vga=65536" ++ newline) ++ waiting 9 ++ typing (codes "x vga=0x1F " ++ (63 ∷ []) ++ newline ++ codes "  none" ++ newline ++ replicate 31 112 ++ newline))
     ≡ expected None
     (codes "boot: rescue single vga=ask vga=65536" ++ newline ++ codes "Password: " ++ newline ++ codes "Sorry." ++ newline ++ codes "boot:   none" ++ newline ++ codes "No such image." ++ newline ++ codes "boot: " ++ replicate 31 112 ++ newline ++ codes "No such image." ++ newline ++ codes "boot: ")
     (Once (codes "x vga=ask")) []
-    (Some (opened [] (typing (codes "escue single vga=ask vga=65536" ++ newline) ++ waiting 9 ++ typing (codes "x vga=0x1F ?" ++ newline ++ codes "  none" ++ newline ++ replicate 31 112 ++ newline))))
+    (Some (opened [] (typing (codes "escue single vga=ask vga=65536" ++ newline) ++ waiting 9 ++ typing (codes "x vga=0x1F " ++ (63 ∷ []) ++ newline ++ codes "  none" ++ newline ++ replicate 31 112 ++ newline))))
 unfolding words_of meaning course_of
 drawn_107 = refl
 
@@ -332,11 +332,11 @@ drawn_108 = refl
 -- drawn at random: nothing is chosen
 drawn_109 : answers (settings true 0 (Some 2) 1 255)
     (listed (codes "x") None false false None ∷ listed (codes "rescue") None false false (Some (codes "a1")) ∷ listed (codes "a1") (Some (codes "a b")) true false None ∷ [])
-    (Once (codes "none a a ?")) None
+    (Once (codes "none a a " ++ (63 ∷ []))) None
     (typing (7 ∷ []))
     ≡ expected None
     (codes "boot: ")
-    (Once (codes "none a a ?")) []
+    (Once (codes "none a a " ++ (63 ∷ []))) []
     (Some (opened [] (typing (7 ∷ []))))
 unfolding words_of meaning course_of
 drawn_109 = refl
@@ -405,11 +405,11 @@ drawn_114 = refl
 drawn_115 : answers (settings true 0 (Some 0) 0 255)
     (listed (codes "lock") None false false None ∷ listed (codes "dos") None false false None ∷ [])
     Empty (Some (codes "Hello" ++ newline))
-    (typing (codes "vga=65536 ? ro vga=65536" ++ (13 ∷ [])))
+    (typing (codes "vga=65536 " ++ (63 ∷ []) ++ codes " ro vga=65536" ++ (13 ∷ [])))
     ≡ expected (Some (chosen 0 [] true None))
     (codes "Hello" ++ newline ++ codes "boot: " ++ newline)
-    Empty (typing (codes "vga=65536 ? ro vga=65536" ++ (13 ∷ [])))
-    (Some (opened [] (typing (codes "vga=65536 ? ro vga=65536" ++ (13 ∷ [])))))
+    Empty (typing (codes "vga=65536 " ++ (63 ∷ []) ++ codes " ro vga=65536" ++ (13 ∷ [])))
+    (Some (opened [] (typing (codes "vga=65536 " ++ (63 ∷ []) ++ codes " ro vga=65536" ++ (13 ∷ [])))))
 unfolding words_of meaning course_of
 drawn_115 = refl
 
@@ -417,11 +417,11 @@ drawn_115 = refl
 drawn_116 : answers (settings true 1 (Some 9) 0 255)
     (listed (codes "rescue") (Some (codes "tux")) false false None ∷ listed (codes "old") (Some (codes "secret")) false false None ∷ [])
     Empty None
-    (typing (newline ++ codes "  ?"))
+    (typing (newline ++ codes "  " ++ (63 ∷ [])))
     ≡ expected None
     (codes "boot: " ++ newline ++ codes "Password: " ++ newline ++ codes "boot: ")
     Empty []
-    (Some (opened [] (typing (newline ++ codes "  ?"))))
+    (Some (opened [] (typing (newline ++ codes "  " ++ (63 ∷ [])))))
 unfolding words_of meaning course_of
 drawn_116 = refl
 
@@ -429,10 +429,10 @@ drawn_116 = refl
 drawn_117 : answers (settings false 0 None 0 255)
     (listed (codes "rescue") None false false None ∷ listed (codes "old") None false false (Some []) ∷ listed (codes "lock") None false true None ∷ [])
     Empty (Some (codes "Hello" ++ newline))
-    (typing ((0 ∷ []) ++ codes "lock a ?" ++ newline ++ codes "lock" ++ newline ++ codes "rescue single vga=asknone" ++ newline ++ codes "rescue" ++ newline))
+    (typing ((0 ∷ []) ++ codes "lock a " ++ (63 ∷ []) ++ newline ++ codes "lock" ++ newline ++ codes "rescue single vga=asknone" ++ newline ++ codes "rescue" ++ newline))
     ≡ expected (Some (chosen 0 [] true None))
     []
-    Empty (typing ((0 ∷ []) ++ codes "lock a ?" ++ newline ++ codes "lock" ++ newline ++ codes "rescue single vga=asknone" ++ newline ++ codes "rescue" ++ newline))
+    Empty (typing ((0 ∷ []) ++ codes "lock a " ++ (63 ∷ []) ++ newline ++ codes "lock" ++ newline ++ codes "rescue single vga=asknone" ++ newline ++ codes "rescue" ++ newline))
     None
 unfolding words_of meaning course_of
 drawn_117 = refl
@@ -477,11 +477,11 @@ drawn_120 = refl
 drawn_121 : answers (settings true 0 None 0 12)
     (listed (codes "x") None false false None ∷ listed (codes "a1") None false false None ∷ [])
     Empty None
-    (typing (codes "?tux" ++ newline ++ newline ++ codes "none vga=0x1F vga= roa1" ++ newline ++ codes "none vga=ask single vga=" ++ newline))
+    (typing ((63 ∷ []) ++ codes "tux" ++ newline ++ newline ++ codes "none vga=0x1F vga= roa1" ++ newline ++ codes "none vga=ask single vga=" ++ newline))
     ≡ expected (Some (chosen 0 [] false None))
     (codes "boot: " ++ newline ++ codes "x" ++ newline ++ codes "a1" ++ newline ++ codes "boot: tux" ++ newline ++ codes "No such image." ++ newline ++ codes "boot: " ++ newline)
     Empty (typing (codes "none vga=0x1F vga= roa1" ++ newline ++ codes "none vga=ask single vga=" ++ newline))
-    (Some (opened [] (typing (codes "?tux" ++ newline ++ newline ++ codes "none vga=0x1F vga= roa1" ++ newline ++ codes "none vga=ask single vga=" ++ newline))))
+    (Some (opened [] (typing ((63 ∷ []) ++ codes "tux" ++ newline ++ newline ++ codes "none vga=0x1F vga= roa1" ++ newline ++ codes "none vga=ask single vga=" ++ newline))))
 unfolding words_of meaning course_of
 drawn_121 = refl
 
@@ -501,17 +501,17 @@ drawn_122 = refl
 drawn_123 : answers (settings false 5 None 0 5)
     (listed (codes "lock") (Some (codes "tux")) false false (Some (codes "none")) ∷ [])
     (Kept (codes "lock vga=5 vga=")) (Some (codes "Hello" ++ newline))
-    (typing (codes "lock ? a vga=0x1F" ++ newline ++ codes "quiet a" ++ newline ++ codes "none vga=normal" ++ newline))
+    (typing (codes "lock " ++ (63 ∷ []) ++ codes " a vga=0x1F" ++ newline ++ codes "quiet a" ++ newline ++ codes "none vga=normal" ++ newline))
     ≡ expected None
     (codes "Hello" ++ newline ++ codes "boot: lock " ++ newline ++ codes "Password: " ++ newline ++ codes "Sorry." ++ newline ++ codes "boot: none " ++ newline ++ codes "No such image." ++ newline ++ codes "boot: ")
     (Kept (codes "lock vga=5 vga=")) []
-    (Some (opened [] (typing (codes "ock ? a vga=0x1F" ++ newline ++ codes "quiet a" ++ newline ++ codes "none vga=normal" ++ newline))))
+    (Some (opened [] (typing (codes "ock " ++ (63 ∷ []) ++ codes " a vga=0x1F" ++ newline ++ codes "quiet a" ++ newline ++ codes "none vga=normal" ++ newline))))
 unfolding words_of meaning course_of
 drawn_123 = refl
 
 -- drawn at random: an automatic choice, no prompt, a new default line
 drawn_124 : answers (settings false 5 (Some 2) 0 255)
-    (listed (codes "a1") (Some []) true true None ∷ listed (codes "rescue") None false false (Some (codes "none vga=bad ro ?")) ∷ [])
+    (listed (codes "a1") (Some []) true true None ∷ listed (codes "rescue") None false false (Some (codes "none vga=bad ro " ++ (63 ∷ []))) ∷ [])
     (Kept (codes "none")) (Some [])
     []
     ≡ expected (Some (chosen 0 [] true None))
@@ -537,11 +537,11 @@ drawn_125 = refl
 drawn_126 : answers (settings true 3 (Some 1) 3 255)
     (listed (codes "lock") None false false (Some []) ∷ listed (codes "dos") None false false None ∷ listed (codes "a1") None false false (Some []) ∷ listed (codes "linux") (Some (replicate 31 112)) false false (Some []) ∷ [])
     Empty None
-    (typing (codes "linux vga=bad lock" ++ newline ++ codes "?"))
+    (typing (codes "linux vga=bad lock" ++ newline ++ (63 ∷ [])))
     ≡ expected None
     (codes "boot: linux vga=bad lock" ++ newline ++ codes "Password: " ++ newline ++ codes "boot: ")
     Empty []
-    (Some (opened [] (typing (codes "linux vga=bad lock" ++ newline ++ codes "?"))))
+    (Some (opened [] (typing (codes "linux vga=bad lock" ++ newline ++ (63 ∷ [])))))
 unfolding words_of meaning course_of
 drawn_126 = refl
 
@@ -561,11 +561,11 @@ drawn_127 = refl
 drawn_128 : answers (settings false 2 None 0 12)
     (listed (codes "old") (Some (codes "a b")) true true None ∷ listed (codes "dos") None false false None ∷ listed (codes "rescue") (Some (codes "a b")) false false (Some (codes "old root=/dev/hda1 vga=normal")) ∷ listed (codes "lock") None false false None ∷ [])
     Empty None
-    (typing (codes "old ?" ++ newline ++ (21 ∷ []) ++ codes "?ro" ++ (13 ∷ []) ++ newline ++ codes "lock vga=65536 a" ++ newline ++ (11 ∷ []) ++ codes "lock vga=65536 single vga=0x1F" ++ newline))
+    (typing (codes "old " ++ (63 ∷ []) ++ newline ++ (21 ∷ []) ++ (63 ∷ []) ++ codes "ro" ++ (13 ∷ []) ++ newline ++ codes "lock vga=65536 a" ++ newline ++ (11 ∷ []) ++ codes "lock vga=65536 single vga=0x1F" ++ newline))
     ≡ expected (Some (chosen 0 [] false None))
-    (codes "boot: old ?" ++ newline ++ codes "Password: " ++ newline ++ codes "Sorry." ++ newline ++ codes "boot: " ++ newline)
+    (codes "boot: old " ++ (63 ∷ []) ++ newline ++ codes "Password: " ++ newline ++ codes "Sorry." ++ newline ++ codes "boot: " ++ newline)
     (Kept (codes "old")) (typing (codes "lock vga=65536 a" ++ newline ++ (11 ∷ []) ++ codes "lock vga=65536 single vga=0x1F" ++ newline))
-    (Some (opened [] (typing (codes "ld ?" ++ newline ++ (21 ∷ []) ++ codes "?ro" ++ (13 ∷ []) ++ newline ++ codes "lock vga=65536 a" ++ newline ++ (11 ∷ []) ++ codes "lock vga=65536 single vga=0x1F" ++ newline))))
+    (Some (opened [] (typing (codes "ld " ++ (63 ∷ []) ++ newline ++ (21 ∷ []) ++ (63 ∷ []) ++ codes "ro" ++ (13 ∷ []) ++ newline ++ codes "lock vga=65536 a" ++ newline ++ (11 ∷ []) ++ codes "lock vga=65536 single vga=0x1F" ++ newline))))
 unfolding words_of meaning course_of
 drawn_128 = refl
 
@@ -573,20 +573,20 @@ drawn_128 = refl
 drawn_129 : answers (settings true 8 None 2 5)
     (listed (codes "a1") (Some (codes "a b")) false false (Some (codes "none vga=normal single vga=bad")) ∷ listed (codes "x") None false false None ∷ listed (codes "old") None false false (Some []) ∷ [])
     Empty (Some (codes "boot: "))
-    (typing (codes "a1 quiet" ++ newline ++ codes "old" ++ newline ++ codes "x a" ++ newline ++ codes "a b" ++ newline ++ codes "a b" ++ newline ++ replicate 31 112 ++ newline ++ codes "a1 a vga=65536 ?" ++ newline ++ (21 ∷ []) ++ codes "oldold" ++ newline ++ codes "x vga=bad single" ++ newline))
+    (typing (codes "a1 quiet" ++ newline ++ codes "old" ++ newline ++ codes "x a" ++ newline ++ codes "a b" ++ newline ++ codes "a b" ++ newline ++ replicate 31 112 ++ newline ++ codes "a1 a vga=65536 " ++ (63 ∷ []) ++ newline ++ (21 ∷ []) ++ codes "oldold" ++ newline ++ codes "x vga=bad single" ++ newline))
     ≡ expected (Some (chosen 1 (codes "a") false None))
     (codes "boot: boot: a1 qu" ++ newline ++ codes "Password: " ++ newline ++ codes "Sorry." ++ newline ++ codes "boot: x a" ++ newline)
-    Empty (typing (codes "a b" ++ newline ++ codes "a b" ++ newline ++ replicate 31 112 ++ newline ++ codes "a1 a vga=65536 ?" ++ newline ++ (21 ∷ []) ++ codes "oldold" ++ newline ++ codes "x vga=bad single" ++ newline))
-    (Some (opened [] (typing (codes "a1 quiet" ++ newline ++ codes "old" ++ newline ++ codes "x a" ++ newline ++ codes "a b" ++ newline ++ codes "a b" ++ newline ++ replicate 31 112 ++ newline ++ codes "a1 a vga=65536 ?" ++ newline ++ (21 ∷ []) ++ codes "oldold" ++ newline ++ codes "x vga=bad single" ++ newline))))
+    Empty (typing (codes "a b" ++ newline ++ codes "a b" ++ newline ++ replicate 31 112 ++ newline ++ codes "a1 a vga=65536 " ++ (63 ∷ []) ++ newline ++ (21 ∷ []) ++ codes "oldold" ++ newline ++ codes "x vga=bad single" ++ newline))
+    (Some (opened [] (typing (codes "a1 quiet" ++ newline ++ codes "old" ++ newline ++ codes "x a" ++ newline ++ codes "a b" ++ newline ++ codes "a b" ++ newline ++ replicate 31 112 ++ newline ++ codes "a1 a vga=65536 " ++ (63 ∷ []) ++ newline ++ (21 ∷ []) ++ codes "oldold" ++ newline ++ codes "x vga=bad single" ++ newline))))
 unfolding words_of meaning course_of
 drawn_129 = refl
 
 -- drawn at random: an automatic choice, no prompt, a new default line
 drawn_130 : answers (settings false 1 (Some 1) 0 255)
     (listed (codes "rescue") None false true None ∷ listed (codes "linux") (Some []) true false (Some (codes "linux")) ∷ [])
-    (Once (codes "linux ? vga=65536")) (Some [])
+    (Once (codes "linux " ++ (63 ∷ []) ++ codes " vga=65536")) (Some [])
     []
-    ≡ expected (Some (chosen 1 (codes "?") true None))
+    ≡ expected (Some (chosen 1 (63 ∷ []) true None))
     []
     (Kept (codes "linux")) []
     None
@@ -597,11 +597,11 @@ drawn_130 = refl
 drawn_131 : answers (settings true 8 (Some 9) 0 470)
     (listed (codes "rescue") (Some (codes "secret")) false false (Some []) ∷ [])
     (Kept (codes "rescue quiet vga=5 quiet")) (Some (codes "boot: "))
-    (typing (codes "ronone vga=" ++ newline) ++ waiting 1 ++ typing (codes "secret" ++ newline ++ codes "?rescue vga=65536rescue" ++ newline ++ (21 ∷ []) ++ newline ++ codes "none single ? quiet" ++ (13 ∷ []) ++ codes "rescue vga=" ++ newline))
+    (typing (codes "ronone vga=" ++ newline) ++ waiting 1 ++ typing (codes "secret" ++ newline ++ (63 ∷ []) ++ codes "rescue vga=65536rescue" ++ newline ++ (21 ∷ []) ++ newline ++ codes "none single " ++ (63 ∷ []) ++ codes " quiet" ++ (13 ∷ []) ++ codes "rescue vga=" ++ newline))
     ≡ expected None
-    (codes "boot: boot: ronone vga=" ++ newline ++ codes "No such image." ++ newline ++ codes "boot: secret" ++ newline ++ codes "No such image." ++ newline ++ codes "boot: " ++ newline ++ codes "rescue" ++ newline ++ codes "boot: rescue vga=65536rescue" ++ newline ++ codes "Password: " ++ newline ++ codes "Sorry." ++ newline ++ codes "boot: none single ? quiet" ++ newline ++ codes "No such image." ++ newline ++ codes "boot: rescue vga=" ++ newline ++ codes "Password: " ++ newline ++ codes "boot: ")
+    (codes "boot: boot: ronone vga=" ++ newline ++ codes "No such image." ++ newline ++ codes "boot: secret" ++ newline ++ codes "No such image." ++ newline ++ codes "boot: " ++ newline ++ codes "rescue" ++ newline ++ codes "boot: rescue vga=65536rescue" ++ newline ++ codes "Password: " ++ newline ++ codes "Sorry." ++ newline ++ codes "boot: none single " ++ (63 ∷ []) ++ codes " quiet" ++ newline ++ codes "No such image." ++ newline ++ codes "boot: rescue vga=" ++ newline ++ codes "Password: " ++ newline ++ codes "boot: ")
     (Kept (codes "rescue quiet vga=5 quiet")) []
-    (Some (opened [] (typing (codes "onone vga=" ++ newline) ++ waiting 1 ++ typing (codes "secret" ++ newline ++ codes "?rescue vga=65536rescue" ++ newline ++ (21 ∷ []) ++ newline ++ codes "none single ? quiet" ++ (13 ∷ []) ++ codes "rescue vga=" ++ newline))))
+    (Some (opened [] (typing (codes "onone vga=" ++ newline) ++ waiting 1 ++ typing (codes "secret" ++ newline ++ (63 ∷ []) ++ codes "rescue vga=65536rescue" ++ newline ++ (21 ∷ []) ++ newline ++ codes "none single " ++ (63 ∷ []) ++ codes " quiet" ++ (13 ∷ []) ++ codes "rescue vga=" ++ newline))))
 unfolding words_of meaning course_of
 drawn_131 = refl
 
@@ -609,11 +609,11 @@ drawn_131 = refl
 drawn_132 : answers (settings false 5 (Some 4) 1 255)
     (listed (codes "a1") (Some (replicate 31 112)) false false None ∷ listed (codes "lock") (Some (codes "a b")) false false None ∷ [])
     (Once (codes "lock")) (Some (codes "boot: "))
-    (typing (codes "a1 vga=65536 ?" ++ (13 ∷ [])))
+    (typing (codes "a1 vga=65536 " ++ (63 ∷ []) ++ (13 ∷ [])))
     ≡ expected None
-    (codes "boot: boot: a1 vga=65536 ?" ++ newline ++ codes "Password: " ++ newline ++ codes "boot: ")
+    (codes "boot: boot: a1 vga=65536 " ++ (63 ∷ []) ++ newline ++ codes "Password: " ++ newline ++ codes "boot: ")
     (Once (codes "lock")) []
-    (Some (opened [] (typing (codes "1 vga=65536 ?" ++ (13 ∷ [])))))
+    (Some (opened [] (typing (codes "1 vga=65536 " ++ (63 ∷ []) ++ (13 ∷ [])))))
 unfolding words_of meaning course_of
 drawn_132 = refl
 
@@ -644,7 +644,7 @@ drawn_134 = refl
 -- drawn at random: a typed choice, 1 unknown name, a new default line, keys are left
 drawn_135 : answers (settings true 8 None 0 255)
     (listed (codes "lock") None false false None ∷ listed (codes "linux") None false false (Some []) ∷ [])
-    (Once (codes "vga=65536 vga= ? single")) (Some (codes "Hello" ++ newline))
+    (Once (codes "vga=65536 vga= " ++ (63 ∷ []) ++ codes " single")) (Some (codes "Hello" ++ newline))
     (typing (codes "vga=ask vga= quiet vga=normal" ++ newline ++ newline ++ codes "none quiet single" ++ (13 ∷ [])))
     ≡ expected (Some (chosen 0 [] false None))
     (codes "Hello" ++ newline ++ codes "boot: vga=ask vga= quiet vga=normal" ++ newline ++ codes "No such image." ++ newline ++ codes "boot: " ++ newline)
@@ -657,11 +657,11 @@ drawn_135 = refl
 drawn_136 : answers (settings false 0 (Some 9) 1 255)
     (listed (codes "dos") None false false None ∷ listed (codes "lock") (Some (codes "abc")) false false (Some []) ∷ listed (codes "linux") (Some (codes "tux")) true false (Some (codes "lock")) ∷ listed (codes "old") None false false None ∷ [])
     Empty None
-    (typing (codes "old ? lock vga=bad" ++ newline ++ codes "abc" ++ newline ++ codes "?old" ++ (13 ∷ []) ++ (127 ∷ []) ++ codes "single vga=65536 ro ro  vga=0x1F" ++ newline))
+    (typing (codes "old " ++ (63 ∷ []) ++ codes " lock vga=bad" ++ newline ++ codes "abc" ++ newline ++ (63 ∷ []) ++ codes "old" ++ (13 ∷ []) ++ (127 ∷ []) ++ codes "single vga=65536 ro ro  vga=0x1F" ++ newline))
     ≡ expected (Some (chosen 3 [] false None))
     (codes "Password: " ++ newline ++ codes "Sorry." ++ newline ++ codes "boot: abc" ++ newline ++ codes "No such image." ++ newline ++ codes "boot: " ++ newline ++ codes "dos" ++ newline ++ codes "lock" ++ newline ++ codes "linux" ++ newline ++ codes "old" ++ newline ++ codes "boot: old" ++ newline)
     Empty (typing ((127 ∷ []) ++ codes "single vga=65536 ro ro  vga=0x1F" ++ newline))
-    (Some (opened (codes "Password: " ++ newline ++ codes "Sorry." ++ newline) (typing (codes "abc" ++ newline ++ codes "?old" ++ (13 ∷ []) ++ (127 ∷ []) ++ codes "single vga=65536 ro ro  vga=0x1F" ++ newline))))
+    (Some (opened (codes "Password: " ++ newline ++ codes "Sorry." ++ newline) (typing (codes "abc" ++ newline ++ (63 ∷ []) ++ codes "old" ++ (13 ∷ []) ++ (127 ∷ []) ++ codes "single vga=65536 ro ro  vga=0x1F" ++ newline))))
 unfolding words_of meaning course_of
 drawn_136 = refl
 
@@ -692,9 +692,9 @@ drawn_138 = refl
 -- drawn at random: an automatic choice, no prompt, a new default line
 drawn_139 : answers (settings false 0 (Some 4) 1 470)
     (listed (codes "linux") None false false (Some []) ∷ listed (codes "x") None false true None ∷ listed (codes "a1") None false false None ∷ [])
-    (Once (codes "a1 vga=65536 ? ?")) (Some [])
+    (Once (codes "a1 vga=65536 " ++ (63 ∷ []) ++ codes " " ++ (63 ∷ []))) (Some [])
     []
-    ≡ expected (Some (chosen 2 (codes "? ?") true None))
+    ≡ expected (Some (chosen 2 ((63 ∷ []) ++ codes " " ++ (63 ∷ [])) true None))
     []
     Empty []
     None

@@ -10,11 +10,11 @@ use Rattle.model_cases.specs.Cases.{typing, waiting, settings, listed, chosen, a
 drawn_142 : answers (settings true 1 (Some 2) 0 255)
     (listed (codes "dos") (Some []) true false None ∷ listed (codes "rescue") None false false None ∷ [])
     Empty None
-    (typing (codes "rescue vga=normal ?" ++ newline))
-    ≡ expected (Some (chosen 1 (codes "?") false (Some 65535)))
-    (codes "boot: rescue vga=normal ?" ++ newline)
+    (typing (codes "rescue vga=normal " ++ (63 ∷ []) ++ newline))
+    ≡ expected (Some (chosen 1 (63 ∷ []) false (Some 65535)))
+    (codes "boot: rescue vga=normal " ++ (63 ∷ []) ++ newline)
     Empty []
-    (Some (opened [] (typing (codes "rescue vga=normal ?" ++ newline))))
+    (Some (opened [] (typing (codes "rescue vga=normal " ++ (63 ∷ []) ++ newline))))
 unfolding words_of meaning course_of
 drawn_142 = refl
 
@@ -236,13 +236,13 @@ drawn_160 = refl
 
 -- drawn at random: a typed choice, 1 unknown name, keys are left
 drawn_161 : answers (settings false 2 (Some 1) 2 5)
-    (listed (codes "rescue") (Some (codes "abc")) false false (Some (codes "? ?")) ∷ listed (codes "a1") None false false None ∷ listed (codes "lock") (Some (codes "a b")) true false None ∷ [])
+    (listed (codes "rescue") (Some (codes "abc")) false false (Some ((63 ∷ []) ++ codes " " ++ (63 ∷ []))) ∷ listed (codes "a1") None false false None ∷ listed (codes "lock") (Some (codes "a b")) true false None ∷ [])
     Empty (Some [])
-    (typing (codes "abc" ++ newline ++ codes "lock" ++ newline ++ codes "?" ++ (21 ∷ [])))
+    (typing (codes "abc" ++ newline ++ codes "lock" ++ newline ++ (63 ∷ []) ++ (21 ∷ [])))
     ≡ expected (Some (chosen 2 [] false None))
     (codes "boot: abc" ++ newline ++ codes "No such image." ++ newline ++ codes "boot: lock" ++ newline)
-    Empty (typing (codes "?" ++ (21 ∷ [])))
-    (Some (opened [] (typing (codes "bc" ++ newline ++ codes "lock" ++ newline ++ codes "?" ++ (21 ∷ [])))))
+    Empty (typing ((63 ∷ []) ++ (21 ∷ [])))
+    (Some (opened [] (typing (codes "bc" ++ newline ++ codes "lock" ++ newline ++ (63 ∷ []) ++ (21 ∷ [])))))
 unfolding words_of meaning course_of
 drawn_161 = refl
 
@@ -346,11 +346,11 @@ drawn_169 = refl
 drawn_170 : answers (settings false 5 (Some 2) 1 255)
     (listed (codes "linux") None false false (Some (codes "linux single a")) ∷ listed (codes "lock") (Some (codes "secret")) false false (Some []) ∷ [])
     Empty None
-    (typing (codes "tux" ++ newline ++ codes "?lock" ++ newline ++ codes "linux" ++ newline ++ codes "  " ++ (8 ∷ []) ++ (8 ∷ []) ++ (8 ∷ []) ++ (8 ∷ []) ++ (8 ∷ []) ++ codes "linux" ++ newline ++ newline ++ codes "linux a" ++ newline) ++ waiting 1 ++ typing ((8 ∷ []) ++ (8 ∷ []) ++ (8 ∷ []) ++ (8 ∷ []) ++ (8 ∷ [])))
+    (typing (codes "tux" ++ newline ++ (63 ∷ []) ++ codes "lock" ++ newline ++ codes "linux" ++ newline ++ codes "  " ++ (8 ∷ []) ++ (8 ∷ []) ++ (8 ∷ []) ++ (8 ∷ []) ++ (8 ∷ []) ++ codes "linux" ++ newline ++ newline ++ codes "linux a" ++ newline) ++ waiting 1 ++ typing ((8 ∷ []) ++ (8 ∷ []) ++ (8 ∷ []) ++ (8 ∷ []) ++ (8 ∷ [])))
     ≡ expected (Some (chosen 0 [] false None))
     (codes "boot: tux" ++ newline ++ codes "No such image." ++ newline ++ codes "boot: " ++ newline ++ codes "linux" ++ newline ++ codes "lock" ++ newline ++ codes "boot: lock" ++ newline ++ codes "Password: " ++ newline ++ codes "Sorry." ++ newline ++ codes "boot:   " ++ erasing_text ++ erasing_text ++ codes "linux" ++ newline)
     (Kept (codes "linux single a")) (typing (newline ++ codes "linux a" ++ newline) ++ waiting 1 ++ typing ((8 ∷ []) ++ (8 ∷ []) ++ (8 ∷ []) ++ (8 ∷ []) ++ (8 ∷ [])))
-    (Some (opened [] (typing (codes "ux" ++ newline ++ codes "?lock" ++ newline ++ codes "linux" ++ newline ++ codes "  " ++ (8 ∷ []) ++ (8 ∷ []) ++ (8 ∷ []) ++ (8 ∷ []) ++ (8 ∷ []) ++ codes "linux" ++ newline ++ newline ++ codes "linux a" ++ newline) ++ waiting 1 ++ typing ((8 ∷ []) ++ (8 ∷ []) ++ (8 ∷ []) ++ (8 ∷ []) ++ (8 ∷ [])))))
+    (Some (opened [] (typing (codes "ux" ++ newline ++ (63 ∷ []) ++ codes "lock" ++ newline ++ codes "linux" ++ newline ++ codes "  " ++ (8 ∷ []) ++ (8 ∷ []) ++ (8 ∷ []) ++ (8 ∷ []) ++ (8 ∷ []) ++ codes "linux" ++ newline ++ newline ++ codes "linux a" ++ newline) ++ waiting 1 ++ typing ((8 ∷ []) ++ (8 ∷ []) ++ (8 ∷ []) ++ (8 ∷ []) ++ (8 ∷ [])))))
 unfolding words_of meaning course_of
 drawn_170 = refl
 
@@ -441,23 +441,23 @@ drawn_177 = refl
 -- drawn at random: nothing is chosen, 1 question, 3 unknown names
 drawn_178 : answers (settings true 1 (Some 2) 0 255)
     (listed (codes "lock") (Some (codes "tux")) false false None ∷ [])
-    (Kept (codes "vga=bad vga= vga=ask ?")) None
-    (typing (codes "none" ++ newline ++ codes "none ? vga=0x1F single" ++ newline ++ newline) ++ waiting 600 ++ typing (codes "secret" ++ newline) ++ waiting 2)
+    (Kept (codes "vga=bad vga= vga=ask " ++ (63 ∷ []))) None
+    (typing (codes "none" ++ newline ++ codes "none " ++ (63 ∷ []) ++ codes " vga=0x1F single" ++ newline ++ newline) ++ waiting 600 ++ typing (codes "secret" ++ newline) ++ waiting 2)
     ≡ expected None
-    (codes "boot: none" ++ newline ++ codes "No such image." ++ newline ++ codes "boot: none ? vga=0x1F single" ++ newline ++ codes "No such image." ++ newline ++ codes "boot: " ++ newline ++ codes "Password: " ++ newline ++ codes "boot: secret" ++ newline ++ codes "No such image." ++ newline ++ codes "boot: ")
-    (Kept (codes "vga=bad vga= vga=ask ?")) []
-    (Some (opened [] (typing (codes "none" ++ newline ++ codes "none ? vga=0x1F single" ++ newline ++ newline) ++ waiting 600 ++ typing (codes "secret" ++ newline) ++ waiting 2)))
+    (codes "boot: none" ++ newline ++ codes "No such image." ++ newline ++ codes "boot: none " ++ (63 ∷ []) ++ codes " vga=0x1F single" ++ newline ++ codes "No such image." ++ newline ++ codes "boot: " ++ newline ++ codes "Password: " ++ newline ++ codes "boot: secret" ++ newline ++ codes "No such image." ++ newline ++ codes "boot: ")
+    (Kept (codes "vga=bad vga= vga=ask " ++ (63 ∷ []))) []
+    (Some (opened [] (typing (codes "none" ++ newline ++ codes "none " ++ (63 ∷ []) ++ codes " vga=0x1F single" ++ newline ++ newline) ++ waiting 600 ++ typing (codes "secret" ++ newline) ++ waiting 2)))
 unfolding words_of meaning course_of
 drawn_178 = refl
 
 -- drawn at random: an automatic choice, a new default line
 drawn_179 : answers (settings true 1 (Some 4) 0 255)
-    (listed (codes "x") (Some (codes "abc")) true false (Some (codes "x root=/dev/hda1 ? vga=bad")) ∷ listed (codes "lock") None false false None ∷ [])
+    (listed (codes "x") (Some (codes "abc")) true false (Some (codes "x root=/dev/hda1 " ++ (63 ∷ []) ++ codes " vga=bad")) ∷ listed (codes "lock") None false false None ∷ [])
     Empty (Some (codes "Hello" ++ newline))
     []
     ≡ expected (Some (chosen 0 [] true None))
     (codes "Hello" ++ newline ++ codes "boot: " ++ newline)
-    (Kept (codes "x root=/dev/hda1 ? vga=bad")) []
+    (Kept (codes "x root=/dev/hda1 " ++ (63 ∷ []) ++ codes " vga=bad")) []
     (Some (opened [] []))
 unfolding words_of meaning course_of
 drawn_179 = refl
@@ -526,11 +526,11 @@ drawn_184 = refl
 drawn_185 : answers (settings false 0 (Some 1) 2 255)
     (listed (codes "rescue") None false false None ∷ listed (codes "linux") (Some (codes "abc")) true false (Some []) ∷ listed (codes "x") (Some (codes "secret")) false false None ∷ listed (codes "lock") None false false (Some []) ∷ [])
     Empty (Some (codes "boot: "))
-    (typing (codes "none" ++ newline ++ codes "?lock" ++ newline) ++ waiting 5 ++ typing (codes "  linux" ++ newline ++ codes "rescue" ++ newline) ++ waiting 5)
+    (typing (codes "none" ++ newline ++ (63 ∷ []) ++ codes "lock" ++ newline) ++ waiting 5 ++ typing (codes "  linux" ++ newline ++ codes "rescue" ++ newline) ++ waiting 5)
     ≡ expected (Some (chosen 3 [] false None))
     (codes "Password: " ++ newline ++ codes "Sorry." ++ newline ++ codes "boot: boot: " ++ newline ++ codes "rescue" ++ newline ++ codes "linux" ++ newline ++ codes "x" ++ newline ++ codes "lock" ++ newline ++ codes "boot: lock" ++ newline)
     Empty (waiting 5 ++ typing (codes "  linux" ++ newline ++ codes "rescue" ++ newline) ++ waiting 5)
-    (Some (opened (codes "Password: " ++ newline ++ codes "Sorry." ++ newline) (typing (codes "?lock" ++ newline) ++ waiting 5 ++ typing (codes "  linux" ++ newline ++ codes "rescue" ++ newline) ++ waiting 5)))
+    (Some (opened (codes "Password: " ++ newline ++ codes "Sorry." ++ newline) (typing ((63 ∷ []) ++ codes "lock" ++ newline) ++ waiting 5 ++ typing (codes "  linux" ++ newline ++ codes "rescue" ++ newline) ++ waiting 5)))
 unfolding words_of meaning course_of
 drawn_185 = refl
 
@@ -646,11 +646,11 @@ drawn_194 = refl
 drawn_195 : answers (settings true 8 (Some 0) 0 255)
     (listed (codes "x") None false false (Some (codes "x vga=5")) ∷ [])
     (Once (codes "none")) None
-    (typing (codes "none" ++ newline ++ (21 ∷ []) ++ codes "none ?" ++ newline ++ newline))
+    (typing (codes "none" ++ newline ++ (21 ∷ []) ++ codes "none " ++ (63 ∷ []) ++ newline ++ newline))
     ≡ expected (Some (chosen 0 [] true None))
     (codes "boot: " ++ newline)
-    (Kept (codes "x vga=5")) (typing (codes "none" ++ newline ++ (21 ∷ []) ++ codes "none ?" ++ newline ++ newline))
-    (Some (opened [] (typing (codes "none" ++ newline ++ (21 ∷ []) ++ codes "none ?" ++ newline ++ newline))))
+    (Kept (codes "x vga=5")) (typing (codes "none" ++ newline ++ (21 ∷ []) ++ codes "none " ++ (63 ∷ []) ++ newline ++ newline))
+    (Some (opened [] (typing (codes "none" ++ newline ++ (21 ∷ []) ++ codes "none " ++ (63 ∷ []) ++ newline ++ newline))))
 unfolding words_of meaning course_of
 drawn_195 = refl
 
@@ -658,11 +658,11 @@ drawn_195 = refl
 drawn_196 : answers (settings true 0 (Some 0) 1 255)
     (listed (codes "rescue") (Some (codes "abc")) true false None ∷ listed (codes "linux") None false false (Some (codes "linux")) ∷ listed (codes "x") None false false (Some []) ∷ [])
     (Kept (codes "none vga=65536 vga=bad vga=bad")) None
-    (typing (codes "none" ++ newline ++ newline) ++ waiting 5 ++ typing (codes "a b" ++ newline ++ codes "?linux vga=normal" ++ (13 ∷ []) ++ codes "linux" ++ newline ++ codes "a b" ++ newline))
+    (typing (codes "none" ++ newline ++ newline) ++ waiting 5 ++ typing (codes "a b" ++ newline ++ (63 ∷ []) ++ codes "linux vga=normal" ++ (13 ∷ []) ++ codes "linux" ++ newline ++ codes "a b" ++ newline))
     ≡ expected (Some (chosen 1 [] true None))
     (codes "boot: " ++ newline)
-    (Kept (codes "linux")) (typing (codes "none" ++ newline ++ newline) ++ waiting 5 ++ typing (codes "a b" ++ newline ++ codes "?linux vga=normal" ++ (13 ∷ []) ++ codes "linux" ++ newline ++ codes "a b" ++ newline))
-    (Some (opened [] (typing (codes "none" ++ newline ++ newline) ++ waiting 5 ++ typing (codes "a b" ++ newline ++ codes "?linux vga=normal" ++ (13 ∷ []) ++ codes "linux" ++ newline ++ codes "a b" ++ newline))))
+    (Kept (codes "linux")) (typing (codes "none" ++ newline ++ newline) ++ waiting 5 ++ typing (codes "a b" ++ newline ++ (63 ∷ []) ++ codes "linux vga=normal" ++ (13 ∷ []) ++ codes "linux" ++ newline ++ codes "a b" ++ newline))
+    (Some (opened [] (typing (codes "none" ++ newline ++ newline) ++ waiting 5 ++ typing (codes "a b" ++ newline ++ (63 ∷ []) ++ codes "linux vga=normal" ++ (13 ∷ []) ++ codes "linux" ++ newline ++ codes "a b" ++ newline))))
 unfolding words_of meaning course_of
 drawn_196 = refl
 
@@ -670,11 +670,11 @@ drawn_196 = refl
 drawn_197 : answers (settings false 2 (Some 9) 0 12)
     (listed (codes "old") (Some (codes "tux")) false false (Some []) ∷ listed (codes "a1") (Some (codes "abc")) false false None ∷ [])
     Empty None
-    (typing (codes "old" ++ newline ++ codes "vga=0x1F root=/dev/hda1" ++ newline ++ codes "old root=/dev/hda1 lock vga=" ++ newline ++ codes "tux" ++ newline ++ codes "a1 quiet vga=ask" ++ newline ++ codes "none quiet vga=65536" ++ (13 ∷ []) ++ newline ++ codes "old vga=5 quiet vga=bada1 vga=0x1F vga=normal vga=5" ++ newline ++ codes "vga=normal vga=normal" ++ newline ++ codes "?" ++ newline))
+    (typing (codes "old" ++ newline ++ codes "vga=0x1F root=/dev/hda1" ++ newline ++ codes "old root=/dev/hda1 lock vga=" ++ newline ++ codes "tux" ++ newline ++ codes "a1 quiet vga=ask" ++ newline ++ codes "none quiet vga=65536" ++ (13 ∷ []) ++ newline ++ codes "old vga=5 quiet vga=bada1 vga=0x1F vga=normal vga=5" ++ newline ++ codes "vga=normal vga=normal" ++ newline ++ (63 ∷ []) ++ newline))
     ≡ expected (Some (chosen 0 (codes "root=/de") false None))
     (codes "boot: old" ++ newline ++ codes "Password: " ++ newline ++ codes "Sorry." ++ newline ++ codes "boot: old root=/de" ++ newline ++ codes "Password: " ++ newline)
-    Empty (typing (codes "a1 quiet vga=ask" ++ newline ++ codes "none quiet vga=65536" ++ (13 ∷ []) ++ newline ++ codes "old vga=5 quiet vga=bada1 vga=0x1F vga=normal vga=5" ++ newline ++ codes "vga=normal vga=normal" ++ newline ++ codes "?" ++ newline))
-    (Some (opened [] (typing (codes "ld" ++ newline ++ codes "vga=0x1F root=/dev/hda1" ++ newline ++ codes "old root=/dev/hda1 lock vga=" ++ newline ++ codes "tux" ++ newline ++ codes "a1 quiet vga=ask" ++ newline ++ codes "none quiet vga=65536" ++ (13 ∷ []) ++ newline ++ codes "old vga=5 quiet vga=bada1 vga=0x1F vga=normal vga=5" ++ newline ++ codes "vga=normal vga=normal" ++ newline ++ codes "?" ++ newline))))
+    Empty (typing (codes "a1 quiet vga=ask" ++ newline ++ codes "none quiet vga=65536" ++ (13 ∷ []) ++ newline ++ codes "old vga=5 quiet vga=bada1 vga=0x1F vga=normal vga=5" ++ newline ++ codes "vga=normal vga=normal" ++ newline ++ (63 ∷ []) ++ newline))
+    (Some (opened [] (typing (codes "ld" ++ newline ++ codes "vga=0x1F root=/dev/hda1" ++ newline ++ codes "old root=/dev/hda1 lock vga=" ++ newline ++ codes "tux" ++ newline ++ codes "a1 quiet vga=ask" ++ newline ++ codes "none quiet vga=65536" ++ (13 ∷ []) ++ newline ++ codes "old vga=5 quiet vga=bada1 vga=0x1F vga=normal vga=5" ++ newline ++ codes "vga=normal vga=normal" ++ newline ++ (63 ∷ []) ++ newline))))
 unfolding words_of meaning course_of
 drawn_197 = refl
 
@@ -706,11 +706,11 @@ drawn_199 = refl
 drawn_200 : answers (settings false 2 (Some 1) 0 255)
     (listed (codes "a1") (Some (replicate 31 112)) true false None ∷ listed (codes "rescue") None false true None ∷ listed (codes "lock") (Some []) true true None ∷ [])
     Empty None
-    (typing (codes "a1 quiet vga=65536" ++ (13 ∷ []) ++ codes "a1 vga=ask vga=0x1F" ++ (13 ∷ []) ++ codes "?lock" ++ newline ++ newline ++ codes "none a" ++ (13 ∷ [])))
+    (typing (codes "a1 quiet vga=65536" ++ (13 ∷ []) ++ codes "a1 vga=ask vga=0x1F" ++ (13 ∷ []) ++ (63 ∷ []) ++ codes "lock" ++ newline ++ newline ++ codes "none a" ++ (13 ∷ [])))
     ≡ expected (Some (chosen 2 [] false None))
     (codes "boot: a1 quiet vga=65536" ++ newline ++ codes "Password: " ++ newline ++ codes "Sorry." ++ newline ++ codes "boot: " ++ newline ++ codes "a1" ++ newline ++ codes "rescue" ++ newline ++ codes "lock" ++ newline ++ codes "boot: lock" ++ newline)
     (Kept (codes "lock")) (typing (newline ++ codes "none a" ++ (13 ∷ [])))
-    (Some (opened [] (typing (codes "1 quiet vga=65536" ++ (13 ∷ []) ++ codes "a1 vga=ask vga=0x1F" ++ (13 ∷ []) ++ codes "?lock" ++ newline ++ newline ++ codes "none a" ++ (13 ∷ [])))))
+    (Some (opened [] (typing (codes "1 quiet vga=65536" ++ (13 ∷ []) ++ codes "a1 vga=ask vga=0x1F" ++ (13 ∷ []) ++ (63 ∷ []) ++ codes "lock" ++ newline ++ newline ++ codes "none a" ++ (13 ∷ [])))))
 unfolding words_of meaning course_of
 drawn_200 = refl
 

@@ -45,11 +45,11 @@ drawn_204 = refl
 drawn_205 : answers (settings true 0 (Some 4) 1 255)
     (listed (codes "old") (Some (codes "a b")) false true None ∷ listed (codes "lock") None false false (Some []) ∷ [])
     (Once (codes "old vga=normal")) (Some (codes "Hello" ++ newline))
-    (typing (codes "lock" ++ newline ++ codes "?abc" ++ newline ++ codes "lock" ++ (13 ∷ [])))
+    (typing (codes "lock" ++ newline ++ (63 ∷ []) ++ codes "abc" ++ newline ++ codes "lock" ++ (13 ∷ [])))
     ≡ expected (Some (chosen 1 [] false None))
     (codes "Password: " ++ newline ++ codes "Sorry." ++ newline ++ codes "Hello" ++ newline ++ codes "boot: " ++ newline ++ codes "old" ++ newline ++ codes "lock" ++ newline ++ codes "boot: abc" ++ newline ++ codes "No such image." ++ newline ++ codes "boot: lock" ++ newline)
     Empty []
-    (Some (opened (codes "Password: " ++ newline ++ codes "Sorry." ++ newline) (typing (codes "?abc" ++ newline ++ codes "lock" ++ (13 ∷ [])))))
+    (Some (opened (codes "Password: " ++ newline ++ codes "Sorry." ++ newline) (typing ((63 ∷ []) ++ codes "abc" ++ newline ++ codes "lock" ++ (13 ∷ [])))))
 unfolding words_of meaning course_of
 drawn_205 = refl
 
@@ -93,11 +93,11 @@ drawn_208 = refl
 drawn_209 : answers (settings true 2 (Some 0) 1 255)
     (listed (codes "lock") None false false (Some []) ∷ listed (codes "old") (Some (codes "abc")) false false None ∷ [])
     Empty (Some (codes "Hello" ++ newline))
-    (typing (codes "abc" ++ newline ++ (8 ∷ []) ++ (8 ∷ []) ++ (8 ∷ []) ++ (8 ∷ []) ++ (8 ∷ []) ++ (9 ∷ []) ++ (127 ∷ [])) ++ waiting 9 ++ typing (codes "?" ++ (21 ∷ []) ++ newline))
+    (typing (codes "abc" ++ newline ++ (8 ∷ []) ++ (8 ∷ []) ++ (8 ∷ []) ++ (8 ∷ []) ++ (8 ∷ []) ++ (9 ∷ []) ++ (127 ∷ [])) ++ waiting 9 ++ typing ((63 ∷ []) ++ (21 ∷ []) ++ newline))
     ≡ expected (Some (chosen 1 [] true None))
     (codes "Hello" ++ newline ++ codes "boot: " ++ newline ++ codes "Password: " ++ newline)
-    Empty (typing ((8 ∷ []) ++ (8 ∷ []) ++ (8 ∷ []) ++ (8 ∷ []) ++ (8 ∷ []) ++ (9 ∷ []) ++ (127 ∷ [])) ++ waiting 9 ++ typing (codes "?" ++ (21 ∷ []) ++ newline))
-    (Some (opened [] (typing (codes "abc" ++ newline ++ (8 ∷ []) ++ (8 ∷ []) ++ (8 ∷ []) ++ (8 ∷ []) ++ (8 ∷ []) ++ (9 ∷ []) ++ (127 ∷ [])) ++ waiting 9 ++ typing (codes "?" ++ (21 ∷ []) ++ newline))))
+    Empty (typing ((8 ∷ []) ++ (8 ∷ []) ++ (8 ∷ []) ++ (8 ∷ []) ++ (8 ∷ []) ++ (9 ∷ []) ++ (127 ∷ [])) ++ waiting 9 ++ typing ((63 ∷ []) ++ (21 ∷ []) ++ newline))
+    (Some (opened [] (typing (codes "abc" ++ newline ++ (8 ∷ []) ++ (8 ∷ []) ++ (8 ∷ []) ++ (8 ∷ []) ++ (8 ∷ []) ++ (9 ∷ []) ++ (127 ∷ [])) ++ waiting 9 ++ typing ((63 ∷ []) ++ (21 ∷ []) ++ newline))))
 unfolding words_of meaning course_of
 drawn_209 = refl
 
@@ -141,11 +141,11 @@ drawn_212 = refl
 drawn_213 : answers (settings true 0 (Some 1) 1 255)
     (listed (codes "x") (Some (codes "secret")) false false (Some []) ∷ listed (codes "linux") None false false None ∷ [])
     Empty (Some (codes "Hello" ++ newline))
-    (typing (codes "ro" ++ newline ++ codes "x a vga=0x1F quiet" ++ (21 ∷ []) ++ codes "x ?" ++ newline) ++ waiting 3 ++ typing ((127 ∷ []) ++ (127 ∷ []) ++ (11 ∷ []) ++ (21 ∷ [])))
+    (typing (codes "ro" ++ newline ++ codes "x a vga=0x1F quiet" ++ (21 ∷ []) ++ codes "x " ++ (63 ∷ []) ++ newline) ++ waiting 3 ++ typing ((127 ∷ []) ++ (127 ∷ []) ++ (11 ∷ []) ++ (21 ∷ [])))
     ≡ expected None
-    (codes "Hello" ++ newline ++ codes "boot: ro" ++ newline ++ codes "No such image." ++ newline ++ codes "boot: x a vga=0x1F quiet" ++ newline ++ codes "boot: x ?" ++ newline ++ codes "Password: " ++ newline ++ codes "boot: ")
+    (codes "Hello" ++ newline ++ codes "boot: ro" ++ newline ++ codes "No such image." ++ newline ++ codes "boot: x a vga=0x1F quiet" ++ newline ++ codes "boot: x " ++ (63 ∷ []) ++ newline ++ codes "Password: " ++ newline ++ codes "boot: ")
     Empty []
-    (Some (opened [] (typing (codes "ro" ++ newline ++ codes "x a vga=0x1F quiet" ++ (21 ∷ []) ++ codes "x ?" ++ newline) ++ waiting 3 ++ typing ((127 ∷ []) ++ (127 ∷ []) ++ (11 ∷ []) ++ (21 ∷ [])))))
+    (Some (opened [] (typing (codes "ro" ++ newline ++ codes "x a vga=0x1F quiet" ++ (21 ∷ []) ++ codes "x " ++ (63 ∷ []) ++ newline) ++ waiting 3 ++ typing ((127 ∷ []) ++ (127 ∷ []) ++ (11 ∷ []) ++ (21 ∷ [])))))
 unfolding words_of meaning course_of
 drawn_213 = refl
 
@@ -177,22 +177,22 @@ drawn_215 = refl
 drawn_216 : answers (settings false 3 (Some 2) 0 255)
     (listed (codes "x") (Some (replicate 31 112)) false false None ∷ listed (codes "rescue") None false true None ∷ [])
     (Once (codes "none root=/dev/hda1")) (Some (codes "Hello" ++ newline))
-    (waiting 598 ++ typing ((27 ∷ []) ++ codes "none single" ++ (13 ∷ []) ++ codes "rescue" ++ newline ++ codes "rescue" ++ newline ++ codes "x ?"))
+    (waiting 598 ++ typing ((27 ∷ []) ++ codes "none single" ++ (13 ∷ []) ++ codes "rescue" ++ newline ++ codes "rescue" ++ newline ++ codes "x " ++ (63 ∷ [])))
     ≡ expected (Some (chosen 1 [] false None))
     (codes "Password: " ++ newline ++ codes "Sorry." ++ newline ++ codes "Hello" ++ newline ++ codes "boot: rescue" ++ newline)
-    (Kept (codes "rescue")) (typing (codes "rescue" ++ newline ++ codes "x ?"))
-    (Some (opened (codes "Password: " ++ newline ++ codes "Sorry." ++ newline) (typing (codes "rescue" ++ newline ++ codes "rescue" ++ newline ++ codes "x ?"))))
+    (Kept (codes "rescue")) (typing (codes "rescue" ++ newline ++ codes "x " ++ (63 ∷ [])))
+    (Some (opened (codes "Password: " ++ newline ++ codes "Sorry." ++ newline) (typing (codes "rescue" ++ newline ++ codes "rescue" ++ newline ++ codes "x " ++ (63 ∷ [])))))
 unfolding words_of meaning course_of
 drawn_216 = refl
 
 -- drawn at random: an automatic choice
 drawn_217 : answers (settings true 5 (Some 9) 0 255)
     (listed (codes "dos") (Some []) true false None ∷ [])
-    (Kept (codes "none lock ? single")) (Some (codes "Hello" ++ newline))
+    (Kept (codes "none lock " ++ (63 ∷ []) ++ codes " single")) (Some (codes "Hello" ++ newline))
     []
     ≡ expected (Some (chosen 0 [] true None))
     (codes "Hello" ++ newline ++ codes "boot: " ++ newline)
-    (Kept (codes "none lock ? single")) []
+    (Kept (codes "none lock " ++ (63 ∷ []) ++ codes " single")) []
     (Some (opened [] []))
 unfolding words_of meaning course_of
 drawn_217 = refl
@@ -237,11 +237,11 @@ drawn_220 = refl
 drawn_221 : answers (settings false 2 (Some 1) 0 255)
     (listed (codes "lock") (Some (codes "secret")) true false None ∷ [])
     (Kept (codes "lock root=/dev/hda1 a")) (Some (codes "Hello" ++ newline))
-    (typing (codes "lock vga=badlock vga=ask quiet root=/dev/hda1" ++ newline ++ codes "secret" ++ newline ++ (9 ∷ []) ++ codes "none root=/dev/hda1 quiet" ++ newline ++ codes "?secret" ++ newline ++ codes "a b" ++ newline))
+    (typing (codes "lock vga=badlock vga=ask quiet root=/dev/hda1" ++ newline ++ codes "secret" ++ newline ++ (9 ∷ []) ++ codes "none root=/dev/hda1 quiet" ++ newline ++ (63 ∷ []) ++ codes "secret" ++ newline ++ codes "a b" ++ newline))
     ≡ expected (Some (chosen 0 (codes "quiet root=/dev/hda1") false (Some 65533)))
     (codes "Hello" ++ newline ++ codes "boot: lock vga=badlock vga=ask quiet root=/dev/hda1" ++ newline ++ codes "Password: " ++ newline)
-    (Kept (codes "lock root=/dev/hda1 a")) (typing ((9 ∷ []) ++ codes "none root=/dev/hda1 quiet" ++ newline ++ codes "?secret" ++ newline ++ codes "a b" ++ newline))
-    (Some (opened [] (typing (codes "ock vga=badlock vga=ask quiet root=/dev/hda1" ++ newline ++ codes "secret" ++ newline ++ (9 ∷ []) ++ codes "none root=/dev/hda1 quiet" ++ newline ++ codes "?secret" ++ newline ++ codes "a b" ++ newline))))
+    (Kept (codes "lock root=/dev/hda1 a")) (typing ((9 ∷ []) ++ codes "none root=/dev/hda1 quiet" ++ newline ++ (63 ∷ []) ++ codes "secret" ++ newline ++ codes "a b" ++ newline))
+    (Some (opened [] (typing (codes "ock vga=badlock vga=ask quiet root=/dev/hda1" ++ newline ++ codes "secret" ++ newline ++ (9 ∷ []) ++ codes "none root=/dev/hda1 quiet" ++ newline ++ (63 ∷ []) ++ codes "secret" ++ newline ++ codes "a b" ++ newline))))
 unfolding words_of meaning course_of
 drawn_221 = refl
 
@@ -273,11 +273,11 @@ drawn_223 = refl
 drawn_224 : answers (settings true 8 None 1 255)
     (listed (codes "dos") (Some (codes "a b")) true false (Some []) ∷ listed (codes "a1") None false false None ∷ [])
     (Kept (codes "dos vga=normal")) (Some (codes "boot: "))
-    (typing (codes "a b" ++ newline ++ codes "?dos" ++ (13 ∷ [])))
+    (typing (codes "a b" ++ newline ++ (63 ∷ []) ++ codes "dos" ++ (13 ∷ [])))
     ≡ expected (Some (chosen 0 [] false None))
     (codes "boot: boot: a b" ++ newline ++ codes "No such image." ++ newline ++ codes "boot: " ++ newline ++ codes "dos" ++ newline ++ codes "a1" ++ newline ++ codes "boot: dos" ++ newline)
     (Kept (codes "dos vga=normal")) []
-    (Some (opened [] (typing (codes " b" ++ newline ++ codes "?dos" ++ (13 ∷ [])))))
+    (Some (opened [] (typing (codes " b" ++ newline ++ (63 ∷ []) ++ codes "dos" ++ (13 ∷ [])))))
 unfolding words_of meaning course_of
 drawn_224 = refl
 
@@ -285,11 +285,11 @@ drawn_224 = refl
 drawn_225 : answers (settings false 0 (Some 1) 1 255)
     (listed (codes "rescue") (Some (codes "tux")) true false None ∷ listed (codes "dos") (Some (codes "tux")) false false None ∷ [])
     (Once (codes "vga= root=/dev/hda1")) (Some (codes "Hello" ++ newline))
-    (typing (codes "secret" ++ newline ++ codes "none vga=65536" ++ (13 ∷ []) ++ codes "none  " ++ newline ++ codes "rescue" ++ newline ++ codes "?dos" ++ newline ++ codes "rescue vga=ask root=/dev/hda1 vga=" ++ newline ++ codes "none" ++ newline) ++ waiting 650)
+    (typing (codes "secret" ++ newline ++ codes "none vga=65536" ++ (13 ∷ []) ++ codes "none  " ++ newline ++ codes "rescue" ++ newline ++ (63 ∷ []) ++ codes "dos" ++ newline ++ codes "rescue vga=ask root=/dev/hda1 vga=" ++ newline ++ codes "none" ++ newline) ++ waiting 650)
     ≡ expected (Some (chosen 0 [] false None))
     (codes "Password: " ++ newline ++ codes "Sorry." ++ newline ++ codes "Hello" ++ newline ++ codes "boot: none vga=65536" ++ newline ++ codes "No such image." ++ newline ++ codes "boot: none  " ++ newline ++ codes "No such image." ++ newline ++ codes "boot: rescue" ++ newline)
-    Empty (typing (codes "?dos" ++ newline ++ codes "rescue vga=ask root=/dev/hda1 vga=" ++ newline ++ codes "none" ++ newline) ++ waiting 650)
-    (Some (opened (codes "Password: " ++ newline ++ codes "Sorry." ++ newline) (typing (codes "none vga=65536" ++ (13 ∷ []) ++ codes "none  " ++ newline ++ codes "rescue" ++ newline ++ codes "?dos" ++ newline ++ codes "rescue vga=ask root=/dev/hda1 vga=" ++ newline ++ codes "none" ++ newline) ++ waiting 650)))
+    Empty (typing ((63 ∷ []) ++ codes "dos" ++ newline ++ codes "rescue vga=ask root=/dev/hda1 vga=" ++ newline ++ codes "none" ++ newline) ++ waiting 650)
+    (Some (opened (codes "Password: " ++ newline ++ codes "Sorry." ++ newline) (typing (codes "none vga=65536" ++ (13 ∷ []) ++ codes "none  " ++ newline ++ codes "rescue" ++ newline ++ (63 ∷ []) ++ codes "dos" ++ newline ++ codes "rescue vga=ask root=/dev/hda1 vga=" ++ newline ++ codes "none" ++ newline) ++ waiting 650)))
 unfolding words_of meaning course_of
 drawn_225 = refl
 
@@ -333,11 +333,11 @@ drawn_228 = refl
 drawn_229 : answers (settings true 0 (Some 4) 0 255)
     (listed (codes "dos") (Some (codes "secret")) false false None ∷ listed (codes "lock") (Some (codes "secret")) true true None ∷ listed (codes "rescue") None false false None ∷ listed (codes "old") None false true None ∷ [])
     (Kept (codes "dos")) (Some (codes "Hello" ++ newline))
-    (waiting 10 ++ typing (codes "none vga= vga=bad lock" ++ (13 ∷ []) ++ (127 ∷ []) ++ codes "?dos single quiet" ++ newline ++ codes "old quiet" ++ (13 ∷ []) ++ replicate 31 112 ++ newline))
+    (waiting 10 ++ typing (codes "none vga= vga=bad lock" ++ (13 ∷ []) ++ (127 ∷ []) ++ (63 ∷ []) ++ codes "dos single quiet" ++ newline ++ codes "old quiet" ++ (13 ∷ []) ++ replicate 31 112 ++ newline))
     ≡ expected (Some (chosen 3 (codes "quiet") false None))
-    (codes "Password: " ++ newline ++ codes "Sorry." ++ newline ++ codes "Hello" ++ newline ++ codes "boot: ?dos single quiet" ++ newline ++ codes "No such image." ++ newline ++ codes "boot: old quiet" ++ newline)
+    (codes "Password: " ++ newline ++ codes "Sorry." ++ newline ++ codes "Hello" ++ newline ++ codes "boot: " ++ (63 ∷ []) ++ codes "dos single quiet" ++ newline ++ codes "No such image." ++ newline ++ codes "boot: old quiet" ++ newline)
     (Kept (codes "old quiet")) (typing (replicate 31 112 ++ newline))
-    (Some (opened (codes "Password: " ++ newline ++ codes "Sorry." ++ newline) (typing ((127 ∷ []) ++ codes "?dos single quiet" ++ newline ++ codes "old quiet" ++ (13 ∷ []) ++ replicate 31 112 ++ newline))))
+    (Some (opened (codes "Password: " ++ newline ++ codes "Sorry." ++ newline) (typing ((127 ∷ []) ++ (63 ∷ []) ++ codes "dos single quiet" ++ newline ++ codes "old quiet" ++ (13 ∷ []) ++ replicate 31 112 ++ newline))))
 unfolding words_of meaning course_of
 drawn_229 = refl
 

@@ -46,7 +46,7 @@ unfolding number16 number32 is_zero setup_of version_of header_of header_at fit_
 layout_2560_bytes_of_a_kernel_and_700_of_an_initrd_refused_2 = refl
 
 -- 600000 bytes of a kernel: refused
-pub layout_600000_bytes_of_a_kernel_refused_2 : layout_for (file 1024 (piece 470 (codes "k") ∷ piece 497 (hex 1 0x01) ∷ piece 510 (hex 10 0x55aa0000486472530c02) ∷ piece 557 (hex 2 0x1010) ∷ piece 593 (hex 1 0xb2) ∷ piece 829 (codes "?") ∷ [])) 600000 None 256 1052672 ≡ Err (LowTooLarge 598976)
+pub layout_600000_bytes_of_a_kernel_refused_2 : layout_for (file 1024 (piece 470 (codes "k") ∷ piece 497 (hex 1 0x01) ∷ piece 510 (hex 10 0x55aa0000486472530c02) ∷ piece 557 (hex 2 0x1010) ∷ piece 593 (hex 1 0xb2) ∷ piece 829 (hex 1 0x3f) ∷ [])) 600000 None 256 1052672 ≡ Err (LowTooLarge 598976)
 unfolding number16 number32 is_zero setup_of version_of header_of header_at fit_checks plan_memory replaced_fields patch command_line written_by place kernel_fit
 layout_600000_bytes_of_a_kernel_refused_2 = refl
 
@@ -66,12 +66,12 @@ unfolding number16 number32 is_zero setup_of version_of header_of header_at fit_
 layout_100000_bytes_of_a_kernel_and_700_of_an_initrd_they_have_a_place = refl
 
 -- 512 bytes of a kernel and 1 of an initrd: refused
-pub layout_512_bytes_of_a_kernel_and_1_of_an_initrd_refused : layout_for (file 1024 (piece 334 (codes "?") ∷ piece 367 (codes "`") ∷ piece 497 (hex 1 0x05) ∷ piece 510 (hex 10 0x55aa0000486472530002) ∷ piece 529 (hex 1 0x01) ∷ piece 556 (hex 4 0xffffff37) ∷ piece 568 (hex 1 0x14) ∷ piece 698 (codes "i") ∷ [])) 512 (Some 1) 255 1052672 ≡ Err TooShort
+pub layout_512_bytes_of_a_kernel_and_1_of_an_initrd_refused : layout_for (file 1024 (piece 334 (hex 1 0x3f) ∷ piece 367 (codes "`") ∷ piece 497 (hex 1 0x05) ∷ piece 510 (hex 10 0x55aa0000486472530002) ∷ piece 529 (hex 1 0x01) ∷ piece 556 (hex 4 0xffffff37) ∷ piece 568 (hex 1 0x14) ∷ piece 698 (codes "i") ∷ [])) 512 (Some 1) 255 1052672 ≡ Err TooShort
 unfolding number16 number32 is_zero setup_of version_of header_of header_at fit_checks plan_memory replaced_fields patch command_line written_by place kernel_fit
 layout_512_bytes_of_a_kernel_and_1_of_an_initrd_refused = refl
 
 -- 1529619687 bytes of a kernel and 0 of an initrd: refused
-pub layout_1529619687_bytes_of_a_kernel_and_0_of_an_initrd_refused : layout_for (file 1024 (piece 497 (hex 1 0x01) ∷ piece 510 (hex 10 0x55aa0000486472530202) ∷ piece 529 (hex 1 0x01) ∷ piece 556 (hex 4 0xffffff37) ∷ piece 568 (hex 1 0xff) ∷ piece 650 (hex 1 0x1f) ∷ piece 855 (hex 1 0x90) ∷ piece 901 (codes "?") ∷ [])) 1529619687 (Some 0) 33 1073741824 ≡ Err (NoRoom 1530667239 1073741824)
+pub layout_1529619687_bytes_of_a_kernel_and_0_of_an_initrd_refused : layout_for (file 1024 (piece 497 (hex 1 0x01) ∷ piece 510 (hex 10 0x55aa0000486472530202) ∷ piece 529 (hex 1 0x01) ∷ piece 556 (hex 4 0xffffff37) ∷ piece 568 (hex 1 0xff) ∷ piece 650 (hex 1 0x1f) ∷ piece 855 (hex 1 0x90) ∷ piece 901 (hex 1 0x3f) ∷ [])) 1529619687 (Some 0) 33 1073741824 ≡ Err (NoRoom 1530667239 1073741824)
 unfolding number16 number32 is_zero setup_of version_of header_of header_at fit_checks plan_memory replaced_fields patch command_line written_by place kernel_fit
 layout_1529619687_bytes_of_a_kernel_and_0_of_an_initrd_refused = refl
 

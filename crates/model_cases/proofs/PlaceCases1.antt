@@ -121,7 +121,7 @@ unfolding number16 number32 is_zero setup_of version_of header_of header_at fit_
 place_a_kernel_of_3100_bytes_it_is_placed_2 = refl
 
 -- a kernel of 2565 bytes: it is placed
-pub place_a_kernel_of_2565_bytes_it_is_placed : place (file 2565 (piece 497 (hex 1 0x02) ∷ piece 510 (hex 10 0x55aa0000486472530402) ∷ piece 556 (hex 3 0xffff1f) ∷ piece 568 (hex 1 0xff) ∷ piece 624 (codes "r") ∷ piece 647 (hex 1 0x0e) ∷ piece 857 (hex 1 0x1c) ∷ piece 1998 (codes "?") ∷ piece 2564 (hex 1 0x07) ∷ [])) None (codes "BOOT_IMAGE=a") (Some 65535) 1052672 ≡ Ok (record { layout = (record { real = record { address = 0x90000; size = 1536 }; protected = record { address = 0x10000; size = 1029 }; initrd = None; line = record { address = 0x99800; size = 13 } }); written = (record { address = 0x90000; bytes = (file 1536 (piece 497 (hex 1 0x02) ∷ piece 506 (hex 14 0xffff000055aa0000486472530402) ∷ piece 528 (hex 2 0x0280) ∷ piece 549 (hex 10 0x96000000980900ffff1f) ∷ piece 568 (hex 1 0xff) ∷ piece 624 (codes "r") ∷ piece 647 (hex 1 0x0e) ∷ piece 857 (hex 1 0x1c) ∷ [])) } ∷ record { address = 0x10000; bytes = (file 1029 (piece 462 (codes "?") ∷ piece 1028 (hex 1 0x07) ∷ [])) } ∷ record { address = 0x99800; bytes = (file 13 (piece 0 (codes "BOOT_IMAGE=a") ∷ [])) } ∷ []) })
+pub place_a_kernel_of_2565_bytes_it_is_placed : place (file 2565 (piece 497 (hex 1 0x02) ∷ piece 510 (hex 10 0x55aa0000486472530402) ∷ piece 556 (hex 3 0xffff1f) ∷ piece 568 (hex 1 0xff) ∷ piece 624 (codes "r") ∷ piece 647 (hex 1 0x0e) ∷ piece 857 (hex 1 0x1c) ∷ piece 1998 (hex 1 0x3f) ∷ piece 2564 (hex 1 0x07) ∷ [])) None (codes "BOOT_IMAGE=a") (Some 65535) 1052672 ≡ Ok (record { layout = (record { real = record { address = 0x90000; size = 1536 }; protected = record { address = 0x10000; size = 1029 }; initrd = None; line = record { address = 0x99800; size = 13 } }); written = (record { address = 0x90000; bytes = (file 1536 (piece 497 (hex 1 0x02) ∷ piece 506 (hex 14 0xffff000055aa0000486472530402) ∷ piece 528 (hex 2 0x0280) ∷ piece 549 (hex 10 0x96000000980900ffff1f) ∷ piece 568 (hex 1 0xff) ∷ piece 624 (codes "r") ∷ piece 647 (hex 1 0x0e) ∷ piece 857 (hex 1 0x1c) ∷ [])) } ∷ record { address = 0x10000; bytes = (file 1029 (piece 462 (hex 1 0x3f) ∷ piece 1028 (hex 1 0x07) ∷ [])) } ∷ record { address = 0x99800; bytes = (file 13 (piece 0 (codes "BOOT_IMAGE=a") ∷ [])) } ∷ []) })
 unfolding number16 number32 is_zero setup_of version_of header_of header_at fit_checks plan_memory replaced_fields patch command_line written_by place kernel_fit
 place_a_kernel_of_2565_bytes_it_is_placed = refl
 
@@ -191,7 +191,7 @@ unfolding number16 number32 is_zero setup_of version_of header_of header_at fit_
 place_a_kernel_of_1536_bytes_with_an_initrd_of_4096_it_is_refused = refl
 
 -- a kernel of 2565 bytes: it is placed
-pub place_a_kernel_of_2565_bytes_it_is_placed_2 : place (file 2565 (piece 83 (codes "t") ∷ piece 497 (hex 1 0x01) ∷ piece 510 (hex 10 0x55aa0000486472530102) ∷ piece 529 (hex 1 0x01) ∷ piece 556 (hex 4 0xffffff37) ∷ piece 819 (codes "?") ∷ piece 878 (codes "6") ∷ piece 1158 (hex 1 0x9f) ∷ piece 2564 (hex 1 0x07) ∷ [])) None (replicate 255 120) None 16777216 ≡ Ok (record { layout = (record { real = record { address = 0x90000; size = 1024 }; protected = record { address = 0x100000; size = 1541 }; initrd = None; line = record { address = 0x99800; size = 256 } }); written = (record { address = 0x90000; bytes = (file 1024 (piece 32 (hex 4 0x3fa30098) ∷ piece 83 (codes "t") ∷ piece 497 (hex 1 0x01) ∷ piece 510 (hex 10 0x55aa0000486472530102) ∷ piece 528 (hex 2 0x0281) ∷ piece 549 (hex 11 0x96000000000000ffffff37) ∷ piece 819 (codes "?") ∷ piece 878 (codes "6") ∷ [])) } ∷ record { address = 0x100000; bytes = (file 1541 (piece 134 (hex 1 0x9f) ∷ piece 1540 (hex 1 0x07) ∷ [])) } ∷ record { address = 0x99800; bytes = (file 256 (piece 0 (replicate 255 120) ∷ [])) } ∷ []) })
+pub place_a_kernel_of_2565_bytes_it_is_placed_2 : place (file 2565 (piece 83 (codes "t") ∷ piece 497 (hex 1 0x01) ∷ piece 510 (hex 10 0x55aa0000486472530102) ∷ piece 529 (hex 1 0x01) ∷ piece 556 (hex 4 0xffffff37) ∷ piece 819 (hex 1 0x3f) ∷ piece 878 (codes "6") ∷ piece 1158 (hex 1 0x9f) ∷ piece 2564 (hex 1 0x07) ∷ [])) None (replicate 255 120) None 16777216 ≡ Ok (record { layout = (record { real = record { address = 0x90000; size = 1024 }; protected = record { address = 0x100000; size = 1541 }; initrd = None; line = record { address = 0x99800; size = 256 } }); written = (record { address = 0x90000; bytes = (file 1024 (piece 32 (hex 4 0x3fa30098) ∷ piece 83 (codes "t") ∷ piece 497 (hex 1 0x01) ∷ piece 510 (hex 10 0x55aa0000486472530102) ∷ piece 528 (hex 2 0x0281) ∷ piece 549 (hex 11 0x96000000000000ffffff37) ∷ piece 819 (hex 1 0x3f) ∷ piece 878 (codes "6") ∷ [])) } ∷ record { address = 0x100000; bytes = (file 1541 (piece 134 (hex 1 0x9f) ∷ piece 1540 (hex 1 0x07) ∷ [])) } ∷ record { address = 0x99800; bytes = (file 256 (piece 0 (replicate 255 120) ∷ [])) } ∷ []) })
 unfolding number16 number32 is_zero setup_of version_of header_of header_at fit_checks plan_memory replaced_fields patch command_line written_by place kernel_fit
 place_a_kernel_of_2565_bytes_it_is_placed_2 = refl
 

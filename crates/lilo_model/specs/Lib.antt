@@ -3,7 +3,16 @@ pub mod BootSector
 pub mod Bytes
 pub mod Checks
 pub mod Choice
+pub mod Conf
+pub mod ConfJudge
+pub mod ConfLawful
+pub mod ConfOptions
+pub mod ConfRefusal
+pub mod ConfSettings
+pub mod ConfTokens
+pub mod ConfValues
 pub mod DefaultLine
+pub mod Devices
 pub mod Disks
 pub mod Header
 pub mod KeyCuts
@@ -11,7 +20,15 @@ pub mod LineEdits
 pub mod LineSector
 pub mod LineWords
 pub mod Mapped
+pub mod MinixEntries
+pub mod MinixFind
+pub mod MinixFindNames
+pub mod MinixLayout
+pub mod MinixNames
+pub mod MinixParts
+pub mod MinixWalk
 pub mod Options
+pub mod Partitions
 pub mod Place
 pub mod Prompt
 pub mod Reason
@@ -21,3 +38,4 @@ pub mod Slots
 pub mod Table
 pub mod Verdict
 pub mod VideoMode
+pub mod Words

@@ -1,3 +1,4 @@
 pub mod Cases
 pub mod Fixtures
+pub mod MinixFixtures
 pub mod Sparse

@@ -1,0 +1,5 @@
+pub mod Gives
+pub mod Laws
+pub mod Listed
+pub mod Names
+pub mod View

@@ -1,0 +1,5 @@
+pub mod Laws
+pub mod Options
+pub mod Run
+pub mod View
+pub mod Wrong

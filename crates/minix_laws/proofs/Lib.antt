@@ -1,0 +1,8 @@
+pub mod RootOnly
+pub mod RootBytes
+pub mod Given
+pub mod Inside
+pub mod FirstNamed
+pub mod FindNames
+pub mod WalkNames
+pub mod Pointers

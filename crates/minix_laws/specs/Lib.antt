@@ -1,0 +1,4 @@
+pub mod RootVolume
+pub mod Plain
+pub mod FindNames
+pub mod Pointers

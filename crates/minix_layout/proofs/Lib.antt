@@ -1,0 +1,4 @@
+pub mod Written
+pub mod Fields
+pub mod Reading
+pub mod Fits

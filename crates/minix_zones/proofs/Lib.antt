@@ -1,0 +1,11 @@
+pub mod BranchLemmas
+pub mod HoleLemmas
+pub mod PointerLemmas
+pub mod PowerLemmas
+pub mod QuotientLemmas
+mod StopCases
+pub mod StopLemmas
+pub mod TurnLemmas
+pub mod ReadLemmas
+pub mod WalkLemmas
+pub mod ZoneLemmas

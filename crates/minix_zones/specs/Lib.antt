@@ -1,0 +1,4 @@
+pub mod Laws
+pub mod View
+pub mod Volume
+pub mod Walk

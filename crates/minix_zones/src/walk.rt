@@ -1,0 +1,159 @@
+// A walk over the zones of an inode.
+ghost use Rattle.std.specs.Prelude.{◌≤◌};
+
+use crate::visit::Visit;
+use crate::volume::Volume;
+use crate::zone::{begins, blocks_under, number_above, numbers_in_zone, reach};
+use crate::zone_fault::ZoneFault;
+use disk_trait::Disks;
+use minix_layout::{FsKind, Inode};
+
+/// Three levels of indirect zones lead to a block at most.
+const LEVELS: u32 = 3;
+
+/// A walk over the zones of an inode: each once per pointer, an indirect zone before what it names. It keeps
+/// no zone's bytes, and so each answer is of the volume as it stands then.
+#[derive(Clone, Copy, Debug)]
+pub struct Walk {
+    inode: Inode,
+    // The next block, and how many levels above it the pointers may stand that are still to come.
+    index: u32,
+    level: u32,
+    // The block behind the last one.
+    end: u32,
+    ghost few: { end ≤ 16843015 },
+    ghost low: { level ≤ 3 },
+}
+
+impl Walk {
+    ghost use Rattle.std.specs.Prelude.{◌≡◌, ◌+◌, ◌-◌, ◌<◌, ◌≤◌, None, Ok, IfOk, IfErr, IfSome, IfNone, OnOk, OnErr, OnSome};
+    ghost use Rattle.disk_trait.specs.Past.{Told};
+    ghost use Rattle.lilo_model.specs.MinixLayout.{Super as SuperOf};
+    ghost use Rattle.lilo_model.specs.MinixParts.{Parts, parts_of};
+    ghost use Rattle.lilo_model.specs.MinixWalk.{visits};
+    ghost use Rattle.minix_layout.specs.View.{kind_view, super_view, inode_view};
+    ghost use Rattle.minix_zones.specs.View.{HasZoneCause, IsDataZone};
+    ghost use Rattle.minix_zones.specs.Volume.{volume_view, past_of, faults_of, SameVolume};
+    ghost use Rattle.minix_zones.specs.Walk.{rest_of, IsEnded, turns_left, HasCome, Meets, Turns};
+
+    /// A walk over the zones of an inode of a volume of this kind.
+    pub fn new(inode: &Inode, kind: FsKind) -> Walk
+        ensures { (super : SuperOf) (parts : Parts) → super.kind ≡ kind_view kind
+            → rest_of super parts result ≡ visits super parts (inode_view inode.now) }
+    {
+        Walk {
+            inode: *inode,
+            index: 0,
+            level: LEVELS,
+            end: reach(kind),
+        }
+    }
+    /// The next zone, or None at the end. After a refusal the walk has ended.
+    #[tactic(auto, unfolding(crate::specs::Walk::rest_of))]
+    pub fn next<D: Disks>(&mut self, volume: &mut Volume<'_, D>) -> Result<Option<Visit>, ZoneFault>
+        // What is met.
+        ensures meets { Told (past_of volume.old) (λ now. Meets result
+            (rest_of (super_view volume.old.layout) (parts_of (volume_view volume.old) now) self.old)
+            (rest_of (super_view volume.old.layout) (parts_of (volume_view volume.old) now) self.new)) }
+        ensures data { IfOk result (λ met. IfSome met (λ visit. IsDataZone volume.old.layout visit.zone)) }
+
+        // When it ends.
+        ensures fewer { IfOk result (λ met. OnSome met (turns_left self.new < turns_left self.old)) }
+        ensures none { IfOk result (λ met. IfNone met (IsEnded self.new)) }
+        ensures refused { OnErr result (IsEnded self.new) }
+        ensures ended { IsEnded self.old → (result ≡ Ok None) × (self.new ≡ self.old) }
+
+        // When it is refused.
+        ensures cause { IfErr result (HasZoneCause (faults_of volume.old) (faults_of volume.new)) }
+        ensures later { faults_of volume.old ≤ faults_of volume.new }
+        ensures same { SameVolume volume.old volume.new }
+    {
+        while self.index < self.end {
+            if let Some(visit) = self.turn(volume)? {
+                return Ok(Some(visit));
+            }
+        }
+        Ok(None)
+    }
+
+    // One stop: the zone there, or nothing at a hole, behind which all its blocks are passed.
+    fn turn<D: Disks>(&mut self, volume: &mut Volume<'_, D>) -> Result<Option<Visit>, ZoneFault>
+        requires { self.old.index < self.old.end }
+        ensures turns { Told (past_of volume.old) (λ now. Turns result
+            (rest_of (super_view volume.old.layout) (parts_of (volume_view volume.old) now) self.old)
+            (rest_of (super_view volume.old.layout) (parts_of (volume_view volume.old) now) self.new)) }
+        ensures data { IfOk result (λ met. IfSome met (λ visit. IsDataZone volume.old.layout visit.zone)) }
+        ensures fewer { OnOk result (turns_left self.new < turns_left self.old) }
+        ensures refused { OnErr result (IsEnded self.new) }
+        ensures come { HasCome self.old self.new self.new.index self.new.level }
+        ensures cause { IfErr result (HasZoneCause (faults_of volume.old) (faults_of volume.new)) }
+        ensures later { faults_of volume.old ≤ faults_of volume.new }
+        ensures same { SameVolume volume.old volume.new }
+    {
+        let kind = volume.layout().kind;
+        if !begins(kind, self.index, self.level) {
+            self.lower();
+            return Ok(None);
+        }
+        match number_above(volume, &self.inode, self.index, self.level) {
+            Ok(0) => {
+                self.pass(blocks_under(kind, self.level));
+                Ok(None)
+            }
+            Ok(zone) => {
+                let visit = Visit {
+                    zone,
+                    index: self.index,
+                    indirect: self.level > 0,
+                };
+                self.step();
+                Ok(Some(visit))
+            }
+            Err(fault) => {
+                self.stop();
+                Err(fault)
+            }
+        }
+    }
+
+    // Passes so many blocks.
+    fn pass(&mut self, blocks: u32)
+        requires some { 0 < blocks }
+        requires few { blocks ≤ 134217728 }
+        requires more { self.old.index < self.old.end }
+        ensures { HasCome self.old self.new (self.old.index + blocks) 3 }
+    {
+        self.index += blocks;
+        self.level = LEVELS;
+    }
+
+    // Goes on behind a stop where there was a zone: to what it names, or to the next block.
+    fn step(&mut self)
+        requires { self.old.index < self.old.end }
+        ensures below { 0 < self.old.level
+            → HasCome self.old self.new self.old.index (self.old.level - 1) }
+        ensures behind { self.old.level ≡ 0
+            → HasCome self.old self.new (self.old.index + 1) 3 }
+    {
+        if self.level > 0 {
+            self.lower();
+        } else {
+            self.pass(1);
+        }
+    }
+
+    // Goes on to the next lower level.
+    fn lower(&mut self)
+        requires { 0 < self.old.level }
+        ensures { HasCome self.old self.new self.old.index (self.old.level - 1) }
+    {
+        self.level -= 1;
+    }
+
+    // Goes to the end.
+    fn stop(&mut self)
+        ensures { HasCome self.old self.new self.old.end self.old.level }
+    {
+        self.index = self.end;
+    }
+}

@@ -1,0 +1,13 @@
+// Refusals.
+use minix_layout::LayoutFault;
+
+/// Why a zone or a volume can't be used.
+#[derive(Clone, Copy, Debug, PartialEq, Eq)]
+pub enum ZoneFault {
+    /// The superblock or an inode is refused.
+    Layout(LayoutFault),
+    /// This number on the way to a zone is neither 0 nor that of a data zone.
+    ZoneOutside(u32),
+    /// The disk failed.
+    Device,
+}

@@ -1,0 +1,4 @@
+pub mod MeaningLemmas
+pub mod PieceLemmas
+pub mod ScanLemmas
+pub mod TokensLemmas

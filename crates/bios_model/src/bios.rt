@@ -1,10 +1,13 @@
 // The BIOS: disks that are read by slots, and keys.
-ghost use Rattle.std.specs.Prelude.{◌≡◌, ◌<◌, ◌≤◌, ◌↔◌, Ok, IsErr, IsErrOf, OnOk, OnErr};
+ghost use Rattle.std.specs.Prelude.{◌≡◌, ◌<◌, ◌≤◌, ◌↔◌, length, map, All, Ok, IsErr, IsErrOf, OnOk, OnErr};
 ghost use Rattle.disk_trait.specs.Past.{Told, SameDisks};
 ghost use Rattle.disk_trait.specs.Cause.{Rose};
+ghost use Rattle.lilo_model.specs.Checks.{with_fault};
+ghost use Rattle.lilo_model.specs.Slots as slots;
 ghost use Rattle.lilo_model.specs.Slots.{place_at};
+ghost use Rattle.lilo_model.specs.Boot.{slot_bytes_at};
 ghost use Rattle.sector_address.specs.View.{slot_view};
-ghost use Rattle.bios_model.specs.Machine.{machine_of, sector_bytes_at};
+ghost use Rattle.bios_model.specs.Machine.{machine_of, sector_bytes_at, HasSector, slots_bytes_at, Reads};
 
 use disk_trait::{DiskFault, Disks};
 use sector_address::Slot;
@@ -102,4 +105,47 @@ pub fn read_slot<D: Disks>(
         Err(DiskFault::Failed) => Err(BiosFault::Timeout),
         Err(DiskFault::OutOfRange) => Err(BiosFault::NotFound),
     }
+}
+
+/// Reads the first sector of each slot, in order, up to the first that can't be read.
+pub fn read_slots<D: Disks>(
+    disks: &mut D,
+    slots: &[Slot],
+    into: &mut [Sector],
+) -> Result<(), BiosFault>
+    requires room { length slots.now ≡ length into.old }
+    requires slots { All HasSector slots.now }
+
+    // What is read.
+    ensures sectors { Told (D.past disks.old) (λ now. Reads result into.new
+        (slots_bytes_at now (machine_of (D.size_of disks.old) (D.geometry_of disks.old)) (map slot_view slots.now))) }
+
+    // When it is refused.
+    ensures timeout { IsErrOf result BiosFault.Timeout → Rose (D.faults disks.old) (D.faults disks.new) }
+    ensures no_keys { IsErrOf result BiosFault.KeysFault → ⊥ }
+    ensures no_memory { IsErrOf result BiosFault.OutsideRam → ⊥ }
+    ensures later { D.faults disks.old ≤ D.faults disks.new }
+
+    // Nothing else happens.
+    ensures same { SameDisks D.past D.size_of D.count_of D.geometry_of disks.old disks.new }
+{
+    for place in 0..slots.len() {
+        read_first(disks, &slots[place], &mut into[place])?;
+    }
+    Ok(())
+}
+
+// Reads the first sector of a slot.
+#[tactic(auto, unfolding(lilo_model::specs::Boot::slot_bytes_at))]
+fn read_first<D: Disks>(disks: &mut D, slot: &Slot, into: &mut Sector) -> Result<(), BiosFault>
+    requires { HasSector slot.now }
+    ensures sector { Told (D.past disks.old) (λ now. Reads result into.new
+        (with_fault (λ _. slots.NotFound) (slot_bytes_at now (machine_of (D.size_of disks.old) (D.geometry_of disks.old)) (slot_view slot.now)))) }
+    ensures timeout { IsErrOf result BiosFault.Timeout → Rose (D.faults disks.old) (D.faults disks.new) }
+    ensures no_keys { IsErrOf result BiosFault.KeysFault → ⊥ }
+    ensures no_memory { IsErrOf result BiosFault.OutsideRam → ⊥ }
+    ensures later { D.faults disks.old ≤ D.faults disks.new }
+    ensures same { SameDisks D.past D.size_of D.count_of D.geometry_of disks.old disks.new }
+{
+    read_slot(disks, slot, 0, into)
 }

@@ -10,5 +10,5 @@ mod ram;
 #[cfg(test)]
 mod tests;
 
-pub use bios::{Bios, BiosFault, read_slot};
+pub use bios::{Bios, BiosFault, read_slot, read_slots};
 pub use ram::Ram;

@@ -1,4 +1,5 @@
 pub mod BootLemmas
 pub mod FirstBelow
+pub mod FlagLemmas
 pub mod SlotLemmas
 pub mod TableLemmas

@@ -9,7 +9,7 @@ use Rattle.sector_address.specs.declared.slot.Slot.{Slot}
 use Rattle.boot_map.specs.Ranges.{IsOneSector}
 
 -- a slot isn't all zeros, since its mode is at least 1
-is_slot-not_zero : (bytes : List ℕ) → is_slot bytes ≡ true → is_zero bytes ≡ false
+pub is_slot-not_zero : (bytes : List ℕ) → is_slot bytes ≡ true → is_zero bytes ≡ false
 unfolding is_slot has_ranges is_zero
 is_slot-not_zero [] good = grind arith
 is_slot-not_zero (byte ∷ bytes) good = grind arith

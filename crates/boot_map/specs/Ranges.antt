@@ -1,5 +1,6 @@
 -- What a caller may rest on in the fields that were read.
-use Rattle.std.specs.Prelude.{◌≡◌, ◌≤◌, length, IfSome}
+use Rattle.std.specs.Prelude.{◌≡◌, ◌≤◌, true, ◌||◌, if◌then◌else◌, is_some, length, IfSome}
+use Rattle.lilo_model.specs.Table.{other_flag, password_flag, fallback_flag, initrd_flag, table_flag, has_flag}
 use Rattle.sector_address.specs.declared.slot.Slot.{Slot}
 use Rattle.boot_map.specs.declared.descriptor.Descriptor.{Descriptor}
 use Rattle.boot_map.specs.declared.default_line.DefaultLine.{DefaultLine}
@@ -19,6 +20,17 @@ pub record HasSectors (entry : Descriptor) : Type 0 where
   pub first : IsOneSector entry.first
   pub initrd : IfSome entry.initrd IsOneSector
   pub extra : IfSome entry.extra IsOneSector
+
+-- What the flags of a descriptor say of its other fields: an initrd and an extra sector are there exactly where they
+-- are flagged, and another system's main file is its boot sector, with a partition table where that is flagged. A
+-- main file has a byte.
+pub record FitsFlags (entry : Descriptor) : Type 0 where
+  pub initrd : is_some entry.initrd ≡ has_flag entry.flags initrd_flag
+  pub extra : is_some entry.extra ≡ (has_flag entry.flags password_flag || has_flag entry.flags fallback_flag)
+  pub other :
+      has_flag entry.flags other_flag ≡ true
+      → entry.length ≡ (if has_flag entry.flags table_flag then 1024 else 512)
+  pub some : 1 ≤ entry.length
 
 -- a line that is there has 1 to 255 bytes
 abbrev pub IsLine : DefaultLine → Type 0

@@ -1,7 +1,7 @@
 ghost use Rattle.std.specs.Prelude.{◌≡◌, ◌≤◌, true, length};
 ghost use Rattle.lilo_model.specs.Table.{is_set, entry_name, is_printable, is_name, has_flags, has_video, has_length, has_main, has_initrd, has_extra, is_entry, descriptor_of};
 ghost use Rattle.boot_map.specs.View.{descriptor_view};
-ghost use Rattle.boot_map.specs.Ranges.{IsNamed, HasSectors};
+ghost use Rattle.boot_map.specs.Ranges.{IsNamed, HasSectors, FitsFlags};
 
 use crate::flags;
 use crate::one_slot::{is_one_slot, is_zero, slot_of, some_slot};
@@ -172,6 +172,7 @@ pub(crate) fn descriptor_of(bytes: &[u8]) -> Descriptor
     ensures value { descriptor_view result ≡ descriptor_of bytes.now }
     ensures name { IsNamed result }
     ensures sectors { HasSectors result }
+    ensures flags { FitsFlags result }
 {
     let fields = FieldRef { bytes };
     Descriptor {

@@ -2,7 +2,7 @@ ghost use Rattle.std.specs.Prelude.{◌≡◌, ◌*◌, ◌<◌, ◌≤◌, leng
 ghost use Rattle.lilo_model.specs.Checks.{seen};
 ghost use Rattle.lilo_model.specs.Table.{entry_bytes, same_name, repeats, breaks, table_at};
 ghost use Rattle.boot_map.specs.View.{table_view, map_fault_view};
-ghost use Rattle.boot_map.specs.Ranges.{IsNamed, HasSectors};
+ghost use Rattle.boot_map.specs.Ranges.{IsNamed, HasSectors, FitsFlags};
 
 use crate::boot_sector::BootSector;
 use crate::descriptor::{Descriptor, descriptor_of, entry_name, is_entry};
@@ -27,6 +27,7 @@ impl Table {
         ensures count { IfOk result (λ table. length table.entries.items ≡ boot.now.names) }
         ensures names { IfOk result (λ table. All IsNamed table.entries.items) }
         ensures sectors { IfOk result (λ table. All HasSectors table.entries.items) }
+        ensures flags { IfOk result (λ table. All FitsFlags table.entries.items) }
     {
         let mut entries = ArrayVec::new();
         for entry in 0..boot.names {

@@ -6,16 +6,12 @@ use Rattle.lilo_model.specs.Disks.{Image, Machine, DiskSector, bytes_at}
 use Rattle.lilo_model.specs.Slots as slots
 use Rattle.lilo_model.specs.Slots.{slot_at, place_at}
 use Rattle.lilo_model.specs.Section.{SectionFault, Listing, with_looked, link_at}
-use Rattle.map_section.specs.Reader.{Ask, Slot, Sector, First, Done, Stage, Wanted, Slots, Refused, ReaderState, Turn, next_of, fed, link_turn, slot_turn, slots_turn, stage_turn, turns_left, TakesTurn}
+use Rattle.map_section.specs.Reader.{Ask, Slot, Sector, First, Done, Stage, Wanted, Slots, Refused, ReaderState, Turn, next_of, fed, link_turn, slot_turn, slots_turn, stage_turn, turns_left, AnswerTakesTurn}
 use Rattle.map_section.specs.Run.{listed_slot, listed_sector, listed_answer, run_reader}
-use Rattle.map_section.specs.Laws.{EnoughTurnsLaw}
+use Rattle.map_section.specs.Laws.{EnoughTurnsLaw, TurnsLaw}
 use Rattle.map_section.proofs.RunLemmas.{counted, reading}
 
--- an answer but the last one takes a turn
-abbrev AnswerTakesTurn : ReaderState → ReaderState → Result Ask SectionFault → Type 0
-AnswerTakesTurn old new (Ok ask) = TakesTurn ask old new
-AnswerTakesTurn old new (Err fault) = Unit {0}
-
+-- the answer of a turn takes one, behind this reader
 abbrev TurnTakesTurn : ReaderState → Turn → Type 0
 TurnTakesTurn old turn = AnswerTakesTurn old turn.state turn.answer
 
@@ -88,7 +84,8 @@ next_takes_by given (suc needed) chain number stage bytes =
     let some : (suc needed == 0) ≡ false = grind arith in
     rw some (stage_takes given needed chain number stage bytes)
 
-next_takes : (state : ReaderState) → TurnTakesTurn state (next_of state)
+-- each answer of a reader takes a turn
+pub next_takes : TurnsLaw
 next_takes state = next_takes_by state.given state.needed state.chain state.number state.stage state.bytes
 
 -- ---- runs

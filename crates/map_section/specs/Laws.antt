@@ -3,7 +3,7 @@ use Rattle.std.specs.Prelude.{◌≡◌, ◌+◌, ◌<◌, ℕ, List, Ok, Err}
 use Rattle.lilo_model.specs.Disks.{Image, Machine}
 use Rattle.lilo_model.specs.Slots.{Slot}
 use Rattle.lilo_model.specs.Section.{SectionFault, section}
-use Rattle.map_section.specs.Reader.{ReaderState, Done, begun, next_of, turns_left}
+use Rattle.map_section.specs.Reader.{ReaderState, Done, begun, next_of, turns_left, AnswerTakesTurn}
 use Rattle.map_section.specs.Run.{run_reader}
 
 -- A reader that is run over an image lists what Section says: the same places in order, the same section
@@ -21,6 +21,11 @@ EnoughTurnsLaw =
     (image : Image) (machine : Machine) (first : Slot) (more turns wanted : ℕ) (state : ReaderState)
     → turns_left state < turns
     → run_reader image machine first (more + turns) wanted state ≡ run_reader image machine first turns wanted state
+
+-- Each answer of a reader but `Done` takes a turn: behind it fewer are left, once the section sector that is
+-- asked for is fed.
+abbrev pub TurnsLaw : Type 0
+TurnsLaw = (state : ReaderState) → AnswerTakesTurn state (next_of state).state (next_of state).answer
 
 -- a reader that is done stays so
 abbrev pub DoneLaw : Type 0

@@ -167,3 +167,16 @@ TakesTurn (Slot slot) old new = turns_left new < turns_left old
 TakesTurn (Sector link) old new = (bytes : List ℕ) → turns_left (fed new bytes) < turns_left old
 TakesTurn First old new = (bytes : List ℕ) → turns_left (fed new bytes) < turns_left old
 TakesTurn Done old new = Unit {0}
+
+-- an answer takes a turn; a refusal needn't
+abbrev pub AnswerTakesTurn : ReaderState → ReaderState → Result Ask SectionFault → Type 0
+AnswerTakesTurn old new (Ok ask) = TakesTurn ask old new
+AnswerTakesTurn old new (Err fault) = Unit {0}
+
+-- How many sectors an answer leaves to be named: those of a slot come off, and a section sector that is asked for
+-- takes none. `Done` comes where none is needed, and each other answer where some are.
+abbrev pub CountsDown : Ask → ReaderState → ReaderState → Type 0
+CountsDown (Slot slot) old new = (new.needed ≡ old.needed - slot.count) × (0 < old.needed)
+CountsDown (Sector link) old new = (new.needed ≡ old.needed) × (0 < old.needed)
+CountsDown First old new = (new.needed ≡ old.needed) × (0 < old.needed)
+CountsDown Done old new = old.needed ≡ 0

@@ -11,6 +11,6 @@ mod sectors;
 #[cfg(test)]
 mod tests;
 
-pub use laws::{done_again, enough_turns, reads_the_section, refused_again};
+pub use laws::{done_again, enough_turns, reads_the_section, refused_again, takes_turns};
 pub use section_reader::{Ask, SectionFault, SectionReader};
 pub use sectors::section_sectors;

@@ -2,7 +2,7 @@
 ghost use Rattle.std.specs.Prelude.{◌≡◌, ◌+◌, ◌<◌, IfOk, replicate};
 ghost use Rattle.lilo_model.specs.Checks.{seen};
 ghost use Rattle.sector_address.specs.View.{slot_view};
-ghost use Rattle.map_section.specs.Reader.{begun, next_of, fed, slots_turn, end_turn, behind_slot, refused, further_turn, IsAsking, IsLink, Offers, TakesTurn};
+ghost use Rattle.map_section.specs.Reader.{begun, next_of, fed, slots_turn, end_turn, behind_slot, refused, further_turn, IsAsking, IsLink, Offers, TakesTurn, CountsDown};
 ghost use Rattle.map_section.specs.View.{ask_view, section_fault_view};
 
 use crate::sectors::{SLOTS, link_in, slot_in};
@@ -112,6 +112,7 @@ impl SectionReader {
         ensures state { self.new ≡ (next_of self.old).state }
         ensures offer { IfOk result (λ ask. Offers (ask_view ask) self.new) }
         ensures turn { IfOk result (λ ask. TakesTurn (ask_view ask) self.old self.new) }
+        ensures count { IfOk result (λ ask. CountsDown (ask_view ask) self.old self.new) }
     {
         if self.needed == 0 {
             return Ok(Ask::Done);
@@ -131,6 +132,7 @@ impl SectionReader {
         ensures state { self.new ≡ (slots_turn self.old index).state }
         ensures offer { IfOk result (λ ask. Offers (ask_view ask) self.new) }
         ensures turn { IfOk result (λ ask. TakesTurn (ask_view ask) self.old self.new) }
+        ensures count { IfOk result (λ ask. CountsDown (ask_view ask) self.old self.new) }
     {
         if index >= SLOTS {
             return self.next_link();
@@ -165,6 +167,7 @@ impl SectionReader {
         ensures state { self.new ≡ (end_turn self.old).state }
         ensures offer { IfOk result (λ ask. Offers (ask_view ask) self.new) }
         ensures turn { IfOk result (λ ask. TakesTurn (ask_view ask) self.old self.new) }
+        ensures count { IfOk result (λ ask. CountsDown (ask_view ask) self.old self.new) }
     {
         match link_in(&self.sector, self.number) {
             Ok(Some(link)) => self.follow(link),
@@ -182,6 +185,7 @@ impl SectionReader {
         ensures state { self.new ≡ (further_turn self.old (slot_view link)).state }
         ensures offer { IfOk result (λ ask. Offers (ask_view ask) self.new) }
         ensures turn { IfOk result (λ ask. TakesTurn (ask_view ask) self.old self.new) }
+        ensures count { IfOk result (λ ask. CountsDown (ask_view ask) self.old self.new) }
     {
         if u32::from(self.number) + 1 >= u32::from(self.chain) {
             return Err(self.refuse(SectionFault::ChainTooLong(self.chain)));

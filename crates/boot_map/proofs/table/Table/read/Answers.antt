@@ -4,7 +4,7 @@ use Rattle.std.proofs.lemmas.List.{map-append}
 use Rattle.std.proofs.lemmas.List.Elements.{All-push}
 use Rattle.lilo_model.specs.Table.{table_at, breaks, entry_bytes, descriptor_of}
 use Rattle.boot_map.specs.View.{descriptor_view}
-use Rattle.boot_map.specs.Ranges.{IsNamed, HasSectors}
+use Rattle.boot_map.specs.Ranges.{IsNamed, HasSectors, FitsFlags}
 use Rattle.boot_map.proofs.FirstBelow.{first_below-none, first_below-found}
 use Rattle.boot_map.proofs.TableLemmas.{breaks_entry}
 use Rattle.boot_map.proofs.table.Table.read.Goals as goal
@@ -38,4 +38,8 @@ loop-entry-preserved c =
           rw c.push.ensures.items
           (All-push HasSectors c.loop-entry.entries.items c.descriptor_of.result
           c.loop-entry.invariant.sectors c.descriptor_of.ensures.sectors);
+      flags =
+          rw c.push.ensures.items
+          (All-push FitsFlags c.loop-entry.entries.items c.descriptor_of.result c.loop-entry.invariant.flags
+          c.descriptor_of.ensures.flags);
     }

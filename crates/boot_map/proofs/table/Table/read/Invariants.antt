@@ -2,7 +2,7 @@ use Rattle.std.proofs.Common.{◌≡◌, length, map}
 use Rattle.std.specs.Prelude.{All, None}
 use Rattle.lilo_model.specs.Table.{first_below, breaks, descriptors_of}
 use Rattle.boot_map.specs.View.{descriptor_view}
-use Rattle.boot_map.specs.Ranges.{IsNamed, HasSectors}
+use Rattle.boot_map.specs.Ranges.{IsNamed, HasSectors, FitsFlags}
 use Rattle.boot_map.proofs.table.Table.read.Given as goal
 
 -- no entry so far breaks the format, and these are their descriptors
@@ -13,4 +13,5 @@ invariant-loop-entry l = record {
   count : length l.entries.items ≡ l.entry;
   names : All IsNamed l.entries.items;
   sectors : All HasSectors l.entries.items;
+  flags : All FitsFlags l.entries.items;
 }

@@ -1,0 +1,17 @@
+pub mod AgreementLemmas
+pub mod BootLemmas
+pub mod ChoiceLemmas
+pub mod EndLemmas
+pub mod EntryLemmas
+pub mod FileLemmas
+pub mod KernelLemmas
+pub mod LoadLemmas
+pub mod LoadedLemmas
+pub mod MapLemmas
+pub mod MemoryLemmas
+pub mod PlanLemmas
+pub mod ReadingLemmas
+pub mod ShowsLemmas
+pub mod TodayLemmas
+pub mod ToldLemmas
+pub mod WholeLemmas

@@ -1,0 +1,32 @@
+-- What a sink has taken of the texts that were shown: all of them in order until it failed, and nothing more.
+use Rattle.std.specs.Prelude.{◌≡◌, ◌≤◌, ◌⊎◌, ℕ, Bool, true, false, List, [], ◌∷◌, Option}
+use Rattle.stream_trait.specs.Fault.{Rose}
+use Rattle.stream_trait.specs.Sink.{Takes, TakesFront}
+
+-- a sink behind which texts are shown: what it has taken, where it tells that, how often it failed, and whether it
+-- refused a text that was to be shown
+pub record SinkState : Type 0 where
+  pub taken : Option (List ℕ)
+  pub faults : ℕ
+  pub failed : Bool
+
+-- a text was shown
+pub record Shows (old : SinkState) (text : List ℕ) (new : SinkState) : Type 0 where
+  pub later : old.faults ≤ new.faults
+  -- once it failed nothing more is put
+  pub stays_failed : old.failed ≡ true → new.failed ≡ true
+  pub stays_taken : old.failed ≡ true → new.taken ≡ old.taken
+  -- until it fails it takes all
+  pub whole : new.failed ≡ false → Takes old.taken text new.taken
+  -- where it fails it has taken a front
+  pub rose : old.failed ≡ false → new.failed ≡ true → Rose old.faults new.faults
+  pub front : old.failed ≡ false → new.failed ≡ true → TakesFront old.taken text new.taken
+
+-- one of these texts was shown
+abbrev pub ShowsOne : SinkState → List (List ℕ) → SinkState → Type 0
+ShowsOne old [] new = ⊥
+ShowsOne old (text ∷ texts) new = Shows old text new ⊎ ShowsOne old texts new
+
+-- such a state, by what is known of the sink
+abbrev pub state_of : Option (List ℕ) → ℕ → Bool → SinkState
+state_of taken faults failed = record { taken = taken; faults = faults; failed = failed }

@@ -1,0 +1,118 @@
+-- How a boot's end stands to today's report of it.
+use Rattle.std.specs.Prelude.{◌≡◌, ◌⊎◌, ◌≤◌, ℕ, codes, Bool, true, false, List, [], ◌∷◌, Result, Ok, Err}
+use Rattle.disk_trait.specs.declared.disks.Span.{Span}
+use Rattle.stream_trait.specs.Fault.{Rose}
+use Rattle.lilo_model.specs.Disks as disks
+use Rattle.lilo_model.specs.Prompt.{Key}
+use Rattle.lilo_model.specs.Place.{Memory, Written, memory_after}
+use Rattle.lilo_model.specs.Boot as boots
+use Rattle.lilo_model.specs.Bytes.{part_of}
+use Rattle.lilo_model.specs.Boot.{Ending, boot_address, table_address}
+use Rattle.lilo_model.specs.Verdict.{told_regions}
+use Rattle.bios_model.specs.Memory.{memory_of}
+use Rattle.setup_header.specs.View.{layout_view}
+use Rattle.setup_header.specs.Words.{LiesIn}
+use Rattle.loader_core.specs.declared.outcome.Outcome.{Outcome}
+use Rattle.loader_core.specs.declared.outcome.Outcome.TheVariants as outcomes
+use Rattle.loader_core.specs.declared.outcome.Started.{Started}
+use Rattle.loader_core.specs.declared.outcome.Started.TheVariants as starts
+use Rattle.loader_core.specs.declared.outcome.Halt.{Halt}
+use Rattle.loader_core.specs.declared.outcome.Halt.TheVariants.{Device, Refused}
+use Rattle.loader_core.specs.Kernel.{region_in, regions_in}
+use Rattle.loader_core.specs.Reading.{Why, Unbuilt, Because}
+use Rattle.loader_core.specs.Shows.{SinkState, Shows, ShowsOne}
+use Rattle.loader_core.specs.Today.{Report, why_text}
+use Rattle.loader_core.specs.View.{reason_view, started_view}
+
+-- what is written of a partition table's sector, where it goes with an entry
+abbrev pub table_written : Bool → List ℕ → List Written
+table_written true sector = record { address = table_address; bytes = part_of sector 446 64 } ∷ []
+table_written false sector = []
+
+-- what stands in memory where something was started: at the regions of a kernel, or the boot sector
+abbrev pub started_regions : List ℕ → Started → List Written
+started_regions ram (starts.Loaded layout) = regions_in ram (layout_view layout)
+started_regions ram starts.Handed = region_in ram (record { address = boot_address; size = 512 }) ∷ []
+
+-- something was started, and memory holds what was put there
+pub record IsStarted (started : Started) (today : Result Ending Why) (memory : Memory) (ram : List ℕ) : Type 0 where
+  pub written : List Written
+  pub is : today ≡ Ok (record { outcome = started_view started; written = written })
+  pub placed : memory_of ram ≡ memory_after memory written
+  pub held : told_regions (started_view started) written ≡ started_regions ram started
+
+-- what was started, or why nothing was, unless a disk failed
+abbrev pub Starts : Result Started Halt → Result Ending Why → Memory → List ℕ → Type 0
+Starts (Ok started) today memory ram = IsStarted started today memory ram
+Starts (Err Device) today memory ram = Unit {0}
+Starts (Err (Refused reason)) today memory ram = today ≡ Err (reason_view reason)
+
+-- what was shown: today's text, or one that goes with a disk's failure
+abbrev pub ShowsReport : Result Started Halt → Report → SinkState → SinkState → Type 0
+ShowsReport (Ok started) report old new = Shows old report.shown new
+ShowsReport (Err Device) report old new = ShowsOne old report.device new
+ShowsReport (Err (Refused reason)) report old new = Shows old report.shown new
+
+-- a boot, or a part of it, went as today's report says
+pub record Reports (report : Report) (result : Result Started Halt) (memory : Memory) (ram : List ℕ) (old new : SinkState) : Type 0 where
+  pub starts : Starts result report.result memory ram
+  pub shows : ShowsReport result report old new
+
+-- ---- the outcome
+
+-- an outcome, without what a boot never comes to
+abbrev pub result_of : Outcome → Result Started Halt
+result_of (outcomes.Loaded layout) = Ok (starts.Loaded layout)
+result_of outcomes.Handed = Ok starts.Handed
+result_of (outcomes.Refused reason) = Err (Refused reason)
+result_of outcomes.Keys = Err Device
+result_of (outcomes.Device phase) = Err Device
+
+-- where a kernel was started, its regions lie in a memory of so many bytes
+abbrev pub LiesInside : ℕ → Started → Type 0
+LiesInside memory (starts.Loaded layout) = LiesIn memory layout
+LiesInside memory starts.Handed = Unit {0}
+
+-- neighbouring sectors of a disk
+abbrev pub span_view : Span → disks.Span
+span_view span = record { disk = span.disk; start = span.start; count = span.count }
+
+-- a boot is refused for this reason
+abbrev pub RefusesAs : boots.Outcome → Why → Type 0
+RefusesAs outcome Unbuilt = ⊥
+RefusesAs outcome (Because reason) = outcome ≡ boots.Refused reason
+
+-- a boot started what it is to start, or was refused as it is to be, unless a disk failed
+abbrev pub EndsAs : Result Started Halt → boots.Boot → Memory → Memory → Type 0
+EndsAs (Ok started) boot memory memory' = (boot.outcome ≡ started_view started) × (memory' ≡ memory_after memory boot.written)
+EndsAs (Err Device) boot memory memory' = Unit {0}
+EndsAs (Err (Refused reason)) boot memory memory' = RefusesAs boot.outcome (reason_view reason)
+
+-- a boot showed what it is to show, unless a disk failed
+abbrev pub ShowsAs : Result Started Halt → boots.Boot → SinkState → SinkState → Type 0
+ShowsAs (Ok started) boot old new = Shows old boot.shown new
+ShowsAs (Err Device) boot old new = Unit {0}
+ShowsAs (Err (Refused reason)) boot old new = Shows old boot.shown new
+
+-- what was done is this boot of the model, which takes no key
+pub record IsBoot (outcome : Outcome) (boot : boots.Boot) (keys : List Key) (memory memory' : Memory) (old new : SinkState) : Type 0 where
+  pub ends : EndsAs (result_of outcome) boot memory memory'
+  pub shows : ShowsAs (result_of outcome) boot old new
+  pub left : boot.left ≡ keys
+
+-- Where a sink has refused a text since, its failures rose; and they never fall.
+pub record HasFailed (old new : SinkState) : Type 0 where
+  pub later : old.faults ≤ new.faults
+  pub failed : new.failed ≡ true → (old.failed ≡ true) ⊎ Rose old.faults new.faults
+
+-- ---- the texts of failures
+
+-- the text behind what ended the loading of an entry
+abbrev pub halt_text : Halt → List ℕ
+halt_text Device = codes "Error 80\n"
+halt_text (Refused reason) = why_text (reason_view reason)
+
+-- the text behind what ended the reading of a map
+abbrev pub map_text : Halt → List ℕ
+map_text Device = codes " 80\n"
+map_text (Refused reason) = codes " 04\n"

@@ -1,0 +1,206 @@
+// A kernel with its initrd and its command line, loaded as the boot protocol has it.
+ghost use Rattle.std.specs.Prelude.{◌≡◌, ◌≤◌, ◌<◌, ◌+◌, ◌-◌, ◌^◌, ◌%◌, ◌++◌, length, min, is_some, OnOk, IfOk, IfSome, IsErrOf};
+ghost use Rattle.std.specs.Option.{option_map};
+ghost use Rattle.disk_trait.specs.Past.{Told, SameDisks};
+ghost use Rattle.disk_trait.specs.Cause.{Rose};
+ghost use Rattle.lilo_model.specs.Checks.{seen};
+ghost use Rattle.lilo_model.specs.Header.{header_at, plan_memory};
+ghost use Rattle.lilo_model.specs.Boot.{initrd_size};
+ghost use Rattle.bios_model.specs.Machine.{machine_of};
+ghost use Rattle.bios_model.specs.Memory.{memory_of};
+ghost use Rattle.boot_map.specs.View.{descriptor_view};
+ghost use Rattle.boot_map.specs.Ranges.{HasSectors, FitsFlags};
+ghost use Rattle.setup_header.specs.View.{header_view, layout_view, region_view};
+ghost use Rattle.setup_header.specs.Words.{IsHeaderFor, HasLengths, LiesIn, AreApart, EndsBy};
+ghost use Rattle.loader_core.specs.Today.{initrd_file_today, initrd_today, loaded_today, main_today, video_today};
+ghost use Rattle.loader_core.specs.File.{IsCounted, rest_in};
+ghost use Rattle.loader_core.specs.Kernel.{ReadsTwo, HoldsKernel, PlacesKernel, PlacesInitrd, LoadsKernel, GivesHeader, GivesLayout};
+
+use crate::file::FileReader;
+use crate::load::{load_bytes, place, read_cut};
+use crate::outcome::{Halt, Reason};
+use bios_model::Ram;
+use boot_map::{Descriptor, flags};
+use disk_trait::Disks;
+use sector_parts::Sector;
+use setup_header::{Header, Layout, Region, patch, plan_memory};
+
+/// Reads the first two sectors of a file, with zeros behind the file's end.
+fn read_two<D: Disks>(
+    file: &mut FileReader,
+    disks: &mut D,
+    first: &mut Sector,
+    second: &mut Sector,
+) -> Result<(), Halt>
+    requires { IsCounted file.old }
+    ensures counted { OnOk result (IsCounted file.new) }
+    ensures left { OnOk result (file.new.left ≡ file.old.left - min 1024 file.old.left) }
+    ensures bytes { Told (D.past disks.old) (λ now. let machine = machine_of (D.size_of disks.old) (D.geometry_of disks.old) in
+        ReadsTwo result (min 1024 file.old.left) (rest_in now machine file.old) (first.new ++ second.new) (rest_in now machine file.new)) }
+    ensures same { SameDisks D.past D.size_of D.count_of D.geometry_of disks.old disks.new }
+    ensures later { D.faults disks.old ≤ D.faults disks.new }
+    ensures device { IsErrOf result Halt.Device → Rose (D.faults disks.old) (D.faults disks.new) }
+{
+    read_cut(file, disks, first)?;
+    read_cut(file, disks, second)
+}
+
+/// The header in a kernel's first two sectors.
+fn read_header(first: &Sector, second: &Sector, length: u32) -> Result<Header, Halt>
+    ensures header { GivesHeader result (header_at (first.now ++ second.now) length) }
+    ensures readable { IfOk result (λ header. IsHeaderFor header length) }
+    ensures device { IsErrOf result Halt.Device → ⊥ }
+{
+    match Header::read(first, second, length) {
+        Ok(header) => Ok(header),
+        Err(fault) => Err(Halt::Refused(Reason::Header(fault))),
+    }
+}
+
+/// The length of an entry's initrd, if it has one.
+fn initrd_size(entry: &Descriptor) -> Option<u32>
+    ensures { result ≡ initrd_size (descriptor_view entry.now) }
+{
+    if entry.flags & flags::INITRD == 0 {
+        None
+    } else {
+        Some(entry.initrd_length)
+    }
+}
+
+/// The video mode of an entry, if it has one.
+fn video_of(entry: &Descriptor) -> Option<u16>
+    ensures { result ≡ video_today (descriptor_view entry.now) }
+{
+    if entry.flags & flags::VIDEO == 0 {
+        None
+    } else {
+        Some(entry.vga)
+    }
+}
+
+/// The layout of memory for a kernel.
+fn plan(
+    header: &Header,
+    length: u32,
+    initrd: Option<u32>,
+    line: u32,
+    memory: u32,
+) -> Result<Layout, Halt>
+    requires header { IsHeaderFor header.now length }
+    requires memory { 1048576 ≤ memory }
+    ensures layout { GivesLayout result (plan_memory (header_view header.now) length initrd line memory) }
+    ensures lengths { IfOk result (λ layout. HasLengths layout header.now length line) }
+    ensures inside { IfOk result (LiesIn memory) }
+    ensures apart { IfOk result AreApart }
+    ensures device { IsErrOf result Halt.Device → ⊥ }
+{
+    match plan_memory(header, length, initrd, line, memory) {
+        Ok(layout) => Ok(layout),
+        Err(fault) => Err(Halt::Refused(Reason::Header(fault))),
+    }
+}
+
+/// Places a kernel of which the first two sectors are at hand and the others are read now: the real-mode part, and
+/// the protected-mode part behind it.
+fn place_kernel<D: Disks>(
+    file: &mut FileReader,
+    disks: &mut D,
+    ram: &mut Ram,
+    layout: &Layout,
+    first: &Sector,
+    second: &Sector,
+) -> Result<(), Halt>
+    requires counted { IsCounted file.old }
+    requires kernel { HoldsKernel layout.now file.old.left (length ram.old) }
+    ensures placed { Told (D.past disks.old) (λ now. let machine = machine_of (D.size_of disks.old) (D.geometry_of disks.old) in
+        PlacesKernel result layout.now (first.now ++ second.now) (rest_in now machine file.old) (memory_of ram.old) (memory_of ram.new)) }
+    ensures memory { length ram.new ≡ length ram.old }
+    ensures same { SameDisks D.past D.size_of D.count_of D.geometry_of disks.old disks.new }
+    ensures later { D.faults disks.old ≤ D.faults disks.new }
+    ensures device { IsErrOf result Halt.Device → Rose (D.faults disks.old) (D.faults disks.new) }
+{
+    place(ram, layout.real.address, first);
+    place(ram, layout.real.address + 512, second);
+    load_bytes(
+        file,
+        disks,
+        ram,
+        layout.real.address + 1024,
+        layout.real.length - 1024,
+    )?;
+    load_bytes(
+        file,
+        disks,
+        ram,
+        layout.protected.address,
+        layout.protected.length,
+    )
+}
+
+/// Loads an entry's initrd to its region, if there is one.
+fn load_initrd<D: Disks>(
+    disks: &mut D,
+    ram: &mut Ram,
+    entry: &Descriptor,
+    region: Option<Region>,
+) -> Result<(), Halt>
+    requires sectors { HasSectors entry.now }
+    requires there { is_some region ≡ is_some entry.now.initrd }
+    requires size { IfSome region (λ region. region.length ≡ entry.now.initrd_length) }
+    requires inside { IfSome region (EndsBy (length ram.old)) }
+    requires fits { length ram.old < 2 ^ 32 }
+    ensures placed { Told (D.past disks.old) (λ now. let machine = machine_of (D.size_of disks.old) (D.geometry_of disks.old) in
+        PlacesInitrd result (option_map region_view region) (initrd_today (initrd_file_today now machine (descriptor_view entry.now))) (memory_of ram.old) (memory_of ram.new)) }
+    ensures memory { length ram.new ≡ length ram.old }
+    ensures same { SameDisks D.past D.size_of D.count_of D.geometry_of disks.old disks.new }
+    ensures later { D.faults disks.old ≤ D.faults disks.new }
+    ensures device { IsErrOf result Halt.Device → Rose (D.faults disks.old) (D.faults disks.new) }
+{
+    let (Some(region), Some(slot)) = (region, entry.initrd) else {
+        return Ok(());
+    };
+    let mut file = FileReader::new(&slot, entry.initrd_length, entry.initrd_chain);
+    load_bytes(&mut file, disks, ram, region.address, region.length)
+}
+
+/// Loads an entry's kernel with its initrd and a command line.
+pub(crate) fn load_kernel<D: Disks>(
+    disks: &mut D,
+    ram: &mut Ram,
+    entry: &Descriptor,
+    line: &[u8],
+) -> Result<Layout, Halt>
+    requires sectors { HasSectors entry.now }
+    requires flags { FitsFlags entry.now }
+    requires line { length line.now ≤ 500 }
+    ensures loaded { Told (D.past disks.old) (λ now. let machine = machine_of (D.size_of disks.old) (D.geometry_of disks.old) in
+        let entry = descriptor_view entry.now in
+        LoadsKernel result (loaded_today entry (main_today now machine entry) (initrd_file_today now machine entry) line.now (video_today entry) (length ram.old))
+        (memory_of ram.old) ram.new) }
+    ensures memory { length ram.new ≡ length ram.old }
+    ensures inside { IfOk result (LiesIn (length ram.new)) }
+    ensures same { SameDisks D.past D.size_of D.count_of D.geometry_of disks.old disks.new }
+    ensures later { D.faults disks.old ≤ D.faults disks.new }
+    ensures device { IsErrOf result Halt.Device → Rose (D.faults disks.old) (D.faults disks.new) }
+{
+    let mut file = FileReader::new(&entry.first, entry.length, entry.chain);
+    let mut first = [0; 512];
+    let mut second = [0; 512];
+    read_two(&mut file, disks, &mut first, &mut second)?;
+    let header = read_header(&first, &second, entry.length)?;
+    let memory = ram.size();
+    let layout = plan(
+        &header,
+        entry.length,
+        initrd_size(entry),
+        line.len() as u32,
+        memory,
+    )?;
+    patch(&header, &layout, video_of(entry), &mut first, &mut second);
+    place_kernel(&mut file, disks, ram, &layout, &first, &second)?;
+    load_initrd(disks, ram, entry, layout.initrd)?;
+    place(ram, layout.line.address, line);
+    place(ram, layout.line.address + line.len() as u32, &[0]);
+    Ok(layout)
+}

@@ -1,0 +1,360 @@
+// The boot itself.
+ghost use Rattle.std.specs.Prelude.{◌≡◌, ℕ, Err, ◌<◌, ◌≤◌, ◌++◌, codes, false, List, length, All, IfOk, IsErrOf};
+ghost use Rattle.disk_trait.specs.Past.{Told, SameDisks};
+ghost use Rattle.disk_trait.specs.Cause.{Rose};
+ghost use Rattle.lilo_model.specs.Disks.{Image, Machine};
+ghost use Rattle.lilo_model.specs.Prompt.{Key};
+ghost use Rattle.lilo_model.specs.Boot.{MapSectors, GoodMap, whole_boot};
+ghost use Rattle.lilo_model.specs.Table.{has_flag, fallback_flag};
+ghost use Rattle.bios_model.specs.Machine.{machine_of};
+ghost use Rattle.bios_model.specs.Memory.{memory_of};
+ghost use Rattle.boot_map.specs.View.{boot_view, descriptor_view, map_fault_view};
+ghost use Rattle.boot_map.specs.Ranges.{IsNamed, IsOneSector, HasSectors, FitsFlags};
+ghost use Rattle.loader_core.specs.Today.{IsUnbuilt, boot_today, report_by, map_report, sectors_report, good_report, texts_report, entry_report, foreign_report, line_today};
+ghost use Rattle.loader_core.specs.Map.{StandsFor, IsTable, IsGood};
+ghost use Rattle.loader_core.specs.Shows.{state_of};
+ghost use Rattle.loader_core.specs.Start.{LiesInside, Starts, Reports, result_of, span_view, IsBoot, HasFailed, halt_text, map_text};
+
+use crate::entry::{load_entry, place_boot};
+use crate::map::{GoodParts, MapParts, command_line, judge, needs_prompt, read_map, read_middle};
+use crate::outcome::{Halt, Outcome, Reason, Started};
+use crate::shown::Shown;
+use arrayvec::ArrayVec;
+use bios_model::{Bios, Ram};
+use boot_map::{BootSector, Descriptor, MapFault};
+use disk_trait::{Disks, Phase, Span};
+use sector_parts::{Sector, part};
+use stream_trait::{Sink, Source};
+
+/// Boots from the first sector of a device, a disk or one of its partitions, into a memory, and shows the texts that
+/// go with it.
+///
+/// A boot sector of this format leads to a map: to the default line, the table of entries, and behind the entry that
+/// is chosen to its texts and files, all by the sectors that slots name. No file system is read. A kernel is loaded
+/// with its initrd and command line as the boot protocol has them (Linux/x86, 2.00 to 2.06 and before); another
+/// system's boot sector stands at 0x7C00 then, with the partition table of its disk from 0x7BE on, where the entry
+/// says so. A boot sector that isn't of this format, and that a BIOS takes for one, is handed over itself.
+///
+/// Each sector is read once, one at a time. `Reason::Unbuilt` is for what isn't followed yet: a prompt, a delay, a
+/// message, a password, a default line, an entry that changes the default line, and a slot of more than one sector.
+/// No disk is written, no key is taken, and nothing is allocated. After a refusal or a failure nothing is said of the
+/// memory.
+pub fn boot<D: Disks, I: Source, O: Sink>(
+    bios: &mut Bios<'_, D, I>,
+    device: Span,
+    ram: &mut Ram,
+    out: &mut Shown<'_, O>,
+) -> Outcome
+    requires { device.start < D.size_of bios.old.disks.now device.disk }
+
+    // It is today's boot, and outside what isn't built yet the model's, for all keys.
+    ensures today { Told (D.past bios.old.disks.now) (λ now. let machine = machine_of (D.size_of bios.old.disks.now) (D.geometry_of bios.old.disks.now) in
+        Reports (boot_today now machine (span_view device) (length ram.old)) (result_of result) (memory_of ram.old) ram.new
+        (state_of (O.taken out.old.out.now) (O.faults out.old.out.now) out.old.failed) (state_of (O.taken out.new.out.now) (O.faults out.new.out.now) out.new.failed)) }
+    ensures boot { Told (D.past bios.old.disks.now) (λ now. let machine = machine_of (D.size_of bios.old.disks.now) (D.geometry_of bios.old.disks.now) in
+        (keys : List Key) → (IsUnbuilt now machine (span_view device) (length ram.old) → ⊥)
+        → IsBoot result (whole_boot now machine (span_view device) keys (length ram.old)) keys (memory_of ram.old) (memory_of ram.new)
+        (state_of (O.taken out.old.out.now) (O.faults out.old.out.now) out.old.failed) (state_of (O.taken out.new.out.now) (O.faults out.new.out.now) out.new.failed)) }
+    ensures unbuilt { Told (D.past bios.old.disks.now) (λ now. let machine = machine_of (D.size_of bios.old.disks.now) (D.geometry_of bios.old.disks.now) in
+        result ≡ Outcome.Refused Reason.Unbuilt → IsUnbuilt now machine (span_view device) (length ram.old)) }
+
+    // A disk's failure has its cause, and no other comes.
+    ensures device { (phase : _) → result ≡ Outcome.Device phase → Rose (D.faults bios.old.disks.now) (D.faults bios.new.disks.now) }
+    ensures before { (phase : _) → result ≡ Outcome.Device phase → phase ≡ Phase.Before }
+    ensures no_keys { result ≡ Outcome.Keys → ⊥ }
+    ensures later { D.faults bios.old.disks.now ≤ D.faults bios.new.disks.now }
+    ensures sink { HasFailed (state_of (O.taken out.old.out.now) (O.faults out.old.out.now) out.old.failed) (state_of (O.taken out.new.out.now) (O.faults out.new.out.now) out.new.failed) }
+
+    // A kernel that was loaded lies in memory.
+    ensures inside { IfOk (result_of result) (LiesInside (length ram.new)) }
+
+    // Nothing else happens.
+    ensures memory { length ram.new ≡ length ram.old }
+    ensures same { SameDisks D.past D.size_of D.count_of D.geometry_of bios.old.disks.now bios.new.disks.now }
+    ensures keys { bios.new.keys.now ≡ bios.old.keys.now }
+    ensures same_disks_reference { bios.new.disks.ghost_name ≡ bios.old.disks.ghost_name }
+    ensures same_keys_reference { bios.new.keys.ghost_name ≡ bios.old.keys.ghost_name }
+    ensures same_reference { out.new.out.ghost_name ≡ out.old.out.ghost_name }
+{
+    outcome_of(boot_by(bios.disks, device, ram, out))
+}
+
+/// How a boot's end is told.
+fn outcome_of(end: Result<Started, Halt>) -> Outcome
+    ensures end { result_of result ≡ end }
+    ensures before { (phase : _) → result ≡ Outcome.Device phase → phase ≡ Phase.Before }
+    ensures no_keys { result ≡ Outcome.Keys → ⊥ }
+{
+    match end {
+        Ok(Started::Loaded(layout)) => Outcome::Loaded(layout),
+        Ok(Started::Handed) => Outcome::Handed,
+        Err(Halt::Device) => Outcome::Device(Phase::Before),
+        Err(Halt::Refused(reason)) => Outcome::Refused(reason),
+    }
+}
+
+/// Boots by what the first sector of a device says.
+fn boot_by<D: Disks, O: Sink>(
+    disks: &mut D,
+    device: Span,
+    ram: &mut Ram,
+    out: &mut Shown<'_, O>,
+) -> Result<Started, Halt>
+    requires { device.start < D.size_of disks.old device.disk }
+    ensures report { Told (D.past disks.old) (λ now. let machine = machine_of (D.size_of disks.old) (D.geometry_of disks.old) in
+        Reports (boot_today now machine (span_view device) (length ram.old)) result (memory_of ram.old) ram.new
+        (state_of (O.taken out.old.out.now) (O.faults out.old.out.now) out.old.failed) (state_of (O.taken out.new.out.now) (O.faults out.new.out.now) out.new.failed)) }
+    ensures memory { length ram.new ≡ length ram.old }
+    ensures inside { IfOk result (LiesInside (length ram.new)) }
+    ensures same { SameDisks D.past D.size_of D.count_of D.geometry_of disks.old disks.new }
+    ensures later { D.faults disks.old ≤ D.faults disks.new }
+    ensures device { IsErrOf result Halt.Device → Rose (D.faults disks.old) (D.faults disks.new) }
+    ensures sink { HasFailed (state_of (O.taken out.old.out.now) (O.faults out.old.out.now) out.old.failed) (state_of (O.taken out.new.out.now) (O.faults out.new.out.now) out.new.failed) }
+    ensures same_reference { out.new.out.ghost_name ≡ out.old.out.ghost_name }
+{
+    let mut sector = [0; 512];
+    if disks.read(device.disk, device.start, &mut sector).is_err() {
+        return Err(Halt::Device);
+    }
+    match BootSector::read(&sector) {
+        Ok(boot) => boot_map(disks, &boot, ram, out),
+        Err(fault) => boot_other(&sector, fault, ram, out),
+    }
+}
+
+/// Boots by a sector that isn't read as a boot sector of this format: it is broken, or another system's.
+fn boot_other<O: Sink>(
+    sector: &Sector,
+    fault: MapFault,
+    ram: &mut Ram,
+    out: &mut Shown<'_, O>,
+) -> Result<Started, Halt>
+    ensures report { (now : Image) (machine : Machine) (memory : ℕ)
+        → Reports (report_by now machine sector.now memory (Err (map_fault_view fault))) result (memory_of ram.old) ram.new
+        (state_of (O.taken out.old.out.now) (O.faults out.old.out.now) out.old.failed) (state_of (O.taken out.new.out.now) (O.faults out.new.out.now) out.new.failed) }
+    ensures memory { length ram.new ≡ length ram.old }
+    ensures inside { IfOk result (LiesInside (length ram.new)) }
+    ensures device { IsErrOf result Halt.Device → ⊥ }
+    ensures sink { HasFailed (state_of (O.taken out.old.out.now) (O.faults out.old.out.now) out.old.failed) (state_of (O.taken out.new.out.now) (O.faults out.new.out.now) out.new.failed) }
+    ensures same_reference { out.new.out.ghost_name ≡ out.old.out.ghost_name }
+{
+    match fault {
+        MapFault::BadTable(entry) => {
+            out.put(b"LIL-\n");
+            Err(Halt::Refused(Reason::BadTable(entry)))
+        }
+        MapFault::NotOurs => boot_foreign(ram, sector),
+        MapFault::BadVersion(_) => boot_foreign(ram, sector),
+        MapFault::BadLine => boot_foreign(ram, sector),
+    }
+}
+
+/// Hands over a boot sector of another system, where a BIOS takes it for one.
+#[tactic(auto, unfolding(lilo_model::specs::BootSector::is_bootable))]
+fn boot_foreign(ram: &mut Ram, sector: &Sector) -> Result<Started, Halt>
+    ensures started { Starts result (foreign_report sector.now).result (memory_of ram.old) ram.new }
+    ensures memory { length ram.new ≡ length ram.old }
+    ensures inside { IfOk result (LiesInside (length ram.new)) }
+    ensures device { IsErrOf result Halt.Device → ⊥ }
+{
+    if part(sector, 510, 2) != b"\x55\xAA".as_slice() {
+        return Err(Halt::Refused(Reason::NotBootable));
+    }
+    place_boot(ram, sector);
+    Ok(Started::Handed)
+}
+
+/// Boots by a boot sector of this format.
+fn boot_map<D: Disks, O: Sink>(
+    disks: &mut D,
+    boot: &BootSector,
+    ram: &mut Ram,
+    out: &mut Shown<'_, O>,
+) -> Result<Started, Halt>
+    requires line { IsOneSector boot.now.line }
+    requires table { length boot.now.table.items ≡ 3 }
+    requires slots { All IsOneSector boot.now.table.items }
+    requires names { boot.now.names ≤ 19 }
+    requires default_entry { boot.now.default_entry < boot.now.names }
+    ensures report { Told (D.past disks.old) (λ now. let machine = machine_of (D.size_of disks.old) (D.geometry_of disks.old) in
+        Reports (map_report now machine (boot_view boot.now) (length ram.old)) result (memory_of ram.old) ram.new
+        (state_of (O.taken out.old.out.now) (O.faults out.old.out.now) out.old.failed) (state_of (O.taken out.new.out.now) (O.faults out.new.out.now) out.new.failed)) }
+    ensures memory { length ram.new ≡ length ram.old }
+    ensures inside { IfOk result (LiesInside (length ram.new)) }
+    ensures same { SameDisks D.past D.size_of D.count_of D.geometry_of disks.old disks.new }
+    ensures later { D.faults disks.old ≤ D.faults disks.new }
+    ensures device { IsErrOf result Halt.Device → Rose (D.faults disks.old) (D.faults disks.new) }
+    ensures sink { HasFailed (state_of (O.taken out.old.out.now) (O.faults out.old.out.now) out.old.failed) (state_of (O.taken out.new.out.now) (O.faults out.new.out.now) out.new.failed) }
+    ensures same_reference { out.new.out.ghost_name ≡ out.old.out.ghost_name }
+{
+    out.put(b"L");
+    match read_map(disks, boot) {
+        Ok(parts) => boot_parts(disks, boot, parts, ram, out),
+        Err(halt) => {
+            out.put(map_text(halt));
+            Err(halt)
+        }
+    }
+}
+
+/// Boots by a map whose sectors were read.
+fn boot_parts<D: Disks, O: Sink>(
+    disks: &mut D,
+    boot: &BootSector,
+    parts: MapParts,
+    ram: &mut Ram,
+    out: &mut Shown<'_, O>,
+) -> Result<Started, Halt>
+    requires known { IfOk parts.table (IsTable boot.now.names) }
+    requires default_entry { boot.now.default_entry < boot.now.names }
+    ensures report { Told (D.past disks.old) (λ now. let machine = machine_of (D.size_of disks.old) (D.geometry_of disks.old) in
+        (sectors : MapSectors) → StandsFor parts sectors → Reports (sectors_report now machine (boot_view boot.now) (length ram.old) sectors) result (memory_of ram.old) ram.new
+        (state_of (O.taken out.old.out.now) (O.faults out.old.out.now) out.old.failed) (state_of (O.taken out.new.out.now) (O.faults out.new.out.now) out.new.failed)) }
+    ensures memory { length ram.new ≡ length ram.old }
+    ensures inside { IfOk result (LiesInside (length ram.new)) }
+    ensures same { SameDisks D.past D.size_of D.count_of D.geometry_of disks.old disks.new }
+    ensures later { D.faults disks.old ≤ D.faults disks.new }
+    ensures device { IsErrOf result Halt.Device → Rose (D.faults disks.old) (D.faults disks.new) }
+    ensures sink { HasFailed (state_of (O.taken out.old.out.now) (O.faults out.old.out.now) out.old.failed) (state_of (O.taken out.new.out.now) (O.faults out.new.out.now) out.new.failed) }
+    ensures same_reference { out.new.out.ghost_name ≡ out.old.out.ghost_name }
+{
+    out.put(b"IL");
+    match judge(parts) {
+        Ok(good) => boot_good(disks, boot, &good, ram, out),
+        Err(reason) => {
+            out.put(b"-\n");
+            Err(Halt::Refused(reason))
+        }
+    }
+}
+
+/// Boots the default entry of a map that is good, where it is chosen without a key.
+fn boot_good<D: Disks, O: Sink>(
+    disks: &mut D,
+    boot: &BootSector,
+    good: &GoodParts,
+    ram: &mut Ram,
+    out: &mut Shown<'_, O>,
+) -> Result<Started, Halt>
+    requires known { IsTable boot.now.names good.now.table }
+    requires default_entry { boot.now.default_entry < boot.now.names }
+    ensures report { Told (D.past disks.old) (λ now. let machine = machine_of (D.size_of disks.old) (D.geometry_of disks.old) in
+        (model : GoodMap) → IsGood good.now model → Reports (good_report now machine (boot_view boot.now) (length ram.old) model) result (memory_of ram.old) ram.new
+        (state_of (O.taken out.old.out.now) (O.faults out.old.out.now) out.old.failed) (state_of (O.taken out.new.out.now) (O.faults out.new.out.now) out.new.failed)) }
+    ensures memory { length ram.new ≡ length ram.old }
+    ensures inside { IfOk result (LiesInside (length ram.new)) }
+    ensures same { SameDisks D.past D.size_of D.count_of D.geometry_of disks.old disks.new }
+    ensures later { D.faults disks.old ≤ D.faults disks.new }
+    ensures device { IsErrOf result Halt.Device → Rose (D.faults disks.old) (D.faults disks.new) }
+    ensures sink { HasFailed (state_of (O.taken out.old.out.now) (O.faults out.old.out.now) out.old.failed) (state_of (O.taken out.new.out.now) (O.faults out.new.out.now) out.new.failed) }
+    ensures same_reference { out.new.out.ghost_name ≡ out.old.out.ghost_name }
+{
+    out.put(b"O\n");
+    if needs_prompt(boot, good) {
+        return Err(Halt::Refused(Reason::Unbuilt));
+    }
+    boot_entry(
+        disks,
+        &good.table.entries[usize::from(boot.default_entry)],
+        ram,
+        out,
+    )
+}
+
+/// Boots an entry.
+fn boot_entry<D: Disks, O: Sink>(
+    disks: &mut D,
+    entry: &Descriptor,
+    ram: &mut Ram,
+    out: &mut Shown<'_, O>,
+) -> Result<Started, Halt>
+    requires named { IsNamed entry.now }
+    requires sectors { HasSectors entry.now }
+    requires flags { FitsFlags entry.now }
+    requires fallback { has_flag entry.now.flags fallback_flag ≡ false }
+    ensures report { Told (D.past disks.old) (λ now. let machine = machine_of (D.size_of disks.old) (D.geometry_of disks.old) in
+        Reports (texts_report now machine (descriptor_view entry.now) (length ram.old)) result (memory_of ram.old) ram.new
+        (state_of (O.taken out.old.out.now) (O.faults out.old.out.now) out.old.failed) (state_of (O.taken out.new.out.now) (O.faults out.new.out.now) out.new.failed)) }
+    ensures memory { length ram.new ≡ length ram.old }
+    ensures inside { IfOk result (LiesInside (length ram.new)) }
+    ensures same { SameDisks D.past D.size_of D.count_of D.geometry_of disks.old disks.new }
+    ensures later { D.faults disks.old ≤ D.faults disks.new }
+    ensures device { IsErrOf result Halt.Device → Rose (D.faults disks.old) (D.faults disks.new) }
+    ensures sink { HasFailed (state_of (O.taken out.old.out.now) (O.faults out.old.out.now) out.old.failed) (state_of (O.taken out.new.out.now) (O.faults out.new.out.now) out.new.failed) }
+    ensures same_reference { out.new.out.ghost_name ≡ out.old.out.ghost_name }
+{
+    match read_middle(disks, entry) {
+        Ok(options) => start_entry(disks, entry, options.middle.as_slice(), ram, out),
+        Err(halt) => {
+            out.put(halt_text(halt));
+            Err(halt)
+        }
+    }
+}
+
+/// Starts an entry with this middle text of its command line.
+fn start_entry<D: Disks, O: Sink>(
+    disks: &mut D,
+    entry: &Descriptor,
+    middle: &[u8],
+    ram: &mut Ram,
+    out: &mut Shown<'_, O>,
+) -> Result<Started, Halt>
+    requires named { IsNamed entry.now }
+    requires sectors { HasSectors entry.now }
+    requires flags { FitsFlags entry.now }
+    requires middle { length middle.now ≤ 255 }
+    ensures report { Told (D.past disks.old) (λ now. let machine = machine_of (D.size_of disks.old) (D.geometry_of disks.old) in
+        Reports (entry_report now machine (descriptor_view entry.now) (line_today (descriptor_view entry.now) middle.now) (length ram.old)) result (memory_of ram.old) ram.new
+        (state_of (O.taken out.old.out.now) (O.faults out.old.out.now) out.old.failed) (state_of (O.taken out.new.out.now) (O.faults out.new.out.now) out.new.failed)) }
+    ensures memory { length ram.new ≡ length ram.old }
+    ensures inside { IfOk result (LiesInside (length ram.new)) }
+    ensures same { SameDisks D.past D.size_of D.count_of D.geometry_of disks.old disks.new }
+    ensures later { D.faults disks.old ≤ D.faults disks.new }
+    ensures device { IsErrOf result Halt.Device → Rose (D.faults disks.old) (D.faults disks.new) }
+    ensures sink { HasFailed (state_of (O.taken out.old.out.now) (O.faults out.old.out.now) out.old.failed) (state_of (O.taken out.new.out.now) (O.faults out.new.out.now) out.new.failed) }
+    ensures same_reference { out.new.out.ghost_name ≡ out.old.out.ghost_name }
+{
+    out.put(loading_line(entry.name.as_slice()).as_slice());
+    let line = command_line(entry.name.as_slice(), middle);
+    match load_entry(disks, ram, entry, line.as_slice()) {
+        Ok(started) => Ok(started),
+        Err(halt) => {
+            out.put(halt_text(halt));
+            Err(halt)
+        }
+    }
+}
+
+/// The line that tells which entry is loaded.
+fn loading_line(name: &[u8]) -> ArrayVec<u8, 32>
+    requires { length name.now ≤ 15 }
+    ensures { result.items ≡ codes "Loading " ++ (name.now ++ codes "\n") }
+{
+    let mut line = ArrayVec::new();
+    let _ = line.try_extend_from_slice(b"Loading ");
+    let _ = line.try_extend_from_slice(name);
+    line.push(b'\n');
+    line
+}
+
+/// The text behind what ended the loading of an entry.
+fn halt_text(halt: Halt) -> &'static [u8]
+    ensures { result.now ≡ halt_text halt }
+{
+    match halt {
+        Halt::Device => b"Error 80\n",
+        Halt::Refused(Reason::NotFound) => b"Error 04\n",
+        Halt::Refused(_) => b"Error\n",
+    }
+}
+
+/// The text behind what ended the reading of a map.
+fn map_text(halt: Halt) -> &'static [u8]
+    ensures { result.now ≡ map_text halt }
+{
+    match halt {
+        Halt::Device => b" 80\n",
+        Halt::Refused(_) => b" 04\n",
+    }
+}

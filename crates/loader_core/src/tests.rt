@@ -1,0 +1,447 @@
+use crate::fixture::{Booted, Case, boot_case, changed};
+use crate::{Outcome, Reason};
+use disk_trait::Phase;
+use setup_header::{Layout, Region, SetupFault};
+use std::process::Abort;
+use std::test::Fail;
+
+const LOADING: &[u8] = b"LILO\nLoading linux\n";
+
+const FAILED: &[u8] = b"LILO\nLoading linux\nError\n";
+
+fn region(address: u32, length: u32) -> Region {
+    Region { address, length }
+}
+
+// The layout of the kernel of 1029 bytes, whose protected-mode part stands at an address.
+fn layout(protected: u32, initrd: Option<Region>) -> Layout {
+    Layout {
+        real: region(0x9_0000, 1024),
+        protected: region(protected, 5),
+        initrd,
+        line: region(0x9_9800, 34),
+    }
+}
+
+fn expect_end(rt: &impl Abort, booted: &Booted, outcome: Outcome, shown: &[u8]) {
+    assert_eq!(rt; booted.outcome, outcome, "after {shown:?}");
+    assert_eq!(rt; booted.sink.bytes(), shown, "at {outcome:?}");
+}
+
+fn expect_bytes(rt: &impl Abort, booted: &Booted, at: u32, bytes: &[u8]) {
+    assert!(rt; bytes.len() <= 1024);
+    assert_eq!(rt; booted.bytes(at, bytes.len() as u32), bytes, "at {at}");
+}
+
+// The kernel's parts stand alone in memory, the real-mode part with these bytes from 0x210 on.
+fn expect_kernel(rt: &impl Abort, booted: &Booted, fields: &[u8]) {
+    let mut real = [0; 1024];
+    put(&mut real, 0x1F1, b"\x01");
+    put(&mut real, 0x1FE, b"\x55\xAA");
+    put(&mut real, 0x202, b"HdrS\x06\x02");
+    put(&mut real, 0x22C, b"\xFF\xFF\xFF\x37");
+    put(&mut real, 0x238, b"\xFF\0\0\0");
+    put(&mut real, 0x210, fields);
+    expect_bytes(rt, booted, 0x8_FFFF, b"\xEE");
+    expect_bytes(rt, booted, 0x9_0000, &real);
+    expect_bytes(rt, booted, 0x9_0400, b"\xEE");
+    expect_bytes(rt, booted, 0xF_FFFF, b"\xEEHELLO\xEE");
+}
+
+// The command line stands alone in memory, with its zero byte.
+fn expect_line(rt: &impl Abort, booted: &Booted) {
+    expect_bytes(
+        rt,
+        booted,
+        0x9_97FF,
+        b"\xEEauto BOOT_IMAGE=linux ro root=301\0\xEE",
+    );
+}
+
+fn put(bytes: &mut [u8; 1024], at: usize, part: &[u8]) {
+    if part.len() <= 1024 && at <= 1024 - part.len() {
+        bytes[at..at + part.len()].copy_from_slice(part);
+    }
+}
+
+// By the sectors' numbers, and by cylinder, head and sector.
+#[test]
+fn a_plain_boot(rt: HostRuntime) -> Result<(), Fail> {
+    for section in [
+        b"\x03\x80\x01\0\x52\0\0\0\x03\x80\x01\0\x53\0\0\0\x03\x80\x01\0\x54\0\0\0",
+        b"\x01\x80\x01\0\x14\0\x01\0\x01\x80\x01\0\x15\0\x01\0\x01\x80\x01\0\x16\0\x01\0",
+    ] {
+        let booted = boot_case(rt.alloc(), &changed(&[(100, 0, section)]))?;
+        expect_end(
+            &rt,
+            &booted,
+            Outcome::Loaded(layout(0x10_0000, None)),
+            LOADING,
+        );
+        assert!(rt; !booted.has_failed);
+        expect_kernel(
+            &rt,
+            &booted,
+            b"\x02\x81\0\0\0\0\0\0\0\0\0\0\0\0\0\0\0\0\0\0\0\x96\0\0\0\x98\x09\0",
+        );
+        expect_line(&rt, &booted);
+    }
+    Ok(())
+}
+
+// An initrd stands as high as it can.
+#[test]
+fn an_initrd(rt: HostRuntime) -> Result<(), Fail> {
+    for (memory, highest, address, fields) in [
+        (
+            16_777_216,
+            b"\xFF\xFF\xFF\x37",
+            0xFF_F000,
+            b"\x02\x81\0\0\0\0\0\0\0\xF0\xFF\0\xBC\x02\0\0",
+        ),
+        (
+            2_097_152,
+            b"\xFF\xFF\xFF\x37",
+            0x1F_F000,
+            b"\x02\x81\0\0\0\0\0\0\0\xF0\x1F\0\xBC\x02\0\0",
+        ),
+        // The most is an address in the middle of a page.
+        (
+            2_097_152,
+            b"\xFF\x01\x18\0",
+            0x17_F000,
+            b"\x02\x81\0\0\0\0\0\0\0\xF0\x17\0\xBC\x02\0\0",
+        ),
+    ] {
+        let booted = boot_case(
+            rt.alloc(),
+            &Case {
+                memory,
+                ..changed(&[
+                    (83, 0x2C, highest),
+                    (95, 16, b"\x40"),
+                    (95, 24, b"\xBC\x02"),
+                    (95, 44, b"\x03\x80\x01\0\x65\0\0\0\x01\0\x01\0"),
+                    (101, 0, b"\x03\x80\x01\0\x56\0\0\0\x03\x80\x01\0\x57\0\0\0"),
+                    (86, 0, &[0xA5; 512]),
+                    (87, 0, &[0xA5; 188]),
+                ])
+            },
+        )?;
+        expect_end(
+            &rt,
+            &booted,
+            Outcome::Loaded(layout(0x10_0000, Some(region(address, 700)))),
+            LOADING,
+        );
+        expect_bytes(&rt, &booted, 0x9_0210, fields);
+        expect_bytes(&rt, &booted, address - 1, b"\xEE\xA5");
+        expect_bytes(&rt, &booted, address, &[0xA5; 700]);
+        expect_bytes(&rt, &booted, address + 699, b"\xA5\xEE");
+        expect_line(&rt, &booted);
+    }
+    Ok(())
+}
+
+// A kernel without a version: the protected-mode part stands low, and the line is told by its offset.
+#[test]
+fn a_low_kernel(rt: HostRuntime) -> Result<(), Fail> {
+    let booted = boot_case(rt.alloc(), &changed(&[(83, 2, &[0; 16])]))?;
+    expect_end(
+        &rt,
+        &booted,
+        Outcome::Loaded(layout(0x1_0000, None)),
+        LOADING,
+    );
+    let mut real = [0; 1024];
+    put(&mut real, 0x20, b"\x3F\xA3\0\x98");
+    put(&mut real, 0x1F1, b"\x01");
+    put(&mut real, 0x1FE, b"\x55\xAA");
+    put(&mut real, 0x22C, b"\xFF\xFF\xFF\x37");
+    put(&mut real, 0x238, b"\xFF\0\0\0");
+    expect_bytes(&rt, &booted, 0x9_0000, &real);
+    expect_bytes(&rt, &booted, 0xFFFF, b"\xEEHELLO\xEE");
+    expect_bytes(&rt, &booted, 0x10_0000, b"\xEE");
+    expect_line(&rt, &booted);
+    Ok(())
+}
+
+#[test]
+fn no_room_in_a_memory_of_1_mib(rt: HostRuntime) -> Result<(), Fail> {
+    let case = Case {
+        memory: 1_048_576,
+        ..changed(&[])
+    };
+    let booted = boot_case(rt.alloc(), &case)?;
+    let fault = SetupFault::NoRoom {
+        need: 1_048_581,
+        have: 1_048_576,
+    };
+    expect_end(
+        &rt,
+        &booted,
+        Outcome::Refused(Reason::Header(fault)),
+        FAILED,
+    );
+    Ok(())
+}
+
+#[test]
+fn files_are_refused(rt: HostRuntime) -> Result<(), Fail> {
+    for (number, at, bytes, reason) in [
+        // The third slot is none.
+        (100, 16, [0; 8].as_slice(), Reason::ShortChain(2)),
+        // No slot is there for a fourth sector.
+        (95, 20, b"\x05\x06".as_slice(), Reason::ShortChain(3)),
+        (100, 8, b"\x04".as_slice(), Reason::BadSlot(1)),
+        (100, 2, b"\x02".as_slice(), Reason::Unbuilt),
+        (
+            82,
+            0x1FE,
+            b"\0".as_slice(),
+            Reason::Header(SetupFault::NoBootFlag),
+        ),
+        (
+            82,
+            0x1F1,
+            b"\x02".as_slice(),
+            Reason::Header(SetupFault::TooShort),
+        ),
+        (
+            83,
+            0x38,
+            b"\x20".as_slice(),
+            Reason::Header(SetupFault::LineTooLong(33)),
+        ),
+    ] {
+        let booted = boot_case(rt.alloc(), &changed(&[(number, at, bytes)]))?;
+        expect_end(&rt, &booted, Outcome::Refused(reason), FAILED);
+    }
+    Ok(())
+}
+
+// More than one change goes before these refusals.
+#[test]
+fn links_and_initrds_are_refused(rt: HostRuntime) -> Result<(), Fail> {
+    for (edits, reason) in [
+        // The section goes on at itself.
+        (
+            [
+                (95, 20, b"\x05\x06".as_slice()),
+                (100, 504, b"\x03\x80\x01\0\x64\0\0\0".as_slice()),
+                (0, 0, b"".as_slice()),
+            ],
+            Reason::ChainTooLong(1),
+        ),
+        // A kernel without a version takes no initrd.
+        (
+            [
+                (83, 2, [0; 16].as_slice()),
+                (95, 16, b"\x40\0\0\0\x05\x04\0\0\xBC\x02".as_slice()),
+                (95, 44, b"\x03\x80\x01\0\x65\0\0\0\x01\0\x01\0".as_slice()),
+            ],
+            Reason::Header(SetupFault::NoInitrd),
+        ),
+    ] {
+        let booted = boot_case(rt.alloc(), &changed(&edits))?;
+        expect_end(&rt, &booted, Outcome::Refused(reason), FAILED);
+    }
+    Ok(())
+}
+
+// What a sector that isn't there is told by, and a text past its limit.
+#[test]
+fn sectors_that_are_not_there(rt: HostRuntime) -> Result<(), Fail> {
+    for (number, at, bytes, reason, shown) in [
+        // A sector of the table, the options, a section and a file.
+        (
+            0,
+            0x44,
+            b"\0\x10".as_slice(),
+            Reason::NotFound,
+            b"L 04\n".as_slice(),
+        ),
+        (
+            95,
+            32,
+            b"\0\x10".as_slice(),
+            Reason::NotFound,
+            b"LILO\nError 04\n".as_slice(),
+        ),
+        (
+            95,
+            40,
+            b"\0\x10".as_slice(),
+            Reason::NotFound,
+            b"LILO\nLoading linux\nError 04\n".as_slice(),
+        ),
+        (
+            100,
+            20,
+            b"\0\x10".as_slice(),
+            Reason::NotFound,
+            b"LILO\nLoading linux\nError 04\n".as_slice(),
+        ),
+        // Options of 256 bytes.
+        (
+            99,
+            0,
+            b"\0\x01".as_slice(),
+            Reason::BadTable(255),
+            b"LILO\nError\n".as_slice(),
+        ),
+    ] {
+        let booted = boot_case(rt.alloc(), &changed(&[(number, at, bytes)]))?;
+        expect_end(&rt, &booted, Outcome::Refused(reason), shown);
+    }
+    Ok(())
+}
+
+#[test]
+fn maps_are_judged(rt: HostRuntime) -> Result<(), Fail> {
+    for (number, at, bytes, reason) in [
+        // Twenty names.
+        (0, 0x12, b"\x14".as_slice(), Reason::BadTable(255)),
+        (94, 0, b"LIME".as_slice(), Reason::BadLine),
+        (95, 0, b"\0".as_slice(), Reason::BadTable(0)),
+        // A password of 32 bytes.
+        (102, 2, b"\x20".as_slice(), Reason::BadTable(255)),
+    ] {
+        let edits = [
+            (95, 16, b"\x02".as_slice()),
+            (95, 56, b"\x03\x80\x01\0\x66\0\0\0".as_slice()),
+            (number, at, bytes),
+        ];
+        let booted = boot_case(rt.alloc(), &changed(&edits))?;
+        expect_end(&rt, &booted, Outcome::Refused(reason), b"LIL-\n");
+    }
+    Ok(())
+}
+
+// A prompt, a delay, a message, a default line, a password, a lock and a fallback.
+#[test]
+fn what_is_not_built(rt: HostRuntime) -> Result<(), Fail> {
+    for (number, at, bytes, flags) in [
+        (0, 0x0C, b"\x01".as_slice(), b"\0"),
+        (0, 0x0E, b"\x01".as_slice(), b"\0"),
+        (
+            0,
+            0x14,
+            b"\x01\0\x01\0\x03\x80\x01\0\x5E\0\0\0\x03\x80\x01\0\x62\0\0\0\x03\x80\x01\0\x66\0\0\0".as_slice(),
+            b"\0",
+        ),
+        (94, 0, b"LINE\x01\0\x0C\0linux single".as_slice(), b"\0"),
+        (95, 56, b"\x03\x80\x01\0\x66\0\0\0".as_slice(), b"\x02"),
+        (95, 56, b"".as_slice(), b"\x08"),
+        (95, 56, b"\x03\x80\x01\0\x66\0\0\0".as_slice(), b"\x10"),
+    ] {
+        let edits = [(number, at, bytes), (95, 16, flags.as_slice())];
+        let booted = boot_case(rt.alloc(), &changed(&edits))?;
+        expect_end(&rt, &booted, Outcome::Refused(Reason::Unbuilt), b"LILO\n");
+    }
+    Ok(())
+}
+
+// Other systems' boot sectors, without and with a partition table.
+#[test]
+fn another_system(rt: HostRuntime) -> Result<(), Fail> {
+    for (flags, length, table) in [
+        (b"\x01", b"\0\x02", [0xEE; 64]),
+        (b"\x81", b"\0\x04", [0x77; 64]),
+    ] {
+        let edits = [
+            (95, 16, flags.as_slice()),
+            (95, 20, length.as_slice()),
+            (82, 0, [0x66; 512].as_slice()),
+            (83, 446, [0x77; 64].as_slice()),
+        ];
+        let booted = boot_case(rt.alloc(), &changed(&edits))?;
+        expect_end(&rt, &booted, Outcome::Handed, LOADING);
+        expect_bytes(&rt, &booted, 0x7BD, b"\xEE");
+        expect_bytes(&rt, &booted, 0x7BE, &table);
+        expect_bytes(&rt, &booted, 0x7FE, b"\xEE");
+        expect_bytes(&rt, &booted, 0x7BFF, b"\xEE");
+        expect_bytes(&rt, &booted, 0x7C00, &[0x66; 512]);
+        expect_bytes(&rt, &booted, 0x7E00, b"\xEE");
+    }
+    Ok(())
+}
+
+// A first sector that isn't of this format, on a disk and on a partition.
+#[test]
+fn first_sectors_of_others(rt: HostRuntime) -> Result<(), Fail> {
+    for (start, mark, outcome) in [
+        (0, b"\0\0", Outcome::Refused(Reason::NotBootable)),
+        (0, b"\x55\xAA", Outcome::Handed),
+        (64, b"\0\0", Outcome::Refused(Reason::NotBootable)),
+        (64, b"\x55\xAA", Outcome::Handed),
+    ] {
+        let edits = [
+            (start, 0, [0; 512].as_slice()),
+            (start, 0x1FE, mark.as_slice()),
+        ];
+        let case = Case {
+            start: start as u64,
+            ..changed(&edits)
+        };
+        let booted = boot_case(rt.alloc(), &case)?;
+        expect_end(&rt, &booted, outcome, b"");
+        if outcome == Outcome::Handed {
+            expect_bytes(&rt, &booted, 0x7BFF, b"\xEE");
+            expect_bytes(&rt, &booted, 0x7C00, &[0; 510]);
+            expect_bytes(&rt, &booted, 0x7DFE, b"\x55\xAA\xEE");
+        }
+    }
+    Ok(())
+}
+
+// The boot sector, the line, the table, the options, the section and the kernel.
+#[test]
+fn each_read_fails(rt: HostRuntime) -> Result<(), Fail> {
+    for (call, shown) in [
+        (0, b"".as_slice()),
+        (1, b"L 80\n".as_slice()),
+        (2, b"L 80\n".as_slice()),
+        (3, b"L 80\n".as_slice()),
+        (4, b"L 80\n".as_slice()),
+        (5, b"LILO\nError 80\n".as_slice()),
+        (6, b"LILO\nLoading linux\nError 80\n".as_slice()),
+        (7, b"LILO\nLoading linux\nError 80\n".as_slice()),
+        (8, b"LILO\nLoading linux\nError 80\n".as_slice()),
+        (9, b"LILO\nLoading linux\nError 80\n".as_slice()),
+    ] {
+        let case = Case {
+            failing_reads: &[call],
+            ..changed(&[])
+        };
+        let booted = boot_case(rt.alloc(), &case)?;
+        expect_end(&rt, &booted, Outcome::Device(Phase::Before), shown);
+    }
+    Ok(())
+}
+
+// Behind a text that a sink refuses nothing is shown, and the boot goes on.
+#[test]
+fn each_text_fails(rt: HostRuntime) -> Result<(), Fail> {
+    for (call, shown, has_failed) in [
+        (0, b"".as_slice(), true),
+        (1, b"L".as_slice(), true),
+        (2, b"LIL".as_slice(), true),
+        (3, b"LILO\n".as_slice(), true),
+        (4, LOADING, false),
+    ] {
+        let case = Case {
+            failing_puts: &[call],
+            ..changed(&[])
+        };
+        let booted = boot_case(rt.alloc(), &case)?;
+        expect_end(
+            &rt,
+            &booted,
+            Outcome::Loaded(layout(0x10_0000, None)),
+            shown,
+        );
+        assert_eq!(rt; booted.has_failed, has_failed);
+    }
+    Ok(())
+}

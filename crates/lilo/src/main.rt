@@ -2,7 +2,7 @@
 //!
 //! An IMAGE is `path`, `path:heads:sectors`, or `-` for an absent disk; the images are disks 0 to 3.
 //! Without `--` every word is an image. All text goes to standard output, faults included, and the exit
-//! status is that of the words, 14 for an image that can't be used, or 13 for want of memory.
+//! status is that of the words, 1 for one that isn't UTF-8, 14 for an image that can't be used, or 13 for want of memory.
 #![tactic(auto)]
 
 mod image;
@@ -31,7 +31,7 @@ enum Fault {
     Image(String),
     #[error("memory")]
     Memory(#[from(alloc)] AllocError),
-    #[error("not built")]
+    #[error("usage: (not text)")]
     NotText,
 }
 
@@ -49,7 +49,7 @@ fn status_of(fault: &Fault) -> u8 {
     match fault {
         Fault::Image(_) => 14,
         Fault::Memory(_) => 13,
-        Fault::NotText => 15,
+        Fault::NotText => 1,
     }
 }
 

@@ -1,3 +1,4 @@
-pub mod DeviceLemmas
-pub mod Reading
-pub mod WholeDisk
+pub mod DumpLemmas
+pub mod EffectLemmas
+pub mod LawLemmas
+pub mod RunLemmas

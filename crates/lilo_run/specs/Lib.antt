@@ -1,4 +1,5 @@
-pub mod Device
+pub mod Dump
+pub mod Laws
 pub mod Refusal
 pub mod Run
 pub mod Verdict

@@ -1,47 +1,120 @@
--- How what a run answered and printed stands to its verdict.
-use Rattle.std.specs.Prelude.{◌≡◌, ◌⊎◌, ℕ, ◌==◌, Bool, List, [], ◌∷◌, Option, Result, Ok, Err, if◌then◌else◌}
+-- How what was done stands to what the definitions give.
+use Rattle.std.specs.Prelude.{◌≡◌, ◌⊎◌, ℕ, ◌==◌, ◌&&◌, if◌then◌else◌, Bool, List, [], ◌∷◌, Option, Result, Ok, Err}
 use Rattle.std.specs.List.{list_any}
 use Rattle.disk_trait.specs.Cause.{Rose}
 use Rattle.stream_trait.specs.Sink.{Takes, TakesFront}
+use Rattle.disk_trait.specs.declared.disks.Span.{Span}
+use Rattle.lilo_model.specs.Disks as disks
+use Rattle.lilo_model.specs.Place.{Memory, memory_after}
 use Rattle.lilo_model.specs.Refusal as model
 use Rattle.lilo_model.specs.Verdict.{Verdict}
+use Rattle.boot_map.specs.declared.map_fault.MapFault.{MapFault}
+use Rattle.boot_map.specs.declared.map_fault.MapFault.TheVariants as maps
+use Rattle.mbr_table.specs.View.{span_view}
+use Rattle.mbr_table.specs.declared.table_fault.TableFault.{TableFault}
+use Rattle.mbr_table.specs.declared.table_fault.TableFault.TheVariants as faults
+use Rattle.loader_core.specs.Reading.{Why, Unbuilt, Because}
+use Rattle.loader_core.specs.declared.outcome.Reason.TheVariants as reasons
+use Rattle.loader_core.specs.Shows.{SinkState, Shows, ShowsOne}
+use Rattle.loader_core.specs.View.{reason_view}
 use Rattle.lilo_run.specs.declared.refusal.Halt.{Halt}
-use Rattle.lilo_run.specs.declared.refusal.Halt.TheVariants.{Device, NotBuilt, Refused}
-use Rattle.lilo_run.specs.Refusal.{refusal_view, device_failed}
-use Rattle.lilo_run.specs.Verdict.{Stop, Unbuilt, Told}
+use Rattle.lilo_run.specs.declared.refusal.Halt.TheVariants.{Device, NotBuilt, NoPlace, NotOurs, Boot}
+use Rattle.lilo_run.specs.declared.refusal.PlaceFault.TheVariants as variants
+use Rattle.lilo_run.specs.Refusal.{place_fault_view}
+use Rattle.lilo_run.specs.Verdict.{Effect}
 
--- What a reader returned, seen by view, is what the model gives, unless a device failed.
+-- ---- a reader
+
+-- a reader is refused for this reason of a boot
+abbrev pub RefusesFor : {B : Type 0} → Why → Result B model.Refusal → Type 0
+RefusesFor Unbuilt read = ⊥
+RefusesFor (Because reason) read = read ≡ Err (model.Boot reason)
+
+-- what a reader returned, seen by view, is what the model gives, unless a disk failed
 abbrev pub Halts : {B : Type 0} → Halt → Result B model.Refusal → Type 0
 Halts Device read = Unit {0}
 Halts NotBuilt read = ⊥
-Halts (Refused refusal) read = read ≡ Err (refusal_view refusal)
+Halts (NoPlace fault) read = read ≡ Err (model.Device (place_fault_view fault))
+Halts NotOurs read = read ≡ Err model.NotOurs
+Halts (Boot reason) read = RefusesFor (reason_view reason) read
 
 abbrev pub Gives : {A B : Type 0} → (A → B) → Result A Halt → Result B model.Refusal → Type 0
 Gives view (Ok value) read = read ≡ Ok (view value)
 Gives view (Err halt) read = Halts halt read
 
--- The same where a part may not be built yet.
-abbrev pub Stops : {B : Type 0} → Halt → Result B Stop → Type 0
-Stops Device read = Unit {0}
-Stops NotBuilt read = read ≡ Err Unbuilt
-Stops (Refused refusal) read = read ≡ Err (Told (refusal_view refusal))
+-- a device's sectors that were found are those that the model gives, unless a disk failed
+abbrev pub HaltsAt : Halt → Result disks.Span model.DeviceFault → Type 0
+HaltsAt Device place = Unit {0}
+HaltsAt (NoPlace fault) place = place ≡ Err (place_fault_view fault)
+HaltsAt _ place = ⊥
 
-abbrev pub GivesToday : {A B : Type 0} → (A → B) → Result A Halt → Result B Stop → Type 0
-GivesToday view (Ok value) read = read ≡ Ok (view value)
-GivesToday view (Err halt) read = Stops halt read
+abbrev pub GivesPlace : Result Span Halt → Result disks.Span model.DeviceFault → Type 0
+GivesPlace (Ok span) place = place ≡ Ok (span_view span)
+GivesPlace (Err halt) place = HaltsAt halt place
 
--- The status is the verdict's, or 8, or in the place of 0 it is 12.
+-- a refusal of partition tables is told so
+abbrev pub IsPlaceHalt : TableFault → Halt → Type 0
+IsPlaceHalt faults.Device halt = halt ≡ Device
+IsPlaceHalt (faults.NoDisk disk) halt = halt ≡ NoPlace variants.NoDisk
+IsPlaceHalt (faults.NoPartition number) halt = halt ≡ NoPlace variants.NoPartition
+IsPlaceHalt _ halt = halt ≡ NoPlace variants.BadTable
+
+-- a refusal of a map is told so
+abbrev pub IsMapHalt : MapFault → Halt → Type 0
+IsMapHalt maps.NotOurs halt = halt ≡ NotOurs
+IsMapHalt (maps.BadVersion version) halt = halt ≡ NotOurs
+IsMapHalt (maps.BadTable entry) halt = halt ≡ Boot (reasons.BadTable entry)
+IsMapHalt maps.BadLine halt = halt ≡ Boot reasons.BadLine
+
+-- ---- a command
+
+-- It was done as the definitions say: its status and text are the verdict's, and after 0 memory has what it puts there.
+pub record IsDone (effect : Effect) (status : ℕ) (memory memory' : Memory) (old new : SinkState) : Type 0 where
+  pub answer : status ≡ effect.verdict.status
+  pub shown : Shows old effect.verdict.text new
+  pub placed : status ≡ 0 → memory' ≡ memory_after memory effect.written
+
+-- a disk failed
+pub record IsFailed (effect : Effect) (status : ℕ) (old new : SinkState) : Type 0 where
+  pub answer : status ≡ 8
+  pub shown : ShowsOne old effect.failures new
+
+abbrev pub Does : Effect → ℕ → Memory → Memory → SinkState → SinkState → Type 0
+Does effect status memory memory' old new = IsDone effect status memory memory' old new ⊎ IsFailed effect status old new
+
+-- ---- the whole
+
+-- the status of a run, where a sink may have failed
+abbrev pub answer_of : ℕ → Bool → ℕ
+answer_of status failed = if (status == 0) && failed then 12 else status
+
+-- the status is the verdict's, or 8, or in the place of 0 it is 12
 abbrev pub Answers : Verdict → ℕ → Type 0
 Answers verdict status = (status ≡ verdict.status) ⊎ ((status ≡ 8) ⊎ ((status ≡ 12) × (verdict.status ≡ 0)))
 
--- what a run with this status prints: after a fault of a device its line alone
-abbrev pub printed : Verdict → ℕ → List ℕ
-printed verdict status = if status == 8 then device_failed.text else verdict.text
-
--- A sink took a text whole, or its faults rose and it took a front.
+-- a sink took a text whole, or its faults rose and it took a front
 abbrev pub Prints : Option (List ℕ) → List ℕ → Option (List ℕ) → ℕ → ℕ → Type 0
 Prints old text new before now = Takes old text new ⊎ (Rose before now × TakesFront old text new)
 
+-- one of these texts
+abbrev pub PrintsOne : Option (List ℕ) → List (List ℕ) → Option (List ℕ) → ℕ → ℕ → Type 0
+PrintsOne old [] new before now = ⊥
+PrintsOne old (text ∷ texts) new before now = Prints old text new before now ⊎ PrintsOne old texts new before now
+
+-- the verdict's text goes with its status, or 12 in the place of 0, and a text of a failure with 8
+abbrev pub Tells : Effect → ℕ → Option (List ℕ) → Option (List ℕ) → ℕ → ℕ → Type 0
+Tells effect status old new before now =
+    (((status ≡ effect.verdict.status) ⊎ ((status ≡ 12) × (effect.verdict.status ≡ 0))) × Prints old effect.verdict.text new before now)
+    ⊎ ((status ≡ 8) × PrintsOne old effect.failures new before now)
+
+-- whether a part may end with this status
+abbrev pub is_part_status : ℕ → Bool
+is_part_status status = list_any (λ known. known == status) (0 ∷ 3 ∷ 6 ∷ 7 ∷ 8 ∷ 15 ∷ [])
+
+-- whether a run may, but for the sink
+abbrev pub is_run_status : ℕ → Bool
+is_run_status status = list_any (λ known. known == status) (0 ∷ 1 ∷ 3 ∷ 6 ∷ 7 ∷ 8 ∷ 15 ∷ [])
+
 -- whether a run may end with this status
 abbrev pub is_status : ℕ → Bool
-is_status status = list_any (λ known. known == status) (0 ∷ 3 ∷ 6 ∷ 7 ∷ 8 ∷ 12 ∷ 15 ∷ [])
+is_status status = list_any (λ known. known == status) (0 ∷ 1 ∷ 3 ∷ 6 ∷ 7 ∷ 8 ∷ 12 ∷ 15 ∷ [])

@@ -1,78 +1,140 @@
--- What `lilo` answers and prints today: the verdict of the model, but for words and maps that need a part that
--- isn't built yet. (This project's own.)
-use Rattle.std.specs.Prelude.{ℕ, ◌==◌, Bool, true, false, not, List, [], ◌∷◌, bytes_eq, codes, Option, None, Some, Result, Ok, Err, if◌then◌else◌}
-use Rattle.std.specs.List.{list_all}
+-- What `lilo` answers, prints and leaves in memory as if no disk failed, and what it may print where one did. The
+-- verdicts are the model's, but for words and boots that need a part that isn't built yet. (This project's own.)
+use Rattle.std.specs.Prelude.{ℕ, ◌==◌, Bool, true, false, if◌then◌else◌, List, [], ◌∷◌, ◌++◌, map, flat_map, Option, None, Some, Result, Ok, Err}
+use Rattle.std.specs.List.{list_any}
+use Rattle.lilo_model.specs.Boot.{Ending}
+use Rattle.lilo_model.specs.Checks.{◌>>=◌, with_fault}
+use Rattle.lilo_model.specs.Devices.{Device}
 use Rattle.lilo_model.specs.Disks.{Image, Machine, Span}
-use Rattle.lilo_model.specs.Checks.{with_fault}
-use Rattle.lilo_model.specs.Slots.{Slot, Address, Chs, Linear, Lba32}
-use Rattle.lilo_model.specs.BootSector.{BootSector, MapFault, boot_at}
-use Rattle.lilo_model.specs.Table.{first_below}
-use Rattle.lilo_model.specs.Refusal as model
-use Rattle.lilo_model.specs.Verdict.{Verdict, verdict_of, names_text, names_behind}
-use Rattle.lilo_run.specs.Device.{name_of}
-use Rattle.lilo_run.specs.Refusal.{not_built}
+use Rattle.lilo_model.specs.Partitions.{device_fault, span_of}
+use Rattle.lilo_model.specs.Place.{Written}
+use Rattle.lilo_model.specs.Refusal as refusals
+use Rattle.lilo_model.specs.Verdict.{Verdict, verdict_of, verdict_behind, query_verdict, start_check, region_text, told_regions}
+use Rattle.lilo_model.specs.Words as words
+use Rattle.lilo_model.specs.Words.{Command, Part, run_at, usage_text}
+use Rattle.loader_core.specs.Reading.{Why}
+use Rattle.loader_core.specs.Today.{Report, boot_today}
+use Rattle.lilo_run.specs.Refusal.{not_built, device_failed, why_verdict}
 
--- the disk that has this name as a whole
-unfoldable pub whole_disk : List ℕ → Option ℕ
-whole_disk name = first_below (λ disk. bytes_eq name (name_of (record { disk = disk; partition = 0 }))) 4
+-- what a command does
+pub record Effect : Type 0 where
+  -- its status, and what it prints
+  pub verdict : Verdict
+  -- the texts of which it prints one where a disk failed
+  pub failures : List (List ℕ)
+  -- what it puts into memory where its status is 0
+  pub written : List Written
 
--- the disk that the words `-q DISK` name
-abbrev pub queried_disk : List (List ℕ) → Option ℕ
-queried_disk [] = None
-queried_disk (option ∷ []) = None
-queried_disk (option ∷ name ∷ []) = if bytes_eq option (codes "-q") then whole_disk name else None
-queried_disk (option ∷ name ∷ more ∷ words) = None
+-- a command that only answers and prints
+abbrev pub plain_effect : Verdict → List (List ℕ) → Effect
+plain_effect verdict failures = record { verdict = verdict; failures = failures; written = [] }
 
--- a disk as a whole, where it is there
-abbrev pub whole_span : Machine → ℕ → Result Span model.DeviceFault
-whole_span machine disk =
-    if machine.size_of disk == 0 then Err model.NoDisk else
-    Ok (record { disk = disk; start = 0; count = machine.size_of disk })
+-- ---- a command
 
--- whether a slot names its sector by number
-abbrev pub is_number : Address → Bool
-is_number (Chs cylinder head sector) = false
-is_number (Linear number) = false
-is_number (Lba32 number) = true
+-- where a device lies, as commands tell it
+unfoldable pub place_at : Image → Machine → Device → Result Span refusals.DeviceFault
+place_at now machine device = with_fault device_fault (span_of now machine device)
 
-abbrev pub is_numbered : Slot → Bool
-is_numbered slot = is_number slot.address
+-- `-q` with a device
+unfoldable pub query_effect : Image → Machine → Result Span refusals.DeviceFault → Effect
+query_effect now machine place = plain_effect (query_verdict now machine place) (device_failed.text ∷ [])
 
--- why a command ends without its text: a part isn't built yet, or the model refuses
-pub data Stop : Type 0 where
-  Unbuilt : Stop
-  Told : model.Refusal → Stop
+-- the text of some regions of memory, where that is asked for
+abbrev pub regions_text : Bool → List Written → List ℕ
+regions_text dump regions = if dump then flat_map region_text regions else []
 
--- the names behind a boot sector whose table slots all name their sectors by number
-unfoldable pub names_today : Image → Machine → BootSector → Result (List ℕ) Stop
-names_today now machine boot =
-    if list_all is_numbered boot.table then with_fault Told (names_behind now machine boot) else Err Unbuilt
+-- what is told of the memory where something was started
+abbrev pub told_text : Bool → Ending → List ℕ
+told_text dump ending = regions_text dump (told_regions ending.outcome ending.written)
 
--- whether a boot sector that can be read has another table slot
-abbrev pub needs_more : Result BootSector MapFault → Bool
-needs_more (Ok boot) = not (list_all is_numbered boot.table)
-needs_more (Err fault) = false
+-- what is answered at the end of a boot, and printed behind what it showed
+abbrev pub end_verdict : Bool → Result Ending Why → Verdict
+end_verdict dump (Ok ending) = verdict_of (start_check ending.outcome >>= λ a. Ok (told_text dump ending))
+end_verdict dump (Err why) = why_verdict why
 
--- whether a whole disk that is there has such a boot sector
-abbrev pub is_unbuilt : Image → Machine → ℕ → Bool
-is_unbuilt now machine disk = if machine.size_of disk == 0 then false else needs_more (boot_at (now disk 0))
+-- what was put into memory where something was started
+abbrev pub end_written : Result Ending Why → List Written
+end_written (Ok ending) = ending.written
+end_written (Err why) = []
 
--- what `-q` prints of a whole disk
-unfoldable pub disk_names : Image → Machine → ℕ → Result (List ℕ) Stop
-disk_names now machine disk =
-    if is_unbuilt now machine disk then Err Unbuilt else with_fault Told (names_text now machine (whole_span machine disk))
+-- what is printed where a disk failed, behind what a boot showed
+abbrev pub failed_behind : List ℕ → List ℕ
+failed_behind shown = shown ++ device_failed.text
 
--- what the words print
-abbrev pub names_for : Image → Machine → Option ℕ → Result (List ℕ) Stop
-names_for now machine None = Err Unbuilt
-names_for now machine (Some disk) = disk_names now machine disk
+-- a boot that goes as a report says
+unfoldable pub report_effect : Bool → Report → Effect
+report_effect dump report = record {
+  verdict = verdict_behind report.shown (end_verdict dump report.result);
+  failures = map failed_behind report.device;
+  written = end_written report.result;
+}
 
--- the verdict that a text or a stop is
-abbrev pub stop_verdict : Result (List ℕ) Stop → Verdict
-stop_verdict (Ok text) = verdict_of (Ok text)
-stop_verdict (Err Unbuilt) = not_built
-stop_verdict (Err (Told refusal)) = verdict_of (Err refusal)
+-- `boot`, with `--dump` or without, in a memory of so many bytes
+unfoldable pub boot_effect : Image → Machine → ℕ → Bool → Result Span refusals.DeviceFault → Effect
+boot_effect now machine memory dump (Ok span) = report_effect dump (boot_today now machine span memory)
+boot_effect now machine memory dump (Err fault) =
+    plain_effect (verdict_of (Err (refusals.Device fault))) (device_failed.text ∷ [])
 
--- Verdict: what these words answer and print over disks that hold this image
-unfoldable pub verdict : Image → Machine → List (List ℕ) → Verdict
-verdict now machine words = stop_verdict (names_for now machine (queried_disk words))
+-- a command
+unfoldable pub command_effect : Image → Machine → ℕ → Command → Effect
+command_effect now machine memory (words.Query (Some device)) = query_effect now machine (place_at now machine device)
+command_effect now machine memory (words.Boot device dump) = boot_effect now machine memory dump (place_at now machine device)
+command_effect now machine memory _ = plain_effect not_built []
+
+-- ---- a run
+
+-- a command, and then others
+abbrev pub effect_behind : Effect → Effect → Effect
+effect_behind first rest = record {
+  verdict = verdict_behind first.verdict.text rest.verdict;
+  failures = first.failures ++ map (λ text. first.verdict.text ++ text) rest.failures;
+  written = first.written ++ rest.written;
+}
+
+-- the others come where the first answers 0
+unfoldable pub then_effect : Effect → Effect → Effect
+then_effect first rest = if first.verdict.status == 0 then effect_behind first rest else first
+
+-- parts in order, by what each command does
+abbrev pub run_effect : (Command → Effect) → List Part → Effect
+run_effect effect [] = plain_effect (verdict_of (Ok [])) []
+run_effect effect (part ∷ parts) = then_effect (effect part.command) (run_effect effect parts)
+
+-- words that are these parts, or none
+abbrev pub words_effect : (Command → Effect) → List (List ℕ) → Result (List Part) (Option ℕ) → Effect
+words_effect effect words (Ok parts) = run_effect effect parts
+words_effect effect words (Err wrong) = plain_effect (record { status = 1; text = usage_text words }) []
+
+-- Verdict: what words do over disks that hold this image, with a memory of so many bytes
+unfoldable pub effect_of : Image → Machine → ℕ → List (List ℕ) → Effect
+effect_of now machine memory words = words_effect (command_effect now machine memory) words (run_at words)
+
+-- ---- what is known of words, whatever disks hold
+
+-- what is answered whatever a disk holds: 15 for what isn't built, and 3 for a device of a disk without sectors
+abbrev pub early_at : (ℕ → ℕ) → Device → Option ℕ
+early_at size_of device = if size_of device.disk == 0 then Some 3 else None
+
+unfoldable pub early_status : (ℕ → ℕ) → Command → Option ℕ
+early_status size_of (words.Query (Some device)) = early_at size_of device
+early_status size_of (words.Boot device dump) = early_at size_of device
+early_status size_of _ = Some 15
+
+-- the same of parts, by the first
+unfoldable pub early_parts : (ℕ → ℕ) → List Part → Option ℕ
+early_parts size_of [] = None
+early_parts size_of (part ∷ parts) = early_status size_of part.command
+
+-- the same of words, and 1 for those that are no run
+unfoldable pub early_answer : (ℕ → ℕ) → Result (List Part) (Option ℕ) → Option ℕ
+early_answer size_of (Ok parts) = early_parts size_of parts
+early_answer size_of (Err wrong) = Some 1
+
+-- whether a command boots
+abbrev pub is_boot : Command → Bool
+is_boot (words.Boot device dump) = true
+is_boot _ = false
+
+-- whether one of some parts boots
+unfoldable pub has_boot : List Part → Bool
+has_boot parts = list_any (λ part. is_boot part.command) parts

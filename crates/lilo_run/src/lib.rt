@@ -1,15 +1,19 @@
 //! What the program `lilo` does with its words, over disks, keys and a sink of text that the caller gives.
 //!
-//! [`run::lilo`] is the top call. Beside it stand names of devices, and refusals with their texts.
+//! [`lilo`] is the top call.
 #![tactic(auto)]
 
-pub mod device;
+mod boot;
+mod dump;
 #[cfg(test)]
 mod fixture;
-pub mod refusal;
-pub mod run;
-#[cfg(test)]
-mod tests;
+mod laws;
+mod part;
+mod place;
+mod query;
+mod refusal;
+mod run;
 
 pub use bios_model::Ram;
+pub use laws::boots_answer_as_the_model;
 pub use run::lilo;

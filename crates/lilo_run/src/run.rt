@@ -1,240 +1,51 @@
-//! The top call: what the program `lilo` does with its words.
-ghost use Rattle.std.specs.Prelude.{◌≡◌, ◌≤◌, ◌⊎◌, ℕ, true, length, map, All, IsTrue, IfOk, IsErrOf, IsNone};
-ghost use Rattle.std.specs.List.{list_all};
+// The top call: what the program `lilo` does with its words.
+ghost use Rattle.std.specs.Prelude.{◌≡◌, Bool, List, ◌≤◌, ◌⊎◌, ◌↔◌, ◌++◌, codes, false, length, IfSome, IfOk, IsOk, IsErr, IsTrue};
 ghost use Rattle.disk_trait.specs.Past.{Told, SameDisks};
 ghost use Rattle.disk_trait.specs.Cause.{Rose};
 ghost use Rattle.stream_trait.specs.Sink.{Takes};
-ghost use Rattle.lilo_model.specs.Checks.{with_fault};
-ghost use Rattle.lilo_model.specs.BootSector.{boot_at};
-ghost use Rattle.lilo_model.specs.Boot.{slot_bytes_at};
-ghost use Rattle.lilo_model.specs.Reason as reasons;
-ghost use Rattle.lilo_model.specs.Refusal as model;
-ghost use Rattle.lilo_model.specs.Verdict.{map_refusal, table_sectors, names_text, name_line, lines_from};
-ghost use Rattle.sector_address.specs.View.{slot_view};
+ghost use Rattle.lilo_model.specs.Place.{memory_after};
+ghost use Rattle.lilo_model.specs.Words.{run_at, usage_text};
+ghost use Rattle.lilo_model.specs.Devices.{Device};
+ghost use Rattle.lilo_model.specs.Prompt.{Key};
+ghost use Rattle.lilo_model.specs.Verdict.{boot_verdict};
 ghost use Rattle.bios_model.specs.Machine.{machine_of};
-ghost use Rattle.boot_map.specs.View.{boot_view, map_fault_view, table_view};
-ghost use Rattle.boot_map.specs.Ranges.{IsNamed, IsOneSector};
-ghost use Rattle.lilo_run.specs.Refusal.{refusal_view, halt_verdict};
-ghost use Rattle.lilo_run.specs.Verdict.{queried_disk, whole_disk, is_numbered, names_today, disk_names, names_for, verdict};
-ghost use Rattle.lilo_run.specs.Run.{Gives, GivesToday, Answers, Prints, printed, is_status};
+ghost use Rattle.bios_model.specs.Memory.{memory_of};
+ghost use Rattle.lilo_words.specs.Run.{run_behind, parts_behind};
+ghost use Rattle.loader_core.specs.Shows.{Shows, state_of};
+ghost use Rattle.loader_core.specs.Start.{HasFailed};
+ghost use Rattle.lilo_run.specs.Run.{answer_of, Does, Answers, Prints, Tells, is_part_status, is_run_status, is_status};
+ghost use Rattle.lilo_run.specs.Verdict.{command_effect, run_effect, plain_effect, place_at, effect_of, early_answer, early_parts, has_boot};
+ghost use Rattle.lilo_run.specs.Laws.{IsBootRun, IsUnbuiltAt};
 
-use crate::device::device_of;
-use crate::refusal::{Halt, Refusal};
-use arrayvec::ArrayVec;
-use bios_model::{BiosFault, Ram};
-use boot_map::{BootSector, MapFault, Table};
+use crate::part::carry_out;
+use bios_model::{Bios, Ram};
 use disk_trait::Disks;
-use sector_address::{Address, Slot};
-use sector_parts::Sector;
+use lilo_words::{check, part_at};
+use loader_core::Shown;
 use std::alloc::Global;
-use stream_trait::{Sink, SinkFailed, Source, Words};
+use stream_trait::{Sink, Source, Words};
 
-/// The names of a map as `-q` prints them, at most 48 lines of 18 bytes.
-type Listing = ArrayVec<u8, 1024>;
-
-/// The disk that has this name as a whole.
-fn whole_disk(name: &[u8]) -> Option<u8>
-    ensures { result ≡ whole_disk name.now }
-{
-    match device_of(name) {
-        Ok(device) if device.partition == 0 => Some(device.disk),
-        _ => None,
-    }
-}
-
-/// The disk that the words `-q DISK` name.
-fn queried_disk(words: &Words) -> Option<u8>
-    ensures { result ≡ queried_disk words.now }
-{
-    if words.count() == 2 && words.word(0) == "-q" {
-        whole_disk(words.word(1).as_bytes())
-    } else {
-        None
-    }
-}
-
-/// Reads the first sector that a slot names.
-#[tactic(auto, unfolding(lilo_model::specs::Boot::slot_bytes_at))]
-fn read_slot<D: Disks>(disks: &mut D, slot: &Slot, into: &mut Sector) -> Result<(), Halt>
-    requires { 1 ≤ slot.now.count }
-    ensures sector { Told (D.past disks.old) (λ now. Gives (λ _. into.new) result
-        (with_fault (λ _. model.Boot reasons.NotFound) (slot_bytes_at now (machine_of (D.size_of disks.old) (D.geometry_of disks.old)) (slot_view slot.now)))) }
-    ensures same { SameDisks D.past D.size_of D.count_of D.geometry_of disks.old disks.new }
-    ensures later { D.faults disks.old ≤ D.faults disks.new }
-    ensures device { IsErrOf result Halt.Device → Rose (D.faults disks.old) (D.faults disks.new) }
-    ensures built { IsErrOf result Halt.NotBuilt → ⊥ }
-{
-    match bios_model::read_slot(disks, slot, 0, into) {
-        Ok(()) => Ok(()),
-        Err(BiosFault::NotFound) => Err(Halt::Refused(Refusal::NotFound)),
-        Err(_) => Err(Halt::Device),
-    }
-}
-
-/// Whether slots all name their sectors by number.
-fn are_numbered(slots: &[Slot]) -> bool
-    ensures { result ≡ list_all is_numbered (map slot_view slots.now) }
-{
-    each_is_number(slots)
-}
-
-fn each_is_number(slots: &[Slot]) -> bool
-    ensures { result ≡ list_all (λ slot. is_numbered (slot_view slot)) slots.now }
-{
-    slots.iter().all(is_number)
-}
-
-fn is_number(slot: &Slot) -> bool
-    ensures { result ≡ is_numbered (slot_view slot.now) }
-{
-    matches!(slot.address, Address::Lba32(_))
-}
-
-/// Reads the sectors that slots name by number, in order.
-fn read_slots<D: Disks>(disks: &mut D, slots: &[Slot], into: &mut [Sector]) -> Result<(), Halt>
-    requires room { length slots.now ≡ length into.old }
-    requires slots { All IsOneSector slots.now }
-    ensures sectors { Told (D.past disks.old) (λ now. Gives (λ _. into.new) result
-        (table_sectors now (machine_of (D.size_of disks.old) (D.geometry_of disks.old)) (map slot_view slots.now))) }
-    ensures same { SameDisks D.past D.size_of D.count_of D.geometry_of disks.old disks.new }
-    ensures later { D.faults disks.old ≤ D.faults disks.new }
-    ensures device { IsErrOf result Halt.Device → Rose (D.faults disks.old) (D.faults disks.new) }
-{
-    for place in 0..slots.len() {
-        read_slot(disks, &slots[place], &mut into[place])?;
-    }
-    Ok(())
-}
-
-/// The line of a name, with ` *` after the default's.
-fn name_line(is_default: bool, name: &[u8]) -> ArrayVec<u8, 18>
-    requires { length name.now ≤ 15 }
-    ensures { result.items ≡ name_line is_default name.now }
-{
-    let mut line = ArrayVec::new();
-    let _ = line.try_extend_from_slice(name);
-    let end: &[u8] = if is_default { b" *\n" } else { b"\n" };
-    let _ = line.try_extend_from_slice(end);
-    line
-}
-
-/// The names of a table, a line each.
-fn listing(default_entry: u16, table: &Table) -> Listing
-    requires { All IsNamed table.now.entries.items }
-    ensures { result.items ≡ lines_from default_entry 0 (table_view table.now) }
-{
-    let mut text = Listing::new();
-    for (place, entry) in table.entries.iter().enumerate() {
-        let line = name_line(place == usize::from(default_entry), entry.name.as_slice());
-        let _ = text.try_extend_from_slice(line.as_slice());
-    }
-    text
-}
-
-/// The names that stand behind a boot sector, a line each.
-#[tactic(auto, unfolding(crate::specs::Verdict::names_today, lilo_model::specs::Verdict::names_behind))]
-fn read_names<D: Disks>(disks: &mut D, boot: &BootSector) -> Result<Listing, Halt>
-    requires table { length boot.now.table.items ≡ 3 }
-    requires slots { All IsOneSector boot.now.table.items }
-    requires names { boot.now.names ≤ 19 }
-    ensures names { Told (D.past disks.old) (λ now. GivesToday (λ text. text.items) result
-        (names_today now (machine_of (D.size_of disks.old) (D.geometry_of disks.old)) (boot_view boot.now))) }
-    ensures same { SameDisks D.past D.size_of D.count_of D.geometry_of disks.old disks.new }
-    ensures later { D.faults disks.old ≤ D.faults disks.new }
-    ensures device { IsErrOf result Halt.Device → Rose (D.faults disks.old) (D.faults disks.new) }
-{
-    if !are_numbered(boot.table.as_slice()) {
-        return Err(Halt::NotBuilt);
-    }
-    let mut sectors = [[0; 512]; 3];
-    read_slots(disks, boot.table.as_slice(), &mut sectors)?;
-    match Table::read(boot, &sectors) {
-        Ok(table) => Ok(listing(boot.default_entry, &table)),
-        Err(fault) => Err(Halt::Refused(refusal_of(fault))),
-    }
-}
-
-/// How `-q` tells what is wrong with a map.
-fn refusal_of(fault: MapFault) -> Refusal
-    ensures { refusal_view result ≡ map_refusal (map_fault_view fault) }
-{
-    match fault {
-        MapFault::NotOurs | MapFault::BadVersion(_) => Refusal::NotOurs,
-        MapFault::BadTable(entry) => Refusal::BadTable(entry),
-        MapFault::BadLine => Refusal::BadLine,
-    }
-}
-
-/// What `-q` prints.
-fn query<D: Disks>(words: &Words, disks: &mut D) -> Result<Listing, Halt>
-    ensures names { Told (D.past disks.old) (λ now. GivesToday (λ text. text.items) result
-        (names_for now (machine_of (D.size_of disks.old) (D.geometry_of disks.old)) (queried_disk words.now))) }
-    ensures unbuilt { IsNone (queried_disk words.now) → result ≡ Err Halt.NotBuilt }
-    ensures no_disk { (disk : ℕ) → queried_disk words.now ≡ Some disk → D.size_of disks.old disk ≡ 0
-        → result ≡ Err (Halt.Refused Refusal.NoDisk) }
-    ensures same { SameDisks D.past D.size_of D.count_of D.geometry_of disks.old disks.new }
-    ensures later { D.faults disks.old ≤ D.faults disks.new }
-    ensures device { IsErrOf result Halt.Device → Rose (D.faults disks.old) (D.faults disks.new) }
-{
-    let Some(disk) = queried_disk(words) else {
-        return Err(Halt::NotBuilt);
-    };
-    query_disk(disks, disk)
-}
-
-/// What `-q` prints of a whole disk.
-#[tactic(auto, unfolding(crate::specs::Verdict::disk_names, crate::specs::Verdict::names_today, lilo_model::specs::Verdict::names_text))]
-fn query_disk<D: Disks>(disks: &mut D, disk: u8) -> Result<Listing, Halt>
-    ensures names { Told (D.past disks.old) (λ now. GivesToday (λ text. text.items) result
-        (disk_names now (machine_of (D.size_of disks.old) (D.geometry_of disks.old)) disk)) }
-    ensures no_disk { D.size_of disks.old disk ≡ 0 → result ≡ Err (Halt.Refused Refusal.NoDisk) }
-    ensures same { SameDisks D.past D.size_of D.count_of D.geometry_of disks.old disks.new }
-    ensures later { D.faults disks.old ≤ D.faults disks.new }
-    ensures device { IsErrOf result Halt.Device → Rose (D.faults disks.old) (D.faults disks.new) }
-{
-    if disks.size(disk) == 0 {
-        return Err(Halt::Refused(Refusal::NoDisk));
-    }
-    let boot = read_boot(disks, disk)?;
-    read_names(disks, &boot)
-}
-
-/// The boot sector of a disk that is there.
-fn read_boot<D: Disks>(disks: &mut D, disk: u8) -> Result<BootSector, Halt>
-    requires { 1 ≤ D.size_of disks.old disk }
-    ensures boot { Told (D.past disks.old) (λ now. Gives boot_view result (with_fault map_refusal (boot_at (now disk 0)))) }
-    ensures table { IfOk result (λ boot. length boot.table.items ≡ 3) }
-    ensures slots { IfOk result (λ boot. All IsOneSector boot.table.items) }
-    ensures names { IfOk result (λ boot. boot.names ≤ 19) }
-    ensures same { SameDisks D.past D.size_of D.count_of D.geometry_of disks.old disks.new }
-    ensures later { D.faults disks.old ≤ D.faults disks.new }
-    ensures device { IsErrOf result Halt.Device → Rose (D.faults disks.old) (D.faults disks.new) }
-{
-    let mut sector = [0; 512];
-    if disks.read(disk, 0, &mut sector).is_err() {
-        return Err(Halt::Device);
-    }
-    match BootSector::read(&sector) {
-        Ok(boot) => Ok(boot),
-        Err(fault) => Err(Halt::Refused(refusal_of(fault))),
-    }
-}
-
-/// Carries out the words `-q DISK`: prints the names behind the boot sector of a whole disk, a line each,
-/// with ` *` after the default's, and answers the exit status.
+/// Carries out words, and answers the exit status. Words are parts with a `--then` between each two, which are carried
+/// out in order until one answers other than 0.
+///
+/// `-q DEVICE` prints the names behind the boot sector of a device, a line each, with ` *` after the default's.
+/// `boot DEVICE` boots it, by [`loader_core::boot`], and with `--dump` tells what was put into memory. The options
+/// `-C`, `--root` and `-v` before these have no effect. What else the grammar has isn't built yet.
 ///
 /// | status | comes | text |
 /// |---|---|---|
-/// | 0 | done | the names |
-/// | 3 | the disk isn't there | `lilo: volume: no disk` |
-/// | 6 | its boot sector is foreign, or of another version | `lilo: not ours` |
-/// | 7 | the map is refused | `lilo: boot: bad table N`, `lilo: boot: not found` |
+/// | 0 | done | the names; what the boot shows, and the memory |
+/// | 1 | the words aren't in the grammar | `lilo: usage: WORD`, or `(end)` |
+/// | 3 | the device isn't found | `lilo: volume: no disk`, `no partition` or `table` |
+/// | 6 | `-q` finds a foreign boot sector, or one of another version | `lilo: not ours` |
+/// | 7 | the boot is refused, or the map is | `lilo: boot: REASON` |
 /// | 8 | a disk failed | `lilo: device` |
 /// | 12 | the sink failed, and the status would be 0 | |
-/// | 15 | the words are others, or a table slot has no sector number | `lilo: not built` |
+/// | 15 | the part isn't built yet, or the boot isn't | `lilo: not built` |
 ///
-/// No disk is written, no key is taken, the memory stays, and nothing is allocated.
-#[tactic(auto, unfolding(crate::specs::Verdict::verdict))]
+/// Once the sink failed nothing more is put, and the run goes on. No disk is written, no key is taken, and nothing is
+/// allocated.
+#[tactic(auto, unfolding(crate::specs::Verdict::effect_of))]
 pub fn lilo<D: Disks, I: Source, O: Sink>(
     alloc: Global,
     words: &Words,
@@ -245,51 +56,145 @@ pub fn lilo<D: Disks, I: Source, O: Sink>(
     now: u32,
 ) -> u8
     // Where the disks tell what they hold, the status is the verdict's, but for faults.
-    ensures status { Told (D.past disks.old) (λ now. Answers (verdict now (machine_of (D.size_of disks.old) (D.geometry_of disks.old)) words.now) result) }
+    ensures status { Told (D.past disks.old) (λ now. Answers
+        (effect_of now (machine_of (D.size_of disks.old) (D.geometry_of disks.old)) (length ram.old) words.now).verdict result) }
     ensures device { result ≡ 8 → Rose (D.faults disks.old) (D.faults disks.new) }
     ensures sink { result ≡ 12 → Rose (O.faults out.old) (O.faults out.new) }
 
-    // The text is the verdict's, or the line of a device's fault. Only a failed sink may have cut it short.
-    ensures text { Told (D.past disks.old) (λ now. Prints (O.taken out.old) (printed (verdict now (machine_of (D.size_of disks.old) (D.geometry_of disks.old)) words.now) result) (O.taken out.new) (O.faults out.old) (O.faults out.new)) }
-    ensures whole { result ≡ 0 → Told (D.past disks.old) (λ now. Takes (O.taken out.old) (verdict now (machine_of (D.size_of disks.old) (D.geometry_of disks.old)) words.now).text (O.taken out.new)) }
+    // The text goes with the status. Only a failed sink may have cut it short.
+    ensures text { Told (D.past disks.old) (λ now. Tells
+        (effect_of now (machine_of (D.size_of disks.old) (D.geometry_of disks.old)) (length ram.old) words.now) result
+        (O.taken out.old) (O.taken out.new) (O.faults out.old) (O.faults out.new)) }
+    ensures whole { result ≡ 0 → Told (D.past disks.old) (λ now. Takes (O.taken out.old)
+        (effect_of now (machine_of (D.size_of disks.old) (D.geometry_of disks.old)) (length ram.old) words.now).verdict.text (O.taken out.new)) }
 
-    // Whatever the disks tell, these are the statuses, and two of them have their cause in the words and sizes.
+    // Outside what isn't built yet, a boot by itself has the model's verdict, for all keys.
+    ensures boot { (device : Device) (dump : Bool) (keys : List Key) → IsBootRun words.now device dump
+        → Told (D.past disks.old) (λ now. let machine = machine_of (D.size_of disks.old) (D.geometry_of disks.old) in
+        (IsUnbuiltAt now machine (length ram.old) (place_at now machine device) → ⊥)
+        → Tells (plain_effect (boot_verdict now machine (place_at now machine device) dump keys (length ram.old)) (effect_of now machine (length ram.old) words.now).failures)
+        result (O.taken out.old) (O.taken out.new) (O.faults out.old) (O.faults out.new)) }
+
+    // Words that aren't in the grammar, whatever the disks tell.
+    ensures usage { (result ≡ 1) ↔ IsErr (run_at words.now) }
+    ensures usage_line { IsErr (run_at words.now) → Prints (O.taken out.old) (usage_text words.now) (O.taken out.new) (O.faults out.old) (O.faults out.new) }
+
+    // Whatever the disks tell, these are the statuses, and what isn't built or is of a disk without sectors is known.
     ensures statuses { IsTrue (is_status result) }
-    ensures unbuilt { IsNone (queried_disk words.now) → result ≡ 15 }
-    ensures no_disk { (disk : ℕ) → queried_disk words.now ≡ Some disk → D.size_of disks.old disk ≡ 0 → result ≡ 3 }
+    ensures early { IfSome (early_answer (D.size_of disks.old) (run_at words.now)) (λ status. result ≡ status) }
+
+    // Memory has what the boots put there, and without a boot it stays.
+    ensures memory { result ≡ 0 → Told (D.past disks.old) (λ now. memory_of ram.new ≡ memory_after (memory_of ram.old)
+        (effect_of now (machine_of (D.size_of disks.old) (D.geometry_of disks.old)) (length ram.old) words.now).written) }
+    ensures no_boot { IfOk (run_at words.now) (λ parts. has_boot parts ≡ false → ram.new ≡ ram.old) }
+    ensures no_run { IsErr (run_at words.now) → ram.new ≡ ram.old }
+    ensures size { length ram.new ≡ length ram.old }
 
     // Nothing else happens.
     ensures same { SameDisks D.past D.size_of D.count_of D.geometry_of disks.old disks.new }
     ensures keys { keys.new ≡ keys.old }
-    ensures memory { ram.new ≡ ram.old }
 {
-    match query(words, disks) {
-        Ok(text) => say_names(out, text.as_slice()),
-        Err(halt) => say_halt(out, halt),
+    let mut shown = Shown::new(out);
+    let mut bios = Bios { disks, keys };
+    let status = run_words(words, &mut bios, ram, &mut shown);
+    let sink_failed = shown.failed();
+    answer(status, sink_failed)
+}
+
+/// The status of a run, where the sink may have failed.
+fn answer(status: u8, sink_failed: bool) -> u8
+    ensures { result ≡ answer_of status sink_failed }
+{
+    if status == 0 && sink_failed {
+        12
+    } else {
+        status
     }
 }
 
-/// Prints the names. The status is 0, or 12 where the sink failed.
-fn say_names<O: Sink>(out: &mut O, text: &[u8]) -> u8
-    ensures status { (result ≡ 0) ⊎ (result ≡ 12) }
-    ensures whole { result ≡ 0 → Takes (O.taken out.old) text.now (O.taken out.new) }
-    ensures sink { result ≡ 12 → Rose (O.faults out.old) (O.faults out.new) }
-    ensures text { Prints (O.taken out.old) text.now (O.taken out.new) (O.faults out.old) (O.faults out.new) }
+/// Carries out words, and answers the status, whether or not the sink failed.
+#[tactic(auto, unfolding(crate::specs::Verdict::effect_of, crate::specs::Verdict::early_answer))]
+fn run_words<D: Disks, I: Source, O: Sink>(
+    words: &Words,
+    bios: &mut Bios<'_, D, I>,
+    ram: &mut Ram,
+    out: &mut Shown<'_, O>,
+) -> u8
+    ensures does { Told (D.past bios.old.disks.now) (λ now. let machine = machine_of (D.size_of bios.old.disks.now) (D.geometry_of bios.old.disks.now) in
+        Does (effect_of now machine (length ram.old) words.now) result (memory_of ram.old) (memory_of ram.new)
+        (state_of (O.taken out.old.out.now) (O.faults out.old.out.now) out.old.failed) (state_of (O.taken out.new.out.now) (O.faults out.new.out.now) out.new.failed)) }
+    ensures usage { (result ≡ 1) ↔ IsErr (run_at words.now) }
+    ensures usage_line { IsErr (run_at words.now) → Shows (state_of (O.taken out.old.out.now) (O.faults out.old.out.now) out.old.failed) (usage_text words.now)
+        (state_of (O.taken out.new.out.now) (O.faults out.new.out.now) out.new.failed) }
+    ensures early { IfSome (early_answer (D.size_of bios.old.disks.now) (run_at words.now)) (λ status. result ≡ status) }
+    ensures known { IsTrue (is_run_status result) }
+    ensures device { result ≡ 8 → Rose (D.faults bios.old.disks.now) (D.faults bios.new.disks.now) }
+    ensures later { D.faults bios.old.disks.now ≤ D.faults bios.new.disks.now }
+    ensures sink { HasFailed (state_of (O.taken out.old.out.now) (O.faults out.old.out.now) out.old.failed) (state_of (O.taken out.new.out.now) (O.faults out.new.out.now) out.new.failed) }
+    ensures memory { length ram.new ≡ length ram.old }
+    ensures no_boot { IfOk (run_at words.now) (λ parts. has_boot parts ≡ false → ram.new ≡ ram.old) }
+    ensures no_run { IsErr (run_at words.now) → ram.new ≡ ram.old }
+    ensures same { SameDisks D.past D.size_of D.count_of D.geometry_of bios.old.disks.now bios.new.disks.now }
+    ensures keys { bios.new.keys.now ≡ bios.old.keys.now }
+    ensures same_disks_reference { bios.new.disks.ghost_name ≡ bios.old.disks.ghost_name }
+    ensures same_keys_reference { bios.new.keys.ghost_name ≡ bios.old.keys.ghost_name }
+    ensures same_reference { out.new.out.ghost_name ≡ out.old.out.ghost_name }
 {
-    match out.put(text) {
-        Ok(()) => 0,
-        Err(SinkFailed) => 12,
+    match check(words) {
+        Ok(()) => run_parts(words, bios, ram, out),
+        Err(wrong) => {
+            say_usage(out, wrong.word(words));
+            1
+        }
     }
 }
 
-/// Prints the line that tells why a command ended, and gives its status.
-fn say_halt<O: Sink>(out: &mut O, halt: Halt) -> u8
-    ensures status { result ≡ (halt_verdict halt).status }
-    ensures text { Prints (O.taken out.old) (halt_verdict halt).text (O.taken out.new) (O.faults out.old) (O.faults out.new) }
+/// Carries out the parts of words in order, until one answers other than 0.
+fn run_parts<D: Disks, I: Source, O: Sink>(
+    words: &Words,
+    bios: &mut Bios<'_, D, I>,
+    ram: &mut Ram,
+    out: &mut Shown<'_, O>,
+) -> u8
+    requires { IsOk (run_behind words.now 0) }
+    ensures does { Told (D.past bios.old.disks.now) (λ now. let machine = machine_of (D.size_of bios.old.disks.now) (D.geometry_of bios.old.disks.now) in
+        Does (run_effect (command_effect now machine (length ram.old)) (parts_behind words.now 0)) result (memory_of ram.old) (memory_of ram.new)
+        (state_of (O.taken out.old.out.now) (O.faults out.old.out.now) out.old.failed) (state_of (O.taken out.new.out.now) (O.faults out.new.out.now) out.new.failed)) }
+    ensures early { IfSome (early_parts (D.size_of bios.old.disks.now) (parts_behind words.now 0)) (λ status. result ≡ status) }
+    ensures known { IsTrue (is_part_status result) }
+    ensures device { result ≡ 8 → Rose (D.faults bios.old.disks.now) (D.faults bios.new.disks.now) }
+    ensures later { D.faults bios.old.disks.now ≤ D.faults bios.new.disks.now }
+    ensures sink { HasFailed (state_of (O.taken out.old.out.now) (O.faults out.old.out.now) out.old.failed) (state_of (O.taken out.new.out.now) (O.faults out.new.out.now) out.new.failed) }
+    ensures memory { length ram.new ≡ length ram.old }
+    ensures no_boot { has_boot (parts_behind words.now 0) ≡ false → ram.new ≡ ram.old }
+    ensures same { SameDisks D.past D.size_of D.count_of D.geometry_of bios.old.disks.now bios.new.disks.now }
+    ensures keys { bios.new.keys.now ≡ bios.old.keys.now }
+    ensures same_disks_reference { bios.new.disks.ghost_name ≡ bios.old.disks.ghost_name }
+    ensures same_keys_reference { bios.new.keys.ghost_name ≡ bios.old.keys.ghost_name }
+    ensures same_reference { out.new.out.ghost_name ≡ out.old.out.ghost_name }
 {
-    // A line that the sink refused leaves the status as it is.
-    let _ = out.put(halt.line().as_slice());
-    halt.status()
+    let mut next = Some(0);
+    while let Some(from) = next {
+        let read = part_at(words, from);
+        let status = carry_out(read.part.command, bios, ram, out);
+        let is_last = status != 0;
+        if is_last {
+            return status;
+        }
+        next = read.next;
+    }
+    0
+}
+
+/// Shows the word of a command line that can't stand where it stands.
+fn say_usage<O: Sink>(out: &mut Shown<'_, O>, word: &str)
+    ensures shown { Shows (state_of (O.taken out.old.out.now) (O.faults out.old.out.now) out.old.failed) (codes "lilo: usage: " ++ word.now ++ codes "\n")
+        (state_of (O.taken out.new.out.now) (O.faults out.new.out.now) out.new.failed) }
+    ensures same_reference { out.new.out.ghost_name ≡ out.old.out.ghost_name }
+{
+    out.put(b"lilo: usage: ");
+    out.put(word.as_bytes());
+    out.put(b"\n");
 }
 
 #[cfg(test)]

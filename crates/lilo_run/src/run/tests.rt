@@ -1,6 +1,6 @@
-ghost use Rattle.std.specs.Prelude.{◌≡◌, []};
+ghost use Rattle.std.specs.Prelude.{◌≡◌, ◌≤◌, [], length};
 
-use crate::fixture::{LINUX, boot_sector};
+use crate::fixture::{LINUX, OPTIONS, SECTION, boot_sector, first_sector, second_sector};
 use crate::{Ram, lilo};
 use disk_trait::{Disks, Failing, Geometry, MemDisk, MemDisks};
 use sector_parts::{Sector, put_part};
@@ -8,29 +8,25 @@ use std::alloc::{AllocError, Global};
 use std::test::Fail;
 use stream_trait::{MemSink, MemSource, Words};
 
-// A run: one byte of the installation's disk is changed, and calls fail.
+// A run: one byte of the disk is changed, and calls fail.
 #[derive(Clone, Copy)]
 struct Case<'a> {
     words: &'a [&'a str],
-    // The changed byte, in the boot sector or, from 512 on, in the first sector of the table.
+    // The changed byte.
+    sector: u32,
     at: usize,
     byte: u8,
+    // Whether memory has more than a mebibyte.
+    is_large: bool,
     failing_calls: &'a [u64],
     failing_puts: &'a [u64],
     status: u8,
     text: &'a [u8],
 }
 
-// A disk of 4096 sectors with one name, whose boot sector and table are in the sectors 0 and 95 to 97.
+// A disk of 4096 sectors with one name, which boots without a key. Sector 600 has the table of an extended partition,
+// whose logical partition 5 begins at 610 with a boot sector, and a link that is another partition.
 fn installation(alloc: Global, case: &Case<'_>) -> Result<MemDisks, AllocError> {
-    let mut boot = boot_sector();
-    let mut table: Sector = [0; 512];
-    put_part(&mut table, 0, LINUX);
-    if case.at < 512 {
-        boot[case.at] = case.byte;
-    } else if case.at < 1024 {
-        table[case.at - 512] = case.byte;
-    }
     let mut failing = Vec::new(alloc);
     for call in case.failing_calls {
         failing.push(Failing {
@@ -46,22 +42,63 @@ fn installation(alloc: Global, case: &Case<'_>) -> Result<MemDisks, AllocError> 
         geometry,
     };
     let mut disks = MemDisks::new(alloc, &[disk], 0, failing.as_slice())?;
-    put_sector(&mut disks, 0, &boot);
-    put_sector(&mut disks, 95, &table);
+    let mut first = boot_sector();
+    put_part(
+        &mut first,
+        0x1BE,
+        b"\0\0\0\0\x05\0\0\0\x58\x02\0\0\xE8\x03\0\0",
+    );
+    put_sector(&mut disks, case, 0, &first);
+    put_text(&mut disks, case, 94, b"LINE");
+    put_text(&mut disks, case, 95, LINUX);
+    put_text(&mut disks, case, 99, OPTIONS);
+    put_text(&mut disks, case, 100, SECTION);
+    put_sector(&mut disks, case, 82, &first_sector());
+    put_sector(&mut disks, case, 83, &second_sector());
+    put_text(&mut disks, case, 84, b"HELLO");
+    put_sector(&mut disks, case, 600, &logical_table());
+    put_sector(&mut disks, case, 610, &boot_sector());
     Ok(disks)
 }
 
-fn put_sector(disks: &mut MemDisks, sector: u32, bytes: &Sector)
+// A table with a partition of 20 sectors from its tenth on. Its second entry is a link to this very table, of no
+// sectors as it stands.
+fn logical_table() -> Sector {
+    let mut sector = [0; 512];
+    put_part(
+        &mut sector,
+        0x1BE,
+        b"\0\0\0\0\x83\0\0\0\x0A\0\0\0\x14\0\0\0\0\0\0\0\x05",
+    );
+    put_part(&mut sector, 0x1FE, b"\x55\xAA");
+    sector
+}
+
+fn put_text(disks: &mut MemDisks, case: &Case<'_>, number: u32, text: &[u8])
+    requires none { disks.old.events ≡ [] }
+    requires short { length text.now ≤ 512 }
+    ensures { disks.new.events ≡ [] }
+{
+    let mut sector = [0; 512];
+    put_part(&mut sector, 0, text);
+    put_sector(disks, case, number, &sector);
+}
+
+fn put_sector(disks: &mut MemDisks, case: &Case<'_>, number: u32, bytes: &Sector)
     requires { disks.old.events ≡ [] }
     ensures { disks.new.events ≡ [] }
 {
-    if u64::from(sector) < disks.size(0) {
-        disks.set(0, sector, bytes);
+    let mut sector = *bytes;
+    if number == case.sector && case.at < 512 {
+        sector[case.at] = case.byte;
+    }
+    if u64::from(number) < disks.size(0) {
+        disks.set(0, number, &sector);
     }
 }
 
-// Runs a case, and gives the status and whether the text is the one that is wanted.
-fn run(alloc: Global, case: &Case<'_>) -> Result<(u8, bool), AllocError> {
+// Runs a case, and gives the status and the text.
+fn answer(alloc: Global, case: &Case<'_>) -> Result<(u8, Vec<u8>), AllocError> {
     let mut words = Words::new(alloc);
     for word in case.words {
         words.push(alloc, word)?;
@@ -69,94 +106,116 @@ fn run(alloc: Global, case: &Case<'_>) -> Result<(u8, bool), AllocError> {
     let mut disks = installation(alloc, case)?;
     let mut keys = MemSource::new(alloc, b"", &[])?;
     let mut out = MemSink::new(alloc, 4096, case.failing_puts)?;
-    let mut ram = Ram::new(alloc, 1_048_576)?;
+    let memory = if case.is_large { 2_097_152 } else { 1_048_576 };
+    let mut ram = Ram::new(alloc, memory)?;
     let status = lilo(alloc, &words, &mut disks, &mut keys, &mut out, &mut ram, 0);
-    Ok((status, out.bytes() == case.text))
+    Ok((status, Vec::from_slice(alloc, out.bytes())?))
+}
+
+// Runs a case, and gives the status and whether the text is the one that is wanted.
+fn run(alloc: Global, case: &Case<'_>) -> Result<(u8, bool), AllocError> {
+    let (status, text) = answer(alloc, case)?;
+    Ok((status, text.as_slice() == case.text))
 }
 
 const QUERY: &[&str] = &["-q", "/dev/hda"];
 
+const BOOT: &[&str] = &["boot", "/dev/hda", "--dump"];
+
 // The installation as it is.
 const WHOLE: Case<'static> = Case {
     words: QUERY,
-    at: 1024,
+    sector: 0,
+    at: 512,
     byte: 0,
+    is_large: true,
     failing_calls: &[],
     failing_puts: &[],
     status: 0,
     text: b"linux *\n",
 };
 
+const LISTS: [Case<'static>; 11] = [
+    WHOLE,
+    // A foreign sector, another version, twenty names, and a table slot to sector 4096.
+    Case {
+        at: 0,
+        byte: 0,
+        status: 6,
+        text: b"lilo: not ours\n",
+        ..WHOLE
+    },
+    Case {
+        at: 6,
+        byte: 3,
+        status: 6,
+        text: b"lilo: not ours\n",
+        ..WHOLE
+    },
+    Case {
+        at: 0x12,
+        byte: 20,
+        status: 7,
+        text: b"lilo: boot: bad table 255\n",
+        ..WHOLE
+    },
+    Case {
+        at: 0x35,
+        byte: 16,
+        status: 7,
+        text: b"lilo: boot: not found\n",
+        ..WHOLE
+    },
+    // A table slot that counts sectors from the start of the disk.
+    Case {
+        at: 0x38,
+        byte: 2,
+        status: 0,
+        text: b"linux *\n",
+        ..WHOLE
+    },
+    // An entry with lock and fallback.
+    Case {
+        sector: 95,
+        at: 16,
+        byte: 0x18,
+        status: 7,
+        text: b"lilo: boot: bad table 0\n",
+        ..WHOLE
+    },
+    // A logical partition, one that isn't there, a chain that comes back to its table, and a disk that isn't there.
+    Case {
+        words: &["-q", "/dev/hda5"],
+        status: 0,
+        text: b"linux *\n",
+        ..WHOLE
+    },
+    Case {
+        words: &["-q", "/dev/hda9"],
+        status: 3,
+        text: b"lilo: volume: no partition\n",
+        ..WHOLE
+    },
+    Case {
+        words: &["-q", "/dev/hda5"],
+        sector: 600,
+        at: 0x1DA,
+        byte: 1,
+        status: 3,
+        text: b"lilo: volume: table\n",
+        ..WHOLE
+    },
+    Case {
+        words: &["-q", "/dev/hdb"],
+        status: 3,
+        text: b"lilo: volume: no disk\n",
+        ..WHOLE
+    },
+];
+
 #[test]
 fn names_are_listed_or_refused(rt: HostRuntime) -> Result<(), Fail> {
-    let not_ours = b"lilo: not ours\n";
-    let not_built = b"lilo: not built\n";
-    for case in [
-        WHOLE,
-        // A foreign sector, and another version.
-        Case {
-            at: 0,
-            byte: 0,
-            status: 6,
-            text: not_ours,
-            ..WHOLE
-        },
-        Case {
-            at: 6,
-            byte: 3,
-            status: 6,
-            text: not_ours,
-            ..WHOLE
-        },
-        // Twenty names, an entry with lock and fallback, and a table slot to sector 4096.
-        Case {
-            at: 0x12,
-            byte: 20,
-            status: 7,
-            text: b"lilo: boot: bad table 255\n",
-            ..WHOLE
-        },
-        Case {
-            at: 512 + 16,
-            byte: 0x58,
-            status: 7,
-            text: b"lilo: boot: bad table 0\n",
-            ..WHOLE
-        },
-        Case {
-            at: 0x35,
-            byte: 16,
-            status: 7,
-            text: b"lilo: boot: not found\n",
-            ..WHOLE
-        },
-        // A disk that isn't there, other words, and a table slot of another mode.
-        Case {
-            words: &["-q", "/dev/hdb"],
-            status: 3,
-            text: b"lilo: volume: no disk\n",
-            ..WHOLE
-        },
-        Case {
-            words: &["-x"],
-            status: 15,
-            text: not_built,
-            ..WHOLE
-        },
-        Case {
-            words: &["-q", "/dev/hda1"],
-            status: 15,
-            text: not_built,
-            ..WHOLE
-        },
-        Case {
-            at: 0x38,
-            byte: 2,
-            status: 15,
-            text: not_built,
-            ..WHOLE
-        },
-    ] {
+    for case in LISTS {
         let (status, as_wanted) = run(rt.alloc(), &case)?;
         assert_eq!(rt; status, case.status, "byte {} of {:?}", case.at, case.words);
         assert!(rt; as_wanted, "byte {} of {:?}", case.at, case.words);
@@ -164,46 +223,239 @@ fn names_are_listed_or_refused(rt: HostRuntime) -> Result<(), Fail> {
     Ok(())
 }
 
+const RUNS: [Case<'static>; 10] = [
+    Case {
+        words: &["-x"],
+        status: 1,
+        text: b"lilo: usage: -x\n",
+        ..WHOLE
+    },
+    Case {
+        words: &["-u"],
+        status: 1,
+        text: b"lilo: usage: (end)\n",
+        ..WHOLE
+    },
+    // Words that aren't in the grammar keep the part before them from running.
+    Case {
+        words: &["-q", "/dev/hda", "--then", "-q", "x"],
+        status: 1,
+        text: b"lilo: usage: x\n",
+        ..WHOLE
+    },
+    Case {
+        words: &[
+            "-q",
+            "/dev/hda",
+            "--then",
+            "-C",
+            "/a",
+            "-v",
+            "--root",
+            "/dev/hdb",
+            "-q",
+            "/dev/hda5",
+        ],
+        status: 0,
+        text: b"linux *\nlinux *\n",
+        ..WHOLE
+    },
+    Case {
+        words: &["-q", "/dev/hdb", "--then", "-q", "/dev/hda"],
+        status: 3,
+        text: b"lilo: volume: no disk\n",
+        ..WHOLE
+    },
+    Case {
+        words: &["-q", "/dev/hda", "--then", "-t"],
+        status: 15,
+        text: b"linux *\nlilo: not built\n",
+        ..WHOLE
+    },
+    Case {
+        words: &[],
+        status: 15,
+        text: b"lilo: not built\n",
+        ..WHOLE
+    },
+    Case {
+        words: &["-q"],
+        status: 15,
+        text: b"lilo: not built\n",
+        ..WHOLE
+    },
+    Case {
+        words: &["-R", "linux"],
+        status: 15,
+        text: b"lilo: not built\n",
+        ..WHOLE
+    },
+    Case {
+        words: &["-u", "/dev/hda"],
+        status: 15,
+        text: b"lilo: not built\n",
+        ..WHOLE
+    },
+];
+
+#[test]
+fn parts_run_in_order(rt: HostRuntime) -> Result<(), Fail> {
+    for case in RUNS {
+        let (status, as_wanted) = run(rt.alloc(), &case)?;
+        assert_eq!(rt; status, case.status, "{:?}", case.words);
+        assert!(rt; as_wanted, "{:?}", case.words);
+    }
+    Ok(())
+}
+
+#[test]
+fn a_boot_tells_the_memory(rt: HostRuntime) -> Result<(), Fail> {
+    let (status, text) = answer(
+        rt.alloc(),
+        &Case {
+            words: BOOT,
+            status: 0,
+            text: b"",
+            ..WHOLE
+        },
+    )?;
+    assert_eq!(rt; status, 0);
+    assert_eq!(rt; text.len(), 2217);
+    assert!(rt; text.starts_with(b"LILO\nLoading linux\n00090000 1024\n"));
+    assert!(rt;
+        text.ends_with(
+            b"\n00100000 5\n48454c4c4f\n00099800 34\n6175746f20424f4f545f494d4147453d6c696e757820726f20726f6f743d3330\n3100\n"
+        )
+    );
+    // A foreign boot sector.
+    let foreign = Case {
+        words: BOOT,
+        at: 0,
+        byte: 0,
+        status: 0,
+        text: b"",
+        ..WHOLE
+    };
+    let (status, text) = answer(rt.alloc(), &foreign)?;
+    assert_eq!(rt; status, 0);
+    assert_eq!(rt; text.len(), 1053);
+    assert!(rt; text.starts_with(b"00007c00 512\n007e4c494c4f0100"));
+    Ok(())
+}
+
+const BOOTS: [Case<'static>; 6] = [
+    // The third slot of the section, a memory that is too small, and no boot sector at all.
+    Case {
+        words: BOOT,
+        sector: 100,
+        at: 16,
+        byte: 0,
+        status: 7,
+        text: b"LILO\nLoading linux\nError\nlilo: boot: bad slot 2\n",
+        ..WHOLE
+    },
+    Case {
+        is_large: false,
+        words: BOOT,
+        status: 7,
+        text: b"LILO\nLoading linux\nError\nlilo: boot: no room: need 1048581, have 1048576\n",
+        ..WHOLE
+    },
+    Case {
+        words: BOOT,
+        at: 511,
+        byte: 0,
+        status: 7,
+        text: b"lilo: boot: not bootable\n",
+        ..WHOLE
+    },
+    // A prompt isn't built, and the part behind the boot doesn't run.
+    Case {
+        words: &["boot", "/dev/hda", "--then", "-q", "/dev/hda"],
+        at: 0x0C,
+        byte: 1,
+        status: 15,
+        text: b"LILO\nlilo: not built\n",
+        ..WHOLE
+    },
+    Case {
+        words: &["boot", "/dev/hda", "--then", "-q", "/dev/hda"],
+        status: 0,
+        text: b"LILO\nLoading linux\nlinux *\n",
+        ..WHOLE
+    },
+    // The read of the second table sector fails.
+    Case {
+        failing_calls: &[2],
+        words: BOOT,
+        status: 8,
+        text: b"L 80\nlilo: device\n",
+        ..WHOLE
+    },
+];
+
+#[test]
+fn boots_are_refused(rt: HostRuntime) -> Result<(), Fail> {
+    for case in BOOTS {
+        let (status, as_wanted) = run(rt.alloc(), &case)?;
+        assert_eq!(rt; status, case.status, "byte {} of {:?}", case.at, case.words);
+        assert!(rt; as_wanted, "byte {} of {:?}", case.at, case.words);
+    }
+    Ok(())
+}
+
+const FAULTS: [Case<'static>; 7] = [
+    Case {
+        failing_calls: &[0],
+        words: QUERY,
+        status: 8,
+        text: b"lilo: device\n",
+        ..WHOLE
+    },
+    Case {
+        failing_calls: &[3],
+        words: QUERY,
+        status: 8,
+        text: b"lilo: device\n",
+        ..WHOLE
+    },
+    // There is no fifth call, and no second text.
+    Case {
+        failing_calls: &[4],
+        ..WHOLE
+    },
+    Case {
+        failing_puts: &[1],
+        ..WHOLE
+    },
+    Case {
+        failing_puts: &[0],
+        words: QUERY,
+        status: 12,
+        text: b"",
+        ..WHOLE
+    },
+    // A line that can't be shown leaves its status, and a part behind one whose text failed runs.
+    Case {
+        failing_puts: &[0],
+        at: 0,
+        byte: 0,
+        status: 6,
+        text: b"",
+        ..WHOLE
+    },
+    Case {
+        failing_puts: &[0],
+        words: &["-q", "/dev/hda", "--then", "-q", "/dev/hdb"],
+        status: 3,
+        text: b"",
+        ..WHOLE
+    },
+];
+
 #[test]
 fn four_sectors_are_read_and_one_text_is_put(rt: HostRuntime) -> Result<(), Fail> {
-    let device = b"lilo: device\n";
-    for case in [
-        Case {
-            failing_calls: &[0],
-            status: 8,
-            text: device,
-            ..WHOLE
-        },
-        Case {
-            failing_calls: &[3],
-            status: 8,
-            text: device,
-            ..WHOLE
-        },
-        // There is no fifth call, and no second text.
-        Case {
-            failing_calls: &[4],
-            ..WHOLE
-        },
-        Case {
-            failing_puts: &[1],
-            ..WHOLE
-        },
-        Case {
-            failing_puts: &[0],
-            status: 12,
-            text: b"",
-            ..WHOLE
-        },
-        // A line that can't be shown leaves its status.
-        Case {
-            failing_puts: &[0],
-            at: 0,
-            status: 6,
-            text: b"",
-            ..WHOLE
-        },
-    ] {
+    for case in FAULTS {
         let (status, as_wanted) = run(rt.alloc(), &case)?;
         assert_eq!(rt; status, case.status, "calls {:?}", case.failing_calls);
         assert!(rt; as_wanted, "calls {:?}", case.failing_calls);

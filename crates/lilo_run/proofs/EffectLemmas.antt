@@ -1,0 +1,200 @@
+-- Commands one after another, and how a boot ends.
+use Rattle.std.proofs.Common.{◌≡◌, ◌≤◌, ◌≢◌, ◌∙◌, ◌==◌, ℕ, inl, inr, Bool, true, false, List, [], ◌∷◌, ◌++◌, map, length, Option, None, Some, Result, Ok, Err, refl, sym, ap, subst, arith, append-nil}
+use Rattle.std.proofs.lemmas.Bool.{ne_eqb}
+use Rattle.lilo_model.specs.Boot as boots
+use Rattle.lilo_model.specs.Disks.{Image, Machine, Span}
+use Rattle.lilo_model.specs.Place.{Memory, Written, with_bytes, memory_after}
+use Rattle.lilo_model.specs.Refusal.{DeviceFault}
+use Rattle.lilo_model.specs.Verdict.{start_check, told_regions}
+use Rattle.lilo_model.specs.Words.{Command, Part}
+use Rattle.bios_model.specs.Memory.{memory_of}
+use Rattle.setup_header.specs.declared.layout.Layout.{Layout}
+use Rattle.setup_header.specs.declared.layout.Region.{Region}
+use Rattle.setup_header.specs.View.{layout_view, region_view}
+use Rattle.loader_core.specs.Kernel.{regions_in, optional_region, region_in}
+use Rattle.loader_core.specs.Reading.{Why}
+use Rattle.loader_core.specs.Shows.{SinkState, Shows, ShowsOne}
+use Rattle.loader_core.specs.Start.{Reports, result_of}
+use Rattle.loader_core.specs.Today.{Report, boot_today}
+use Rattle.loader_core.specs.View.{reason_view, started_view}
+use Rattle.loader_core.specs.declared.outcome.Reason.{Reason}
+use Rattle.loader_core.specs.declared.outcome.Outcome.TheVariants as outcomes
+use Rattle.loader_core.proofs.ShowsLemmas.{shows_join, shows_nothing, shows_one_join}
+use Rattle.lilo_run.specs.Dump as dumps
+use Rattle.lilo_run.specs.Refusal.{device_failed, halt_verdict, why_verdict}
+use Rattle.lilo_run.specs.Run.{IsDone, IsFailed, Does, HaltsAt}
+use Rattle.lilo_run.specs.Verdict.{Effect, report_effect, boot_effect, regions_text, then_effect, effect_behind, run_effect}
+use Rattle.lilo_run.specs.declared.refusal.Halt.{Halt}
+use Rattle.lilo_run.specs.declared.refusal.Halt.TheVariants.{Device, NotBuilt, NoPlace, NotOurs, Boot}
+
+-- ---- texts
+
+-- one of some texts, and then another
+pub shows_one_then :
+    (a b c : SinkState) (texts : List (List ℕ)) (other : List ℕ) → ShowsOne a texts b → Shows b other c
+    → ShowsOne a (map (λ text. text ++ other) texts) c
+shows_one_then a b c [] other first second = first
+shows_one_then a b c (text ∷ texts) other (inl shown) second = inl (shows_join a b c text other shown second)
+shows_one_then a b c (text ∷ texts) other (inr shown) second = inr (shows_one_then a b c texts other shown second)
+
+shows_one_left : (a b : SinkState) (texts others : List (List ℕ)) → ShowsOne a texts b → ShowsOne a (texts ++ others) b
+shows_one_left a b [] others shown = absurd shown
+shows_one_left a b (text ∷ texts) others (inl shown) = inl shown
+shows_one_left a b (text ∷ texts) others (inr shown) = inr (shows_one_left a b texts others shown)
+
+shows_one_right : (a b : SinkState) (texts others : List (List ℕ)) → ShowsOne a others b → ShowsOne a (texts ++ others) b
+shows_one_right a b [] others shown = shown
+shows_one_right a b (text ∷ texts) others shown = inr (shows_one_right a b texts others shown)
+
+-- ---- memory
+
+memory_after-append :
+    (memory : Memory) (one other : List Written)
+    → memory_after memory (one ++ other) ≡ memory_after (memory_after memory one) other
+memory_after-append memory [] other = refl
+memory_after-append memory (first ∷ one) other = memory_after-append (with_bytes memory first) one other
+
+-- ---- a boot
+
+regions_same_by :
+    (ram : List ℕ) (real protected line : Region) (initrd : Option Region)
+    → regions_in ram (layout_view (record { real = real; protected = protected; initrd = initrd; line = line }))
+    ≡ dumps.regions_of (record { real = real; protected = protected; initrd = initrd; line = line }) ram
+unfolding regions_in
+regions_same_by ram real protected line None = refl
+regions_same_by ram real protected line (Some initrd) = refl
+
+-- the regions that are told are those that the loader speaks of
+pub regions_same : (ram : List ℕ) (layout : Layout) → regions_in ram (layout_view layout) ≡ dumps.regions_of layout ram
+regions_same ram layout = regions_same_by ram layout.real layout.protected layout.line layout.initrd
+
+-- something was started, and is told of
+boot_done :
+    (dump : Bool) (report : Report) (outcome : boots.Outcome) (written regions : List Written) (memory memory' : Memory)
+    (old mid new : SinkState)
+    → report.result ≡ Ok (record { outcome = outcome; written = written }) → start_check outcome ≡ Ok tt
+    → memory' ≡ memory_after memory written
+    → told_regions outcome written ≡ regions → Shows old report.shown mid → Shows mid (regions_text dump regions) new
+    → Does (report_effect dump report) 0 memory memory' old new
+unfolding report_effect
+boot_done dump report outcome written regions memory memory' old mid new is started placed held shown told =
+    rw (is, started, held)
+    (inl (record {
+      answer = refl;
+      shown = shows_join old mid new report.shown (regions_text dump regions) shown told;
+      placed = λ done. placed;
+    }))
+
+pub boot_loaded :
+    (dump : Bool) (report : Report) (layout : Layout) (memory : Memory) (ram : List ℕ) (old mid new : SinkState)
+    → Reports report (result_of (outcomes.Loaded layout)) memory ram old mid
+    → Shows mid (regions_text dump (dumps.regions_of layout ram)) new
+    → Does (report_effect dump report) 0 memory (memory_of ram) old new
+boot_loaded dump report layout memory ram old mid new reports told =
+    boot_done dump report (boots.Loaded (layout_view layout)) reports.starts.written (dumps.regions_of layout ram) memory (memory_of ram) old mid new
+    reports.starts.is refl reports.starts.placed (reports.starts.held ∙ regions_same ram layout) reports.shows told
+
+pub boot_handed :
+    (dump : Bool) (report : Report) (memory : Memory) (ram : List ℕ) (old mid new : SinkState)
+    → Reports report (result_of outcomes.Handed) memory ram old mid
+    → Shows mid (regions_text dump (dumps.boot_sector_in ram ∷ [])) new
+    → Does (report_effect dump report) 0 memory (memory_of ram) old new
+boot_handed dump report memory ram old mid new reports told =
+    boot_done dump report boots.Handed reports.starts.written (dumps.boot_sector_in ram ∷ []) memory (memory_of ram) old mid new
+    reports.starts.is refl reports.starts.placed reports.starts.held reports.shows told
+
+-- nothing was started
+pub boot_refused :
+    (dump : Bool) (report : Report) (reason : Reason) (status : ℕ) (memory memory' : Memory) (ram : List ℕ)
+    (old mid new : SinkState)
+    → Reports report (result_of (outcomes.Refused reason)) memory ram old mid
+    → status ≡ (halt_verdict (Boot reason)).status → 1 ≤ status → Shows mid (halt_verdict (Boot reason)).text new
+    → Does (report_effect dump report) status memory memory' old new
+unfolding report_effect
+boot_refused dump report reason status memory memory' ram old mid new reports answer some told =
+    rw reports.starts
+    (inl (record {
+      answer = answer;
+      shown = shows_join old mid new report.shown (why_verdict (reason_view reason)).text reports.shows told;
+      placed = λ zero. absurd (omega (arith, zero, some));
+    }))
+
+-- a disk failed
+pub boot_failed :
+    (dump : Bool) (report : Report) (status : ℕ) (memory memory' : Memory) (ram : List ℕ) (old mid new : SinkState)
+    → Reports report (result_of outcomes.Keys) memory ram old mid → status ≡ 8 → Shows mid device_failed.text new
+    → Does (report_effect dump report) status memory memory' old new
+unfolding report_effect
+boot_failed dump report status memory memory' ram old mid new reports answer told =
+    inr (record { answer = answer; shown = shows_one_then old mid new report.device device_failed.text reports.shows told })
+
+-- no device was found
+pub place_failed :
+    (now : Image) (machine : Machine) (size : ℕ) (dump : Bool) (place : Result Span DeviceFault) (halt : Halt)
+    (status : ℕ) (memory : Memory) (old new : SinkState)
+    → HaltsAt halt place → status ≡ (halt_verdict halt).status → 1 ≤ status → Shows old (halt_verdict halt).text new
+    → Does (boot_effect now machine size dump place) status memory memory old new
+unfolding boot_effect report_effect boot_today
+place_failed now machine size dump (Ok span) Device status memory old new halts answer some told =
+    inr (record { answer = answer; shown = inl told })
+place_failed now machine size dump (Err fault) Device status memory old new halts answer some told =
+    inr (record { answer = answer; shown = inl told })
+place_failed now machine size dump place (NoPlace fault) status memory old new halts answer some told =
+    rw halts (inl (record { answer = answer; shown = told; placed = λ zero. absurd (omega (arith, zero, some)) }))
+place_failed now machine size dump place NotBuilt status memory old new halts answer some told = absurd halts
+place_failed now machine size dump place NotOurs status memory old new halts answer some told = absurd halts
+place_failed now machine size dump place (Boot reason) status memory old new halts answer some told = absurd halts
+
+-- ---- a run
+
+zero_not_eight : ◌≡◌ {A = ℕ} 0 8 → ⊥
+zero_not_eight is = omega (arith, is)
+
+does_then_by :
+    (first rest : Effect) (status : ℕ) (m0 m1 m2 : Memory) (old mid new : SinkState)
+    → IsDone first 0 m0 m1 old mid → Does rest status m1 m2 mid new
+    → Does (effect_behind first rest) status m0 m2 old new
+does_then_by first rest status m0 m1 m2 old mid new done (inl behind) =
+    inl (record {
+      answer = behind.answer;
+      shown = shows_join old mid new first.verdict.text rest.verdict.text done.shown behind.shown;
+      placed = λ zero. behind.placed zero ∙ ap (λ m. memory_after m rest.written) (done.placed refl)
+          ∙ sym (memory_after-append m0 first.written rest.written);
+    })
+does_then_by first rest status m0 m1 m2 old mid new done (inr behind) =
+    inr (record {
+      answer = behind.answer;
+      shown = shows_one_right old new first.failures _
+          (shows_one_join old mid new first.verdict.text rest.failures done.shown behind.shown);
+    })
+
+-- a command that answered 0, and then others
+pub does_then :
+    (first rest : Effect) (status : ℕ) (m0 m1 m2 : Memory) (old mid new : SinkState)
+    → Does first 0 m0 m1 old mid → Does rest status m1 m2 mid new → Does (then_effect first rest) status m0 m2 old new
+unfolding then_effect
+does_then first rest status m0 m1 m2 old mid new (inl done) behind =
+    rw (← done.answer) (does_then_by first rest status m0 m1 m2 old mid new done behind)
+does_then first rest status m0 m1 m2 old mid new (inr failed) behind = absurd (zero_not_eight failed.answer)
+
+failed_first_by :
+    (zero : Bool) (first rest : Effect) (status : ℕ) (m0 m1 : Memory) (old new : SinkState)
+    → first.verdict.status == 0 ≡ zero → IsFailed first status old new → Does (then_effect first rest) status m0 m1 old new
+unfolding then_effect
+failed_first_by true first rest status m0 m1 old new is failed =
+    rw is (inr (record { answer = failed.answer; shown = shows_one_left old new first.failures _ failed.shown }))
+failed_first_by false first rest status m0 m1 old new is failed = rw is (inr failed)
+
+-- a command that answered otherwise
+pub does_first :
+    (first rest : Effect) (status : ℕ) (m0 m1 : Memory) (old new : SinkState)
+    → Does first status m0 m1 old new → status ≢ 0 → Does (then_effect first rest) status m0 m1 old new
+unfolding then_effect
+does_first first rest status m0 m1 old new (inl done) some =
+    let other = ne_eqb first.verdict.status 0 (λ is. some (done.answer ∙ is)) in rw other (inl done)
+does_first first rest status m0 m1 old new (inr failed) some =
+    failed_first_by (first.verdict.status == 0) first rest status m0 m1 old new refl failed
+
+-- no command
+pub does_nothing : (effect : Command → Effect) (memory : Memory) (old : SinkState) → Does (run_effect effect []) 0 memory memory old old
+does_nothing effect memory old = inl (record { answer = refl; shown = shows_nothing old; placed = λ zero. refl })

@@ -1,0 +1,17 @@
+-- What is shown so far and the lines of the bytes that are left are all of them.
+use Rattle.std.proofs.Common.{◌≡◌, ℕ, List, ◌++◌}
+use Rattle.std.specs.Slice.Iter.{chunks_rest, chunks_size}
+use Rattle.loader_core.specs.Shows.{Shows, state_of}
+use Rattle.lilo_run.specs.Dump.{hex_text}
+use Rattle.lilo_run.proofs.dump.dump_bytes.Given as goal
+
+abbrev pub invariant-loop-piece : goal.invariant-loop-piece
+invariant-loop-piece g l =
+    let sink = g.O.Sink in
+    (goal.iterator-loop-piece g).can_next l.piece-iterator
+    × (goal.iterator-loop-piece g).is_finite l.piece-iterator
+    × (chunks_size l.piece-iterator ≡ 2048)
+    × (l.out.out.ghost_name ≡ l.initial.out.out.ghost_name)
+    × ((shown : List ℕ)
+    × Shows (state_of (sink.taken l.initial.out.out.now) (sink.faults l.initial.out.out.now) l.initial.out.failed) shown (state_of (sink.taken l.out.out.now) (sink.faults l.out.out.now) l.out.failed)
+    × (shown ++ hex_text (chunks_rest l.piece-iterator) ≡ hex_text l.bytes))

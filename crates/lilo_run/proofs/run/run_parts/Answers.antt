@@ -1,0 +1,102 @@
+-- A part answers 0 and the loop goes on, or it is the last.
+use Rattle.std.proofs.Common.{◌≡◌, [], ◌∷◌, ◌≢◌, refl, ◌∙◌, length, Some, sym, subst, arith, tests}
+use Rattle.std.specs.Prelude.{IfSome}
+use Rattle.disk_trait.specs.Past.{Told}
+use Rattle.bios_model.specs.Machine.{machine_of}
+use Rattle.bios_model.specs.Memory.{memory_of}
+use Rattle.lilo_words.specs.Run.{parts_behind, parts_of_next}
+use Rattle.lilo_words.specs.View.{command_view, part_view}
+use Rattle.mbr_table.proofs.ToldLemmas.{same_twice}
+use Rattle.loader_core.specs.Shows.{state_of}
+use Rattle.loader_core.proofs.ToldLemmas.{told_map, told_both}
+use Rattle.lilo_run.specs.Run.{Does}
+use Rattle.lilo_run.specs.Verdict.{command_effect, early_status}
+use Rattle.lilo_run.proofs.RunLemmas.{Begun, place_within, continues_more, continues_end, continues_last, begun_more, begun_last, stays_more, has_failed_twice, told_same}
+use Rattle.lilo_run.proofs.run.run_parts.Goals as goal
+
+pub returns-then-is_last-clause-does : goal.returns-then-is_last-clause-does
+returns-then-is_last-clause-does g c =
+    let words = c.args.words.now in
+    let invariant = c.loop-next.invariant in
+    let run = c.carry_out-status in
+    let part = part_view words c.part_at-read.result.part in
+    let old = state_of (g.O.Sink.taken c.loop-next.out.out.now) (g.O.Sink.faults c.loop-next.out.out.now) c.loop-next.out.failed in
+    let new = state_of (g.O.Sink.taken run.new.out.out.now) (g.O.Sink.faults run.new.out.out.now) run.new.out.failed in
+    let rest : parts_of_next words c.loop-next.next ≡ part ∷ parts_of_next words c.part_at-read.result.next =
+    rw c.in-Some.is c.part_at-read.ensures.part in
+    let told = told_same g.D.Disks.past g.D.Disks.size_of g.D.Disks.count_of g.D.Disks.geometry_of c.args.bios.now.disks.now c.loop-next.bios.disks.now invariant.same
+    (λ now size geometry. Does (command_effect now (machine_of size geometry) (length c.loop-next.ram) part.command) run.result (memory_of c.loop-next.ram) (memory_of run.new.ram) old new)
+    (run.ensures.does words) in
+    let done = subst
+    (λ size. Told (g.D.Disks.past c.args.bios.now.disks.now) (λ now.
+    Does (command_effect now (machine_of (g.D.Disks.size_of c.args.bios.now.disks.now) (g.D.Disks.geometry_of c.args.bios.now.disks.now)) size part.command) run.result (memory_of c.loop-next.ram) (memory_of run.new.ram) old new))
+    invariant.memory told in
+    told_both (g.D.Disks.past c.args.bios.now.disks.now) _ _ _
+    (λ now goes last. continues_last _ _ _ _ part run.result _ _ _ _ _ _ goes rest last (grind (arith, tests)))
+    invariant.does done
+
+pub returns-then-is_last-clause-early : goal.returns-then-is_last-clause-early
+returns-then-is_last-clause-early g c =
+    let words = c.args.words.now in
+    let part = part_view words c.part_at-read.result.part in
+    let behind = parts_of_next words c.part_at-read.result.next in
+    let begun = subst (λ next. Begun (g.D.Disks.size_of c.args.bios.now.disks.now) (parts_behind words 0) next) c.in-Some.is c.loop-next.invariant.begun in
+    begun_last _ (parts_behind words 0) behind part c.in-Some.from c.carry_out-status.result begun
+    (λ zero. subst (λ n. parts_behind words n ≡ part ∷ behind) zero c.part_at-read.ensures.part)
+    (subst (λ size. IfSome (early_status size part.command) (λ status. c.carry_out-status.result ≡ status)) c.loop-next.invariant.same.same_size (c.carry_out-status.ensures.early words))
+
+pub returns-then-is_last-clause-no_boot : goal.returns-then-is_last-clause-no_boot
+returns-then-is_last-clause-no_boot g c =
+    let words = c.args.words.now in
+    let part = part_view words c.part_at-read.result.part in
+    let behind = parts_of_next words c.part_at-read.result.next in
+    let rest : parts_of_next words c.loop-next.next ≡ part ∷ behind = rw c.in-Some.is c.part_at-read.ensures.part in
+    λ none. (stays_more (parts_behind words 0) _ behind part c.args.ram.now c.loop-next.ram c.carry_out-status.new.ram c.loop-next.invariant.stays rest
+    (c.carry_out-status.ensures.quiet words) none).0
+
+pub loop-next-preserved : goal.loop-next-preserved
+loop-next-preserved g c =
+    let words = c.args.words.now in
+    let invariant = c.loop-next.invariant in
+    let run = c.carry_out-status in
+    let part = part_view words c.part_at-read.result.part in
+    let behind = parts_of_next words c.part_at-read.result.next in
+    let old = state_of (g.O.Sink.taken c.loop-next.out.out.now) (g.O.Sink.faults c.loop-next.out.out.now) c.loop-next.out.failed in
+    let new = state_of (g.O.Sink.taken run.new.out.out.now) (g.O.Sink.faults run.new.out.out.now) run.new.out.failed in
+    let rest : parts_of_next words c.loop-next.next ≡ part ∷ behind = rw c.in-Some.is c.part_at-read.ensures.part in
+    let told = told_same g.D.Disks.past g.D.Disks.size_of g.D.Disks.count_of g.D.Disks.geometry_of c.args.bios.now.disks.now c.loop-next.bios.disks.now invariant.same
+    (λ now size geometry. Does (command_effect now (machine_of size geometry) (length c.loop-next.ram) part.command) run.result (memory_of c.loop-next.ram) (memory_of run.new.ram) old new)
+    (run.ensures.does words) in
+    let done = subst
+    (λ size. Told (g.D.Disks.past c.args.bios.now.disks.now) (λ now.
+    Does (command_effect now (machine_of (g.D.Disks.size_of c.args.bios.now.disks.now) (g.D.Disks.geometry_of c.args.bios.now.disks.now)) size part.command) run.result (memory_of c.loop-next.ram) (memory_of run.new.ram) old new))
+    invariant.memory told in
+    let begun = subst (λ next. Begun (g.D.Disks.size_of c.args.bios.now.disks.now) (parts_behind words 0) next) c.in-Some.is invariant.begun in
+    let early = subst (λ size. IfSome (early_status size part.command) (λ status. run.result ≡ status)) invariant.same.same_size (run.ensures.early words) in
+    let zero : run.result ≡ 0 = grind (arith, tests) in
+    record {
+      place = place_within c.part_at-read.result.next c.in-Some.from (length words) c.part_at-read.ensures.next;
+      run = c.part_at-read.ensures.run;
+      does =
+          told_both (g.D.Disks.past c.args.bios.now.disks.now) _ _ _
+          (λ now goes last. continues_more _ _ _ behind part run.result _ _ _ _ old new goes rest last zero)
+          invariant.does done;
+      begun =
+          begun_more _ (parts_behind words 0) behind part c.in-Some.from run.result c.part_at-read.result.next begun
+          (λ zero. subst (λ n. parts_behind words n ≡ part ∷ behind) zero c.part_at-read.ensures.part)
+          early zero;
+      later = omega (arith, invariant.later, run.ensures.later);
+      sink = has_failed_twice _ old new invariant.sink run.ensures.sink;
+      memory = run.ensures.memory ∙ invariant.memory;
+      stays = stays_more (parts_behind words 0) _ behind part c.args.ram.now c.loop-next.ram run.new.ram invariant.stays rest (run.ensures.quiet words);
+      same = same_twice g.D.Disks.past g.D.Disks.size_of g.D.Disks.count_of g.D.Disks.geometry_of c.args.bios.now.disks.now c.loop-next.bios.disks.now run.new.bios.disks.now invariant.same run.ensures.same;
+      keys = run.ensures.keys ∙ invariant.keys;
+      disks_reference = run.ensures.same_disks_reference ∙ invariant.disks_reference;
+      keys_reference = run.ensures.same_keys_reference ∙ invariant.keys_reference;
+      out_reference = run.ensures.same_reference ∙ invariant.out_reference;
+    }
+
+pub returns-clause-does : goal.returns-clause-does
+returns-clause-does g c =
+    let rest : parts_of_next c.args.words.now c.loop-next.next ≡ [] = rw c.in_default.is refl in
+    told_map (g.D.Disks.past c.args.bios.now.disks.now) _ _ (λ now goes. continues_end _ _ _ _ _ _ _ goes rest) c.loop-next.invariant.does

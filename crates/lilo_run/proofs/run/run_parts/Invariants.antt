@@ -1,0 +1,38 @@
+-- What the parts that are left do is what is left of all of them.
+use Rattle.std.proofs.Common.{◌≡◌, ◌≤◌, length, IfSome, IsOk}
+use Rattle.disk_trait.specs.Past.{Told, SameDisks}
+use Rattle.bios_model.specs.Machine.{machine_of}
+use Rattle.bios_model.specs.Memory.{memory_of}
+use Rattle.lilo_words.specs.Run.{run_behind, parts_behind, parts_of_next}
+use Rattle.loader_core.specs.Shows.{state_of}
+use Rattle.loader_core.specs.Start.{HasFailed}
+use Rattle.lilo_run.specs.Verdict.{command_effect}
+use Rattle.lilo_run.proofs.RunLemmas.{turns_left, Continues, Begun, Stays}
+use Rattle.lilo_run.proofs.run.run_parts.Given as goal
+
+abbrev pub invariant-loop-next : goal.invariant-loop-next
+invariant-loop-next g l = record {
+  place : IfSome l.next (λ from. from ≤ length l.words);
+  run : IfSome l.next (λ from. IsOk (run_behind l.words from));
+  does :
+      Told (g.D.Disks.past l.fn.bios.disks.now) (λ now.
+      Continues (command_effect now (machine_of (g.D.Disks.size_of l.fn.bios.disks.now) (g.D.Disks.geometry_of l.fn.bios.disks.now)) (length l.fn.ram))
+      (parts_behind l.words 0) (parts_of_next l.words l.next) (memory_of l.fn.ram) (memory_of l.ram)
+      (state_of (g.O.Sink.taken l.fn.out.out.now) (g.O.Sink.faults l.fn.out.out.now) l.fn.out.failed)
+      (state_of (g.O.Sink.taken l.out.out.now) (g.O.Sink.faults l.out.out.now) l.out.failed));
+  begun : Begun (g.D.Disks.size_of l.fn.bios.disks.now) (parts_behind l.words 0) l.next;
+  later : g.D.Disks.faults l.fn.bios.disks.now ≤ g.D.Disks.faults l.bios.disks.now;
+  sink :
+      HasFailed (state_of (g.O.Sink.taken l.fn.out.out.now) (g.O.Sink.faults l.fn.out.out.now) l.fn.out.failed)
+      (state_of (g.O.Sink.taken l.out.out.now) (g.O.Sink.faults l.out.out.now) l.out.failed);
+  memory : length l.ram ≡ length l.fn.ram;
+  stays : Stays (parts_behind l.words 0) (parts_of_next l.words l.next) l.fn.ram l.ram;
+  same : SameDisks g.D.Disks.past g.D.Disks.size_of g.D.Disks.count_of g.D.Disks.geometry_of l.fn.bios.disks.now l.bios.disks.now;
+  keys : l.bios.keys.now ≡ l.fn.bios.keys.now;
+  disks_reference : l.bios.disks.ghost_name ≡ l.fn.bios.disks.ghost_name;
+  keys_reference : l.bios.keys.ghost_name ≡ l.fn.bios.keys.ghost_name;
+  out_reference : l.out.out.ghost_name ≡ l.fn.out.out.ghost_name;
+}
+
+abbrev pub decreases-loop-next : goal.decreases-loop-next
+decreases-loop-next g l = turns_left l.next (length l.words)

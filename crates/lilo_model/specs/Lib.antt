@@ -38,4 +38,5 @@ pub mod Slots
 pub mod Table
 pub mod Verdict
 pub mod VideoMode
+pub mod VolumeSearch
 pub mod Words

@@ -11,8 +11,8 @@ use Rattle.lilo_model.specs.Bytes.{hex_byte}
 use Rattle.lilo_model.specs.Verdict.{hex_lines, region_text}
 use Rattle.setup_header.specs.declared.layout.Layout.{Layout}
 use Rattle.setup_header.specs.declared.layout.Region.{Region}
-use Rattle.loader_core.specs.Shows.{SinkState, Shows}
-use Rattle.loader_core.proofs.ShowsLemmas.{shows_join, shows_same}
+use Rattle.stream_trait.specs.Shows.{SinkState, Shows}
+use Rattle.stream_trait.proofs.ShowsLemmas.{shows_join, shows_same}
 use Rattle.lilo_run.specs.Dump.{hex_text, written_in, regions_of}
 
 pub hex_text-nil : hex_text [] ≡ []

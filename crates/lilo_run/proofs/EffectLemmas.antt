@@ -13,13 +13,13 @@ use Rattle.setup_header.specs.declared.layout.Region.{Region}
 use Rattle.setup_header.specs.View.{layout_view, region_view}
 use Rattle.loader_core.specs.Kernel.{regions_in, optional_region, region_in}
 use Rattle.loader_core.specs.Reading.{Why}
-use Rattle.loader_core.specs.Shows.{SinkState, Shows, ShowsOne}
+use Rattle.stream_trait.specs.Shows.{SinkState, Shows, ShowsOne}
 use Rattle.loader_core.specs.Start.{Reports, result_of}
 use Rattle.loader_core.specs.Today.{Report, boot_today}
 use Rattle.loader_core.specs.View.{reason_view, started_view}
 use Rattle.loader_core.specs.declared.outcome.Reason.{Reason}
 use Rattle.loader_core.specs.declared.outcome.Outcome.TheVariants as outcomes
-use Rattle.loader_core.proofs.ShowsLemmas.{shows_join, shows_nothing, shows_one_join}
+use Rattle.stream_trait.proofs.ShowsLemmas.{shows_join, shows_nothing, shows_one_join}
 use Rattle.lilo_run.specs.Dump as dumps
 use Rattle.lilo_run.specs.Refusal.{device_failed, halt_verdict, why_verdict}
 use Rattle.lilo_run.specs.Run.{IsDone, IsFailed, Does, HaltsAt}

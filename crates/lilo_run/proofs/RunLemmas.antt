@@ -8,9 +8,9 @@ use Rattle.lilo_model.specs.Place.{Memory, memory_after}
 use Rattle.lilo_model.specs.Words as words
 use Rattle.lilo_model.specs.Words.{Command, Part, run_at, usage_text, wrong_word}
 use Rattle.stream_trait.specs.Fault.{Rose}
-use Rattle.loader_core.specs.Shows.{SinkState, Shows, ShowsOne}
-use Rattle.loader_core.specs.Start.{HasFailed}
-use Rattle.lilo_run.specs.Run.{answer_of, Does, Prints, PrintsOne, Tells}
+use Rattle.stream_trait.specs.Shows.{SinkState, Shows, ShowsOne, HasFailed, answer_of, Prints, PrintsOne}
+use Rattle.stream_trait.proofs.ShowsLemmas.{prints_of, prints_one_of, answered}
+use Rattle.lilo_run.specs.Run.{Does, Tells}
 use Rattle.lilo_run.specs.Verdict.{Effect, run_effect, early_at, early_status, early_parts, early_answer, effect_of, is_boot, has_boot}
 use Rattle.lilo_run.proofs.EffectLemmas.{does_then, does_first, does_nothing}
 
@@ -119,30 +119,6 @@ stays_more all rest behind part old mid new stays is quiet none =
     let first = no_boot_first part behind (subst (λ parts. has_boot parts ≡ false) is before.1) in
     (quiet first.0 ∙ before.0, first.1)
 
--- ---- faults
-
-rose_before : (a b c : ℕ) → a ≤ b → Rose b c → b ≤ c → Rose a c
-rose_before a b c before rose later = λ below. omega (arith, rose)
-
-rose_behind : (a b c : ℕ) → Rose a b → b ≤ c → Rose a c
-rose_behind a b c rose later = λ below. omega (arith, rose)
-
-failed_by : (a b c : SinkState) → HasFailed a b → b.faults ≤ c.faults → b.failed ≡ true → (a.failed ≡ true) ⊎ Rose a.faults c.faults
-failed_by a b c first later failed =
-    elim (first.failed failed) [
-      | inl old ↦ inl old
-      | inr rose ↦ inr (rose_behind a.faults b.faults c.faults rose later)
-    ]
-
-pub has_failed_twice : (a b c : SinkState) → HasFailed a b → HasFailed b c → HasFailed a c
-has_failed_twice a b c first second = record {
-  later = let one = first.later in let other = second.later in omega (arith, one, other);
-  failed = λ failed. elim (second.failed failed) [
-    | inl before ↦ failed_by a b c first second.later before
-    | inr rose ↦ inr (rose_before a.faults b.faults c.faults first.later rose second.later)
-  ];
-}
-
 -- ---- disks that stay the same
 
 -- what is told of disks that stayed the same was told of them before
@@ -184,31 +160,6 @@ zero_answer size_of (Ok []) known = refl
 zero_answer size_of (Ok (part ∷ parts)) known = zero_status size_of part.command known
 zero_answer size_of (Err wrong) known = absurd (omega (arith, known))
 
-prints_by :
-    (failed : Bool) (old new : SinkState) (text : List ℕ) → new.failed ≡ failed → Shows old text new → old.failed ≡ false
-    → Prints old.taken text new.taken old.faults new.faults
-prints_by true old new text is shown fine = inr (shown.rose fine is, shown.front fine is)
-prints_by false old new text is shown fine = inl (shown.whole is)
-
-prints_of :
-    (old new : SinkState) (text : List ℕ) → Shows old text new → old.failed ≡ false
-    → Prints old.taken text new.taken old.faults new.faults
-prints_of old new text shown fine = prints_by new.failed old new text refl shown fine
-
-prints_one_of :
-    (old new : SinkState) (texts : List (List ℕ)) → ShowsOne old texts new → old.failed ≡ false
-    → PrintsOne old.taken texts new.taken old.faults new.faults
-prints_one_of old new [] shown fine = shown
-prints_one_of old new (text ∷ texts) (inl shown) fine = inl (prints_of old new text shown fine)
-prints_one_of old new (text ∷ texts) (inr shown) fine = inr (prints_one_of old new texts shown fine)
-
-answered :
-    (first failed : Bool) (status given : ℕ) → status == 0 ≡ first → status ≡ given
-    → (answer_of status failed ≡ given) ⊎ ((answer_of status failed ≡ 12) × (given ≡ 0))
-answered true true status given zero is = let none = eqb-true status 0 zero in rw zero (inr (refl, sym is ∙ none))
-answered true false status given zero is = rw zero (inl is)
-answered false failed status given zero is = rw zero (inl is)
-
 eight_stays : (status : ℕ) (failed : Bool) → status ≡ 8 → answer_of status failed ≡ 8
 eight_stays status failed is = rw is refl
 
@@ -220,13 +171,6 @@ does_tells effect status failed m0 m1 old new (inl done) fine =
     inl (answered (status == 0) failed status effect.verdict.status refl done.answer, prints_of old new effect.verdict.text done.shown fine)
 does_tells effect status failed m0 m1 old new (inr failure) fine =
     inr (eight_stays status failed failure.answer, prints_one_of old new effect.failures failure.shown fine)
-
-zero_before_by : (first failed : Bool) (status : ℕ) → status == 0 ≡ first → answer_of status failed ≡ 0 → status ≡ 0
-zero_before_by true failed status is answer = eqb-true status 0 is
-zero_before_by false failed status is answer = let plain : answer_of status failed ≡ status = rw is refl in sym plain ∙ answer
-
-pub zero_before : (status : ℕ) (failed : Bool) → answer_of status failed ≡ 0 → status ≡ 0
-zero_before status failed answer = zero_before_by (status == 0) failed status refl answer
 
 early_answered_by :
     (first failed : Bool) (size_of : ℕ → ℕ) (run : Result (List Part) (Option ℕ)) (status : ℕ) → status == 0 ≡ first

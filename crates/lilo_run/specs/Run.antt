@@ -1,8 +1,6 @@
 -- How what was done stands to what the definitions give.
 use Rattle.std.specs.Prelude.{◌≡◌, ◌⊎◌, ℕ, ◌==◌, ◌&&◌, if◌then◌else◌, Bool, List, [], ◌∷◌, Option, Result, Ok, Err}
 use Rattle.std.specs.List.{list_any}
-use Rattle.disk_trait.specs.Cause.{Rose}
-use Rattle.stream_trait.specs.Sink.{Takes, TakesFront}
 use Rattle.disk_trait.specs.declared.disks.Span.{Span}
 use Rattle.lilo_model.specs.Disks as disks
 use Rattle.lilo_model.specs.Place.{Memory, memory_after}
@@ -15,7 +13,7 @@ use Rattle.mbr_table.specs.declared.table_fault.TableFault.{TableFault}
 use Rattle.mbr_table.specs.declared.table_fault.TableFault.TheVariants as faults
 use Rattle.loader_core.specs.Reading.{Why, Unbuilt, Because}
 use Rattle.loader_core.specs.declared.outcome.Reason.TheVariants as reasons
-use Rattle.loader_core.specs.Shows.{SinkState, Shows, ShowsOne}
+use Rattle.stream_trait.specs.Shows.{SinkState, Shows, ShowsOne, Prints, PrintsOne}
 use Rattle.loader_core.specs.View.{reason_view}
 use Rattle.lilo_run.specs.declared.refusal.Halt.{Halt}
 use Rattle.lilo_run.specs.declared.refusal.Halt.TheVariants.{Device, NotBuilt, NoPlace, NotOurs, Boot}
@@ -84,22 +82,9 @@ Does effect status memory memory' old new = IsDone effect status memory memory' 
 
 -- ---- the whole
 
--- the status of a run, where a sink may have failed
-abbrev pub answer_of : ℕ → Bool → ℕ
-answer_of status failed = if (status == 0) && failed then 12 else status
-
 -- the status is the verdict's, or 8, or in the place of 0 it is 12
 abbrev pub Answers : Verdict → ℕ → Type 0
 Answers verdict status = (status ≡ verdict.status) ⊎ ((status ≡ 8) ⊎ ((status ≡ 12) × (verdict.status ≡ 0)))
-
--- a sink took a text whole, or its faults rose and it took a front
-abbrev pub Prints : Option (List ℕ) → List ℕ → Option (List ℕ) → ℕ → ℕ → Type 0
-Prints old text new before now = Takes old text new ⊎ (Rose before now × TakesFront old text new)
-
--- one of these texts
-abbrev pub PrintsOne : Option (List ℕ) → List (List ℕ) → Option (List ℕ) → ℕ → ℕ → Type 0
-PrintsOne old [] new before now = ⊥
-PrintsOne old (text ∷ texts) new before now = Prints old text new before now ⊎ PrintsOne old texts new before now
 
 -- the verdict's text goes with its status, or 12 in the place of 0, and a text of a failure with 8
 abbrev pub Tells : Effect → ℕ → Option (List ℕ) → Option (List ℕ) → ℕ → ℕ → Type 0

@@ -5,7 +5,7 @@ ghost use Rattle.lilo_model.specs.Bytes.{hex_digit, hex_byte};
 ghost use Rattle.lilo_model.specs.Verdict.{address_text, region_text};
 ghost use Rattle.arrayvec.specs.ArrayVec.{array_vec_len};
 ghost use Rattle.setup_header.specs.Words.{LiesIn, EndsBy};
-ghost use Rattle.loader_core.specs.Shows.{Shows, state_of};
+ghost use Rattle.stream_trait.specs.Shows.{Shows, state_of};
 ghost use Rattle.lilo_run.specs.Dump.{hex_text, written_in, regions_of, boot_sector_in};
 
 use crate::refusal::Line;

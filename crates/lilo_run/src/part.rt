@@ -5,8 +5,7 @@ ghost use Rattle.disk_trait.specs.Cause.{Rose};
 ghost use Rattle.bios_model.specs.Machine.{machine_of};
 ghost use Rattle.bios_model.specs.Memory.{memory_of};
 ghost use Rattle.lilo_words.specs.View.{command_view};
-ghost use Rattle.loader_core.specs.Shows.{state_of};
-ghost use Rattle.loader_core.specs.Start.{HasFailed};
+ghost use Rattle.stream_trait.specs.Shows.{state_of, HasFailed};
 ghost use Rattle.lilo_run.specs.Run.{Does, is_part_status};
 ghost use Rattle.lilo_run.specs.Verdict.{command_effect, early_status, is_boot};
 

@@ -12,8 +12,7 @@ ghost use Rattle.lilo_model.specs.Place.{Memory};
 ghost use Rattle.boot_map.specs.View.{boot_view, map_fault_view, table_view};
 ghost use Rattle.boot_map.specs.Ranges.{IsNamed, IsOneSector};
 ghost use Rattle.mbr_table.specs.View.{device_view};
-ghost use Rattle.loader_core.specs.Shows.{state_of};
-ghost use Rattle.loader_core.specs.Start.{HasFailed};
+ghost use Rattle.stream_trait.specs.Shows.{state_of, HasFailed};
 ghost use Rattle.lilo_run.specs.Run.{Gives, IsMapHalt, Does, is_part_status};
 ghost use Rattle.lilo_run.specs.Verdict.{place_at, early_at, query_effect, command_effect, early_status};
 

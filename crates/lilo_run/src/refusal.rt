@@ -2,7 +2,7 @@
 ghost use Rattle.std.specs.Prelude.{◌≡◌, ◌≤◌, ◌⊎◌, ◌++◌, length, codes, decimal, IsTrue};
 ghost use Rattle.lilo_model.specs.Refusal.{refusal_line};
 ghost use Rattle.loader_core.specs.Reading.{Because};
-ghost use Rattle.loader_core.specs.Shows.{Shows, state_of};
+ghost use Rattle.stream_trait.specs.Shows.{Shows, state_of};
 ghost use Rattle.loader_core.specs.View.{reason_view};
 ghost use Rattle.setup_header.specs.View.{setup_fault_view};
 ghost use Rattle.lilo_model.specs.Reason.{setup_text};

@@ -11,9 +11,8 @@ ghost use Rattle.lilo_model.specs.Verdict.{boot_verdict};
 ghost use Rattle.bios_model.specs.Machine.{machine_of};
 ghost use Rattle.bios_model.specs.Memory.{memory_of};
 ghost use Rattle.lilo_words.specs.Run.{run_behind, parts_behind};
-ghost use Rattle.loader_core.specs.Shows.{Shows, state_of};
-ghost use Rattle.loader_core.specs.Start.{HasFailed};
-ghost use Rattle.lilo_run.specs.Run.{answer_of, Does, Answers, Prints, Tells, is_part_status, is_run_status, is_status};
+ghost use Rattle.stream_trait.specs.Shows.{Shows, state_of, HasFailed, Prints};
+ghost use Rattle.lilo_run.specs.Run.{Does, Answers, Tells, is_part_status, is_run_status, is_status};
 ghost use Rattle.lilo_run.specs.Verdict.{command_effect, run_effect, plain_effect, place_at, effect_of, early_answer, early_parts, has_boot};
 ghost use Rattle.lilo_run.specs.Laws.{IsBootRun, IsUnbuiltAt};
 
@@ -23,7 +22,7 @@ use disk_trait::Disks;
 use lilo_words::{check, part_at};
 use loader_core::Shown;
 use std::alloc::Global;
-use stream_trait::{Sink, Source, Words};
+use stream_trait::{Sink, Source, Words, answer};
 
 /// Carries out words, and answers the exit status. Words are parts with a `--then` between each two, which are carried
 /// out in order until one answers other than 0.
@@ -99,17 +98,6 @@ pub fn lilo<D: Disks, I: Source, O: Sink>(
     let status = run_words(words, &mut bios, ram, &mut shown);
     let sink_failed = shown.failed();
     answer(status, sink_failed)
-}
-
-/// The status of a run, where the sink may have failed.
-fn answer(status: u8, sink_failed: bool) -> u8
-    ensures { result ≡ answer_of status sink_failed }
-{
-    if status == 0 && sink_failed {
-        12
-    } else {
-        status
-    }
 }
 
 /// Carries out words, and answers the status, whether or not the sink failed.

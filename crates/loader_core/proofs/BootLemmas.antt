@@ -38,11 +38,11 @@ use Rattle.loader_core.specs.declared.outcome.Halt.{Halt}
 use Rattle.loader_core.specs.declared.outcome.Halt.TheVariants.{Device, Refused}
 use Rattle.loader_core.specs.declared.outcome.Started.{Started}
 use Rattle.loader_core.specs.Reading.{Why, Unbuilt, Because}
-use Rattle.loader_core.specs.Shows.{SinkState, Shows}
+use Rattle.stream_trait.specs.Shows.{SinkState, Shows}
 use Rattle.loader_core.specs.Today.{Report, report_behind, or_device, refused_report, why_text, end_text, needs_prompt, line_today, chosen_today, entry_report, middle_report, texts_report, good_report, sectors_report, found_report, map_report}
 use Rattle.loader_core.specs.Start.{Starts, Reports, halt_text, map_text}
 use Rattle.loader_core.specs.View.{reason_view}
-use Rattle.loader_core.proofs.ShowsLemmas.{shows_nothing, shows_join, shows_one_join}
+use Rattle.stream_trait.proofs.ShowsLemmas.{shows_nothing, shows_join, shows_one_join}
 
 -- ---- reports
 

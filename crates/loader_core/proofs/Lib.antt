@@ -11,7 +11,6 @@ pub mod MapLemmas
 pub mod MemoryLemmas
 pub mod PlanLemmas
 pub mod ReadingLemmas
-pub mod ShowsLemmas
 pub mod TodayLemmas
 pub mod ToldLemmas
 pub mod WholeLemmas

@@ -4,7 +4,6 @@ pub mod Laws
 pub mod Load
 pub mod Map
 pub mod Reading
-pub mod Shows
 pub mod Start
 pub mod Today
 pub mod View

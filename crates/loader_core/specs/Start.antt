@@ -20,7 +20,7 @@ use Rattle.loader_core.specs.declared.outcome.Halt.{Halt}
 use Rattle.loader_core.specs.declared.outcome.Halt.TheVariants.{Device, Refused}
 use Rattle.loader_core.specs.Kernel.{region_in, regions_in}
 use Rattle.loader_core.specs.Reading.{Why, Unbuilt, Because}
-use Rattle.loader_core.specs.Shows.{SinkState, Shows, ShowsOne}
+use Rattle.stream_trait.specs.Shows.{SinkState, Shows, ShowsOne}
 use Rattle.loader_core.specs.Today.{Report, why_text}
 use Rattle.loader_core.specs.View.{reason_view, started_view}
 
@@ -99,11 +99,6 @@ pub record IsBoot (outcome : Outcome) (boot : boots.Boot) (keys : List Key) (mem
   pub ends : EndsAs (result_of outcome) boot memory memory'
   pub shows : ShowsAs (result_of outcome) boot old new
   pub left : boot.left ≡ keys
-
--- Where a sink has refused a text since, its failures rose; and they never fall.
-pub record HasFailed (old new : SinkState) : Type 0 where
-  pub later : old.faults ≤ new.faults
-  pub failed : new.failed ≡ true → (old.failed ≡ true) ⊎ Rose old.faults new.faults
 
 -- ---- the texts of failures
 

@@ -11,11 +11,10 @@ mod load;
 mod loader;
 mod map;
 mod outcome;
-mod shown;
 #[cfg(test)]
 mod tests;
 
 pub use laws::boots_as_the_model;
 pub use loader::boot;
 pub use outcome::{Outcome, Reason};
-pub use shown::Shown;
+pub use stream_trait::Shown;

@@ -12,19 +12,18 @@ ghost use Rattle.boot_map.specs.View.{boot_view, descriptor_view, map_fault_view
 ghost use Rattle.boot_map.specs.Ranges.{IsNamed, IsOneSector, HasSectors, FitsFlags};
 ghost use Rattle.loader_core.specs.Today.{IsUnbuilt, boot_today, report_by, map_report, sectors_report, good_report, texts_report, entry_report, foreign_report, line_today};
 ghost use Rattle.loader_core.specs.Map.{StandsFor, IsTable, IsGood};
-ghost use Rattle.loader_core.specs.Shows.{state_of};
-ghost use Rattle.loader_core.specs.Start.{LiesInside, Starts, Reports, result_of, span_view, IsBoot, HasFailed, halt_text, map_text};
+ghost use Rattle.stream_trait.specs.Shows.{state_of, HasFailed};
+ghost use Rattle.loader_core.specs.Start.{LiesInside, Starts, Reports, result_of, span_view, IsBoot, halt_text, map_text};
 
 use crate::entry::{load_entry, place_boot};
 use crate::map::{GoodParts, MapParts, command_line, judge, needs_prompt, read_map, read_middle};
 use crate::outcome::{Halt, Outcome, Reason, Started};
-use crate::shown::Shown;
 use arrayvec::ArrayVec;
 use bios_model::{Bios, Ram};
 use boot_map::{BootSector, Descriptor, MapFault};
 use disk_trait::{Disks, Phase, Span};
 use sector_parts::{Sector, part};
-use stream_trait::{Sink, Source};
+use stream_trait::{Shown, Sink, Source};
 
 /// Boots from the first sector of a device, a disk or one of its partitions, into a memory, and shows the texts that
 /// go with it.

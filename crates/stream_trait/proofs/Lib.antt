@@ -1,3 +1,4 @@
 pub mod Clash
+pub mod ShowsLemmas
 pub mod SinkLemmas
 pub mod Unread

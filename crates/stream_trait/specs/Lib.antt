@@ -1,5 +1,6 @@
 pub mod Fault
 pub mod Source
+pub mod Shows
 pub mod Sink
 pub mod MemSource
 pub mod MemSink

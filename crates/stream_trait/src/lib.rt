@@ -4,6 +4,7 @@
 
 mod mem_sink;
 mod mem_source;
+mod shown;
 mod sink;
 mod source;
 mod std_sink;
@@ -12,6 +13,7 @@ mod words;
 
 pub use mem_sink::MemSink;
 pub use mem_source::MemSource;
+pub use shown::{Shown, answer};
 pub use sink::{Sink, SinkFailed};
 pub use source::{Next, Source};
 pub use std_sink::StdSink;

@@ -1,7 +1,7 @@
 -- The lines of a piece are shown behind those before them.
 use Rattle.std.proofs.Common.{[], ◌++◌, sym, ap, ◌∙◌, rules, append_assoc}
 use Rattle.std.specs.Slice.Iter.{chunks_rest}
-use Rattle.loader_core.proofs.ShowsLemmas.{shows_nothing, shows_join, shows_same}
+use Rattle.stream_trait.proofs.ShowsLemmas.{shows_nothing, shows_join, shows_same}
 use Rattle.lilo_run.specs.Dump.{hex_text}
 use Rattle.lilo_run.proofs.DumpLemmas.{hex_text-piece, all_told}
 use Rattle.lilo_run.proofs.dump.dump_bytes.Goals as goal

@@ -1,7 +1,7 @@
 -- What is shown so far and the lines of the bytes that are left are all of them.
 use Rattle.std.proofs.Common.{◌≡◌, ℕ, List, ◌++◌}
 use Rattle.std.specs.Slice.Iter.{chunks_rest, chunks_size}
-use Rattle.loader_core.specs.Shows.{Shows, state_of}
+use Rattle.stream_trait.specs.Shows.{Shows, state_of}
 use Rattle.lilo_run.specs.Dump.{hex_text}
 use Rattle.lilo_run.proofs.dump.dump_bytes.Given as goal
 

@@ -1,6 +1,6 @@
 -- The first line and the bytes are shown one behind the other.
 use Rattle.std.proofs.Common.{◌∙◌}
-use Rattle.loader_core.proofs.ShowsLemmas.{shows_join, shows_same}
+use Rattle.stream_trait.proofs.ShowsLemmas.{shows_join, shows_same}
 use Rattle.lilo_run.specs.Dump.{hex_text}
 use Rattle.lilo_run.proofs.dump.dump_region.Goals as goal
 

@@ -4,11 +4,13 @@ use Rattle.std.specs.Prelude.{length, IfSome}
 use Rattle.disk_trait.specs.Past.{Told}
 use Rattle.bios_model.specs.Machine.{machine_of}
 use Rattle.lilo_model.specs.Words.{run_at}
+use Rattle.stream_trait.specs.Shows.{answer_of}
+use Rattle.stream_trait.proofs.ShowsLemmas.{zero_before}
 use Rattle.loader_core.proofs.ToldLemmas.{told_map}
-use Rattle.lilo_run.specs.Run.{answer_of, Tells}
+use Rattle.lilo_run.specs.Run.{Tells}
 use Rattle.lilo_run.specs.Verdict.{effect_of, early_answer}
 use Rattle.lilo_run.proofs.LawLemmas.{boot_tells}
-use Rattle.lilo_run.proofs.RunLemmas.{does_tells, does_places, zero_before, early_answered, held_of_two}
+use Rattle.lilo_run.proofs.RunLemmas.{does_tells, does_places, early_answered, held_of_two}
 use Rattle.lilo_run.proofs.run.lilo.Goals as goal
 
 pub returns-clause-early : goal.returns-clause-early

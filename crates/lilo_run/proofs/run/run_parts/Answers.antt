@@ -7,11 +7,12 @@ use Rattle.bios_model.specs.Memory.{memory_of}
 use Rattle.lilo_words.specs.Run.{parts_behind, parts_of_next}
 use Rattle.lilo_words.specs.View.{command_view, part_view}
 use Rattle.mbr_table.proofs.ToldLemmas.{same_twice}
-use Rattle.loader_core.specs.Shows.{state_of}
+use Rattle.stream_trait.specs.Shows.{state_of}
+use Rattle.stream_trait.proofs.ShowsLemmas.{has_failed_twice}
 use Rattle.loader_core.proofs.ToldLemmas.{told_map, told_both}
 use Rattle.lilo_run.specs.Run.{Does}
 use Rattle.lilo_run.specs.Verdict.{command_effect, early_status}
-use Rattle.lilo_run.proofs.RunLemmas.{Begun, place_within, continues_more, continues_end, continues_last, begun_more, begun_last, stays_more, has_failed_twice, told_same}
+use Rattle.lilo_run.proofs.RunLemmas.{Begun, place_within, continues_more, continues_end, continues_last, begun_more, begun_last, stays_more, told_same}
 use Rattle.lilo_run.proofs.run.run_parts.Goals as goal
 
 pub returns-then-is_last-clause-does : goal.returns-then-is_last-clause-does

@@ -4,8 +4,7 @@ use Rattle.disk_trait.specs.Past.{Told, SameDisks}
 use Rattle.bios_model.specs.Machine.{machine_of}
 use Rattle.bios_model.specs.Memory.{memory_of}
 use Rattle.lilo_words.specs.Run.{run_behind, parts_behind, parts_of_next}
-use Rattle.loader_core.specs.Shows.{state_of}
-use Rattle.loader_core.specs.Start.{HasFailed}
+use Rattle.stream_trait.specs.Shows.{state_of, HasFailed}
 use Rattle.lilo_run.specs.Verdict.{command_effect}
 use Rattle.lilo_run.proofs.RunLemmas.{turns_left, Continues, Begun, Stays}
 use Rattle.lilo_run.proofs.run.run_parts.Given as goal

@@ -1,6 +1,6 @@
 use Rattle.std.proofs.Common.{subst}
 use Rattle.std.specs.Prelude.{◌++◌, codes}
-use Rattle.loader_core.proofs.ShowsLemmas.{shows_join}
+use Rattle.stream_trait.proofs.ShowsLemmas.{shows_join}
 use Rattle.lilo_run.proofs.run.say_usage.Goals as goal
 
 pub returns-clause-shown : goal.returns-clause-shown

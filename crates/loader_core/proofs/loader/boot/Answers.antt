@@ -1,7 +1,7 @@
 use Rattle.std.proofs.Common.{length}
 use Rattle.bios_model.specs.Machine.{machine_of}
 use Rattle.bios_model.specs.Memory.{memory_of}
-use Rattle.loader_core.specs.Shows.{state_of}
+use Rattle.stream_trait.specs.Shows.{state_of}
 use Rattle.loader_core.proofs.ToldLemmas.{told_map}
 use Rattle.lilo_model.specs.Boot.{whole_boot}
 use Rattle.loader_core.specs.Today.{boot_today}

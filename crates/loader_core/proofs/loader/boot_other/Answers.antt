@@ -1,6 +1,6 @@
 use Rattle.std.proofs.Common.{rules}
 use Rattle.bios_model.specs.Memory.{memory_of}
-use Rattle.loader_core.specs.Shows.{state_of}
+use Rattle.stream_trait.specs.Shows.{state_of}
 use Rattle.loader_core.proofs.BootLemmas.{foreign_reports}
 use Rattle.loader_core.proofs.loader.boot_other.Goals as goal
 

@@ -2,7 +2,7 @@ use Rattle.std.proofs.Common.{length}
 use Rattle.bios_model.specs.Machine.{machine_of}
 use Rattle.bios_model.specs.Memory.{memory_of}
 use Rattle.boot_map.specs.View.{boot_view}
-use Rattle.loader_core.specs.Shows.{state_of}
+use Rattle.stream_trait.specs.Shows.{state_of}
 use Rattle.loader_core.proofs.ToldLemmas.{told_all, told_map}
 use Rattle.loader_core.proofs.BootLemmas.{sectors_good, sectors_bad}
 use Rattle.loader_core.proofs.loader.boot_parts.Goals as goal

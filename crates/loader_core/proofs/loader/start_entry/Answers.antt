@@ -3,7 +3,7 @@ use Rattle.std.specs.Prelude.{codes}
 use Rattle.bios_model.specs.Machine.{machine_of}
 use Rattle.bios_model.specs.Memory.{memory_of}
 use Rattle.boot_map.specs.View.{descriptor_view}
-use Rattle.loader_core.specs.Shows.{state_of}
+use Rattle.stream_trait.specs.Shows.{state_of}
 use Rattle.loader_core.proofs.ToldLemmas.{told_map}
 use Rattle.loader_core.specs.Today.{entry_report, entry_today, line_today}
 use Rattle.loader_core.proofs.BootLemmas.{entry_started, entry_halted}

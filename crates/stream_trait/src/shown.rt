@@ -1,10 +1,10 @@
 // Texts that are shown, behind which a sink may fail.
 ghost use Rattle.std.specs.Prelude.{◌≡◌, false};
-ghost use Rattle.loader_core.specs.Shows.{SinkState, Shows, state_of};
+ghost use Rattle.stream_trait.specs.Shows.{SinkState, Shows, state_of, answer_of};
 
-use stream_trait::Sink;
+use crate::sink::Sink;
 
-/// Where a boot shows its texts. Until the sink fails, all of them are put in order; then nothing more is put.
+/// Where texts are shown. Until the sink fails, all of them are put in order; then nothing more is put.
 #[derive(Drop)]
 pub struct Shown<'o, O: Sink> {
     pub(crate) out: &'o mut O,
@@ -36,5 +36,16 @@ impl<'o, O: Sink> Shown<'o, O> {
         ensures { result ≡ self.now.failed }
     {
         self.failed
+    }
+}
+
+/// The exit status of a program whose sink may have refused a text: 12 in the place of 0.
+pub fn answer(status: u8, sink_failed: bool) -> u8
+    ensures { result ≡ answer_of status sink_failed }
+{
+    if status == 0 && sink_failed {
+        12
+    } else {
+        status
     }
 }

@@ -1,10 +1,10 @@
 -- Texts that are shown one after another.
-use Rattle.std.proofs.Common.{◌≡◌, ℕ, inl, inr, true, false, List, [], ◌∷◌, ◌++◌, map, Option, None, Some, refl, sym, ap, subst, arith, append-nil}
-use Rattle.std.proofs.lemmas.Bool.{cases_Bool, both_ways}
+use Rattle.std.proofs.Common.{◌≡◌, ◌≤◌, ◌==◌, ◌⊎◌, ◌∙◌, Bool, ℕ, inl, inr, true, false, List, [], ◌∷◌, ◌++◌, map, Option, None, Some, refl, sym, ap, subst, arith, append-nil}
+use Rattle.std.proofs.lemmas.Bool.{cases_Bool, both_ways, eqb-true}
 use Rattle.stream_trait.specs.Fault.{Rose}
 use Rattle.stream_trait.specs.Sink.{Takes, TakesFront}
 use Rattle.stream_trait.proofs.SinkLemmas.{Takes-trans, TakesFront-before, TakesFront-after}
-use Rattle.loader_core.specs.Shows.{SinkState, Shows, ShowsOne}
+use Rattle.stream_trait.specs.Shows.{SinkState, Shows, ShowsOne, HasFailed, Prints, PrintsOne, answer_of}
 
 -- no text is shown by nothing at all
 takes_nothing : (taken : Option (List ℕ)) → Takes taken [] taken
@@ -77,3 +77,62 @@ shows_one_join a b c one (text ∷ texts) first (inr shown) = inr (shows_one_joi
 -- the same text, in another form
 pub shows_same : (a b : SinkState) (one other : List ℕ) → one ≡ other → Shows a one b → Shows a other b
 shows_same a b one other same shown = subst (λ text. Shows a text b) same shown
+
+-- ---- failures
+
+rose_before : (a b c : ℕ) → a ≤ b → Rose b c → b ≤ c → Rose a c
+rose_before a b c before rose later = λ below. omega (arith, rose)
+
+rose_behind : (a b c : ℕ) → Rose a b → b ≤ c → Rose a c
+rose_behind a b c rose later = λ below. omega (arith, rose)
+
+failed_by : (a b c : SinkState) → HasFailed a b → b.faults ≤ c.faults → b.failed ≡ true → (a.failed ≡ true) ⊎ Rose a.faults c.faults
+failed_by a b c first later failed =
+    elim (first.failed failed) [
+      | inl old ↦ inl old
+      | inr rose ↦ inr (rose_behind a.faults b.faults c.faults rose later)
+    ]
+
+pub has_failed_twice : (a b c : SinkState) → HasFailed a b → HasFailed b c → HasFailed a c
+has_failed_twice a b c first second = record {
+  later = let one = first.later in let other = second.later in omega (arith, one, other);
+  failed = λ failed. elim (second.failed failed) [
+    | inl before ↦ failed_by a b c first second.later before
+    | inr rose ↦ inr (rose_before a.faults b.faults c.faults first.later rose second.later)
+  ];
+}
+
+-- ---- the whole
+
+prints_by :
+    (failed : Bool) (old new : SinkState) (text : List ℕ) → new.failed ≡ failed → Shows old text new → old.failed ≡ false
+    → Prints old.taken text new.taken old.faults new.faults
+prints_by true old new text is shown fine = inr (shown.rose fine is, shown.front fine is)
+prints_by false old new text is shown fine = inl (shown.whole is)
+
+pub prints_of :
+    (old new : SinkState) (text : List ℕ) → Shows old text new → old.failed ≡ false
+    → Prints old.taken text new.taken old.faults new.faults
+prints_of old new text shown fine = prints_by new.failed old new text refl shown fine
+
+pub prints_one_of :
+    (old new : SinkState) (texts : List (List ℕ)) → ShowsOne old texts new → old.failed ≡ false
+    → PrintsOne old.taken texts new.taken old.faults new.faults
+prints_one_of old new [] shown fine = shown
+prints_one_of old new (text ∷ texts) (inl shown) fine = inl (prints_of old new text shown fine)
+prints_one_of old new (text ∷ texts) (inr shown) fine = inr (prints_one_of old new texts shown fine)
+
+-- a status, where the sink may have failed
+pub answered :
+    (first failed : Bool) (status given : ℕ) → status == 0 ≡ first → status ≡ given
+    → (answer_of status failed ≡ given) ⊎ ((answer_of status failed ≡ 12) × (given ≡ 0))
+answered true true status given zero is = let none = eqb-true status 0 zero in rw zero (inr (refl, sym is ∙ none))
+answered true false status given zero is = rw zero (inl is)
+answered false failed status given zero is = rw zero (inl is)
+
+zero_before_by : (first failed : Bool) (status : ℕ) → status == 0 ≡ first → answer_of status failed ≡ 0 → status ≡ 0
+zero_before_by true failed status is answer = eqb-true status 0 is
+zero_before_by false failed status is answer = let plain : answer_of status failed ≡ status = rw is refl in sym plain ∙ answer
+
+pub zero_before : (status : ℕ) (failed : Bool) → answer_of status failed ≡ 0 → status ≡ 0
+zero_before status failed answer = zero_before_by (status == 0) failed status refl answer

@@ -1,5 +1,5 @@
 -- What a sink has taken of the texts that were shown: all of them in order until it failed, and nothing more.
-use Rattle.std.specs.Prelude.{◌≡◌, ◌≤◌, ◌⊎◌, ℕ, Bool, true, false, List, [], ◌∷◌, Option}
+use Rattle.std.specs.Prelude.{◌≡◌, ◌≤◌, ◌⊎◌, ℕ, ◌==◌, ◌&&◌, if◌then◌else◌, Bool, true, false, List, [], ◌∷◌, Option}
 use Rattle.stream_trait.specs.Fault.{Rose}
 use Rattle.stream_trait.specs.Sink.{Takes, TakesFront}
 
@@ -22,6 +22,11 @@ pub record Shows (old : SinkState) (text : List ℕ) (new : SinkState) : Type 0 
   pub rose : old.failed ≡ false → new.failed ≡ true → Rose old.faults new.faults
   pub front : old.failed ≡ false → new.failed ≡ true → TakesFront old.taken text new.taken
 
+-- Where a sink has refused a text since, its failures rose; and they never fall.
+pub record HasFailed (old new : SinkState) : Type 0 where
+  pub later : old.faults ≤ new.faults
+  pub failed : new.failed ≡ true → (old.failed ≡ true) ⊎ Rose old.faults new.faults
+
 -- one of these texts was shown
 abbrev pub ShowsOne : SinkState → List (List ℕ) → SinkState → Type 0
 ShowsOne old [] new = ⊥
@@ -30,3 +35,18 @@ ShowsOne old (text ∷ texts) new = Shows old text new ⊎ ShowsOne old texts ne
 -- such a state, by what is known of the sink
 abbrev pub state_of : Option (List ℕ) → ℕ → Bool → SinkState
 state_of taken faults failed = record { taken = taken; faults = faults; failed = failed }
+
+-- ---- the whole of what a sink took
+
+-- a sink took a text whole, or its faults rose and it took a front
+abbrev pub Prints : Option (List ℕ) → List ℕ → Option (List ℕ) → ℕ → ℕ → Type 0
+Prints old text new before now = Takes old text new ⊎ (Rose before now × TakesFront old text new)
+
+-- one of these texts
+abbrev pub PrintsOne : Option (List ℕ) → List (List ℕ) → Option (List ℕ) → ℕ → ℕ → Type 0
+PrintsOne old [] new before now = ⊥
+PrintsOne old (text ∷ texts) new before now = Prints old text new before now ⊎ PrintsOne old texts new before now
+
+-- the exit status of a program, where its sink may have failed
+abbrev pub answer_of : ℕ → Bool → ℕ
+answer_of status failed = if (status == 0) && failed then 12 else status

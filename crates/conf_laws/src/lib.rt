@@ -1,0 +1,6 @@
+//! Laws of what a lilo.conf says: public functions with empty bodies, which no code needs to call.
+#![tactic(auto)]
+
+mod laws;
+
+pub use laws::every_config_is_lawful;

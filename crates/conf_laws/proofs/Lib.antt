@@ -4,3 +4,6 @@ pub mod Given
 pub mod Sizes
 pub mod Parts
 pub mod Values
+pub mod Effects
+pub mod Sections
+pub mod Names

@@ -3,7 +3,8 @@ use Rattle.std.proofs.Common.{◌≡◌, ℕ, ◌≤◌, Bool, true, false, ◌|
 use Rattle.std.specs.Prelude.{is_some, find}
 use Rattle.std.specs.List.{list_any}
 use Rattle.std.specs.Option.{option_and_then}
-use Rattle.std.proofs.lemmas.Bool.{or_parts, false≢true}
+use Rattle.std.proofs.lemmas.Bool.{or_right, false≢true}
+use Rattle.std.proofs.lemmas.List.Folds.{list_any-append}
 use Rattle.lilo_model.specs.ConfOptions.{Opt, Part, takes_of, opens, stands_in, is_of_name, same_option, excluded_by}
 use Rattle.lilo_model.specs.ConfValues.{is_value, name_limit}
 use Rattle.lilo_model.specs.ConfSettings.{Setting}
@@ -91,23 +92,11 @@ has_option-misplaced size one own settings plain stand misplaced = by _ refl
 
 has_option-push : (one : Opt) (own : List Setting) (setting : Setting) → has_option one own ≡ true → has_option one (own ++ setting ∷ []) ≡ true
 unfolding has_option
-has_option-push one [] setting is = absurd (cc)
-has_option-push one (first ∷ own) setting is = by _ refl is (λ rest. has_option-push one own setting rest)
-  where
-    by : (here : Bool) → same_option first.option one ≡ here → (here || has_option one own) ≡ true
-        → (has_option one own ≡ true → has_option one (own ++ setting ∷ []) ≡ true)
-        → (same_option first.option one || has_option one (own ++ setting ∷ [])) ≡ true
-    by true here e rest = rw here refl
-    by false here e rest = rw here (rest e)
+has_option-push one own setting is = rw (list_any-append (λ s. same_option s.option one) own (setting ∷ []), is) refl
 
 has_option-last : (one : Opt) (own : List Setting) (setting : Setting) → same_option setting.option one ≡ true → has_option one (own ++ setting ∷ []) ≡ true
 unfolding has_option
-has_option-last one [] setting is = rw is refl
-has_option-last one (first ∷ own) setting is = by (same_option first.option one) (has_option-last one own setting is)
-  where
-    by : (here : Bool) → has_option one (own ++ setting ∷ []) ≡ true → (here || has_option one (own ++ setting ∷ [])) ≡ true
-    by true rest = refl
-    by false rest = rest
+has_option-last one own setting is = rw (list_any-append (λ s. same_option s.option one) own (setting ∷ []), is) (or_right (list_any (λ s. same_option s.option one) own) true refl)
 
 excluded_in-some : (own : List Setting) (one two : Opt) → excluded_by one ≡ Some two → has_option two own ≡ true → excluded_in own one ≡ Some two
 unfolding excluded_in

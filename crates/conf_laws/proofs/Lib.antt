@@ -7,3 +7,6 @@ pub mod Values
 pub mod Effects
 pub mod Sections
 pub mod Names
+pub mod Groups
+pub mod Disks
+pub mod Lawful

@@ -1,8 +1,8 @@
 -- What is told of disks that isn't refused: each is told once, and in its range.
-use Rattle.std.proofs.Common.{◌≡◌, ◌≢◌, ℕ, zero, suc, ◌+◌, ◌≤◌, Bool, true, false, ◌||◌, ◌&&◌, List, [], ◌∷◌, ◌++◌, length, Some, None, Option, refl, sym, ◌∙◌, ap, cond, arith}
-use Rattle.std.specs.Prelude.{⊤, IfSome, AllPairs, is_some, if◌then◌else◌, find, take_while, ◌==◌}
+use Rattle.std.proofs.Common.{◌≡◌, ◌≢◌, ℕ, ◌+◌, ◌≤◌, Bool, true, false, List, [], ◌∷◌, ◌++◌, Some, None, Option, refl, sym, ◌∙◌, cond, arith}
+use Rattle.std.specs.Prelude.{IfSome, AllPairs, is_some, if◌then◌else◌, find, take_while, ◌==◌}
 use Rattle.std.specs.List.{AllByRecursion, list_any}
-use Rattle.std.specs.Option.{option_map, option_and_then}
+use Rattle.std.specs.Option.{option_and_then}
 use Rattle.std.proofs.lemmas.Bool.{or_parts, eq-eqb}
 use Rattle.std.proofs.lemmas.List.Elements.{All-from_recursion}
 use Rattle.std.proofs.lemmas.List.Folds.{list_any-append}
@@ -121,22 +121,22 @@ number-told one low high disk text number takes fits is =
 -- a disk whose group goes on behind others
 told-lawful : (size : ℕ) (own settings : List Setting) (device : Device) (line : ℕ) → IsDevice device → device.partition ≡ 0 → group_disk own ≡ Some device.disk → AllStand size own settings
     → IsLawfulDisk (record {
-        device = device;
-        bios = number_of 255 options.Bios (details settings);
-        sectors = number_of 255 options.Sectors (details settings);
-        heads = number_of 255 options.Heads (details settings);
-        line = line;
-      })
+      device = device;
+      bios = number_of 255 options.Bios (details settings);
+      sectors = number_of 255 options.Sectors (details settings);
+      heads = number_of 255 options.Heads (details settings);
+      line = line;
+    })
 unfolding number_of takes_of
 told-lawful size own settings device line is whole group stand = record {
   device = is;
   whole = whole;
   bios = if_meant (λ number. number ≡ 128 + device.disk) (number_between 0 255) (value_of options.Bios (details settings))
-    (λ text number given means. bios-told device.disk text number (details-given size options.Bios device.disk own settings text group stand given) means);
+      (λ text number given means. bios-told device.disk text number (details-given size options.Bios device.disk own settings text group stand given) means);
   sectors = if_meant (λ number. (1 ≤ number) × (number ≤ 63)) (number_between 0 255) (value_of options.Sectors (details settings))
-    (λ text number given means. number-told options.Sectors 1 63 device.disk text number refl (details-given size options.Sectors device.disk own settings text group stand given) means);
+      (λ text number given means. number-told options.Sectors 1 63 device.disk text number refl (details-given size options.Sectors device.disk own settings text group stand given) means);
   heads = if_meant (λ number. (1 ≤ number) × (number ≤ 255)) (number_between 0 255) (value_of options.Heads (details settings))
-    (λ text number given means. number-told options.Heads 1 255 device.disk text number refl (details-given size options.Heads device.disk own settings text group stand given) means);
+      (λ text number given means. number-told options.Heads 1 255 device.disk text number refl (details-given size options.Heads device.disk own settings text group stand given) means);
 }
 
 named-disk : (setting : Setting) (text : List ℕ) → same_option setting.option options.Disk ≡ true → given_text setting.given ≡ Some text → setting_disk setting ≡ whole_disk_at text
@@ -202,7 +202,7 @@ with-disk : (own : List Setting) (setting : Setting) (disk : DiskSection) (disks
 with-disk own setting disk disks told behind = record {
   fresh = (record { lawful = told.lawful; once = told.once }, fresh-before own setting disks behind.fresh);
   apart = AllPairs-cons (λ one other. one.device.disk ≢ other.device.disk) disk disks
-    (All-from_recursion (λ other. disk.device.disk ≢ other.device.disk) disks (fresh-apart own setting disk.device.disk disks told.named behind.fresh)) behind.apart;
+      (All-from_recursion (λ other. disk.device.disk ≢ other.device.disk) disks (fresh-apart own setting disk.device.disk disks told.named behind.fresh)) behind.apart;
 }
 
 pub disks_of-disks : (size : ℕ) (own settings : List Setting) → AllStand size own settings → AreDisks own (disks_of settings)

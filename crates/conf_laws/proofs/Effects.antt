@@ -1,18 +1,18 @@
 -- The values that are in effect in a section.
-use Rattle.std.proofs.Common.{◌≡◌, ℕ, ◌≤◌, Bool, true, false, not, ◌||◌, ◌&&◌, List, [], ◌∷◌, ◌++◌, length, Some, None, Option, inl, inr, refl, sym, ◌∙◌, ap, arith}
-use Rattle.std.specs.Prelude.{⊤, IfSome, is_some, is_none, if◌then◌else◌, unwrap_or, ◌⊎◌}
+use Rattle.std.proofs.Common.{◌≡◌, ℕ, ◌≤◌, Bool, true, false, ◌||◌, List, [], ◌∷◌, length, Some, None, Option, inl, inr, refl, ◌∙◌, ap}
+use Rattle.std.specs.Prelude.{IfSome, is_some, if◌then◌else◌, ◌⊎◌}
 use Rattle.std.specs.Option.{option_and_then}
-use Rattle.std.proofs.lemmas.Bool.{or_parts, not-true, false_from_ne_true, true≢false}
+use Rattle.std.proofs.lemmas.Bool.{or_parts, not-true, false_from_ne_true}
 use Rattle.lilo_model.specs.ConfOptions as options
 use Rattle.lilo_model.specs.ConfOptions.{Opt, Part, GlobalPart, ImagePart, OtherPart, Takes, takes_of, opens, stands_in, is_of_disk, is_of_name, same_option}
 use Rattle.lilo_model.specs.Devices.{device_at}
-use Rattle.lilo_model.specs.ConfValues.{is_value, is_path, is_name, is_text, is_shown, name_limit}
+use Rattle.lilo_model.specs.ConfValues.{is_value, is_shown}
 use Rattle.lilo_model.specs.ConfSettings.{Given, Bare, Sign, Value, Setting}
-use Rattle.lilo_model.specs.ConfJudge.{given_text, setting_of, has_option, opened_part, part_kind, takes_nothing, given_reason, value_reason}
-use Rattle.lilo_model.specs.Conf.{value_of, effect_value, effect_flag, section_path, conf_limit}
+use Rattle.lilo_model.specs.ConfJudge.{given_text, setting_of, has_option, part_kind, takes_nothing, given_reason, value_reason}
+use Rattle.lilo_model.specs.Conf.{value_of, effect_value, section_path, conf_limit}
 use Rattle.lilo_model.specs.ConfLawful.{IsPath, IsLineText, IsEntryName}
 use Rattle.conf_laws.proofs.Options.{same_option-same}
-use Rattle.conf_laws.proofs.Settings.{Stands, AllStand, is_plain, FitsValue, value_reason-none}
+use Rattle.conf_laws.proofs.Settings.{AllStand, is_plain, FitsValue, value_reason-none}
 use Rattle.conf_laws.proofs.Given.{IsGiven, value_of-given, has_option-placed}
 use Rattle.conf_laws.proofs.Parts.{Opened}
 
@@ -48,6 +48,10 @@ pub if_meant : {X : Type 0} (P : X → Type 0) (means : List ℕ → Option X) (
     → IfSome (option_and_then means found) P
 if_meant P means None each = tt
 if_meant P means (Some text) each = if_some P (means text) (λ x. each text x refl)
+
+never-some : (found : Option (List ℕ)) → ((text : List ℕ) → found ≡ Some text → ⊥) → found ≡ None
+never-some None never = refl
+never-some (Some text) never = absurd (never text refl)
 
 -- ---- what a section says
 
@@ -113,18 +117,10 @@ module _ (size : ℕ) (front : List Setting) (first : Setting) (rest : List Sett
 
   -- what may not stand there isn't in effect
   pub effect-none : (one : Opt) → is_plain one ≡ true → stands_in (part_kind (first ∷ rest)) one ≡ false → effect_value one front (first ∷ rest) ≡ None
-  effect-none one plain misplaced = by _ refl
-    where
-      by : (found : Option (List ℕ)) → effect_value one front (first ∷ rest) ≡ found → effect_value one front (first ∷ rest) ≡ None
-      by None is = is
-      by (Some text) is = let e = (effect-given one text plain is).placed in absurd (cc)
+  effect-none one plain misplaced = never-some _ (λ text is. let e = (effect-given one text plain is).placed in absurd (cc))
 
   pub own-none : (one : Opt) → is_plain one ≡ true → stands_in (part_kind (first ∷ rest)) one ≡ false → value_of one (first ∷ rest) ≡ None
-  own-none one plain misplaced = by _ refl
-    where
-      by : (found : Option (List ℕ)) → value_of one (first ∷ rest) ≡ found → value_of one (first ∷ rest) ≡ None
-      by None is = is
-      by (Some text) is = let e = (own-given one text plain is).placed in absurd (cc)
+  own-none one plain misplaced = never-some _ (λ text is. let e = (own-given one text plain is).placed in absurd (cc))
 
   pub own-absent : (one : Opt) → is_plain one ≡ true → stands_in (part_kind (first ∷ rest)) one ≡ false → has_option one (first ∷ rest) ≡ false
   own-absent one plain misplaced = false_from_ne_true _ (λ has. let e = own-placed one plain has in absurd (cc))

@@ -1,17 +1,16 @@
 -- What a part says of an option that stands in it.
-use Rattle.std.proofs.Common.{◌≡◌, ℕ, ◌≤◌, Bool, true, false, ◌||◌, List, [], ◌∷◌, ◌++◌, length, Some, None, Option, refl, sym, ◌∙◌, ap, cond, arith}
-use Rattle.std.specs.Prelude.{is_some, find}
+use Rattle.std.proofs.Common.{◌≡◌, ℕ, ◌≤◌, Bool, true, false, ◌||◌, List, [], ◌∷◌, ◌++◌, length, Some, refl, cond}
+use Rattle.std.specs.Prelude.{find}
 use Rattle.std.specs.List.{list_any}
 use Rattle.std.specs.Option.{option_and_then}
 use Rattle.std.proofs.lemmas.Bool.{or_right, false≢true}
 use Rattle.std.proofs.lemmas.List.Folds.{list_any-append}
-use Rattle.lilo_model.specs.ConfOptions.{Opt, Part, takes_of, opens, stands_in, is_of_name, same_option, excluded_by}
-use Rattle.lilo_model.specs.ConfValues.{is_value, name_limit}
+use Rattle.lilo_model.specs.ConfOptions.{Opt, Part, stands_in, same_option, excluded_by}
 use Rattle.lilo_model.specs.ConfSettings.{Setting}
 use Rattle.lilo_model.specs.ConfJudge.{given_text, setting_of, has_option, part_kind, excluded_in}
 use Rattle.lilo_model.specs.Conf.{value_of}
 use Rattle.conf_laws.proofs.Options.{same_option-same}
-use Rattle.conf_laws.proofs.Settings.{Stands, AllStand, is_plain, part_kind-push, FitsValue, value_reason-none, FitsPart, plain-fits}
+use Rattle.conf_laws.proofs.Settings.{Stands, AllStand, is_plain, part_kind-push, FitsValue, value_reason-none, plain-fits}
 
 -- a value that an option has in a part
 pub record IsGiven (size : ℕ) (kind : Part) (one : Opt) (text : List ℕ) : Type 0 where
@@ -70,23 +69,6 @@ value_of-has one (setting ∷ settings) text is = by _ refl is (λ rest. value_o
         → (same_option setting.option one || has_option one settings) ≡ true
     by true here e rest = rw here refl
     by false here e rest = rw here (rest e)
-
--- what may not stand in a part has no value there, and isn't there
-pub value_of-misplaced : (size : ℕ) (one : Opt) (own settings : List Setting) → is_plain one ≡ true → AllStand size own settings
-    → stands_in (part_kind own) one ≡ false → value_of one settings ≡ None
-value_of-misplaced size one own settings plain stand misplaced = by _ refl
-  where
-    by : (found : Option (List ℕ)) → value_of one settings ≡ found → value_of one settings ≡ None
-    by None is = is
-    by (Some text) is = let e = (value_of-given size one own settings text plain stand is).placed in absurd (cc)
-
-pub has_option-misplaced : (size : ℕ) (one : Opt) (own settings : List Setting) → is_plain one ≡ true → AllStand size own settings
-    → stands_in (part_kind own) one ≡ false → has_option one settings ≡ false
-has_option-misplaced size one own settings plain stand misplaced = by _ refl
-  where
-    by : (found : Bool) → has_option one settings ≡ found → has_option one settings ≡ false
-    by false is = is
-    by true is = let e = has_option-placed size one own settings plain stand is in absurd (cc)
 
 -- ---- options that exclude one another
 

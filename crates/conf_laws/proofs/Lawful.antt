@@ -1,29 +1,27 @@
 -- Each configuration that a text says may be carried out.
-use Rattle.std.proofs.Common.{◌≡◌, ◌≢◌, ℕ, ◌≤◌, Bool, true, false, List, [], ◌∷◌, ◌++◌, map, length, Some, None, Ok, Err, Option, Result, refl, sym, ◌∙◌, ap, arith}
-use Rattle.std.specs.Prelude.{⊤, IsTrue, IsSome, IfSome, All, AllPairs, codes, unwrap_or, nat_le, flat_map}
+use Rattle.std.proofs.Common.{◌≡◌, ◌≢◌, ℕ, ◌≤◌, Bool, true, false, List, [], ◌∷◌, ◌++◌, map, length, Some, None, Ok, Err, Option, Result, refl, sym, ◌∙◌, arith}
+use Rattle.std.specs.Prelude.{IsSome, IfSome, codes, unwrap_or, nat_le, flat_map}
 use Rattle.std.specs.List.{AllByRecursion}
-use Rattle.std.specs.Option.{option_and_then}
 use Rattle.std.proofs.lemmas.Bool.{leb-true}
 use Rattle.std.proofs.lemmas.List.Elements.{All-from_recursion}
-use Rattle.lilo_model.specs.Checks.{◌>>=◌, require, no_fault}
 use Rattle.lilo_model.specs.ConfOptions as options
 use Rattle.lilo_model.specs.ConfOptions.{Opt, takes_of, opens, is_of_disk, is_of_name, excluded_by, opt_number}
-use Rattle.lilo_model.specs.Devices.{Device, IsDevice, device_at}
-use Rattle.lilo_model.specs.ConfValues.{is_value, is_path, names_limit, number_between}
+use Rattle.lilo_model.specs.Devices.{IsDevice, device_at}
+use Rattle.lilo_model.specs.ConfValues.{is_value, is_path, number_between}
 use Rattle.lilo_model.specs.ConfRefusal.{ConfRefusal}
 use Rattle.lilo_model.specs.ConfSettings.{Setting, text_settings}
-use Rattle.lilo_model.specs.ConfJudge.{has_option, settings_refusal}
-use Rattle.lilo_model.specs.Conf.{Config, ConfParts, parts_of, value_of, section_of, section_refusal, sections_refusal, names_from, default_refusal, has_name, section_names, number_of, disks_of, config_of, whole_of, conf_limit, conf_at}
+use Rattle.lilo_model.specs.ConfJudge.{settings_refusal}
+use Rattle.lilo_model.specs.Conf.{Config, ConfParts, parts_of, value_of, section_of, section_refusal, sections_refusal, names_from, default_refusal, section_names, number_of, disks_of, config_of, whole_of, conf_limit, conf_at}
 use Rattle.lilo_model.specs.ConfLawful.{names_of_section, names_of_config, IsPath, IsLawfulSection, IsLawfulDisk, IsLawful}
 use Rattle.conf_laws.specs.Lawful.{LawfulLaw}
-use Rattle.conf_laws.proofs.Settings.{AllStand, is_plain, FitsValue}
-use Rattle.conf_laws.proofs.Given.{IsGiven, value_of-given, value_of-has, excluded-apart}
+use Rattle.conf_laws.proofs.Settings.{AllStand, is_plain}
+use Rattle.conf_laws.proofs.Given.{value_of-given, value_of-has, excluded-apart}
 use Rattle.conf_laws.proofs.Sizes.{text_settings-small}
 use Rattle.conf_laws.proofs.Parts.{IsOpened, AreParts, parts_of-stand}
 use Rattle.conf_laws.proofs.Values.{device_at-device, number_between-narrow}
 use Rattle.conf_laws.proofs.Effects.{fits-path, if_some, if_meant}
 use Rattle.conf_laws.proofs.Sections.{section_refusal-none, lawful-section}
-use Rattle.conf_laws.proofs.Names.{AreNames, names_of-sections, names_from-names, default_refusal-known}
+use Rattle.conf_laws.proofs.Names.{names_of-sections, names_from-names, default_refusal-known}
 use Rattle.conf_laws.proofs.Disks.{disks_of-disks, disks-lawful}
 
 -- ---- what a text that is answered passes

@@ -1,6 +1,6 @@
 -- Options, told apart by their numbers.
-use Rattle.std.proofs.Common.{◌≡◌, Bool, true, false, refl, sym, ◌∙◌, ap, get_or}
-use Rattle.std.proofs.lemmas.Bool.{eqb-true, eq-eqb}
+use Rattle.std.proofs.Common.{◌≡◌, true, false, refl, sym, ◌∙◌, ap, get_or}
+use Rattle.std.proofs.lemmas.Bool.{eqb-true}
 use Rattle.lilo_model.specs.ConfOptions as options
 use Rattle.lilo_model.specs.ConfOptions.{Opt, Part, GlobalPart, opt_number, all_options, same_option, opens}
 use Rattle.lilo_model.specs.ConfJudge.{opened_part}
@@ -69,9 +69,6 @@ option_at-number options.Other = refl
 pub same_option-same : (one other : Opt) → same_option one other ≡ true → one ≡ other
 same_option-same one other is =
     sym (option_at-number one) ∙ ap (λ n. get_or all_options n options.Other) (eqb-true (opt_number one) (opt_number other) is) ∙ option_at-number other
-
-pub same_option-refl : (one : Opt) → same_option one one ≡ true
-same_option-refl one = eq-eqb (opt_number one) (opt_number one) refl
 
 -- an option that opens no section opens no part
 pub opened_part-global : (one : Opt) → opens one ≡ false → opened_part one ≡ GlobalPart

@@ -1,11 +1,10 @@
 -- Where no setting is refused, those of each part stand unrefused in it.
-use Rattle.std.proofs.Common.{◌≡◌, ℕ, ◌≤◌, Bool, true, false, List, [], ◌∷◌, ◌++◌, length, Some, None, Option, refl, sym, ◌∙◌, ap, arith}
-use Rattle.std.specs.Prelude.{⊤, if◌then◌else◌}
+use Rattle.std.proofs.Common.{◌≡◌, ℕ, Bool, true, false, List, [], ◌∷◌, ◌++◌, Some, None, Option, refl}
 use Rattle.std.specs.List.{AllByRecursion}
 use Rattle.lilo_model.specs.ConfOptions.{opens}
 use Rattle.lilo_model.specs.ConfRefusal.{ConfReason}
 use Rattle.lilo_model.specs.ConfSettings.{Setting}
-use Rattle.lilo_model.specs.ConfJudge.{given_text, value_reason, setting_reason, part_after, settings_refusal}
+use Rattle.lilo_model.specs.ConfJudge.{value_reason, setting_reason, part_after, settings_refusal}
 use Rattle.lilo_model.specs.Conf.{ConfParts, with_front, parts_of}
 use Rattle.conf_laws.proofs.Settings.{Stands, AllStand}
 use Rattle.conf_laws.proofs.Sizes.{IsSmall}

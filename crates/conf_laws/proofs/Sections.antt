@@ -1,22 +1,20 @@
 -- Each section that isn't refused may stand in a configuration.
-use Rattle.std.proofs.Common.{◌≡◌, ℕ, ◌≤◌, Bool, true, false, not, ◌||◌, ◌&&◌, List, [], ◌∷◌, ◌++◌, length, Some, None, Option, inl, inr, refl, sym, ◌∙◌, ap, arith}
-use Rattle.std.specs.Prelude.{⊤, IsTrue, IsSome, IfSome, is_some, is_none, if◌then◌else◌, unwrap_or, nat_lt, ◌⊎◌}
-use Rattle.std.specs.Option.{option_and_then}
-use Rattle.std.proofs.lemmas.Bool.{ltb-false, not-false}
+use Rattle.std.proofs.Common.{◌≡◌, ℕ, ◌≤◌, Bool, true, false, List, [], ◌∷◌, length, Some, None, Option, inl, inr, refl, arith}
+use Rattle.std.specs.Prelude.{IsTrue, IsSome, IfSome, is_some, is_none, unwrap_or, nat_lt, ◌⊎◌}
+use Rattle.std.proofs.lemmas.Bool.{ltb-false}
 use Rattle.lilo_model.specs.ConfOptions as options
 use Rattle.lilo_model.specs.ConfOptions.{Opt, Part, GlobalPart, ImagePart, OtherPart, takes_of, opens, places_of, stands_in, is_of_disk, is_of_name, opt_number}
-use Rattle.lilo_model.specs.Devices.{Device, IsDevice, device_at, device_name}
+use Rattle.lilo_model.specs.Devices.{Device, IsDevice, device_at}
 use Rattle.lilo_model.specs.VideoMode.{video_mode}
-use Rattle.lilo_model.specs.ConfValues.{is_value, is_name, is_shown, name_limit, last_part, root_at}
-use Rattle.lilo_model.specs.ConfRefusal as reasons
-use Rattle.lilo_model.specs.ConfRefusal.{ConfReason, ConfRefusal}
+use Rattle.lilo_model.specs.ConfValues.{is_name, is_shown, name_limit, last_part, root_at}
+use Rattle.lilo_model.specs.ConfRefusal.{ConfReason}
 use Rattle.lilo_model.specs.ConfSettings.{Setting}
-use Rattle.lilo_model.specs.ConfJudge.{given_text, has_option, opened_part, part_kind, takes_nothing}
-use Rattle.lilo_model.specs.Conf.{Mount, Unsaid, ConfSection, value_of, effect_value, effect_flag, section_path, section_label, label_reason, is_locked_fallback, is_open_restricted, section_refusal, mount_of, effect_mount, section_device, section_of, conf_limit}
+use Rattle.lilo_model.specs.ConfJudge.{opened_part, part_kind, takes_nothing}
+use Rattle.lilo_model.specs.Conf.{Unsaid, value_of, effect_value, section_path, section_label, label_reason, is_locked_fallback, is_open_restricted, section_refusal, mount_of, effect_mount, section_device, section_of, conf_limit}
 use Rattle.lilo_model.specs.ConfLawful.{IsPath, IsLineText, IsEntryName, IsImageSection, IsOtherSection, IsOfKind, IsLawfulSection}
-use Rattle.conf_laws.proofs.Settings.{AllStand, is_plain, FitsValue}
+use Rattle.conf_laws.proofs.Settings.{AllStand, is_plain}
 use Rattle.conf_laws.proofs.Values.{device_at-device, root_at-range, video_mode-range}
-use Rattle.conf_laws.proofs.Effects.{fits-path, fits-line, fits-name, fits-shown, fits-device, if_some, if_meant, opening-cases, OpeningValue, opening-value, own-given, effect-given, effect-none, own-none, own-absent}
+use Rattle.conf_laws.proofs.Effects.{fits-path, fits-line, fits-name, fits-shown, fits-device, if_some, if_meant, opening-cases, opening-value, own-given, effect-given, effect-none, own-none, own-absent}
 use Rattle.conf_laws.proofs.Parts.{Opened}
 
 -- what isn't refused of a section as a whole

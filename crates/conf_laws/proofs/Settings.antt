@@ -1,17 +1,13 @@
 -- Settings that stand unrefused in a part, and the values that they give.
-use Rattle.std.proofs.Common.{◌≡◌, ℕ, ◌≤◌, Bool, true, false, not, ◌||◌, ◌&&◌, List, [], ◌∷◌, ◌++◌, length, Some, None, Option, refl, sym, ◌∙◌, ap, arith}
-use Rattle.std.specs.Prelude.{⊤, if◌then◌else◌, nat_lt}
-use Rattle.std.specs.Option.{option_and_then}
-use Rattle.std.proofs.lemmas.Bool.{ltb-false, or_parts, and_parts, not-true, not-false, false≢true}
+use Rattle.std.proofs.Common.{◌≡◌, ℕ, ◌≤◌, Bool, true, false, not, ◌||◌, ◌&&◌, List, [], ◌∷◌, ◌++◌, length, Some, None, Option, refl}
+use Rattle.std.specs.Prelude.{⊤, nat_lt}
+use Rattle.std.proofs.lemmas.Bool.{ltb-false, or_parts, not-true}
 use Rattle.lilo_model.specs.ConfOptions as options
 use Rattle.lilo_model.specs.ConfOptions.{Opt, Part, GlobalPart, Takes, takes_of, opens, stands_in, is_of_disk, is_of_name, same_option, excluded_by}
 use Rattle.lilo_model.specs.ConfValues.{is_value, name_limit}
-use Rattle.lilo_model.specs.ConfRefusal as reasons
-use Rattle.lilo_model.specs.ConfRefusal.{ConfReason}
 use Rattle.lilo_model.specs.ConfSettings.{Given, Bare, Sign, Value, Setting}
-use Rattle.lilo_model.specs.ConfJudge.{given_text, setting_of, has_option, part_kind, excluded_in, takes_nothing, text_reason, given_reason, value_reason, disk_reason, detail_reason, part_reason, setting_reason}
-use Rattle.lilo_model.specs.Conf.{value_of}
-use Rattle.conf_laws.proofs.Options.{same_option-same, same_option-refl, opened_part-global}
+use Rattle.lilo_model.specs.ConfJudge.{given_text, has_option, part_kind, excluded_in, text_reason, given_reason, value_reason, part_reason, setting_reason}
+use Rattle.conf_laws.proofs.Options.{opened_part-global}
 
 -- a setting that isn't refused behind others of its part, and opens none; its value has at most so many bytes
 pub record Stands (size : ℕ) (own : List Setting) (setting : Setting) : Type 0 where

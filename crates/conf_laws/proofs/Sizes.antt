@@ -1,12 +1,12 @@
 -- No value has more bytes than the text that it stands in.
-use Rattle.std.proofs.Common.{◌≡◌, ℕ, zero, suc, ◌+◌, ◌-◌, ◌≤◌, Bool, true, false, not, ◌||◌, ◌&&◌, List, [], ◌∷◌, ◌++◌, length, take, drop, Some, None, Ok, Err, Option, refl, sym, ◌∙◌, ap, cond, arith}
+use Rattle.std.proofs.Common.{◌≡◌, ℕ, zero, suc, ◌+◌, ◌≤◌, Bool, true, false, not, ◌||◌, ◌&&◌, List, [], ◌∷◌, length, take, drop, Some, None, Ok, Err, Option, arith}
 use Rattle.std.specs.Prelude.{⊤, IfSome, if◌then◌else◌, ◌==◌, position}
 use Rattle.std.specs.List.{AllByRecursion, take_while, prefix_len}
 use Rattle.std.proofs.lemmas.List.{length-take, length-drop, length-append}
 use Rattle.lilo_model.specs.ConfOptions as options
 use Rattle.lilo_model.specs.ConfOptions.{Opt, Takes, takes_of, option_at}
-use Rattle.lilo_model.specs.ConfTokens.{TokenKind, Word, Quoted, Equals, Token, TextFault, OpenQuote, Piece, is_of_word, is_escape, quoted_length, unless_bad, sound_token, closed, word_at, quoted_at, equals_at, token_start, line_at, piece_at, next_piece, is_equals, token_end, pieces_from, text_pieces, unescaped_byte, unescaped, plain_bytes, is_bad_byte}
-use Rattle.lilo_model.specs.ConfSettings.{Given, Bare, Sign, Value, Setting, SettingCut, End, Refused, First, flag_given, flag_cut, given_of, signed_cut, valued_cut, taken_cut, word_cut, token_cut, setting_cut, with_setting, Settings, settings_from, text_settings}
+use Rattle.lilo_model.specs.ConfTokens.{TokenKind, Word, Quoted, Equals, Token, OpenQuote, Piece, is_of_word, is_escape, quoted_length, unless_bad, sound_token, closed, word_at, quoted_at, equals_at, token_start, line_at, piece_at, next_piece, is_equals, token_end, pieces_from, text_pieces, unescaped_byte, unescaped, plain_bytes, is_bad_byte}
+use Rattle.lilo_model.specs.ConfSettings.{Bare, Sign, Setting, SettingCut, End, Refused, First, flag_given, flag_cut, given_of, signed_cut, valued_cut, taken_cut, word_cut, token_cut, setting_cut, with_setting, Settings, settings_from, text_settings}
 use Rattle.lilo_model.specs.ConfJudge.{given_text}
 
 -- ---- tokens
@@ -81,12 +81,12 @@ pieces_from-within (suc most) text value place =
     by : (found : Option Piece) → IfSome found (IsWithin (length text))
         → ((token : Token) → AllByRecursion (IsWithin (length text)) (pieces_from most text (is_equals token.kind) (token_end token)))
         → AllByRecursion (IsWithin (length text)) (elim found [
-            | None ↦ []
-            | Some piece ↦ elim piece [
-              | Err fault ↦ Err fault ∷ []
-              | Ok token ↦ Ok token ∷ pieces_from most text (is_equals token.kind) (token_end token)
-            ]
-          ])
+          | None ↦ []
+          | Some piece ↦ elim piece [
+            | Err fault ↦ Err fault ∷ []
+            | Ok token ↦ Ok token ∷ pieces_from most text (is_equals token.kind) (token_end token)
+          ]
+        ])
     by None small rest = tt
     by (Some (Err fault)) small rest = (tt, tt)
     by (Some (Ok token)) small rest = (small, rest token)
@@ -216,10 +216,10 @@ settings_from-small size (suc most) text begun pieces small =
     by : (cut : SettingCut) → CutWithin size cut
         → ((setting : Setting) (behind : List Piece) → AllByRecursion (IsWithin size) behind → AllByRecursion (IsSmall size) (settings_from most text setting.option behind).settings)
         → AllByRecursion (IsSmall size) (elim cut as (λ c. Settings) [
-            | End ↦ record { settings = []; refusal = None }
-            | Refused refusal ↦ record { settings = []; refusal = Some refusal }
-            | First setting behind ↦ with_setting setting (settings_from most text setting.option behind)
-          ]).settings
+          | End ↦ record { settings = []; refusal = None }
+          | Refused refusal ↦ record { settings = []; refusal = Some refusal }
+          | First setting behind ↦ with_setting setting (settings_from most text setting.option behind)
+        ]).settings
     by End within rest = tt
     by (Refused refusal) within rest = tt
     by (First setting behind) within rest = (within.0, rest setting behind within.1)

@@ -1,12 +1,12 @@
 -- What values mean is in its range.
-use Rattle.std.proofs.Common.{◌≡◌, ℕ, ◌+◌, ◌≤◌, Bool, true, false, ◌&&◌, List, [], ◌∷◌, length, cond, Some, None, Option, refl, sym, ◌∙◌, ap, arith}
-use Rattle.std.specs.Prelude.{⊤, IfSome, if◌then◌else◌, find, is_some, nat_le, nat_eq, bytes_eq, codes, ◌==◌}
+use Rattle.std.proofs.Common.{◌≡◌, ℕ, ◌≤◌, Bool, true, false, ◌&&◌, List, [], ◌∷◌, cond, Some, None, Option, refl, arith}
+use Rattle.std.specs.Prelude.{if◌then◌else◌, find, is_some, nat_le, nat_eq, bytes_eq, codes, ◌==◌}
 use Rattle.std.specs.List.{list_all, starts_with}
 use Rattle.std.specs.Option.{option_and_then}
 use Rattle.std.proofs.lemmas.Bool.{leb-true, and_parts, eqb-true}
 use Rattle.std.proofs.lemmas.Slice.Eq.{bytes_eq-Decides}
 use Rattle.lilo_model.specs.Bytes.{is_between}
-use Rattle.lilo_model.specs.Devices.{Device, IsDevice, disk_name, last_partition, device_name, devices_of, named_devices, device_at, disk_number, device_number}
+use Rattle.lilo_model.specs.Devices.{Device, IsDevice, last_partition, device_name, devices_of, named_devices, device_at, disk_number, device_number}
 use Rattle.lilo_model.specs.VideoMode.{written_number, mode_number, video_mode}
 use Rattle.lilo_model.specs.ConfValues.{number_between, whole_disk_at, root_at}
 

@@ -10,3 +10,4 @@ pub mod Names
 pub mod Groups
 pub mod Disks
 pub mod Lawful
+pub mod Sample

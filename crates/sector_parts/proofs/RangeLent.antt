@@ -12,14 +12,12 @@ use mir.Val.{Val}
 use base.Logic.{SProp, ent, sep, ex, guard}
 use base.Fraction.{full_share}
 use base.Fml.{Fml, Lft, GName, Share, fsep, feq, flft}
-use prog.Memory.{size}
 use types.Logic.{Logic, sem}
 use types.SemTy.{cells}
 use types.Mut.{open_ref}
 use types.Kit.{Item, ‵, ◌⊛◌, given, later, some, ◌$◌, ◌∵◌, !, qed, by, move, drop, split, join, group, use1, use2, updating, await, pick, now, show, check, done, rewrite, fsplit, fsplit3, fjoin, feq_l, feq_i}
 use denote.RattleType.{RattleType}
-use denote.Memory.{mem, part_at}
-use denote.Param.{layout}
+use denote.Memory.{mem}
 use denote.Ref.{MutRef}
 use denote.Array.{Array}
 use denote.ArrayMemory.{Single, Array-apart, Array-whole}

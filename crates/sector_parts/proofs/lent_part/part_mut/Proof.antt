@@ -8,7 +8,7 @@ use lib.ListN.{length}
 use seplogic.Ra.Ura.{Ura}
 use mir.Syntax.{Args, Fn, named, w64, a_number}
 use mir.MapTy.{inst_fn}
-use mir.Val.{Fits, Val, vptr, vint}
+use mir.Val.{Val, vptr, vint}
 use base.Logic.{SProp, ent, emp}
 use base.Fml.{Lft, GName, Share, ftrue, flft}
 use prog.Memory.{Memory, size}
@@ -24,7 +24,6 @@ use contract.Lifetimes.{AllOutlive}
 use contract.Monad.{Fun, fact, fact_i}
 use contract.Running.{tables, tables_of}
 use sound.WpLaws.{WpFn-mono}
-use denote.Array.{Array}
 use denote.Builtin.{RefMutOf, u8, usize}
 use denote.Exit.{yes, no}
 use denote.Param.{number, layout, layouts, param, ArrayAt}
@@ -38,7 +37,7 @@ use denote.Triple.Clauses.{Clauses, Ended, closing}
 use denote.Triple.Entry.{on_entry}
 use denote.Triple.Spec.{Meets, triple_of}
 use denote.Triple.Table.{entered}
-use denote.Triple.Walked.{says, Stays, stay_dropped, walk_of, ends_at, walked, Goes-dropped, Goes-spent_ref, walk_Meets}
+use denote.Triple.Walked.{Stays, stay_dropped, walk_of, ends_at, walked, Goes-dropped, Goes-spent_ref, walk_Meets}
 use borrow.Table.Elements.{at_byte}
 use Rattle.lilo_model.specs.Bytes.{part_of}
 use Rattle.sector_parts.proofs.RangeLent.{part, length-part, lent, lends}

@@ -1,5 +1,6 @@
 -- A range of an array behind a `&mut` is lent as a slice, and the array ends with what the slice shows
 -- last in the range's place. It is for any type of element and any length. Assumes `Logic`.
+--     lends      the reference and its lifetime's token give the slice, the token, and how the array follows
 use mathlib.Core.Path.{◌≡◌, refl, sym, ap, ◌∙◌}
 use Prim.Native.Nat.{ℕ, ◌+◌, ◌*◌, ◌^◌, ◌<◌, ◌≤◌}
 use native.Mathlib.Nat.{mul-le-mul_right}
@@ -73,6 +74,7 @@ module _ {M : Type 1} {𝓤 : Ura M} (𝓛 : Logic 𝓤) (R : RattleType) (singl
     abbrev Rest : SProp 𝓤
     Rest = sep 𝓤 (sem 𝓛 (elements (back xs from len) end)) (sem 𝓛 (elements (front xs from len) o))
 
+    -- other elements in the range, and the rest, are the array again
     put : from + len ≤ n → length xs ≡ n → at o stride from ≡ p → (ws : List R.Denot) → length ws ≡ length (part xs from len)
         → ent 𝓤 (sep 𝓤 (sem 𝓛 (elements ws p)) Rest) (sem 𝓛 ((mem (Array R n)).own_at (written xs from len ws) b o))
     put within long on ws e =

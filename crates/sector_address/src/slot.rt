@@ -1,7 +1,7 @@
 // Slots: eight bytes that say where neighbouring sectors lie on a disk.
 ghost use Rattle.std.specs.Prelude.{◌≡◌, ◌+◌, ◌^◌, ◌%◌, ◌≤◌, ◌<◌, true, length, slice_index, take, ◌++◌, IfOk, IfSome};
 ghost use Rattle.std.specs.Option.{option_map};
-ghost use Rattle.lilo_model.specs.Bytes.{is_zero};
+ghost use Rattle.lilo_model.specs.Bytes.{is_zero, with_part};
 ghost use Rattle.lilo_model.specs.Checks.{seen};
 ghost use Rattle.lilo_model.specs.Slots.{is_slot, has_ranges, has_address, address_of, chs_of, slot_of, slot_at, slot_make, slot_bytes, sector_at, number_at, address_in, address_bytes, mode_number};
 ghost use Rattle.lilo_model.specs.Slots as model;
@@ -10,7 +10,7 @@ ghost use Rattle.sector_address.specs.Whole.{IsAddress, IsSlot};
 
 use crate::track::{self, LAST_CYLINDER};
 use disk_trait::Geometry;
-use sector_parts::{FieldMut, FieldRef};
+use sector_parts::{FieldMut, FieldRef, Sector, part_mut};
 
 /// An address of INT 13h: cylinder 0 to 1023, head 0 to 255, sector 1 to 63.
 #[derive(Clone, Copy, Debug, PartialEq, Eq, Default)]
@@ -139,6 +139,16 @@ impl Slot {
         into.put_u8(2, self.count);
         into.put_u8(3, 0);
         put_address(into, &self.address);
+    }
+
+    /// Writes the eight bytes from offset `at` of a sector. All others stay.
+    pub fn put(&self, sector: &mut Sector, at: usize)
+        requires inside { at + 8 ≤ 512 }
+        requires whole { IsSlot (slot_view self.now) }
+        ensures { sector.new ≡ with_part sector.old at (slot_bytes (slot_view self.now)) }
+    {
+        let bytes = part_mut(sector, at, 8);
+        self.encode(&mut FieldMut { bytes });
     }
 
     /// The number on the disk of the sector at `index`, which is below the count. `NotFound` is for a

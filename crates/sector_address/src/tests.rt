@@ -4,7 +4,7 @@ ghost use Rattle.sector_address.specs.Whole.{IsSlot};
 
 use super::*;
 use disk_trait::Geometry;
-use sector_parts::{FieldMut, FieldRef};
+use sector_parts::{FieldMut, FieldRef, Sector, part};
 
 // 16 heads and 63 sectors per track.
 fn small_disk() -> Geometry {
@@ -69,6 +69,26 @@ fn a_slot_names_its_sectors(rt: HostRuntime) {
     assert_eq!(rt;
         Slot::decode(&FieldRef { bytes: &many }),
         Err(AddressFault::BadSlot)
+    );
+}
+
+#[test]
+fn a_slot_is_put_into_a_sector(rt: HostRuntime) {
+    let slot = Slot {
+        disk: 0,
+        count: 1,
+        address: Address::Lba32(94),
+    };
+    let mut sector: Sector = [0xFF; 512];
+    slot.put(&mut sector, 504);
+    assert_eq!(rt;
+        part(&sector, 503, 9),
+        b"\xFF\x03\x80\x01\x00\x5E\x00\x00\x00".as_slice()
+    );
+    slot.put(&mut sector, 8);
+    assert_eq!(rt;
+        part(&sector, 6, 12),
+        b"\xFF\xFF\x03\x80\x01\x00\x5E\x00\x00\x00\xFF\xFF".as_slice()
     );
 }
 

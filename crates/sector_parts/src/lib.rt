@@ -6,10 +6,12 @@
 
 mod field_mut;
 mod field_ref;
+mod lent_part;
 mod sector;
 #[cfg(test)]
 mod tests;
 
 pub use field_mut::FieldMut;
 pub use field_ref::FieldRef;
+pub use lent_part::{part_mut, put_name};
 pub use sector::{Sector, part, put_part, put_u16, put_u32, u16_at, u32_at};

@@ -31,3 +31,30 @@ fn fields_read_what_was_written(rt: HostRuntime) {
     // A name that fills its field has no zero byte.
     assert_eq!(rt; fields.name(7, 5), b"linux".as_slice());
 }
+
+#[test]
+fn a_loan_is_written_and_no_other_byte(rt: HostRuntime) {
+    for (at, len) in [(0, 0), (0, 512), (511, 1), (512, 0)] {
+        let mut sector: Sector = [7; 512];
+        let lent = part_mut(&mut sector, at, len);
+        assert_eq!(rt; lent.len(), len);
+        lent.fill(9);
+        for (index, byte) in sector.iter().enumerate() {
+            let is_lent = at <= index && index < at + len;
+            assert_eq!(rt; *byte, if is_lent { 9 } else { 7 });
+        }
+    }
+    let mut block = [0; 1024];
+    part_mut(&mut block, 512, 512).fill(1);
+    assert_eq!(rt;
+        (block[0], block[511], block[512], block[1023]),
+        (0, 0, 1, 1)
+    );
+}
+
+#[test]
+fn a_name_fills_its_field(rt: HostRuntime) {
+    let mut sector: Sector = [0xFF; 512];
+    put_name(&mut sector, 8, 8, b"linux");
+    assert_eq!(rt; part(&sector, 7, 10), b"\xFFlinux\0\0\0\xFF".as_slice());
+}

@@ -1,0 +1,126 @@
+-- `part_mut` lends bytes of an array. The borrow checker does not cover a part of a `[u8; N]` that is
+-- handed to the caller, so this proof walks the code by hand.
+use mathlib.Core.Path.{◌≡◌, refl, ap}
+use Prim.Native.Nat.{ℕ, ◌+◌, ◌-◌, ◌*◌, ◌^◌, ◌<◌, ◌≤◌}
+use native.Mathlib.Omega.{arith}
+use mathlib.Core.List.{List, [], ◌∷◌}
+use lib.ListN.{length}
+use seplogic.Ra.Ura.{Ura}
+use mir.Syntax.{Args, Fn, named, w64, a_number}
+use mir.MapTy.{inst_fn}
+use mir.Val.{Val, vptr, vint}
+use base.Logic.{SProp, ent, emp}
+use base.Fml.{Lft, GName, Share, ftrue, flft}
+use prog.Memory.{Memory, size}
+use prog.Routine.{Routine}
+use prog.Wp.{Calls, Loops, WpFn, Tables}
+use types.Logic.{Logic}
+use types.Kit.{‵, ◌⊛◌, raw, given, some, later, ◌$◌, ◌∵◌, !, qed, by, move, keep, drop, split, split3, join, learn, fsplit, fjoin, use0, use2, await, pick, suffices, frame, done}
+use types.Run.{stop, addr, bin, and_then, no_more, returns, enter}
+use types.Part.{agg}
+use types.ByLocal.{alloc_all, pass_all, free_all, look_at, get, through, sets, is}
+use contract.BorrowLft.{◌⊑◌}
+use contract.Lifetimes.{AllOutlive}
+use contract.Monad.{Fun, fact, fact_i}
+use contract.Running.{tables, tables_of}
+use sound.WpLaws.{WpFn-mono}
+use denote.Builtin.{RefMutOf, u8, usize}
+use denote.Exit.{yes, no}
+use denote.Param.{number, layout, layouts, param, ArrayAt}
+use denote.Plain.{uint_vals, uint_Tells}
+use denote.RattleType.{RattleType, owns}
+use denote.Ref.{MutBor, MutRef, mut_vals, mut_Tells}
+use denote.Signature.{plain}
+use denote.Slice.{slice_val}
+use denote.Steps.{nothing}
+use denote.Triple.Clauses.{Clauses, Ended, closing}
+use denote.Triple.Entry.{on_entry}
+use denote.Triple.Spec.{Meets, triple_of}
+use denote.Triple.Table.{entered}
+use denote.Triple.Walked.{Stays, stay_dropped, walk_of, ends_at, walked, Goes-dropped, Goes-spent_ref, walk_Meets}
+use borrow.Table.Elements.{at_byte}
+use Rattle.lilo_model.specs.Bytes.{part_of}
+use Rattle.sector_parts.proofs.RangeLent.{part, length-part, lent, lends}
+use Rattle.sector_parts.specs.contracts.lent_part.part_mut as F
+use Rattle.sector_parts.specs.contracts.lent_part.part_mut.Key.{name as #self}
+use Rattle.sector_parts.proofs.lent_part.part_mut.Statement as stated
+use Rattle.sector_parts.proofs.lent_part.part_mut.Code as code
+
+module _ (n : ℕ) where
+  abbrev args : Args
+  args = layouts (a_number ∷ []) (number n, tt)
+
+  abbrev function : Fn
+  function = inst_fn args code.function
+
+  abbrev ended : Ended
+  ended = F.ended (number n)
+
+  abbrev Bytes : RattleType
+  Bytes = ArrayAt u8 (param 0 (number n))
+
+  abbrev stayed : Stays ended.signature.params ended.kept
+  stayed = (
+    stay_dropped (RefMutOf (0 ∷ []) tt (plain (λ _. Bytes)) (λ _. tt)) no,
+    (stay_dropped (plain (λ _. usize)) yes, (stay_dropped (plain (λ _. usize)) yes, tt)),
+  )
+
+module _ (n : ℕ) {M : Type 1} {𝓤 : Ura M} (𝓛 : Logic 𝓤) (at_mem : Memory → SProp 𝓤) (run : Routine → Fun 𝓤) where
+  open 𝓛 use {H}
+
+  abbrev clauses : Clauses 𝓤 (ended n)
+  clauses = F.clauses (number n) 𝓛 at_mem run
+
+  module _ (C : Calls 𝓤 H) (Λ : Loops 𝓤 H) (κ κN : Lft) (q qN : Share)
+      (bd : AllOutlive 2 (ended n).signature.outlives (κ, (κN, tt))) (b o : ℕ) (γ : GName)
+      (xs : List ℕ) (from len : ℕ) where
+    abbrev self : MutBor (List ℕ)
+    self = record { ref_ptr = (b, o); ghost_name = γ; now = xs }
+
+    abbrev bound : (walk_of 𝓛 (ended n) (stayed n) clauses).Ghost
+    bound = (((κ, (κN, tt)), (q, (qN, tt)), bd, (self, (from, (len, tt))), (mut_vals self, (vint w64 from ∷ [], (vint w64 len ∷ [], tt)))), tt)
+
+    abbrev Post : Val → SProp 𝓤
+    Post = (walk_of 𝓛 (ended n) (stayed n) clauses).post bound
+
+    walk : from + len ≤ n → n < 2 ^ 64 → from < 2 ^ 64 → len < 2 ^ 64 → n * size (layout u8) < 2 ^ 63
+        → ent 𝓤 (on_entry 𝓛 (ended n).signature (κ, (κN, tt)) (q, (qN, tt)) (self, (from, (len, tt))) (mut_vals self, (vint w64 from ∷ [], (vint w64 len ∷ [], tt)))) (WpFn 𝓤 H C Λ (function n) (vptr b o ∷ vint w64 from ∷ vint w64 len ∷ []) Post)
+    walk within few fits_from fits_len small =
+        let end_fits : from + len < 2 ^ 64 = omega arith in
+        let from_end : from ≤ from + len = omega arith in
+        let counted : from + len - from ≡ len = omega arith in
+        qed 𝓛 ((‵ (flft κ q) ⊛ ‵ (flft κN qN) ⊛ ‵ ftrue) ∷ ‵ (owns (MutRef (named 0) κ (Bytes n) ∷ usize ∷ usize ∷ []) (self, (from, (len, tt))) (mut_vals self, (vint w64 from ∷ [], (vint w64 len ∷ [], tt)))) ∷ []) ∵
+        enter ! C Λ (function n) (vptr b o ∷ vint w64 from ∷ vint w64 len ∷ []) _ $
+        alloc_all ! (λ l. pass_all ! refl ((tt, tt), ((tt, record { fits = fits_from }), ((tt, record { fits = fits_len }), tt))) $
+        sets ! (bin ! (get ! refl) (get ! refl) (record { fits = end_fits })) refl (tt, record { fits = end_fits }) $
+        sets ! (addr ! (through ! refl (stop !))) refl (tt, tt) $
+        sets ! (bin ! (get ! refl) (get ! refl) tt) refl (tt, tt) $
+        sets ! (is ! (bin ! (get ! refl) (get ! refl) from_end) (ap (vint w64) counted)) refl (tt, record { fits = fits_len }) $
+        sets ! (addr ! (through ! refl (stop !))) refl (tt, tt) $
+        sets ! (agg ! (and_then ! (get ! refl) (and_then ! (get ! refl) (no_more !)))) refl (tt, (tt, (record { fits = fits_len }, tt))) $
+        split ! $ move ! (2 ∷ []) $ fsplit ! $ move ! (0 ∷ 2 ∷ []) $
+        use2 𝓛 (later (some (lent 𝓛 u8 tt n κ q b o (from + o) γ xs from len))) (lends 𝓛 u8 tt n κ q b o (from + o) γ xs from len within few small (at_byte o from) (mut_vals self)) $
+        await ! tt $ pick ! (λ δ. learn ! (λ long.
+        let counts : length (part xs from len) ≡ len = length-part xs from len (omega arith) in
+        returns ! (look_at ! 0 refl) $ free_all ! refl $ keep ! (0 ∷ 2 ∷ []) $ split3 ! $
+        suffices ! _ (ends_at 𝓛 (ended n) (stayed n) clauses bound (slice_val (b, from + o) len) (record { ref_ptr = (b, from + o); ghost_name = δ; now = part xs from len }) (tt, (tt, (tt, tt))) (tt, (tt, (tt, tt)))) $
+        nothing ! $ nothing ! $ fjoin ! $ nothing ! $ fjoin ! $ nothing ! $ fjoin ! $ join ! $
+        move ! (1 ∷ 3 ∷ []) $ join ! $ join ! $ frame ! $
+        use0 𝓛 (raw (fact 𝓤 (part xs from len ≡ part_of xs from len))) (fact_i 𝓤 _ (emp 𝓤) refl) $ frame ! $
+        use0 𝓛 (raw (fact 𝓤 (length (part xs from len) ≡ len))) (fact_i 𝓤 _ (emp 𝓤) counts) $ frame ! $ done !)))
+
+  meets : n < 2 ^ 64 → (𝓣 : Tables 𝓤 H) → Meets 𝓛 (ended n).signature (WpFn 𝓤 H 𝓣.C 𝓣.Λ (function n)) (closing 𝓛 (ended n) clauses)
+  meets few 𝓣 =
+      walk_Meets 𝓛 (ended n) (stayed n) (Goes-spent_ref 𝓛 2 (0 ∷ []) tt (plain (λ _. Bytes n)), (Goes-dropped 𝓛 2 (plain (λ _. usize)) yes (λ κs x f. refl), (Goes-dropped 𝓛 2 (plain (λ _. usize)) yes (λ κs x f. refl), tt))) clauses (WpFn 𝓤 H 𝓣.C 𝓣.Λ (function n)) (WpFn-mono 𝓤 H 𝓛.laws 𝓣 (function n))
+      (walked 𝓛 (ended n) (stayed n) clauses (WpFn 𝓤 H 𝓣.C 𝓣.Λ (function n)) (λ κs. (mut_vals, (uint_vals w64, (uint_vals w64, tt)))) (λ κs. (mut_Tells (named 0) κs.0 (Bytes n), (uint_Tells w64, (uint_Tells w64, tt))))
+      (λ κs qs bounds a g are.
+      qed 𝓛 (raw (on_entry 𝓛 (ended n).signature κs qs a (mut_vals a.0, (vint w64 a.1.0 ∷ [], (vint w64 a.1.1.0 ∷ [], tt)))) ∷ (given (κs.1.0 ⊑ []) (‵ ftrue) ⊛ given (size (layout (Bytes n)) < 2 ^ 63) (‵ ftrue) ⊛ given (a.1.0 + a.1.1.0 ≤ n) (‵ ftrue)) ∷ []) ∵
+      move ! (1 ∷ []) $ split3 ! $ drop ! $ learn ! (λ small. drop ! $ learn ! (λ within. drop ! $
+      by ! (walk 𝓣.C 𝓣.Λ κs.0 κs.1.0 qs.0 qs.1.0 bounds a.0.ref_ptr.0 a.0.ref_ptr.1 a.0.ghost_name a.0.now a.1.0 a.1.1.0 within few are.1.0.1 are.1.1.0.1 small)))))
+
+pub part_mut_spec : {M : Type 1} → stated.statement M
+unfolding tables_of
+part_mut_spec 𝓤 𝓛 𝓜 𝓡 wired n few =
+    let 𝓣 : Tables 𝓤 𝓛.H = tables_of 𝓤 𝓛.H 𝓜 (tables 𝓤 𝓛.H 𝓜 𝓡 𝓡.env) in
+    entered 𝓤 𝓛.H (triple_of 𝓛 (ended n).signature (F.spec (number n) 𝓛 𝓜.mem 𝓡.returns)) 𝓣.C 𝓣.Λ (#self (args n)) (function n) (code.unfolded 𝓤 𝓛.H 𝓜 𝓡 wired (number n, tt))
+    (meets n 𝓛 𝓜.mem 𝓡.returns few.fits 𝓣)

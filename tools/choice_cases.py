@@ -10,6 +10,9 @@ and of numbers of ticks.
 import json
 import pathlib
 import re
+import sys
+
+from case_files import write_or_check
 
 HERE = pathlib.Path(__file__).resolve().parent
 PROOFS = HERE.parent / 'crates' / 'model_cases' / 'proofs'
@@ -140,19 +143,17 @@ def used(head, body):
     return '\n'.join(rows) + '\n'
 
 
-def main():
+def main(arguments):
     cases = json.loads((HERE / 'choice_cases.json').read_text())
     assert len({value['name'] for value in cases}) == len(cases)
-    for old in PROOFS.glob('ChoiceCases*.antt'):
-        old.unlink()
-    PROOFS.mkdir(exist_ok=True)
-    parts = range(0, len(cases), CASES_PER_FILE)
-    for part, at in enumerate(parts, 1):
+    files = {}
+    for part, at in enumerate(range(0, len(cases), CASES_PER_FILE), 1):
         body = ''.join(case(value) for value in cases[at:at + CASES_PER_FILE])
         head = HEAD.format(part=part, names=', '.join(needed(body)))
-        (PROOFS / ('ChoiceCases%d.antt' % part)).write_text(used(head, body) + body)
-    print('%d cases in %d files' % (len(cases), len(parts)))
+        files[PROOFS / ('ChoiceCases%d.antt' % part)] = used(head, body) + body
+    old = [path for path in PROOFS.glob('ChoiceCases*.antt') if path not in files]
+    return write_or_check('choice_cases.py', files, old, arguments)
 
 
 if __name__ == '__main__':
-    main()
+    sys.exit(main(sys.argv[1:]))

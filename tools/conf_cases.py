@@ -1,6 +1,7 @@
 #!/usr/bin/env python3
 """Writes the cases of lilo.conf, from conf_cases.json beside it, as theorems that the check computes:
-crates/model_cases/proofs/ConfCases*.antt, and their lines in Lib.antt.
+crates/model_cases/proofs/ConfCases*.antt. Each such file has a line in Lib.antt beside them. With --check it
+compares them with what stands.
 
 In the data each character of a text is one byte. A case has what its text says, or its refusal with the line
 that tells it.
@@ -9,6 +10,9 @@ that tells it.
 import json
 import pathlib
 import re
+import sys
+
+from case_files import write_or_check
 
 HERE = pathlib.Path(__file__).resolve().parent
 SPECS = HERE.parent / 'crates' / 'lilo_model' / 'specs'
@@ -140,24 +144,19 @@ def used(head, body):
     return '\n'.join(rows) + '\n'
 
 
-def main():
+def main(arguments):
     cases = json.loads((HERE / 'conf_cases.json').read_text())
     assert len({named(value['name']) for value in cases}) == len(cases)
-    for old in PROOFS.glob('ConfCases*.antt'):
-        old.unlink()
     opened = 'digits ' + ' '.join(name for _, names in words() for name in names)
     imports = ''.join('use Rattle.lilo_model.specs.%s.{%s}\n' % (name, ', '.join(
         names + (['Unsaid', 'ReadOnlyMount', 'ReadWriteMount'] if name == 'Conf' else []))) for name, names in words())
-    parts = range(0, len(cases), CASES_PER_FILE)
-    for part, at in enumerate(parts, 1):
+    files = {}
+    for part, at in enumerate(range(0, len(cases), CASES_PER_FILE), 1):
         body = ''.join(case(value, opened) for value in cases[at:at + CASES_PER_FILE])
-        (PROOFS / ('ConfCases%d.antt' % part)).write_text(used(HEAD.format(part=part) + imports, body) + body)
-    lib = PROOFS / 'Lib.antt'
-    lines = {line for line in lib.read_text().split() if line != 'mod' and not line.startswith('ConfCases')}
-    lines |= {'ConfCases%d' % part for part, _ in enumerate(parts, 1)}
-    lib.write_text(''.join('mod %s\n' % line for line in sorted(lines)))
-    print('%d cases in %d files' % (len(cases), len(parts)))
+        files[PROOFS / ('ConfCases%d.antt' % part)] = used(HEAD.format(part=part) + imports, body) + body
+    old = [path for path in PROOFS.glob('ConfCases*.antt') if path not in files]
+    return write_or_check('conf_cases.py', files, old, arguments)
 
 
 if __name__ == '__main__':
-    main()
+    sys.exit(main(sys.argv[1:]))

@@ -13,6 +13,7 @@ import pathlib
 import re
 import sys
 
+from case_files import write_or_check
 from model_cases import CRATE, SPECS, listed, option, patches, raw, words_in
 
 DATA = pathlib.Path(__file__).resolve().parent / 'minix_cases.json'
@@ -223,17 +224,7 @@ def all_files():
 def main(arguments):
     files = all_files()
     old = [path for path in (CRATE / 'proofs').glob('Minix*Cases*.antt') if path not in files]
-    if arguments == ['--check']:
-        stale = old + [path for path, lines in files.items() if not path.exists() or path.read_text() != lines]
-        for path in stale:
-            print('not as tools/minix_cases.py writes it: %s' % path.name)
-        print('%d passed, %d failed' % (len(files.keys() - stale), len(stale)))
-        return 1 if stale else 0
-    for path in old:
-        path.unlink()
-    for path, lines in files.items():
-        path.write_text(lines)
-    return 0
+    return write_or_check('minix_cases.py', files, old, arguments)
 
 
 if __name__ == '__main__':

@@ -12,6 +12,8 @@ import re
 import sys
 from pathlib import Path
 
+from case_files import write_or_check
+
 TOP = Path(__file__).resolve().parent.parent
 DATA = TOP / 'tools' / 'model_cases'
 CRATE = TOP / 'crates' / 'model_cases'
@@ -439,17 +441,7 @@ def main(arguments):
     files, modules = all_files()
     files[CRATE / 'proofs' / 'Lib.antt'] = library_text(modules)
     old = [path for path in (CRATE / 'proofs').glob('*.antt') if is_ours(path.stem) and path not in files]
-    if arguments == ['--check']:
-        stale = old + [path for path, text_ in files.items() if not path.exists() or path.read_text() != text_]
-        for path in stale:
-            print('not as tools/model_cases.py writes it: %s' % path.relative_to(TOP))
-        print('%d passed, %d failed' % (len(files.keys() - stale), len(stale)))
-        return 1 if stale else 0
-    for path in old:
-        path.unlink()
-    for path, text_ in files.items():
-        path.write_text(text_)
-    return 0
+    return write_or_check('model_cases.py', files, old, arguments)
 
 
 if __name__ == '__main__':

@@ -12,6 +12,8 @@ import re
 import struct
 import sys
 
+from case_files import write_or_check
+
 HERE = pathlib.Path(__file__).resolve().parent
 PROOFS = HERE.parent / 'crates' / 'model_cases' / 'proofs'
 SPECS = HERE.parent / 'crates' / 'lilo_model' / 'specs'
@@ -107,15 +109,7 @@ def library_text():
 
 def main(arguments):
     files = {PROOFS / (MODULE + '.antt'): cases_text(), PROOFS / 'Lib.antt': library_text()}
-    if arguments == ['--check']:
-        stale = [path for path, text in files.items() if not path.exists() or path.read_text() != text]
-        for path in stale:
-            print('not as tools/partition_cases.py writes it: %s' % path.name)
-        print('%d passed, %d failed' % (len(files) - len(stale), len(stale)))
-        return 1 if stale else 0
-    for path, text in files.items():
-        path.write_text(text)
-    return 0
+    return write_or_check('partition_cases.py', files, [], arguments)
 
 
 if __name__ == '__main__':

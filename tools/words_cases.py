@@ -12,6 +12,7 @@ import pathlib
 import re
 import sys
 
+from case_files import write_or_check
 from model_cases import CRATE, SPECS, listed, option, raw, theorem_names
 
 DATA = pathlib.Path(__file__).resolve().parent / 'words_cases.json'
@@ -100,15 +101,7 @@ def all_files():
 def main(arguments):
     files = all_files()
     old = [path for path in (CRATE / 'proofs').glob('WordsCases*.antt') if path not in files]
-    if arguments == ['--check']:
-        stale = old + [path for path, text_ in files.items() if not path.exists() or path.read_text() != text_]
-        print('%d passed, %d failed' % (len(files.keys() - stale), len(stale)))
-        return 1 if stale else 0
-    for path in old:
-        path.unlink()
-    for path, text_ in files.items():
-        path.write_text(text_)
-    return 0
+    return write_or_check('words_cases.py', files, old, arguments)
 
 
 if __name__ == '__main__':

@@ -37,7 +37,7 @@ fn unescaped(alloc: Global, bytes: &[u8]) -> Result<Text, AllocError>
     if escaped {
         meant.push(b'\\')?;
     }
-    Ok(Text::of(meant))
+    Ok(Text::from_vec(meant))
 }
 
 /// Adds what a byte means.

@@ -32,7 +32,7 @@ impl Text {
     }
 
     /// The text of these bytes.
-    pub(crate) fn of(bytes: Vec<u8>) -> Text
+    pub fn from_vec(bytes: Vec<u8>) -> Text
         ensures { result ≡ bytes.items }
     {
         Text { bytes }

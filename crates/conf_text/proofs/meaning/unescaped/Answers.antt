@@ -16,9 +16,9 @@ returns c =
           let last : unescaped c.loop-byte.escaped (drop c.loop-byte.byte-index c.args.bytes.now) ≡ 92 ∷ [] =
           rw w.if-escaped.true (unescaped_last c.args.bytes.now c.loop-byte.byte-index (omega arith)) in
           let items = w.in_ok-push.ensures.items in
-          rw (c.of.ensures, w.meant-is, items, ← last) (sym c.loop-byte.invariant)
+          rw (c.from_vec.ensures, w.meant-is, items, ← last) (sym c.loop-byte.invariant)
       | else-escaped w ↦
           let none : unescaped c.loop-byte.escaped (drop c.loop-byte.byte-index c.args.bytes.now) ≡ [] =
           rw w.if-escaped.false (unescaped_none c.args.bytes.now c.loop-byte.byte-index (omega arith)) in
-          rw (c.of.ensures, w.meant-is) (sym (append-nil c.loop-byte.meant.items) ∙ rw (← none) (sym c.loop-byte.invariant))
+          rw (c.from_vec.ensures, w.meant-is) (sym (append-nil c.loop-byte.meant.items) ∙ rw (← none) (sym c.loop-byte.invariant))
     ]

@@ -1,0 +1,12 @@
+pub mod ComponentLemmas
+pub mod DirectoryLemmas
+pub mod EntryLemmas
+pub mod FileLemmas
+pub mod FindLemmas
+pub mod LinkLemmas
+pub mod PathLemmas
+pub mod ReadLemmas
+pub mod RefuseLemmas
+pub mod SameLemmas
+pub mod StatLemmas
+pub mod WalkLemmas

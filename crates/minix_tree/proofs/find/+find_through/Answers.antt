@@ -1,0 +1,65 @@
+-- What a text leads to.
+use Rattle.std.proofs.Common.{◌≡◌, ℕ, ◌-◌, Bool, take, Ok, Err, rules, sym, ◌∙◌, ap, if◌then◌else◌}
+use Rattle.lilo_model.specs.MinixParts.{parts_of}
+use Rattle.minix_layout.specs.View.{inode_view}
+use Rattle.minix_zones.specs.Volume.{volume_view, past_of}
+use Rattle.minix_tree.specs.declared.stat.Stat.{Stat}
+use Rattle.minix_tree.specs.LinkText.{next_view, link_text}
+use Rattle.minix_tree.specs.View.{Gives, Refuses}
+use Rattle.minix_tree.proofs.SameLemmas.{told_back}
+use Rattle.minix_tree.proofs.WalkLemmas.{told_same}
+use Rattle.minix_tree.proofs.PathLemmas.{from, through, walk_refused, walk_ends, text_refused, goes_on}
+use Rattle.minix_tree.proofs.find.+find_through.Goals as goal
+use Rattle.minix_tree.proofs.find.+find_through.Goals.{then-next, else-next}
+
+pub returns-in_err-stat-clause-found : goal.returns-in_err-stat-clause-found
+returns-in_err-stat-clause-found g t c =
+    let given : c.from_residual.result ≡ Err (c.in_err-stat.field-0.0) = search rules in
+    rw given
+    (walk_refused (past_of c.args.volume.now) (volume_view c.args.volume.now) c.args.follows_last c.args.links c.args.directory.inode c.args.text.now (c.in_err-stat.field-0.0) c.in_err-stat.ensures.walked)
+
+pub text_through-requires : goal.text_through-requires
+text_through-requires g t c = let fits = rw c.in-Meets.is at c.in_ok-stat.ensures.fits in fits.2
+
+pub returns-in-Ends-clause-found : goal.returns-in-Ends-clause-found
+returns-in-Ends-clause-found g t c =
+    walk_ends (past_of c.args.volume.now) (volume_view c.args.volume.now) c.args.follows_last c.args.links c.args.directory.inode c.args.text.now c.in-Ends.stat.inode
+    (rw c.in-Ends.is at c.in_ok-stat.ensures.walked)
+
+pub returns-in_err-next-in-Meets-clause-found : goal.returns-in_err-next-in-Meets-clause-found
+returns-in_err-next-in-Meets-clause-found g t c =
+    let given : c.from_residual-in_err-next-in-Meets.result ≡ Err (c.in_err-next-in-Meets.field-0.0) = search rules in
+    let refused = told_back c.args.volume.now c.walk.new.volume
+    (λ volume now. Refuses (c.in_err-next-in-Meets.field-0.0) (link_text volume.layout (parts_of volume now) (inode_view c.in-Meets.link.node) c.in-Meets.rest.now))
+    c.walk.ensures.same c.in_err-next-in-Meets.ensures.text in
+    let node = rw c.in-Meets.is at c.in_ok-stat.ensures.node in
+    rw given
+    (text_refused (past_of c.args.volume.now) (volume_view c.args.volume.now) c.args.follows_last c.args.links c.args.directory.inode c.args.text.now
+    c.in-Meets.holder.inode c.in-Meets.link.inode (inode_view c.in-Meets.link.node) c.in-Meets.rest.now (c.in_err-next-in-Meets.field-0.0)
+    c.if-links-eq0.false (rw c.in-Meets.is at c.in_ok-stat.ensures.walked) node.1 refused)
+
+pub returns-after-next-clause-found : goal.returns-after-next-clause-found
+returns-after-next-clause-found g t c =
+    let I : Stat → ℕ = λ stat. stat.inode in
+    let F : Bool → ℕ = λ test. if test then 1 else c.in-Meets.holder.inode in
+    let at : c.if-next.directory.inode ≡ from c.in-Meets.holder.inode (next_view c.text_through.new.into c.in_ok-next-in-Meets.next) =
+    elim c.if-next.branch [
+      | then-next w ↦ ap I w.directory-is ∙ c.requires.root ∙ sym (ap F w.if-next.true)
+      | else-next w ↦ ap I w.directory-is ∙ sym (ap F w.if-next.false)
+    ] in
+    let node = rw c.in-Meets.is at c.in_ok-stat.ensures.node in
+    let read = told_back c.args.volume.now c.walk.new.volume
+    (λ volume now. link_text volume.layout (parts_of volume now) (inode_view c.in-Meets.link.node) c.in-Meets.rest.now ≡ Ok (next_view c.text_through.new.into c.in_ok-next-in-Meets.next))
+    c.walk.ensures.same c.in_ok-next-in-Meets.ensures.text in
+    let so = goes_on (past_of c.args.volume.now) (volume_view c.args.volume.now) c.args.follows_last c.args.links c.args.directory.inode c.args.text.now
+    c.in-Meets.holder.inode c.in-Meets.link.inode (inode_view c.in-Meets.link.node) c.in-Meets.rest.now (next_view c.text_through.new.into c.in_ok-next-in-Meets.next) c.if-next.directory.inode
+    c.if-links-eq0.false (rw c.in-Meets.is at c.in_ok-stat.ensures.walked) node.1 read at in
+    let behind = told_back c.walk.new.volume c.text_through.new.volume
+    (λ volume now. Gives (λ stat. stat.inode) c.find_through.result (through volume c.args.follows_last (c.args.links - 1) c.if-next.directory.inode (take c.in_ok-next-in-Meets.next.length c.text_through.new.into) now))
+    c.text_through.ensures.same c.find_through.ensures.found in
+    let gives = told_back c.args.volume.now c.walk.new.volume
+    (λ volume now. Gives (λ stat. stat.inode) c.find_through.result (through volume c.args.follows_last (c.args.links - 1) c.if-next.directory.inode (take c.in_ok-next-in-Meets.next.length c.text_through.new.into) now))
+    c.walk.ensures.same behind in
+    told_same (past_of c.args.volume.now) (Gives (λ stat. stat.inode) c.find_through.result)
+    (through (volume_view c.args.volume.now) c.args.follows_last c.args.links c.args.directory.inode c.args.text.now)
+    (through (volume_view c.args.volume.now) c.args.follows_last (c.args.links - 1) c.if-next.directory.inode (take c.in_ok-next-in-Meets.next.length c.text_through.new.into)) so gives

@@ -1,0 +1,9 @@
+pub mod Component
+pub mod Directory
+pub mod File
+pub mod Found
+pub mod Laws
+pub mod LinkText
+pub mod Placed
+pub mod View
+pub mod Walked

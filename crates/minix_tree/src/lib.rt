@@ -1,0 +1,28 @@
+//! Names on a Minix volume, versions 1 and 2: what a path leads to, the entries of directories, and the bytes
+//! of files.
+//!
+//! Paths are walked from inode 1. Each component is found as the first entry of that name in the directory that
+//! was reached, and symbolic links are replaced by their texts, at most eight of them. Only `read_file` takes
+//! memory: a text that is walked behind a link stands in a buffer of 1024 bytes. Each call reads a block of a
+//! directory once for each component that is looked for in it, and an inode once when it is reached.
+#![tactic(auto)]
+
+mod component;
+mod directory;
+mod entry;
+mod file;
+mod find;
+mod laws;
+mod stat;
+#[cfg(test)]
+mod tests;
+mod tree_fault;
+mod walk;
+
+pub use directory::{directory_blocks, read_entries};
+pub use entry::{DirEntry, Entries, entries_among, entries_in};
+pub use file::{read_block, read_file};
+pub use find::{lookup, lookup_name};
+pub use laws::directory_is_its_blocks;
+pub use stat::{Stat, is_directory, is_file, is_link, stat_of};
+pub use tree_fault::TreeFault;

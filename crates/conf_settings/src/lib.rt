@@ -1,0 +1,23 @@
+//! The settings of a lilo.conf: its options with what stands behind them, in order, and what their values mean.
+//!
+//! The names and the sense of the options are lilo.conf(5)'s. The exact rules, the ranges and what is refused are
+//! this project's own. Lines count from 1.
+#![tactic(auto)]
+
+mod line;
+mod number;
+mod option;
+mod reader;
+mod reason;
+mod setting;
+#[cfg(test)]
+mod tests;
+mod value;
+
+pub use line::config_line;
+pub use number::{number_between, video_mode};
+pub use option::{Opt, Part, Takes};
+pub use reader::read_settings;
+pub use reason::{ConfFault, ConfReason, ReasonText};
+pub use setting::{Cut, Given, Setting, SettingList};
+pub use value::{is_name, is_path, is_shown, is_text, is_value, last_part, root_at, whole_disk_at};

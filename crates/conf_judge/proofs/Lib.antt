@@ -1,0 +1,4 @@
+pub mod PartLemmas
+pub mod PartsLemmas
+pub mod PlaceLemmas
+pub mod SectionLemmas

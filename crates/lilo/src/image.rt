@@ -2,32 +2,14 @@
 ghost use Rattle.std.specs.Prelude.{◌≤◌, IfSome};
 
 use disk_trait::{FileDisk, Geometry};
-use std::fs::{File, OpenOptions};
-use std::io;
+use std::fs::File;
 
-/// The most sectors of a disk, 2 TiB in all.
-const MOST_SECTORS: u64 = 4_294_967_296;
-
-/// Opens the image that a word names: for reading and writing, or else for reading alone, so that a write
-/// to it is then a fault of the device. A folder, a file that has no size, and one of more than
-/// 4,294,967,296 sectors can't be used.
+/// Opens the image that a word names. One that can't be opened, or is too large for a disk, can't be used.
 pub fn open_image(rt: &HostRuntime, word: &str) -> Option<FileDisk<File>>
     ensures few { IfSome result (λ disk. disk.sectors ≤ 4294967296) }
 {
     let (path, geometry) = parts_of(word)?;
-    let file = open_file(rt, path).ok()?;
-    if file.metadata().ok()?.is_dir() {
-        return None;
-    }
-    let disk = FileDisk::new(file, geometry).ok()?;
-    (disk.sectors() <= MOST_SECTORS).then_some(disk)
-}
-
-fn open_file(rt: &HostRuntime, path: &str) -> io::Result<File> {
-    match OpenOptions::new().read(true).write(true).open(rt, path) {
-        Ok(file) => Ok(file),
-        Err(_) => File::open(rt, path),
-    }
+    host_parts::open_image(rt, path, geometry)
 }
 
 /// The path of an image, and its geometry: what is stated, else 16 heads and 63 sectors. A geometry is

@@ -8,12 +8,12 @@
 mod image;
 
 use disk_trait::{Disks, FileDisks};
+use host_parts::moment;
 use image::open_image;
 use lilo_run::{Ram, lilo};
 use std::alloc::AllocError;
 use std::fs::File;
 use std::process::ExitCode;
-use std::time::SystemTime;
 use std::{env, io};
 use stream_trait::{StdSink, StdSource, Words};
 use thiserror::Error;
@@ -104,16 +104,5 @@ fn add_image(rt: &HostRuntime, disks: &mut FileDisks<File>, word: String) -> Res
     match open_image(rt, word.as_str()) {
         Some(disk) => Ok(disks.push(Some(disk))?),
         None => Err(Fault::Image(word)),
-    }
-}
-
-/// The seconds since the start of 1970, as far as they go.
-fn moment(rt: &HostRuntime) -> u32 {
-    let Ok(now) = SystemTime::now(rt) else {
-        return 0;
-    };
-    match now.duration_since(SystemTime::UNIX_EPOCH) {
-        Ok(since) => u32::try_from(since.as_secs()).unwrap_or(u32::MAX),
-        Err(_) => 0,
     }
 }

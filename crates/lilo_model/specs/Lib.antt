@@ -16,6 +16,8 @@ pub mod Devices
 pub mod Disks
 pub mod Header
 pub mod KeyCuts
+pub mod LdiskVerdict
+pub mod LdiskWords
 pub mod LineEdits
 pub mod LineSector
 pub mod LineWords

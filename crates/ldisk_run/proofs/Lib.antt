@@ -1,0 +1,9 @@
+pub mod AddsLemmas
+pub mod CommandLemmas
+pub mod EntryLemmas
+pub mod HaltLemmas
+pub mod LawLemmas
+pub mod ListingLemmas
+pub mod StepLemmas
+pub mod ToldLemmas
+pub mod WordLemmas

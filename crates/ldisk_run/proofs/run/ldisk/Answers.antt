@@ -1,0 +1,33 @@
+-- The sink hadn't failed before, and nothing was held.
+use Rattle.std.proofs.Common.{◌≡◌, false, rules}
+use Rattle.disk_trait.specs.Past.{Told}
+use Rattle.stream_trait.specs.Shows.{answer_of}
+use Rattle.lilo_model.specs.LdiskVerdict.{ldisk_verdict}
+use Rattle.mbr_table.specs.View.{machine_of}
+use Rattle.ldisk_run.specs.Pieces.{sink_of, held_by}
+use Rattle.ldisk_run.specs.Run.{DoesAs, Tells}
+use Rattle.ldisk_run.proofs.CommandLemmas.{held_of, tells}
+use Rattle.ldisk_run.proofs.ToldLemmas.{told_map}
+use Rattle.ldisk_run.proofs.run.ldisk.Goals as goal
+
+pub returns-clause-text : goal.returns-clause-text
+returns-clause-text g c =
+    let o = g.O.Sink in
+    let disks = c.args.disks.now in
+    let machine = machine_of (g.D.Disks.size_of disks) (g.D.Disks.geometry_of disks) in
+    let words = c.args.words.now in
+    let status = c.run_words-status.result in
+    let failed = c.failed-sink_failed.result in
+    let first = c.new-pieces.result.out.out.now in
+    let last = c.show.new.self.out.out.now in
+    let fine : c.new-pieces.result.out.failed ≡ false = search rules in
+    rw c.answer.ensures
+    (held_of (λ out. Told (g.D.Disks.past disks) (λ now. Tells (ldisk_verdict now machine words) (answer_of status failed) (o.taken c.args.out.now) (o.taken out) (o.faults c.args.out.now) (o.faults out))) last
+    (held_of (λ out. Told (g.D.Disks.past disks) (λ now. Tells (ldisk_verdict now machine words) (answer_of status failed) (o.taken out) (o.taken last) (o.faults out) (o.faults last))) first
+    (told_map (g.D.Disks.past disks) (λ now. DoesAs (ldisk_verdict now machine words) status (held_by o.taken o.faults c.new-pieces.result) (held_by o.taken o.faults c.run_words-status.new.out))
+    (λ now. Tells (ldisk_verdict now machine words) (answer_of status failed) (o.taken first) (o.taken last) (o.faults first) (o.faults last))
+    (λ now does. tells (ldisk_verdict now machine words) status failed (held_by o.taken o.faults c.new-pieces.result) (held_by o.taken o.faults c.run_words-status.new.out)
+    (sink_of o.taken o.faults c.show.new.self) does c.new-pieces.ensures.empty fine c.show.ensures.shown)
+    c.run_words-status.ensures.does)
+    (search rules))
+    (search rules))

@@ -1,0 +1,5 @@
+pub mod Laws
+pub mod Listing
+pub mod Pieces
+pub mod Run
+pub mod View

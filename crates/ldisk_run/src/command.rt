@@ -1,0 +1,87 @@
+// A command on a device.
+ghost use Rattle.std.specs.Prelude.{◌≡◌, ◌≤◌, Err, IfErr};
+ghost use Rattle.disk_trait.specs.Past.{Told, SameDisks};
+ghost use Rattle.stream_trait.specs.Shows.{HasFailed};
+ghost use Rattle.lilo_model.specs.MinixParts.{parts_of};
+ghost use Rattle.lilo_model.specs.LdiskWords.{device_of};
+ghost use Rattle.lilo_model.specs.LdiskVerdict.{verdict_on, command_verdict};
+ghost use Rattle.minix_layout.specs.View.{super_view};
+ghost use Rattle.minix_zones.specs.Volume.{volume_view, past_of, faults_of, SameVolume};
+ghost use Rattle.mbr_table.specs.View.{device_view, machine_of};
+ghost use Rattle.ldisk_run.specs.Pieces.{sink_of, held_by};
+ghost use Rattle.ldisk_run.specs.Run.{HasCause, IsZoneHalt, Does};
+ghost use Rattle.ldisk_run.specs.View.{command_view};
+
+use crate::asked::Command;
+use crate::get::get;
+use crate::halt::{Halt, zone_halt};
+use crate::ls::ls;
+use crate::pieces::Pieces;
+use crate::room::find_room;
+use disk_trait::Disks;
+use mbr_table::Device;
+use minix_zones::{Volume, ZoneFault};
+use stream_trait::Sink;
+
+/// Carries out a command.
+#[tactic(auto, unfolding(lilo_model::specs::LdiskVerdict::command_verdict, lilo_model::specs::LdiskVerdict::volume_on))]
+pub(crate) fn carry_out<D: Disks, O: Sink>(
+    command: Command<'_>,
+    disks: &mut D,
+    out: &mut Pieces<'_, O>,
+) -> Result<(), Halt>
+    ensures does { Told (D.past disks.old) (λ now. Does
+        (command_verdict now (machine_of (D.size_of disks.old) (D.geometry_of disks.old)) (command_view command.entry)) result
+        (held_by O.taken O.faults out.old) (held_by O.taken O.faults out.new)) }
+    ensures no_disk { D.size_of disks.old 0 ≡ 0 → result ≡ Err Halt.Refused }
+    ensures cause { IfErr result (HasCause (D.faults disks.old) (D.faults disks.new)) }
+    ensures later { D.faults disks.old ≤ D.faults disks.new }
+    ensures same { SameDisks D.past D.size_of D.count_of D.geometry_of disks.old disks.new }
+    ensures sink { HasFailed (sink_of O.taken O.faults out.old) (sink_of O.taken O.faults out.new) }
+    ensures same_reference { out.new.out.out.ghost_name ≡ out.old.out.out.ghost_name }
+{
+    let span = find_room(disks, device_of(&command))?;
+    match Volume::attach(disks, span) {
+        Ok(mut volume) => carry_out_on(command, &mut volume, out),
+        Err((disks, fault)) => Err(refused(disks, fault)),
+    }
+}
+
+// How it is told that there is no volume. The disks are handed back.
+fn refused<D: Disks>(disks: &mut D, fault: ZoneFault) -> Halt
+    ensures told { IsZoneHalt fault result }
+    ensures same { disks.new ≡ disks.old }
+{
+    zone_halt(fault)
+}
+
+/// Carries out a command on a volume.
+#[tactic(auto, unfolding(lilo_model::specs::LdiskVerdict::verdict_on))]
+fn carry_out_on<D: Disks, O: Sink>(
+    command: Command<'_>,
+    volume: &mut Volume<'_, D>,
+    out: &mut Pieces<'_, O>,
+) -> Result<(), Halt>
+    ensures does { Told (past_of volume.old) (λ now. Does
+        (verdict_on (super_view volume.old.layout) (parts_of (volume_view volume.old) now) (command_view command.entry)) result
+        (held_by O.taken O.faults out.old) (held_by O.taken O.faults out.new)) }
+    ensures cause { IfErr result (HasCause (faults_of volume.old) (faults_of volume.new)) }
+    ensures later { faults_of volume.old ≤ faults_of volume.new }
+    ensures same { SameVolume volume.old volume.new }
+    ensures sink { HasFailed (sink_of O.taken O.faults out.old) (sink_of O.taken O.faults out.new) }
+    ensures same_reference { out.new.out.out.ghost_name ≡ out.old.out.out.ghost_name }
+{
+    match command {
+        Command::Get { path, .. } => get(volume, path, out),
+        Command::Ls { path, .. } => ls(volume, path, out),
+    }
+}
+
+/// The device of a command.
+fn device_of(command: &Command<'_>) -> Device
+    ensures { device_view result ≡ device_of (command_view command.now) }
+{
+    match command {
+        Command::Get { device, .. } | Command::Ls { device, .. } => *device,
+    }
+}

@@ -1,0 +1,96 @@
+// The top call: what the program `ldisk` does with its words.
+ghost use Rattle.std.specs.Prelude.{◌≡◌, ◌↔◌, ◌≤◌, None, IsSome, IsTrue};
+ghost use Rattle.disk_trait.specs.Past.{Told, SameDisks};
+ghost use Rattle.disk_trait.specs.Cause.{Rose};
+ghost use Rattle.stream_trait.specs.Sink.{Takes};
+ghost use Rattle.stream_trait.specs.Shows.{HasFailed};
+ghost use Rattle.lilo_model.specs.LdiskWords.{asked_at};
+ghost use Rattle.lilo_model.specs.LdiskVerdict.{ldisk_verdict};
+ghost use Rattle.mbr_table.specs.View.{machine_of};
+ghost use Rattle.ldisk_run.specs.Pieces.{sink_of, held_by};
+ghost use Rattle.ldisk_run.specs.Run.{Does, DoesAs, Answers, Tells, is_status, is_command_status};
+
+use crate::asked::ask;
+use crate::command::carry_out;
+use crate::halt::status_of;
+use crate::pieces::Pieces;
+use disk_trait::Disks;
+use std::alloc::Global;
+use stream_trait::{Shown, Sink, Source, Words, answer};
+
+/// Carries out words over disk 0, and answers the exit status.
+///
+/// `ls IMAGE DEVICE PATH` lists a directory of the Minix volume on a device: a line for each entry in the directory's
+/// order, but for `.` and `..`, with `f`, `d`, `l` or `o`, the size and the name. `get IMAGE DEVICE PATH` prints a file.
+/// Both follow a link in the last component. The image is the caller's matter.
+///
+/// | status | comes |
+/// |---|---|
+/// | 0 | done |
+/// | 1 | the words ask for nothing |
+/// | 3 | disk 0 isn't there; a table, the volume, the path or the kind is refused, or an inode of an entry |
+/// | 8 | a disk failed |
+/// | 12 | the sink failed, and the status would be 0 |
+///
+/// No text is put for a fault. What was printed before a refusal stands: the blocks of a file or the lines of entries
+/// in front of it. Once the sink failed nothing more is put, and the command goes on. No disk is written, the source
+/// isn't asked, and nothing is allocated.
+#[tactic(auto, unfolding(lilo_model::specs::LdiskVerdict::ldisk_verdict))]
+pub fn ldisk<D: Disks, I: Source, O: Sink>(
+    alloc: Global,
+    words: &Words,
+    disks: &mut D,
+    source: &mut I,
+    out: &mut O,
+    now: u32,
+) -> u8
+    // Where the disks tell what they hold, the status is the verdict's, but for faults.
+    ensures status { Told (D.past disks.old) (λ now. Answers
+        (ldisk_verdict now (machine_of (D.size_of disks.old) (D.geometry_of disks.old)) words.now) result) }
+    ensures device { result ≡ 8 → Rose (D.faults disks.old) (D.faults disks.new) }
+    ensures sink { result ≡ 12 → Rose (O.faults out.old) (O.faults out.new) }
+
+    // The text goes with the status. Only a failed sink or disk may have cut it short.
+    ensures text { Told (D.past disks.old) (λ now. Tells
+        (ldisk_verdict now (machine_of (D.size_of disks.old) (D.geometry_of disks.old)) words.now) result
+        (O.taken out.old) (O.taken out.new) (O.faults out.old) (O.faults out.new)) }
+    ensures whole { result ≡ 0 → Told (D.past disks.old) (λ now. Takes (O.taken out.old)
+        (ldisk_verdict now (machine_of (D.size_of disks.old) (D.geometry_of disks.old)) words.now).text (O.taken out.new)) }
+
+    // Whatever the disks tell, these are the statuses, and what words or an absent disk decide is known.
+    ensures statuses { IsTrue (is_status result) }
+    ensures usage { (result ≡ 1) ↔ (asked_at words.now ≡ None) }
+    ensures no_disk { D.size_of disks.old 0 ≡ 0 → IsSome (asked_at words.now) → result ≡ 3 }
+
+    // Nothing else happens.
+    ensures same { SameDisks D.past D.size_of D.count_of D.geometry_of disks.old disks.new }
+    ensures later { D.faults disks.old ≤ D.faults disks.new }
+    ensures source { source.new ≡ source.old }
+{
+    let mut pieces = Pieces::new(Shown::new(out));
+    let status = run_words(words, disks, &mut pieces);
+    pieces.show();
+    let sink_failed = pieces.out.failed();
+    answer(status, sink_failed)
+}
+
+/// Carries out words, and answers the status, whether or not the sink failed.
+#[tactic(auto, unfolding(lilo_model::specs::LdiskVerdict::ldisk_verdict))]
+fn run_words<D: Disks, O: Sink>(words: &Words, disks: &mut D, out: &mut Pieces<'_, O>) -> u8
+    ensures does { Told (D.past disks.old) (λ now. DoesAs
+        (ldisk_verdict now (machine_of (D.size_of disks.old) (D.geometry_of disks.old)) words.now) result
+        (held_by O.taken O.faults out.old) (held_by O.taken O.faults out.new)) }
+    ensures known { IsTrue (is_command_status result) }
+    ensures usage { (result ≡ 1) ↔ (asked_at words.now ≡ None) }
+    ensures no_disk { D.size_of disks.old 0 ≡ 0 → IsSome (asked_at words.now) → result ≡ 3 }
+    ensures device { result ≡ 8 → Rose (D.faults disks.old) (D.faults disks.new) }
+    ensures later { D.faults disks.old ≤ D.faults disks.new }
+    ensures same { SameDisks D.past D.size_of D.count_of D.geometry_of disks.old disks.new }
+    ensures sink { HasFailed (sink_of O.taken O.faults out.old) (sink_of O.taken O.faults out.new) }
+    ensures same_reference { out.new.out.out.ghost_name ≡ out.old.out.out.ghost_name }
+{
+    match ask(words) {
+        Some(asked) => status_of(carry_out(asked.command, disks, out)),
+        None => 1,
+    }
+}

@@ -11,6 +11,7 @@ pub mod ConfRefusal
 pub mod ConfSettings
 pub mod ConfTokens
 pub mod ConfValues
+pub mod ConfVerdict
 pub mod DefaultLine
 pub mod Devices
 pub mod Disks

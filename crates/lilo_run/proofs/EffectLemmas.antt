@@ -1,12 +1,12 @@
 -- Commands one after another, and how a boot ends.
-use Rattle.std.proofs.Common.{◌≡◌, ◌≤◌, ◌≢◌, ◌∙◌, ◌==◌, ℕ, inl, inr, Bool, true, false, List, [], ◌∷◌, ◌++◌, map, length, Option, None, Some, Result, Ok, Err, refl, sym, ap, subst, arith, append-nil}
+use Rattle.std.proofs.Common.{◌≡◌, ◌≤◌, ◌≢◌, ◌⊎◌, ◌∙◌, ◌==◌, ℕ, inl, inr, Bool, true, false, List, [], ◌∷◌, ◌++◌, map, length, Option, None, Some, Result, Ok, Err, refl, sym, ap, subst, arith, append-nil}
 use Rattle.std.proofs.lemmas.Bool.{ne_eqb}
 use Rattle.lilo_model.specs.Boot as boots
 use Rattle.lilo_model.specs.Disks.{Image, Machine, Span}
 use Rattle.lilo_model.specs.Place.{Memory, Written, with_bytes, memory_after}
 use Rattle.lilo_model.specs.Refusal.{DeviceFault}
 use Rattle.lilo_model.specs.Verdict.{start_check, told_regions}
-use Rattle.lilo_model.specs.Words.{Command, Part}
+use Rattle.lilo_model.specs.Words.{Part}
 use Rattle.bios_model.specs.Memory.{memory_of}
 use Rattle.setup_header.specs.declared.layout.Layout.{Layout}
 use Rattle.setup_header.specs.declared.layout.Region.{Region}
@@ -126,7 +126,7 @@ pub boot_failed :
     → Does (report_effect dump report) status memory memory' old new
 unfolding report_effect
 boot_failed dump report status memory memory' ram old mid new reports answer told =
-    inr (record { answer = answer; shown = shows_one_then old mid new report.device device_failed.text reports.shows told })
+    inr (inl (record { answer = answer; shown = shows_one_then old mid new report.device device_failed.text reports.shows told }))
 
 -- no device was found
 pub place_failed :
@@ -136,9 +136,9 @@ pub place_failed :
     → Does (boot_effect now machine size dump place) status memory memory old new
 unfolding boot_effect report_effect boot_today
 place_failed now machine size dump (Ok span) Device status memory old new halts answer some told =
-    inr (record { answer = answer; shown = inl told })
+    inr (inl (record { answer = answer; shown = inl told }))
 place_failed now machine size dump (Err fault) Device status memory old new halts answer some told =
-    inr (record { answer = answer; shown = inl told })
+    inr (inl (record { answer = answer; shown = inl told }))
 place_failed now machine size dump place (NoPlace fault) status memory old new halts answer some told =
     rw halts (inl (record { answer = answer; shown = told; placed = λ zero. absurd (omega (arith, zero, some)) }))
 place_failed now machine size dump place NotBuilt status memory old new halts answer some told = absurd halts
@@ -149,6 +149,24 @@ place_failed now machine size dump place (Boot reason) status memory old new hal
 
 zero_not_eight : ◌≡◌ {A = ℕ} 0 8 → ⊥
 zero_not_eight is = omega (arith, is)
+
+zero_not_thirteen : ◌≡◌ {A = ℕ} 0 13 → ⊥
+zero_not_thirteen is = omega (arith, is)
+
+failed_behind_one :
+    (code : ℕ) (before texts : List (List ℕ)) (first : List ℕ) (status : ℕ) (old mid new : SinkState)
+    → Shows old first mid → IsFailed code texts status mid new
+    → IsFailed code (before ++ map (λ text. first ++ text) texts) status old new
+failed_behind_one code before texts first status old mid new shown failed = record {
+  answer = failed.answer;
+  shown = shows_one_right old new before _ (shows_one_join old mid new first texts shown failed.shown);
+}
+
+failed_before_one :
+    (code : ℕ) (texts others : List (List ℕ)) (status : ℕ) (old new : SinkState)
+    → IsFailed code texts status old new → IsFailed code (texts ++ others) status old new
+failed_before_one code texts others status old new failed =
+    record { answer = failed.answer; shown = shows_one_left old new texts others failed.shown }
 
 does_then_by :
     (first rest : Effect) (status : ℕ) (m0 m1 m2 : Memory) (old mid new : SinkState)
@@ -161,12 +179,10 @@ does_then_by first rest status m0 m1 m2 old mid new done (inl behind) =
       placed = λ zero. behind.placed zero ∙ ap (λ m. memory_after m rest.written) (done.placed refl)
           ∙ sym (memory_after-append m0 first.written rest.written);
     })
-does_then_by first rest status m0 m1 m2 old mid new done (inr behind) =
-    inr (record {
-      answer = behind.answer;
-      shown = shows_one_right old new first.failures _
-          (shows_one_join old mid new first.verdict.text rest.failures done.shown behind.shown);
-    })
+does_then_by first rest status m0 m1 m2 old mid new done (inr (inl behind)) =
+    inr (inl (failed_behind_one 8 first.failures rest.failures first.verdict.text status old mid new done.shown behind))
+does_then_by first rest status m0 m1 m2 old mid new done (inr (inr behind)) =
+    inr (inr (failed_behind_one 13 first.starved rest.starved first.verdict.text status old mid new done.shown behind))
 
 -- a command that answered 0, and then others
 pub does_then :
@@ -175,14 +191,19 @@ pub does_then :
 unfolding then_effect
 does_then first rest status m0 m1 m2 old mid new (inl done) behind =
     rw (← done.answer) (does_then_by first rest status m0 m1 m2 old mid new done behind)
-does_then first rest status m0 m1 m2 old mid new (inr failed) behind = absurd (zero_not_eight failed.answer)
+does_then first rest status m0 m1 m2 old mid new (inr (inl failed)) behind = absurd (zero_not_eight failed.answer)
+does_then first rest status m0 m1 m2 old mid new (inr (inr failed)) behind = absurd (zero_not_thirteen failed.answer)
 
 failed_first_by :
     (zero : Bool) (first rest : Effect) (status : ℕ) (m0 m1 : Memory) (old new : SinkState)
-    → first.verdict.status == 0 ≡ zero → IsFailed first status old new → Does (then_effect first rest) status m0 m1 old new
+    → first.verdict.status == 0 ≡ zero
+    → IsFailed 8 first.failures status old new ⊎ IsFailed 13 first.starved status old new
+    → Does (then_effect first rest) status m0 m1 old new
 unfolding then_effect
-failed_first_by true first rest status m0 m1 old new is failed =
-    rw is (inr (record { answer = failed.answer; shown = shows_one_left old new first.failures _ failed.shown }))
+failed_first_by true first rest status m0 m1 old new is (inl failed) =
+    rw is (inr (inl (failed_before_one 8 first.failures _ status old new failed)))
+failed_first_by true first rest status m0 m1 old new is (inr failed) =
+    rw is (inr (inr (failed_before_one 13 first.starved _ status old new failed)))
 failed_first_by false first rest status m0 m1 old new is failed = rw is (inr failed)
 
 -- a command that answered otherwise
@@ -196,5 +217,5 @@ does_first first rest status m0 m1 old new (inr failed) some =
     failed_first_by (first.verdict.status == 0) first rest status m0 m1 old new refl failed
 
 -- no command
-pub does_nothing : (effect : Command → Effect) (memory : Memory) (old : SinkState) → Does (run_effect effect []) 0 memory memory old old
+pub does_nothing : (effect : Part → Effect) (memory : Memory) (old : SinkState) → Does (run_effect effect []) 0 memory memory old old
 does_nothing effect memory old = inl (record { answer = refl; shown = shows_nothing old; placed = λ zero. refl })

@@ -3,6 +3,7 @@ use Rattle.std.proofs.Common.{◌≡◌, ◌==◌, ◌∙◌, ◌++◌, ℕ, Boo
 use Rattle.std.proofs.lemmas.Bool.{eqb-true}
 use Rattle.lilo_model.specs.Boot as boots
 use Rattle.lilo_model.specs.Boot.{Ending}
+use Rattle.lilo_model.specs.ConfVerdict.{place_at}
 use Rattle.lilo_model.specs.Devices.{Device}
 use Rattle.lilo_model.specs.Disks.{Image, Machine, Span}
 use Rattle.lilo_model.specs.Prompt.{Key}
@@ -16,7 +17,7 @@ use Rattle.loader_core.specs.Today.{boot_today}
 use Rattle.loader_core.proofs.TodayLemmas.{today_law}
 use Rattle.lilo_run.specs.Laws.{IsUnbuiltAt, IsBootRun, BootVerdictLaw}
 use Rattle.lilo_run.specs.Run.{Tells}
-use Rattle.lilo_run.specs.Verdict.{Effect, plain_effect, place_at, end_verdict, report_effect, boot_effect, command_effect, then_effect, run_effect, effect_of}
+use Rattle.lilo_run.specs.Verdict.{Effect, plain_effect, end_verdict, report_effect, boot_effect, command_effect, then_effect, run_effect, effect_of}
 
 ends_alike :
     (dump : Bool) (boot : boots.Boot) (today : Result Ending Why) → EndsSo boot today
@@ -61,6 +62,29 @@ unfolding effect_of command_effect
 run_alone now machine size words device dump (part, is, command) =
     rw (is, command) (alone (boot_effect now machine size dump (place_at now machine device)))
 
+-- no boot wants memory
+boot_starved :
+    (now : Image) (machine : Machine) (size : ℕ) (dump : Bool) (place : Result Span DeviceFault)
+    → (boot_effect now machine size dump place).starved ≡ []
+unfolding boot_effect report_effect
+boot_starved now machine size dump (Ok span) = refl
+boot_starved now machine size dump (Err fault) = refl
+
+starved_alone_by :
+    (zero : Bool) (first : Effect) → first.verdict.status == 0 ≡ zero → first.starved ≡ []
+    → (then_effect first (plain_effect (verdict_of (Ok [])) [])).starved ≡ []
+unfolding then_effect
+starved_alone_by true first is none = rw (is, none) refl
+starved_alone_by false first is none = rw is none
+
+run_starved :
+    (now : Image) (machine : Machine) (size : ℕ) (words : List (List ℕ)) (device : Device) (dump : Bool)
+    → IsBootRun words device dump → (effect_of now machine size words).starved ≡ []
+unfolding effect_of command_effect
+run_starved now machine size words device dump (part, is, command) =
+    let first = boot_effect now machine size dump (place_at now machine device) in
+    rw (is, command) (starved_alone_by (first.verdict.status == 0) first refl (boot_starved now machine size dump (place_at now machine device)))
+
 -- what a boot by itself tells is the model's
 pub boot_tells :
     (now : Image) (machine : Machine) (size : ℕ) (words : List (List ℕ)) (device : Device) (dump : Bool) (keys : List Key)
@@ -70,6 +94,9 @@ pub boot_tells :
     → Tells (plain_effect (boot_verdict now machine (place_at now machine device) dump keys size) (effect_of now machine size words).failures)
     status old new before after
 boot_tells now machine size words device dump keys status old new before after run built told =
+    let effect = effect_of now machine size words in
     let same = run_alone now machine size words device dump run
     ∙ boot_verdict_law now machine size dump (place_at now machine device) keys built in
-    subst (λ v. Tells (plain_effect v (effect_of now machine size words).failures) status old new before after) same told
+    let starved = run_starved now machine size words device dump run in
+    let fed = subst (λ texts. Tells (record effect { starved = texts }) status old new before after) starved told in
+    subst (λ v. Tells (plain_effect v effect.failures) status old new before after) same fed

@@ -1,3 +1,4 @@
+pub mod ConfLemmas
 pub mod DumpLemmas
 pub mod EffectLemmas
 pub mod LawLemmas

@@ -26,32 +26,32 @@ place_within None from len within = tt
 place_within (Some place) from len within = within.1
 
 -- what the rest of the parts does is what is left of all of them
-abbrev pub Continues : (Command → Effect) → List Part → List Part → Memory → Memory → SinkState → SinkState → Type 0
+abbrev pub Continues : (Part → Effect) → List Part → List Part → Memory → Memory → SinkState → SinkState → Type 0
 Continues effect all rest m0 m1 s0 s1 =
     (status : ℕ) (m2 : Memory) (s2 : SinkState) → Does (run_effect effect rest) status m1 m2 s1 s2
     → Does (run_effect effect all) status m0 m2 s0 s2
 
 pub continues_more :
-    (effect : Command → Effect) (all rest behind : List Part) (part : Part) (status : ℕ) (m0 m1 m2 : Memory)
+    (effect : Part → Effect) (all rest behind : List Part) (part : Part) (status : ℕ) (m0 m1 m2 : Memory)
     (s0 s1 s2 : SinkState)
-    → Continues effect all rest m0 m1 s0 s1 → rest ≡ part ∷ behind → Does (effect part.command) status m1 m2 s1 s2
+    → Continues effect all rest m0 m1 s0 s1 → rest ≡ part ∷ behind → Does (effect part) status m1 m2 s1 s2
     → status ≡ 0 → Continues effect all behind m0 m2 s0 s2
 continues_more effect all rest behind part status m0 m1 m2 s0 s1 s2 goes is done zero later m3 s3 does =
-    let first = subst (λ answer. Does (effect part.command) answer m1 m2 s1 s2) zero done in
-    goes later m3 s3 (rw is (does_then (effect part.command) (run_effect effect behind) later m1 m2 m3 s1 s2 s3 first does))
+    let first = subst (λ answer. Does (effect part) answer m1 m2 s1 s2) zero done in
+    goes later m3 s3 (rw is (does_then (effect part) (run_effect effect behind) later m1 m2 m3 s1 s2 s3 first does))
 
 pub continues_end :
-    (effect : Command → Effect) (all rest : List Part) (m0 m1 : Memory) (s0 s1 : SinkState)
+    (effect : Part → Effect) (all rest : List Part) (m0 m1 : Memory) (s0 s1 : SinkState)
     → Continues effect all rest m0 m1 s0 s1 → rest ≡ [] → Does (run_effect effect all) 0 m0 m1 s0 s1
 continues_end effect all rest m0 m1 s0 s1 goes is = goes 0 m1 s1 (rw is (does_nothing effect m1 s1))
 
 pub continues_last :
-    (effect : Command → Effect) (all rest behind : List Part) (part : Part) (status : ℕ) (m0 m1 m2 : Memory)
+    (effect : Part → Effect) (all rest behind : List Part) (part : Part) (status : ℕ) (m0 m1 m2 : Memory)
     (s0 s1 s2 : SinkState)
-    → Continues effect all rest m0 m1 s0 s1 → rest ≡ part ∷ behind → Does (effect part.command) status m1 m2 s1 s2
+    → Continues effect all rest m0 m1 s0 s1 → rest ≡ part ∷ behind → Does (effect part) status m1 m2 s1 s2
     → status ≢ 0 → Does (run_effect effect all) status m0 m2 s0 s2
 continues_last effect all rest behind part status m0 m1 m2 s0 s1 s2 goes is done some =
-    goes status m2 s2 (rw is (does_first (effect part.command) (run_effect effect behind) status m1 m2 s1 s2 done some))
+    goes status m2 s2 (rw is (does_first (effect part) (run_effect effect behind) status m1 m2 s1 s2 done some))
 
 -- ---- what is known whatever disks hold
 
@@ -63,9 +63,9 @@ zero_at false is = refl
 
 zero_status : (size_of : ℕ → ℕ) (command : Command) → IfSome (early_status size_of command) (λ status. 0 ≡ status) → early_status size_of command ≡ None
 unfolding early_status
-zero_status size_of words.Install is = absurd (omega (arith, is))
-zero_status size_of words.Test is = absurd (omega (arith, is))
-zero_status size_of (words.Query None) is = absurd (omega (arith, is))
+zero_status size_of words.Install is = refl
+zero_status size_of words.Test is = refl
+zero_status size_of (words.Query None) is = refl
 zero_status size_of (words.Query (Some device)) is = zero_at (size_of device.disk == 0) is
 zero_status size_of (words.SetLine line) is = absurd (omega (arith, is))
 zero_status size_of (words.Restore device) is = absurd (omega (arith, is))
@@ -163,14 +163,19 @@ zero_answer size_of (Err wrong) known = absurd (omega (arith, known))
 eight_stays : (status : ℕ) (failed : Bool) → status ≡ 8 → answer_of status failed ≡ 8
 eight_stays status failed is = rw is refl
 
+thirteen_stays : (status : ℕ) (failed : Bool) → status ≡ 13 → answer_of status failed ≡ 13
+thirteen_stays status failed is = rw is refl
+
 pub does_tells :
     (effect : Effect) (status : ℕ) (failed : Bool) (m0 m1 : Memory) (old new : SinkState)
     → Does effect status m0 m1 old new → old.failed ≡ false
     → Tells effect (answer_of status failed) old.taken new.taken old.faults new.faults
 does_tells effect status failed m0 m1 old new (inl done) fine =
     inl (answered (status == 0) failed status effect.verdict.status refl done.answer, prints_of old new effect.verdict.text done.shown fine)
-does_tells effect status failed m0 m1 old new (inr failure) fine =
-    inr (eight_stays status failed failure.answer, prints_one_of old new effect.failures failure.shown fine)
+does_tells effect status failed m0 m1 old new (inr (inl failure)) fine =
+    inr (inl (eight_stays status failed failure.answer, prints_one_of old new effect.failures failure.shown fine))
+does_tells effect status failed m0 m1 old new (inr (inr failure)) fine =
+    inr (inr (thirteen_stays status failed failure.answer, prints_one_of old new effect.starved failure.shown fine))
 
 early_answered_by :
     (first failed : Bool) (size_of : ℕ → ℕ) (run : Result (List Part) (Option ℕ)) (status : ℕ) → status == 0 ≡ first
@@ -198,4 +203,5 @@ pub does_places :
     (effect : Effect) (status : ℕ) (m0 m1 : Memory) (old new : SinkState)
     → Does effect status m0 m1 old new → status ≡ 0 → m1 ≡ memory_after m0 effect.written
 does_places effect status m0 m1 old new (inl done) zero = done.placed zero
-does_places effect status m0 m1 old new (inr failed) zero = absurd (let eight = failed.answer in omega (arith, zero, eight))
+does_places effect status m0 m1 old new (inr (inl failed)) zero = absurd (let eight = failed.answer in omega (arith, zero, eight))
+does_places effect status m0 m1 old new (inr (inr failed)) zero = absurd (let thirteen = failed.answer in omega (arith, zero, thirteen))

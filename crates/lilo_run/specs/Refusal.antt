@@ -1,5 +1,18 @@
 -- For which of the model's refusals each reason stands why a command ends, and what is answered and printed.
-use Rattle.std.specs.Prelude.{codes, Err}
+use Rattle.std.specs.Prelude.{◌≡◌, ℕ, List, Option, None, Some, Result, Ok, Err, codes}
+use Rattle.conf_file.specs.View.{Refuses, HasCause}
+use Rattle.conf_file.specs.declared.file_fault.FileFault.{FileFault}
+use Rattle.conf_file.specs.declared.file_fault.FileFault.TheVariants as files
+use Rattle.conf_settings.specs.View.{fault_view}
+use Rattle.lilo_model.specs.ConfRefusal.{ConfRefusal}
+use Rattle.lilo_model.specs.Devices as devices
+use Rattle.mbr_table.specs.View.{device_view}
+use Rattle.mbr_table.specs.declared.device.Device.{Device}
+use Rattle.mbr_table.specs.declared.table_fault.TableFault.{TableFault}
+use Rattle.mbr_table.specs.declared.table_fault.TableFault.TheVariants as tables
+use Rattle.volume_search.specs.View.{told_fault}
+use Rattle.lilo_run.specs.declared.conf.ConfHalt.{ConfHalt}
+use Rattle.lilo_run.specs.declared.conf.ConfHalt.TheVariants.{File, Text}
 use Rattle.lilo_model.specs.Refusal as model
 use Rattle.lilo_model.specs.Verdict.{Verdict, verdict_of}
 use Rattle.loader_core.specs.Reading.{Why, Unbuilt, Because}
@@ -7,7 +20,7 @@ use Rattle.loader_core.specs.View.{reason_view}
 use Rattle.lilo_run.specs.declared.refusal.PlaceFault.{PlaceFault}
 use Rattle.lilo_run.specs.declared.refusal.PlaceFault.TheVariants.{NoDisk, NoPartition, BadTable}
 use Rattle.lilo_run.specs.declared.refusal.Halt.{Halt}
-use Rattle.lilo_run.specs.declared.refusal.Halt.TheVariants.{Device, NotBuilt, NoPlace, NotOurs, Boot}
+use Rattle.lilo_run.specs.declared.refusal.Halt.TheVariants as halts
 
 -- why a device isn't found
 abbrev pub place_fault_view : PlaceFault → model.DeviceFault
@@ -23,6 +36,10 @@ not_built = record { status = 15; text = codes "lilo: not built\n" }
 abbrev pub device_failed : Verdict
 device_failed = record { status = 8; text = codes "lilo: device\n" }
 
+-- what is answered and printed where memory didn't suffice
+abbrev pub no_memory : Verdict
+no_memory = record { status = 13; text = codes "lilo: memory\n" }
+
 -- what is answered and printed where nothing is started
 abbrev pub why_verdict : Why → Verdict
 why_verdict Unbuilt = not_built
@@ -30,8 +47,54 @@ why_verdict (Because reason) = verdict_of (Err (model.Boot reason))
 
 -- what is answered and printed where a command ended early
 abbrev pub halt_verdict : Halt → Verdict
-halt_verdict Device = device_failed
-halt_verdict NotBuilt = not_built
-halt_verdict (NoPlace fault) = verdict_of (Err (model.Device (place_fault_view fault)))
-halt_verdict NotOurs = verdict_of (Err model.NotOurs)
-halt_verdict (Boot reason) = why_verdict (reason_view reason)
+halt_verdict halts.Device = device_failed
+halt_verdict halts.NotBuilt = not_built
+halt_verdict (halts.NoPlace fault) = verdict_of (Err (model.Device (place_fault_view fault)))
+halt_verdict halts.NotOurs = verdict_of (Err model.NotOurs)
+halt_verdict (halts.Boot reason) = why_verdict (reason_view reason)
+
+-- ---- configurations
+
+-- what is answered and printed of a device that isn't found
+abbrev pub table_verdict : TableFault → Verdict
+table_verdict tables.Device = device_failed
+table_verdict fault = verdict_of (Err (model.Device (told_fault fault)))
+
+-- what is answered and printed of a text that is refused, or for which there is no memory
+abbrev pub text_verdict : Option ConfRefusal → Verdict
+text_verdict None = no_memory
+text_verdict (Some refusal) = verdict_of (Err (model.Config refusal))
+
+-- what is answered and printed where the file of a path isn't read
+abbrev pub file_verdict : List ℕ → FileFault → Verdict
+file_verdict path files.NoVolume = verdict_of (Err model.NoVolume)
+file_verdict path (files.Place fault) = table_verdict fault
+file_verdict path files.Device = device_failed
+file_verdict path files.Layout = verdict_of (Err model.Layout)
+file_verdict path files.Missing = verdict_of (Err (model.Missing path))
+file_verdict path files.BadPath = verdict_of (Err (model.BadPath path))
+file_verdict path files.Memory = no_memory
+
+-- what is answered and printed where a configuration can't be used, whose path is this one
+abbrev pub conf_verdict : List ℕ → ConfHalt → Verdict
+conf_verdict path (File fault) = file_verdict path fault
+conf_verdict path (Text fault) = text_verdict (fault_view fault)
+
+-- a configuration is refused as the model refuses it, or a disk failed, or there was no memory
+abbrev pub RefusesText : {A : Type 0} → Option ConfRefusal → Result A model.Refusal → Type 0
+RefusesText None given = Unit {0}
+RefusesText (Some refusal) given = given ≡ Err (model.Config refusal)
+
+abbrev pub ConfRefuses : {A : Type 0} → List ℕ → ConfHalt → Result A model.Refusal → Type 0
+ConfRefuses path (File fault) given = Refuses path fault given
+ConfRefuses path (Text fault) given = RefusesText (fault_view fault) given
+
+-- what was answered of a configuration is what the model gives, unless a disk failed or there was no memory
+abbrev pub GivesDevice : List ℕ → Result Device ConfHalt → Result devices.Device model.Refusal → Type 0
+GivesDevice path (Ok device) given = given ≡ Ok (device_view device)
+GivesDevice path (Err halt) given = ConfRefuses path halt given
+
+-- the cause: where a disk failed, the count of faults rose
+abbrev pub HasConfCause : ℕ → ℕ → ConfHalt → Type 0
+HasConfCause before now (File fault) = HasCause before now fault
+HasConfCause before now (Text fault) = Unit {0}

@@ -72,34 +72,43 @@ pub record IsDone (effect : Effect) (status : ℕ) (memory memory' : Memory) (ol
   pub shown : Shows old effect.verdict.text new
   pub placed : status ≡ 0 → memory' ≡ memory_after memory effect.written
 
--- a disk failed
-pub record IsFailed (effect : Effect) (status : ℕ) (old new : SinkState) : Type 0 where
-  pub answer : status ≡ 8
-  pub shown : ShowsOne old effect.failures new
+-- it ended with this status, and one of these texts
+pub record IsFailed (code : ℕ) (texts : List (List ℕ)) (status : ℕ) (old new : SinkState) : Type 0 where
+  pub answer : status ≡ code
+  pub shown : ShowsOne old texts new
 
+-- it was done, a disk failed, or memory didn't suffice
 abbrev pub Does : Effect → ℕ → Memory → Memory → SinkState → SinkState → Type 0
-Does effect status memory memory' old new = IsDone effect status memory memory' old new ⊎ IsFailed effect status old new
+Does effect status memory memory' old new =
+    IsDone effect status memory memory' old new ⊎ (IsFailed 8 effect.failures status old new ⊎ IsFailed 13 effect.starved status old new)
 
 -- ---- the whole
 
--- the status is the verdict's, or 8, or in the place of 0 it is 12
+-- the status is the verdict's, or 8 or 13, or in the place of 0 it is 12
 abbrev pub Answers : Verdict → ℕ → Type 0
-Answers verdict status = (status ≡ verdict.status) ⊎ ((status ≡ 8) ⊎ ((status ≡ 12) × (verdict.status ≡ 0)))
+Answers verdict status =
+    (status ≡ verdict.status) ⊎ ((status ≡ 8) ⊎ ((status ≡ 13) ⊎ ((status ≡ 12) × (verdict.status ≡ 0))))
 
--- the verdict's text goes with its status, or 12 in the place of 0, and a text of a failure with 8
+-- the verdict's text goes with its status, or 12 in the place of 0, a text of a failure with 8, and one of want of
+-- memory with 13
 abbrev pub Tells : Effect → ℕ → Option (List ℕ) → Option (List ℕ) → ℕ → ℕ → Type 0
 Tells effect status old new before now =
     (((status ≡ effect.verdict.status) ⊎ ((status ≡ 12) × (effect.verdict.status ≡ 0))) × Prints old effect.verdict.text new before now)
-    ⊎ ((status ≡ 8) × PrintsOne old effect.failures new before now)
+    ⊎ (((status ≡ 8) × PrintsOne old effect.failures new before now)
+    ⊎ ((status ≡ 13) × PrintsOne old effect.starved new before now))
 
--- whether a part may end with this status
+-- whether a part that reads no configuration may end with this status
+abbrev pub is_plain_status : ℕ → Bool
+is_plain_status status = list_any (λ known. known == status) (0 ∷ 3 ∷ 6 ∷ 7 ∷ 8 ∷ 15 ∷ [])
+
+-- whether a part may
 abbrev pub is_part_status : ℕ → Bool
-is_part_status status = list_any (λ known. known == status) (0 ∷ 3 ∷ 6 ∷ 7 ∷ 8 ∷ 15 ∷ [])
+is_part_status status = list_any (λ known. known == status) (0 ∷ 2 ∷ 3 ∷ 6 ∷ 7 ∷ 8 ∷ 13 ∷ 15 ∷ [])
 
 -- whether a run may, but for the sink
 abbrev pub is_run_status : ℕ → Bool
-is_run_status status = list_any (λ known. known == status) (0 ∷ 1 ∷ 3 ∷ 6 ∷ 7 ∷ 8 ∷ 15 ∷ [])
+is_run_status status = list_any (λ known. known == status) (0 ∷ 1 ∷ 2 ∷ 3 ∷ 6 ∷ 7 ∷ 8 ∷ 13 ∷ 15 ∷ [])
 
 -- whether a run may end with this status
 abbrev pub is_status : ℕ → Bool
-is_status status = list_any (λ known. known == status) (0 ∷ 1 ∷ 3 ∷ 6 ∷ 7 ∷ 8 ∷ 12 ∷ 15 ∷ [])
+is_status status = list_any (λ known. known == status) (0 ∷ 1 ∷ 2 ∷ 3 ∷ 6 ∷ 7 ∷ 8 ∷ 12 ∷ 13 ∷ 15 ∷ [])

@@ -3,10 +3,10 @@
 use Rattle.std.specs.Prelude.{ℕ, ◌==◌, Bool, true, false, if◌then◌else◌, List, [], ◌∷◌, ◌++◌, map, flat_map, Option, None, Some, Result, Ok, Err}
 use Rattle.std.specs.List.{list_any}
 use Rattle.lilo_model.specs.Boot.{Ending}
-use Rattle.lilo_model.specs.Checks.{◌>>=◌, with_fault}
+use Rattle.lilo_model.specs.Checks.{◌>>=◌}
+use Rattle.lilo_model.specs.ConfVerdict.{conf_path, conf_device, place_at, conf_query_verdict}
 use Rattle.lilo_model.specs.Devices.{Device}
 use Rattle.lilo_model.specs.Disks.{Image, Machine, Span}
-use Rattle.lilo_model.specs.Partitions.{device_fault, span_of}
 use Rattle.lilo_model.specs.Place.{Written}
 use Rattle.lilo_model.specs.Refusal as refusals
 use Rattle.lilo_model.specs.Verdict.{Verdict, verdict_of, verdict_behind, query_verdict, start_check, region_text, told_regions}
@@ -14,7 +14,7 @@ use Rattle.lilo_model.specs.Words as words
 use Rattle.lilo_model.specs.Words.{Command, Part, run_at, usage_text}
 use Rattle.loader_core.specs.Reading.{Why}
 use Rattle.loader_core.specs.Today.{Report, boot_today}
-use Rattle.lilo_run.specs.Refusal.{not_built, device_failed, why_verdict}
+use Rattle.lilo_run.specs.Refusal.{not_built, device_failed, no_memory, why_verdict}
 
 -- what a command does
 pub record Effect : Type 0 where
@@ -22,18 +22,21 @@ pub record Effect : Type 0 where
   pub verdict : Verdict
   -- the texts of which it prints one where a disk failed
   pub failures : List (List ℕ)
+  -- and those where memory didn't suffice
+  pub starved : List (List ℕ)
   -- what it puts into memory where its status is 0
   pub written : List Written
 
 -- a command that only answers and prints
 abbrev pub plain_effect : Verdict → List (List ℕ) → Effect
-plain_effect verdict failures = record { verdict = verdict; failures = failures; written = [] }
+plain_effect verdict failures = record { verdict = verdict; failures = failures; starved = []; written = [] }
+
+-- one that reads a configuration first, which takes memory
+abbrev pub conf_effect : Verdict → Effect
+conf_effect verdict =
+    record { verdict = verdict; failures = device_failed.text ∷ []; starved = no_memory.text ∷ []; written = [] }
 
 -- ---- a command
-
--- where a device lies, as commands tell it
-unfoldable pub place_at : Image → Machine → Device → Result Span refusals.DeviceFault
-place_at now machine device = with_fault device_fault (span_of now machine device)
 
 -- `-q` with a device
 unfoldable pub query_effect : Image → Machine → Result Span refusals.DeviceFault → Effect
@@ -66,6 +69,7 @@ unfoldable pub report_effect : Bool → Report → Effect
 report_effect dump report = record {
   verdict = verdict_behind report.shown (end_verdict dump report.result);
   failures = map failed_behind report.device;
+  starved = [];
   written = end_written report.result;
 }
 
@@ -75,11 +79,31 @@ boot_effect now machine memory dump (Ok span) = report_effect dump (boot_today n
 boot_effect now machine memory dump (Err fault) =
     plain_effect (verdict_of (Err (refusals.Device fault))) (device_failed.text ∷ [])
 
--- a command
-unfoldable pub command_effect : Image → Machine → ℕ → Command → Effect
-command_effect now machine memory (words.Query (Some device)) = query_effect now machine (place_at now machine device)
-command_effect now machine memory (words.Boot device dump) = boot_effect now machine memory dump (place_at now machine device)
-command_effect now machine memory _ = plain_effect not_built []
+-- what is answered and printed of a configuration whose part isn't built: it is read, and then the part is told so
+abbrev pub unbuilt_behind : Result Device refusals.Refusal → Verdict
+unbuilt_behind (Ok device) = not_built
+unbuilt_behind (Err refusal) = verdict_of (Err refusal)
+
+-- an installation, and what it would do: so far their configuration is read, whose device and path are these
+unfoldable pub install_effect : Image → Machine → Option Device → List ℕ → Effect
+install_effect now machine root path = conf_effect (unbuilt_behind (conf_device now machine root path))
+
+-- `-q` without a device
+unfoldable pub conf_query_effect : Image → Machine → Option Device → List ℕ → Effect
+conf_query_effect now machine root path = conf_effect (conf_query_verdict now machine root path)
+
+-- a command, whose volume lies on this device, where one is named, and has its configuration at this path
+unfoldable pub command_effect : Image → Machine → ℕ → Option Device → List ℕ → Command → Effect
+command_effect now machine memory root path (words.Query (Some device)) = query_effect now machine (place_at now machine device)
+command_effect now machine memory root path (words.Query None) = conf_query_effect now machine root path
+command_effect now machine memory root path (words.Boot device dump) = boot_effect now machine memory dump (place_at now machine device)
+command_effect now machine memory root path words.Install = install_effect now machine root path
+command_effect now machine memory root path words.Test = install_effect now machine root path
+command_effect now machine memory root path _ = plain_effect not_built []
+
+-- a part
+abbrev pub part_effect : Image → Machine → ℕ → Part → Effect
+part_effect now machine memory part = command_effect now machine memory part.root (conf_path part.config) part.command
 
 -- ---- a run
 
@@ -88,6 +112,7 @@ abbrev pub effect_behind : Effect → Effect → Effect
 effect_behind first rest = record {
   verdict = verdict_behind first.verdict.text rest.verdict;
   failures = first.failures ++ map (λ text. first.verdict.text ++ text) rest.failures;
+  starved = first.starved ++ map (λ text. first.verdict.text ++ text) rest.starved;
   written = first.written ++ rest.written;
 }
 
@@ -95,30 +120,33 @@ effect_behind first rest = record {
 unfoldable pub then_effect : Effect → Effect → Effect
 then_effect first rest = if first.verdict.status == 0 then effect_behind first rest else first
 
--- parts in order, by what each command does
-abbrev pub run_effect : (Command → Effect) → List Part → Effect
+-- parts in order, by what each does
+abbrev pub run_effect : (Part → Effect) → List Part → Effect
 run_effect effect [] = plain_effect (verdict_of (Ok [])) []
-run_effect effect (part ∷ parts) = then_effect (effect part.command) (run_effect effect parts)
+run_effect effect (part ∷ parts) = then_effect (effect part) (run_effect effect parts)
 
 -- words that are these parts, or none
-abbrev pub words_effect : (Command → Effect) → List (List ℕ) → Result (List Part) (Option ℕ) → Effect
+abbrev pub words_effect : (Part → Effect) → List (List ℕ) → Result (List Part) (Option ℕ) → Effect
 words_effect effect words (Ok parts) = run_effect effect parts
 words_effect effect words (Err wrong) = plain_effect (record { status = 1; text = usage_text words }) []
 
 -- Verdict: what words do over disks that hold this image, with a memory of so many bytes
 unfoldable pub effect_of : Image → Machine → ℕ → List (List ℕ) → Effect
-effect_of now machine memory words = words_effect (command_effect now machine memory) words (run_at words)
+effect_of now machine memory words = words_effect (part_effect now machine memory) words (run_at words)
 
 -- ---- what is known of words, whatever disks hold
 
--- what is answered whatever a disk holds: 15 for what isn't built, and 3 for a device of a disk without sectors
+-- what is answered whatever a disk holds: 15 for `-R` and `-u`, which aren't built, and 3 for a device of a disk
+-- without sectors
 abbrev pub early_at : (ℕ → ℕ) → Device → Option ℕ
 early_at size_of device = if size_of device.disk == 0 then Some 3 else None
 
 unfoldable pub early_status : (ℕ → ℕ) → Command → Option ℕ
 early_status size_of (words.Query (Some device)) = early_at size_of device
 early_status size_of (words.Boot device dump) = early_at size_of device
-early_status size_of _ = Some 15
+early_status size_of (words.SetLine line) = Some 15
+early_status size_of (words.Restore device) = Some 15
+early_status size_of _ = None
 
 -- the same of parts, by the first
 unfoldable pub early_parts : (ℕ → ℕ) → List Part → Option ℕ
@@ -138,3 +166,14 @@ is_boot _ = false
 -- whether one of some parts boots
 unfoldable pub has_boot : List Part → Bool
 has_boot parts = list_any (λ part. is_boot part.command) parts
+
+-- whether a command reads a configuration
+abbrev pub reads_conf : Command → Bool
+reads_conf words.Install = true
+reads_conf words.Test = true
+reads_conf (words.Query None) = true
+reads_conf _ = false
+
+-- whether one of some parts does
+unfoldable pub has_conf : List Part → Bool
+has_conf parts = list_any (λ part. reads_conf part.command) parts

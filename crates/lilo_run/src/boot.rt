@@ -9,8 +9,9 @@ ghost use Rattle.stream_trait.specs.Shows.{Shows, state_of, HasFailed};
 ghost use Rattle.loader_core.specs.Today.{boot_today};
 ghost use Rattle.setup_header.specs.Words.{LiesIn};
 ghost use Rattle.lilo_run.specs.Dump.{regions_of, boot_sector_in};
-ghost use Rattle.lilo_run.specs.Run.{Does, is_part_status};
-ghost use Rattle.lilo_run.specs.Verdict.{place_at, early_at, boot_effect, report_effect, regions_text};
+ghost use Rattle.lilo_run.specs.Run.{Does, is_plain_status};
+ghost use Rattle.lilo_model.specs.ConfVerdict.{place_at};
+ghost use Rattle.lilo_run.specs.Verdict.{early_at, boot_effect, report_effect, regions_text};
 
 use crate::dump::{dump_memory, dump_sector};
 use crate::place::find_device;
@@ -35,7 +36,7 @@ pub(crate) fn boot_device<D: Disks, I: Source, O: Sink>(
         Does (boot_effect now machine (length ram.old) dump (place_at now machine (device_view device))) result (memory_of ram.old) (memory_of ram.new)
         (state_of (O.taken out.old.out.now) (O.faults out.old.out.now) out.old.failed) (state_of (O.taken out.new.out.now) (O.faults out.new.out.now) out.new.failed)) }
     ensures early { IfSome (early_at (D.size_of bios.old.disks.now) (device_view device)) (λ status. result ≡ status) }
-    ensures known { IsTrue (is_part_status result) }
+    ensures known { IsTrue (is_plain_status result) }
     ensures device { result ≡ 8 → Rose (D.faults bios.old.disks.now) (D.faults bios.new.disks.now) }
     ensures later { D.faults bios.old.disks.now ≤ D.faults bios.new.disks.now }
     ensures sink { HasFailed (state_of (O.taken out.old.out.now) (O.faults out.old.out.now) out.old.failed) (state_of (O.taken out.new.out.now) (O.faults out.new.out.now) out.new.failed) }
@@ -64,7 +65,7 @@ fn boot_span<D: Disks, I: Source, O: Sink>(
     ensures does { Told (D.past bios.old.disks.now) (λ now. let machine = machine_of (D.size_of bios.old.disks.now) (D.geometry_of bios.old.disks.now) in
         Does (report_effect dump (boot_today now machine (span_view span) (length ram.old))) result (memory_of ram.old) (memory_of ram.new)
         (state_of (O.taken out.old.out.now) (O.faults out.old.out.now) out.old.failed) (state_of (O.taken out.new.out.now) (O.faults out.new.out.now) out.new.failed)) }
-    ensures known { IsTrue (is_part_status result) }
+    ensures known { IsTrue (is_plain_status result) }
     ensures device { result ≡ 8 → Rose (D.faults bios.old.disks.now) (D.faults bios.new.disks.now) }
     ensures later { D.faults bios.old.disks.now ≤ D.faults bios.new.disks.now }
     ensures sink { HasFailed (state_of (O.taken out.old.out.now) (O.faults out.old.out.now) out.old.failed) (state_of (O.taken out.new.out.now) (O.faults out.new.out.now) out.new.failed) }

@@ -4,6 +4,7 @@
 #![tactic(auto)]
 
 mod boot;
+mod conf;
 mod dump;
 #[cfg(test)]
 mod fixture;

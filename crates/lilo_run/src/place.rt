@@ -5,14 +5,14 @@ ghost use Rattle.disk_trait.specs.Cause.{Rose};
 ghost use Rattle.bios_model.specs.Machine.{machine_of};
 ghost use Rattle.mbr_table.specs.View.{device_view};
 ghost use Rattle.lilo_run.specs.Run.{GivesPlace, IsPlaceHalt};
-ghost use Rattle.lilo_run.specs.Verdict.{place_at};
+ghost use Rattle.lilo_model.specs.ConfVerdict.{place_at};
 
 use crate::refusal::{Halt, PlaceFault};
 use disk_trait::{Disks, Span};
 use mbr_table::{Device, TableFault, place_of};
 
 /// The sectors of a device.
-#[tactic(auto, unfolding(crate::specs::Verdict::place_at))]
+#[tactic(auto, unfolding(lilo_model::specs::ConfVerdict::place_at))]
 pub(crate) fn find_device<D: Disks>(disks: &mut D, device: Device) -> Result<Span, Halt>
     ensures place { Told (D.past disks.old) (λ now. GivesPlace result
         (place_at now (machine_of (D.size_of disks.old) (D.geometry_of disks.old)) (device_view device))) }
@@ -29,7 +29,7 @@ pub(crate) fn find_device<D: Disks>(disks: &mut D, device: Device) -> Result<Spa
 }
 
 // How a refusal of partition tables is told.
-fn place_halt(fault: TableFault) -> Halt
+pub(crate) fn place_halt(fault: TableFault) -> Halt
     ensures told { IsPlaceHalt fault result }
 {
     match fault {

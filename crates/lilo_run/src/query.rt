@@ -1,11 +1,10 @@
 // The names behind the boot sector of a device.
-ghost use Rattle.std.specs.Prelude.{◌≡◌, ℕ, option_map, ◌≤◌, ◌<◌, Err, length, map, All, IfOk, IfSome, IsErrOf, IsTrue};
+ghost use Rattle.std.specs.Prelude.{◌≡◌, ◌≤◌, ◌<◌, Err, length, map, All, IfOk, IfSome, IsErrOf, IsTrue};
 ghost use Rattle.disk_trait.specs.Past.{Told, SameDisks};
 ghost use Rattle.disk_trait.specs.Cause.{Rose};
 ghost use Rattle.lilo_model.specs.Checks.{with_fault};
 ghost use Rattle.lilo_model.specs.BootSector.{boot_at};
 ghost use Rattle.lilo_model.specs.Verdict.{map_refusal, table_sectors, names_text, names_behind, name_line, lines_from};
-ghost use Rattle.lilo_model.specs.Words.{Query};
 ghost use Rattle.sector_address.specs.View.{slot_view};
 ghost use Rattle.bios_model.specs.Machine.{machine_of};
 ghost use Rattle.lilo_model.specs.Place.{Memory};
@@ -13,8 +12,9 @@ ghost use Rattle.boot_map.specs.View.{boot_view, map_fault_view, table_view};
 ghost use Rattle.boot_map.specs.Ranges.{IsNamed, IsOneSector};
 ghost use Rattle.mbr_table.specs.View.{device_view};
 ghost use Rattle.stream_trait.specs.Shows.{state_of, HasFailed};
-ghost use Rattle.lilo_run.specs.Run.{Gives, IsMapHalt, Does, is_part_status};
-ghost use Rattle.lilo_run.specs.Verdict.{place_at, early_at, query_effect, command_effect, early_status};
+ghost use Rattle.lilo_run.specs.Run.{Gives, IsMapHalt, Does, is_plain_status};
+ghost use Rattle.lilo_model.specs.ConfVerdict.{place_at};
+ghost use Rattle.lilo_run.specs.Verdict.{early_at, query_effect};
 
 use crate::place::find_device;
 use crate::refusal::{Halt, PlaceFault, say};
@@ -31,39 +31,19 @@ use stream_trait::Sink;
 /// The names of a map as `-q` prints them, at most 48 lines of 18 bytes.
 type Listing = ArrayVec<u8, 1024>;
 
-/// Carries out `-q`, with a device or without, and answers the status.
-#[tactic(auto, unfolding(crate::specs::Verdict::command_effect, crate::specs::Verdict::early_status))]
-pub(crate) fn query<D: Disks, O: Sink>(
-    disks: &mut D,
-    device: Option<Device>,
-    out: &mut Shown<'_, O>,
-) -> u8
-    ensures does { (memory : Memory) (size : ℕ) → Told (D.past disks.old) (λ now. let machine = machine_of (D.size_of disks.old) (D.geometry_of disks.old) in
-        Does (command_effect now machine size (Query (option_map device_view device))) result memory memory
-        (state_of (O.taken out.old.out.now) (O.faults out.old.out.now) out.old.failed) (state_of (O.taken out.new.out.now) (O.faults out.new.out.now) out.new.failed)) }
-    ensures early { IfSome (early_status (D.size_of disks.old) (Query (option_map device_view device))) (λ status. result ≡ status) }
-    ensures known { IsTrue (is_part_status result) }
-    ensures device { result ≡ 8 → Rose (D.faults disks.old) (D.faults disks.new) }
-    ensures later { D.faults disks.old ≤ D.faults disks.new }
-    ensures sink { HasFailed (state_of (O.taken out.old.out.now) (O.faults out.old.out.now) out.old.failed) (state_of (O.taken out.new.out.now) (O.faults out.new.out.now) out.new.failed) }
-    ensures same { SameDisks D.past D.size_of D.count_of D.geometry_of disks.old disks.new }
-    ensures same_reference { out.new.out.ghost_name ≡ out.old.out.ghost_name }
-{
-    match device {
-        Some(device) => query_device(disks, device, out),
-        None => say(out, Halt::NotBuilt),
-    }
-}
-
 /// Prints the names behind the boot sector of a device, a line each, with ` *` after the default's, and answers the
 /// status.
 #[tactic(auto, unfolding(crate::specs::Verdict::query_effect, lilo_model::specs::Verdict::query_verdict))]
-fn query_device<D: Disks, O: Sink>(disks: &mut D, device: Device, out: &mut Shown<'_, O>) -> u8
+pub(crate) fn query_device<D: Disks, O: Sink>(
+    disks: &mut D,
+    device: Device,
+    out: &mut Shown<'_, O>,
+) -> u8
     ensures does { (memory : Memory) → Told (D.past disks.old) (λ now. let machine = machine_of (D.size_of disks.old) (D.geometry_of disks.old) in
         Does (query_effect now machine (place_at now machine (device_view device))) result memory memory
         (state_of (O.taken out.old.out.now) (O.faults out.old.out.now) out.old.failed) (state_of (O.taken out.new.out.now) (O.faults out.new.out.now) out.new.failed)) }
     ensures early { IfSome (early_at (D.size_of disks.old) (device_view device)) (λ status. result ≡ status) }
-    ensures known { IsTrue (is_part_status result) }
+    ensures known { IsTrue (is_plain_status result) }
     ensures device { result ≡ 8 → Rose (D.faults disks.old) (D.faults disks.new) }
     ensures later { D.faults disks.old ≤ D.faults disks.new }
     ensures sink { HasFailed (state_of (O.taken out.old.out.now) (O.faults out.old.out.now) out.old.failed) (state_of (O.taken out.new.out.now) (O.faults out.new.out.now) out.new.failed) }

@@ -7,7 +7,7 @@ ghost use Rattle.loader_core.specs.View.{reason_view};
 ghost use Rattle.setup_header.specs.View.{setup_fault_view};
 ghost use Rattle.lilo_model.specs.Reason.{setup_text};
 ghost use Rattle.lilo_run.specs.Refusal.{place_fault_view, halt_verdict, why_verdict};
-ghost use Rattle.lilo_run.specs.Run.{is_part_status};
+ghost use Rattle.lilo_run.specs.Run.{is_plain_status};
 
 use arrayvec::ArrayVec;
 use itoa::Buffer;
@@ -47,7 +47,7 @@ pub(crate) type Line = ArrayVec<u8, 128>;
 /// Shows the line that tells why a command ended, and gives its status.
 pub(crate) fn say<O: Sink>(out: &mut Shown<'_, O>, halt: Halt) -> u8
     ensures status { result ≡ (halt_verdict halt).status }
-    ensures known { IsTrue (is_part_status result) }
+    ensures known { IsTrue (is_plain_status result) }
     ensures some { 1 ≤ result }
     ensures device { result ≡ 8 → halt ≡ Halt.Device }
     ensures shown { Shows (state_of (O.taken out.old.out.now) (O.faults out.old.out.now) out.old.failed) (halt_verdict halt).text
@@ -62,7 +62,7 @@ impl Halt {
     // The exit status.
     fn status(self) -> u8
         ensures status { result ≡ (halt_verdict self).status }
-        ensures known { IsTrue (is_part_status result) }
+        ensures known { IsTrue (is_plain_status result) }
         ensures some { 1 ≤ result }
         ensures device { result ≡ 8 → self ≡ Halt.Device }
     {

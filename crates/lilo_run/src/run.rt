@@ -1,5 +1,5 @@
 // The top call: what the program `lilo` does with its words.
-ghost use Rattle.std.specs.Prelude.{◌≡◌, Bool, List, ◌≤◌, ◌⊎◌, ◌↔◌, ◌++◌, codes, false, length, IfSome, IfOk, IsOk, IsErr, IsTrue};
+ghost use Rattle.std.specs.Prelude.{◌≡◌, true, Bool, List, ◌≤◌, ◌⊎◌, ◌↔◌, ◌++◌, codes, false, length, IfSome, IfOk, IsOk, IsErr, IsTrue};
 ghost use Rattle.disk_trait.specs.Past.{Told, SameDisks};
 ghost use Rattle.disk_trait.specs.Cause.{Rose};
 ghost use Rattle.stream_trait.specs.Sink.{Takes};
@@ -13,7 +13,8 @@ ghost use Rattle.bios_model.specs.Memory.{memory_of};
 ghost use Rattle.lilo_words.specs.Run.{run_behind, parts_behind};
 ghost use Rattle.stream_trait.specs.Shows.{Shows, state_of, HasFailed, Prints};
 ghost use Rattle.lilo_run.specs.Run.{Does, Answers, Tells, is_part_status, is_run_status, is_status};
-ghost use Rattle.lilo_run.specs.Verdict.{command_effect, run_effect, plain_effect, place_at, effect_of, early_answer, early_parts, has_boot};
+ghost use Rattle.lilo_model.specs.ConfVerdict.{place_at};
+ghost use Rattle.lilo_run.specs.Verdict.{part_effect, run_effect, plain_effect, effect_of, early_answer, early_parts, has_boot, has_conf};
 ghost use Rattle.lilo_run.specs.Laws.{IsBootRun, IsUnbuiltAt};
 
 use crate::part::carry_out;
@@ -27,23 +28,29 @@ use stream_trait::{Sink, Source, Words, answer};
 /// Carries out words, and answers the exit status. Words are parts with a `--then` between each two, which are carried
 /// out in order until one answers other than 0.
 ///
-/// `-q DEVICE` prints the names behind the boot sector of a device, a line each, with ` *` after the default's.
+/// `-q DEVICE` prints the names behind the boot sector of a device, a line each, with ` *` after the default's. Without a
+/// device it is that of `boot=` in the configuration, or the volume's: the file `/etc/lilo.conf`, or that behind `-C`, on
+/// the volume of the device behind `--root`, or on the first that is found.
 /// `boot DEVICE` boots it, by [`loader_core::boot`], and with `--dump` tells what was put into memory. The options
-/// `-C`, `--root` and `-v` before these have no effect. What else the grammar has isn't built yet.
+/// `-C`, `--root` and `-v` before these two have no effect. An installation and `-t` read their configuration so far.
+/// What else the grammar has isn't built yet.
 ///
 /// | status | comes | text |
 /// |---|---|---|
 /// | 0 | done | the names; what the boot shows, and the memory |
 /// | 1 | the words aren't in the grammar | `lilo: usage: WORD`, or `(end)` |
+/// | 2 | the configuration's text is refused | `lilo: config: OPTION: REASON at line N` |
 /// | 3 | the device isn't found | `lilo: volume: no disk`, `no partition` or `table` |
+/// | 3 | the volume or the configuration's file isn't | `lilo: volume: no volume`, `layout`, `missing PATH` or `path PATH` |
 /// | 6 | `-q` finds a foreign boot sector, or one of another version | `lilo: not ours` |
 /// | 7 | the boot is refused, or the map is | `lilo: boot: REASON` |
 /// | 8 | a disk failed | `lilo: device` |
 /// | 12 | the sink failed, and the status would be 0 | |
+/// | 13 | there is no memory for a configuration | `lilo: memory` |
 /// | 15 | the part isn't built yet, or the boot isn't | `lilo: not built` |
 ///
-/// Once the sink failed nothing more is put, and the run goes on. No disk is written, no key is taken, and nothing is
-/// allocated.
+/// Once the sink failed nothing more is put, and the run goes on. No disk is written, and no key is taken. Memory is
+/// allocated for a configuration alone.
 #[tactic(auto, unfolding(crate::specs::Verdict::effect_of))]
 pub fn lilo<D: Disks, I: Source, O: Sink>(
     alloc: Global,
@@ -59,6 +66,7 @@ pub fn lilo<D: Disks, I: Source, O: Sink>(
         (effect_of now (machine_of (D.size_of disks.old) (D.geometry_of disks.old)) (length ram.old) words.now).verdict result) }
     ensures device { result ≡ 8 → Rose (D.faults disks.old) (D.faults disks.new) }
     ensures sink { result ≡ 12 → Rose (O.faults out.old) (O.faults out.new) }
+    ensures starved { result ≡ 13 → IfOk (run_at words.now) (λ parts. has_conf parts ≡ true) }
 
     // The text goes with the status. Only a failed sink may have cut it short.
     ensures text { Told (D.past disks.old) (λ now. Tells
@@ -95,7 +103,7 @@ pub fn lilo<D: Disks, I: Source, O: Sink>(
 {
     let mut shown = Shown::new(out);
     let mut bios = Bios { disks, keys };
-    let status = run_words(words, &mut bios, ram, &mut shown);
+    let status = run_words(alloc, words, &mut bios, ram, &mut shown);
     let sink_failed = shown.failed();
     answer(status, sink_failed)
 }
@@ -103,6 +111,7 @@ pub fn lilo<D: Disks, I: Source, O: Sink>(
 /// Carries out words, and answers the status, whether or not the sink failed.
 #[tactic(auto, unfolding(crate::specs::Verdict::effect_of, crate::specs::Verdict::early_answer))]
 fn run_words<D: Disks, I: Source, O: Sink>(
+    alloc: Global,
     words: &Words,
     bios: &mut Bios<'_, D, I>,
     ram: &mut Ram,
@@ -116,6 +125,7 @@ fn run_words<D: Disks, I: Source, O: Sink>(
         (state_of (O.taken out.new.out.now) (O.faults out.new.out.now) out.new.failed) }
     ensures early { IfSome (early_answer (D.size_of bios.old.disks.now) (run_at words.now)) (λ status. result ≡ status) }
     ensures known { IsTrue (is_run_status result) }
+    ensures starved { result ≡ 13 → IfOk (run_at words.now) (λ parts. has_conf parts ≡ true) }
     ensures device { result ≡ 8 → Rose (D.faults bios.old.disks.now) (D.faults bios.new.disks.now) }
     ensures later { D.faults bios.old.disks.now ≤ D.faults bios.new.disks.now }
     ensures sink { HasFailed (state_of (O.taken out.old.out.now) (O.faults out.old.out.now) out.old.failed) (state_of (O.taken out.new.out.now) (O.faults out.new.out.now) out.new.failed) }
@@ -129,7 +139,7 @@ fn run_words<D: Disks, I: Source, O: Sink>(
     ensures same_reference { out.new.out.ghost_name ≡ out.old.out.ghost_name }
 {
     match check(words) {
-        Ok(()) => run_parts(words, bios, ram, out),
+        Ok(()) => run_parts(alloc, words, bios, ram, out),
         Err(wrong) => {
             say_usage(out, wrong.word(words));
             1
@@ -139,6 +149,7 @@ fn run_words<D: Disks, I: Source, O: Sink>(
 
 /// Carries out the parts of words in order, until one answers other than 0.
 fn run_parts<D: Disks, I: Source, O: Sink>(
+    alloc: Global,
     words: &Words,
     bios: &mut Bios<'_, D, I>,
     ram: &mut Ram,
@@ -146,10 +157,11 @@ fn run_parts<D: Disks, I: Source, O: Sink>(
 ) -> u8
     requires { IsOk (run_behind words.now 0) }
     ensures does { Told (D.past bios.old.disks.now) (λ now. let machine = machine_of (D.size_of bios.old.disks.now) (D.geometry_of bios.old.disks.now) in
-        Does (run_effect (command_effect now machine (length ram.old)) (parts_behind words.now 0)) result (memory_of ram.old) (memory_of ram.new)
+        Does (run_effect (part_effect now machine (length ram.old)) (parts_behind words.now 0)) result (memory_of ram.old) (memory_of ram.new)
         (state_of (O.taken out.old.out.now) (O.faults out.old.out.now) out.old.failed) (state_of (O.taken out.new.out.now) (O.faults out.new.out.now) out.new.failed)) }
     ensures early { IfSome (early_parts (D.size_of bios.old.disks.now) (parts_behind words.now 0)) (λ status. result ≡ status) }
     ensures known { IsTrue (is_part_status result) }
+    ensures starved { result ≡ 13 → has_conf (parts_behind words.now 0) ≡ true }
     ensures device { result ≡ 8 → Rose (D.faults bios.old.disks.now) (D.faults bios.new.disks.now) }
     ensures later { D.faults bios.old.disks.now ≤ D.faults bios.new.disks.now }
     ensures sink { HasFailed (state_of (O.taken out.old.out.now) (O.faults out.old.out.now) out.old.failed) (state_of (O.taken out.new.out.now) (O.faults out.new.out.now) out.new.failed) }
@@ -164,7 +176,7 @@ fn run_parts<D: Disks, I: Source, O: Sink>(
     let mut next = Some(0);
     while let Some(from) = next {
         let read = part_at(words, from);
-        let status = carry_out(read.part.command, bios, ram, out);
+        let status = carry_out(alloc, read.part, bios, ram, out);
         let is_last = status != 0;
         if is_last {
             return status;

@@ -268,20 +268,20 @@ const RUNS: [Case<'static>; 10] = [
     },
     Case {
         words: &["-q", "/dev/hda", "--then", "-t"],
-        status: 15,
-        text: b"linux *\nlilo: not built\n",
+        status: 3,
+        text: b"linux *\nlilo: volume: no volume\n",
         ..WHOLE
     },
     Case {
         words: &[],
-        status: 15,
-        text: b"lilo: not built\n",
+        status: 3,
+        text: b"lilo: volume: no volume\n",
         ..WHOLE
     },
     Case {
-        words: &["-q"],
-        status: 15,
-        text: b"lilo: not built\n",
+        words: &["-C", "/lilo.conf", "--root", "/dev/hda2", "-q"],
+        status: 3,
+        text: b"lilo: volume: no partition\n",
         ..WHOLE
     },
     Case {

@@ -11,7 +11,8 @@ use Rattle.stream_trait.specs.Shows.{state_of}
 use Rattle.stream_trait.proofs.ShowsLemmas.{has_failed_twice}
 use Rattle.loader_core.proofs.ToldLemmas.{told_map, told_both}
 use Rattle.lilo_run.specs.Run.{Does}
-use Rattle.lilo_run.specs.Verdict.{command_effect, early_status}
+use Rattle.lilo_run.specs.Verdict.{part_effect, early_status}
+use Rattle.lilo_run.proofs.ConfLemmas.{read_first, read_more}
 use Rattle.lilo_run.proofs.RunLemmas.{Begun, place_within, continues_more, continues_end, continues_last, begun_more, begun_last, stays_more, told_same}
 use Rattle.lilo_run.proofs.run.run_parts.Goals as goal
 
@@ -26,11 +27,11 @@ returns-then-is_last-clause-does g c =
     let rest : parts_of_next words c.loop-next.next ≡ part ∷ parts_of_next words c.part_at-read.result.next =
     rw c.in-Some.is c.part_at-read.ensures.part in
     let told = told_same g.D.Disks.past g.D.Disks.size_of g.D.Disks.count_of g.D.Disks.geometry_of c.args.bios.now.disks.now c.loop-next.bios.disks.now invariant.same
-    (λ now size geometry. Does (command_effect now (machine_of size geometry) (length c.loop-next.ram) part.command) run.result (memory_of c.loop-next.ram) (memory_of run.new.ram) old new)
+    (λ now size geometry. Does (part_effect now (machine_of size geometry) (length c.loop-next.ram) part) run.result (memory_of c.loop-next.ram) (memory_of run.new.ram) old new)
     (run.ensures.does words) in
     let done = subst
     (λ size. Told (g.D.Disks.past c.args.bios.now.disks.now) (λ now.
-    Does (command_effect now (machine_of (g.D.Disks.size_of c.args.bios.now.disks.now) (g.D.Disks.geometry_of c.args.bios.now.disks.now)) size part.command) run.result (memory_of c.loop-next.ram) (memory_of run.new.ram) old new))
+    Does (part_effect now (machine_of (g.D.Disks.size_of c.args.bios.now.disks.now) (g.D.Disks.geometry_of c.args.bios.now.disks.now)) size part) run.result (memory_of c.loop-next.ram) (memory_of run.new.ram) old new))
     invariant.memory told in
     told_both (g.D.Disks.past c.args.bios.now.disks.now) _ _ _
     (λ now goes last. continues_last _ _ _ _ part run.result _ _ _ _ _ _ goes rest last (grind (arith, tests)))
@@ -55,6 +56,14 @@ returns-then-is_last-clause-no_boot g c =
     λ none. (stays_more (parts_behind words 0) _ behind part c.args.ram.now c.loop-next.ram c.carry_out-status.new.ram c.loop-next.invariant.stays rest
     (c.carry_out-status.ensures.quiet words) none).0
 
+pub returns-then-is_last-clause-starved : goal.returns-then-is_last-clause-starved
+returns-then-is_last-clause-starved g c =
+    let words = c.args.words.now in
+    let part = part_view words c.part_at-read.result.part in
+    let behind = parts_of_next words c.part_at-read.result.next in
+    let rest : parts_of_next words c.loop-next.next ≡ part ∷ behind = rw c.in-Some.is c.part_at-read.ensures.part in
+    λ starved. read_first (parts_behind words 0) _ behind part c.loop-next.invariant.conf rest (c.carry_out-status.ensures.starved words starved)
+
 pub loop-next-preserved : goal.loop-next-preserved
 loop-next-preserved g c =
     let words = c.args.words.now in
@@ -66,11 +75,11 @@ loop-next-preserved g c =
     let new = state_of (g.O.Sink.taken run.new.out.out.now) (g.O.Sink.faults run.new.out.out.now) run.new.out.failed in
     let rest : parts_of_next words c.loop-next.next ≡ part ∷ behind = rw c.in-Some.is c.part_at-read.ensures.part in
     let told = told_same g.D.Disks.past g.D.Disks.size_of g.D.Disks.count_of g.D.Disks.geometry_of c.args.bios.now.disks.now c.loop-next.bios.disks.now invariant.same
-    (λ now size geometry. Does (command_effect now (machine_of size geometry) (length c.loop-next.ram) part.command) run.result (memory_of c.loop-next.ram) (memory_of run.new.ram) old new)
+    (λ now size geometry. Does (part_effect now (machine_of size geometry) (length c.loop-next.ram) part) run.result (memory_of c.loop-next.ram) (memory_of run.new.ram) old new)
     (run.ensures.does words) in
     let done = subst
     (λ size. Told (g.D.Disks.past c.args.bios.now.disks.now) (λ now.
-    Does (command_effect now (machine_of (g.D.Disks.size_of c.args.bios.now.disks.now) (g.D.Disks.geometry_of c.args.bios.now.disks.now)) size part.command) run.result (memory_of c.loop-next.ram) (memory_of run.new.ram) old new))
+    Does (part_effect now (machine_of (g.D.Disks.size_of c.args.bios.now.disks.now) (g.D.Disks.geometry_of c.args.bios.now.disks.now)) size part) run.result (memory_of c.loop-next.ram) (memory_of run.new.ram) old new))
     invariant.memory told in
     let begun = subst (λ next. Begun (g.D.Disks.size_of c.args.bios.now.disks.now) (parts_behind words 0) next) c.in-Some.is invariant.begun in
     let early = subst (λ size. IfSome (early_status size part.command) (λ status. run.result ≡ status)) invariant.same.same_size (run.ensures.early words) in
@@ -89,6 +98,7 @@ loop-next-preserved g c =
       later = omega (arith, invariant.later, run.ensures.later);
       sink = has_failed_twice _ old new invariant.sink run.ensures.sink;
       memory = run.ensures.memory ∙ invariant.memory;
+      conf = read_more (parts_behind words 0) _ behind part invariant.conf rest;
       stays = stays_more (parts_behind words 0) _ behind part c.args.ram.now c.loop-next.ram run.new.ram invariant.stays rest (run.ensures.quiet words);
       same = same_twice g.D.Disks.past g.D.Disks.size_of g.D.Disks.count_of g.D.Disks.geometry_of c.args.bios.now.disks.now c.loop-next.bios.disks.now run.new.bios.disks.now invariant.same run.ensures.same;
       keys = run.ensures.keys ∙ invariant.keys;

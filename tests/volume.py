@@ -174,6 +174,19 @@ def small():
     return volume.bytes()
 
 
+REFUSED = b"""boot=/dev/hda
+serial=0,9600
+image=/vmlinuz
+"""
+
+
+def refused():
+    """A volume of 64 sectors from the start of a disk, whose configuration has an option that isn't taken here."""
+    volume = Volume('v1-14', 64, 16)
+    volume.file(volume.mkdir(1, b'etc'), b'lilo.conf', REFUSED)
+    return volume.bytes()
+
+
 if __name__ == '__main__':
     import sys
-    sys.stdout.buffer.write(small())
+    sys.stdout.buffer.write(refused() if sys.argv[1:] == ['refused'] else small())

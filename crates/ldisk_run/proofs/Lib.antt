@@ -1,5 +1,6 @@
 pub mod AddsLemmas
 pub mod CommandLemmas
+pub mod ContentLemmas
 pub mod EntryLemmas
 pub mod HaltLemmas
 pub mod LawLemmas

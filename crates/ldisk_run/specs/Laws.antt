@@ -1,9 +1,10 @@
--- What `ls` prints, in words of a directory's entries.
-use Rattle.std.specs.Prelude.{◌≡◌, ℕ, List, [], flat_map, if◌then◌else◌, Ok}
+-- What `ls` prints, in words of a directory's entries, and `get`, in those of a file.
+use Rattle.std.specs.Prelude.{◌≡◌, ◌↔◌, ℕ, List, [], length, flat_map, if◌then◌else◌, Ok}
 use Rattle.lilo_model.specs.MinixLayout.{Super, Inode}
 use Rattle.lilo_model.specs.MinixParts.{Parts}
 use Rattle.lilo_model.specs.MinixEntries.{Entry, entries_at}
-use Rattle.lilo_model.specs.LdiskVerdict.{has_line, entry_line, directory_found, ls_verdict}
+use Rattle.lilo_model.specs.MinixFind.{file_at}
+use Rattle.lilo_model.specs.LdiskVerdict.{has_line, entry_line, directory_found, get_verdict, ls_verdict}
 
 -- the line of an entry, or nothing for one that has none
 abbrev pub line_of : Parts → Entry → List ℕ
@@ -19,3 +20,13 @@ ListingLaw =
     (super : Super) (parts : Parts) (path : List ℕ) → (ls_verdict super parts path).status ≡ 0
     → (directory : Inode) × (entries : List Entry) × (directory_found super parts path ≡ Ok directory)
     × (entries_at super parts directory ≡ Ok entries) × ((ls_verdict super parts path).text ≡ lines_of parts entries)
+
+-- each zone has 1024 bytes
+abbrev pub HasWholeZones : Parts → Type 0
+HasWholeZones parts = (zone : ℕ) → length (parts.zone zone) ≡ 1024
+
+-- `get` answers 0 and prints some bytes exactly where they are those of the file that the path leads to
+abbrev pub ContentLaw : Type 0
+ContentLaw =
+    (super : Super) (parts : Parts) (path bytes : List ℕ) → HasWholeZones parts
+    → (get_verdict super parts path ≡ record { status = 0; text = bytes }) ↔ (file_at super parts path ≡ Ok bytes)

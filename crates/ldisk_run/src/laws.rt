@@ -1,6 +1,6 @@
 // Laws of what is done, which no code needs to call.
 ghost use Rattle.lilo_model.specs.LdiskWords.{AskedLaw};
-ghost use Rattle.ldisk_run.specs.Laws.{ListingLaw};
+ghost use Rattle.ldisk_run.specs.Laws.{ContentLaw, ListingLaw};
 
 /// Words ask for something exactly where the grammar says so.
 pub fn words_ask_as_the_grammar_says()
@@ -10,4 +10,9 @@ pub fn words_ask_as_the_grammar_says()
 /// Where `ls` answers 0, it prints the lines of the entries of the directory that the path leads to.
 pub fn ls_prints_the_lines_of_the_entries()
     ensures { ListingLaw }
+{}
+
+/// `get` answers 0 and prints some bytes exactly where they are those of the file that the path leads to.
+pub fn get_prints_the_file()
+    ensures { ContentLaw }
 {}

@@ -15,7 +15,9 @@ mod room;
 mod run;
 
 pub use asked::{Asked, Command, ask};
-pub use laws::{ls_prints_the_lines_of_the_entries, words_ask_as_the_grammar_says};
+pub use laws::{
+    get_prints_the_file, ls_prints_the_lines_of_the_entries, words_ask_as_the_grammar_says,
+};
 pub use run::ldisk;
 
 #[cfg(test)]

@@ -9,8 +9,10 @@ TOP = os.path.dirname(os.path.dirname(os.path.abspath(__file__)))
 
 
 def built(name):
-    """The program, built from the present sources."""
+    """The program, built from the present sources; where the gate has just built it, that one."""
     folder = os.path.join(TOP, 'crates', name)
+    if os.environ.get('BUILT_BY_GATE') and os.path.exists(os.path.join(folder, 'out', name)):
+        return os.path.join(folder, 'out', name)
     done = subprocess.run(['rt', 'run', '--', '-'], cwd=folder, stdin=subprocess.DEVNULL,
                           stdout=subprocess.PIPE, stderr=subprocess.STDOUT)
     program = os.path.join(folder, 'out', name)

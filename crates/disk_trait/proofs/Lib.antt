@@ -4,3 +4,4 @@ pub mod LawLemmas
 pub mod Changed
 pub mod LeftLemmas
 pub mod Streams
+pub mod ToldLemmas

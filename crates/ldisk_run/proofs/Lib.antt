@@ -6,5 +6,4 @@ pub mod HaltLemmas
 pub mod LawLemmas
 pub mod ListingLemmas
 pub mod StepLemmas
-pub mod ToldLemmas
 pub mod WordLemmas

@@ -11,7 +11,7 @@ use Rattle.minix_tree.proofs.SameLemmas.{told_back}
 use Rattle.ldisk_run.specs.Pieces.{Held, Adds}
 use Rattle.ldisk_run.specs.Run.{Halts, Does}
 use Rattle.ldisk_run.specs.declared.halt.Halt.{Halt}
-use Rattle.ldisk_run.proofs.ToldLemmas.{told_map, told_both}
+use Rattle.disk_trait.proofs.ToldLemmas.{told_map, told_both}
 use Rattle.ldisk_run.proofs.AddsLemmas.{GoesOn, does_behind, does_halted, does_ended, piece_behind, does_same, printed_more}
 
 -- verdicts of what a volume holds

@@ -12,5 +12,4 @@ pub mod MemoryLemmas
 pub mod PlanLemmas
 pub mod ReadingLemmas
 pub mod TodayLemmas
-pub mod ToldLemmas
 pub mod WholeLemmas

@@ -253,13 +253,6 @@ map_reads now machine boot line bytes table good judged line_there table_there e
   stands = record { line = refl; table = sym judged; extras = extras.judged };
 }
 
--- facts about what disks hold, where they tell it
-pub told_three :
-    (past : Option Past) (P Q R S : Image → Type 0) → ((now : Image) → P now → Q now → R now → S now)
-    → Told past P → Told past Q → Told past R → Told past S
-told_three None P Q R S f p q r = tt
-told_three (Some past) P Q R S f p q r = f (now_of past) p q r
-
 -- ---- the prompt
 
 or-groups : (a b c d : Bool) → (a || (b || (c || d))) ≡ ((a || (b || c)) || d)

@@ -11,7 +11,7 @@ use Rattle.ldisk_run.specs.Run.{Halts, HasCause, Does}
 use Rattle.ldisk_run.specs.View.{command_view}
 use Rattle.ldisk_run.proofs.CommandLemmas.{held_of, rose_before, room_halted, volume_halted}
 use Rattle.ldisk_run.proofs.HaltLemmas.{zone_cause}
-use Rattle.ldisk_run.proofs.ToldLemmas.{told_map, told_both}
+use Rattle.disk_trait.proofs.ToldLemmas.{told_map, told_both}
 use Rattle.ldisk_run.proofs.command.carry_out.Goals as goal
 
 pub returns-in_err-span-clause-does : goal.returns-in_err-span-clause-does

@@ -11,7 +11,7 @@ use Rattle.minix_zones.specs.Volume.{volume_view, past_of}
 use Rattle.ldisk_run.specs.Pieces.{held_by}
 use Rattle.ldisk_run.proofs.AddsLemmas.{adds_nothing, printed_to}
 use Rattle.ldisk_run.proofs.StepLemmas.{Added, told_behind, told_ended, told_verdict, piece_more}
-use Rattle.ldisk_run.proofs.ToldLemmas.{told_all}
+use Rattle.disk_trait.proofs.ToldLemmas.{told_all}
 use Rattle.ldisk_run.proofs.get.put_file.Goals as goal
 
 abbrev blocks : Inode → model.Volume → Image → ℕ → Result (List ℕ) TreeFault

@@ -19,7 +19,7 @@ use Rattle.ldisk_run.specs.declared.halt.Halt.{Halt}
 use Rattle.ldisk_run.proofs.AddsLemmas.{adds_nothing, adds_same, does_behind, does_same}
 use Rattle.ldisk_run.proofs.ListingLemmas.{blocks_printed, blocks_more, blocks_none, blocks_all, blocks_on}
 use Rattle.ldisk_run.proofs.StepLemmas.{Added, told_ended, told_verdict}
-use Rattle.ldisk_run.proofs.ToldLemmas.{told_all, told_both}
+use Rattle.disk_trait.proofs.ToldLemmas.{told_all, told_both}
 use Rattle.ldisk_run.proofs.ls.put_directory.Goals as goal
 
 abbrev blocks : Inode → ℕ → model.Volume → Image → Verdict

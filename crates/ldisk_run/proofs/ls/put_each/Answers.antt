@@ -15,7 +15,7 @@ use Rattle.ldisk_run.specs.Pieces.{Held, held_by}
 use Rattle.ldisk_run.specs.Run.{Does}
 use Rattle.ldisk_run.specs.declared.halt.Halt.{Halt}
 use Rattle.ldisk_run.proofs.EntryLemmas.{Listed, listed_none, listed_more, listed_ended, listed_all}
-use Rattle.ldisk_run.proofs.ToldLemmas.{told_map, told_both, told_all}
+use Rattle.disk_trait.proofs.ToldLemmas.{told_map, told_both, told_all}
 use Rattle.ldisk_run.proofs.ls.put_each.Goals as goal
 
 pub loop-entry-init : goal.loop-entry-init

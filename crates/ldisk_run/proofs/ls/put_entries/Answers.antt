@@ -12,7 +12,7 @@ use Rattle.ldisk_run.specs.Pieces.{held_by}
 use Rattle.ldisk_run.specs.Run.{Halts}
 use Rattle.ldisk_run.proofs.HaltLemmas.{tree_halts, halts_untold}
 use Rattle.ldisk_run.proofs.StepLemmas.{told_halted}
-use Rattle.ldisk_run.proofs.ToldLemmas.{told_map}
+use Rattle.disk_trait.proofs.ToldLemmas.{told_map}
 use Rattle.ldisk_run.proofs.ls.put_entries.Goals as goal
 
 pub returns-in-Err-clause-does : goal.returns-in-Err-clause-does

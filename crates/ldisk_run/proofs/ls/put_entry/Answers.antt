@@ -8,7 +8,7 @@ use Rattle.minix_zones.specs.Volume.{volume_view, past_of}
 use Rattle.ldisk_run.specs.Pieces.{held_by}
 use Rattle.ldisk_run.specs.Run.{Halts, Does}
 use Rattle.ldisk_run.proofs.EntryLemmas.{entry_halted}
-use Rattle.ldisk_run.proofs.ToldLemmas.{told_map}
+use Rattle.disk_trait.proofs.ToldLemmas.{told_map}
 use Rattle.ldisk_run.proofs.ls.put_entry.Goals as goal
 
 pub returns-in_err-stat-clause-does : goal.returns-in_err-stat-clause-does

@@ -7,7 +7,7 @@ use Rattle.mbr_table.specs.View.{machine_of}
 use Rattle.ldisk_run.specs.Pieces.{sink_of, held_by}
 use Rattle.ldisk_run.specs.Run.{DoesAs, Tells}
 use Rattle.ldisk_run.proofs.CommandLemmas.{held_of, tells}
-use Rattle.ldisk_run.proofs.ToldLemmas.{told_map}
+use Rattle.disk_trait.proofs.ToldLemmas.{told_map}
 use Rattle.ldisk_run.proofs.run.ldisk.Goals as goal
 
 pub returns-clause-text : goal.returns-clause-text

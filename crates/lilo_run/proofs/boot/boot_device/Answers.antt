@@ -1,4 +1,4 @@
-use Rattle.loader_core.proofs.ToldLemmas.{told_map}
+use Rattle.disk_trait.proofs.ToldLemmas.{told_map}
 use Rattle.lilo_run.proofs.EffectLemmas.{place_failed}
 use Rattle.lilo_run.proofs.boot.boot_device.Goals as goal
 

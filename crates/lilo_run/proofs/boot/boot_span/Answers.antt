@@ -1,6 +1,6 @@
 -- How the boot ended decides.
 use Rattle.bios_model.specs.Memory.{memory_of}
-use Rattle.loader_core.proofs.ToldLemmas.{told_map}
+use Rattle.disk_trait.proofs.ToldLemmas.{told_map}
 use Rattle.lilo_run.proofs.EffectLemmas.{boot_loaded, boot_handed, boot_refused, boot_failed}
 use Rattle.lilo_run.proofs.boot.boot_span.Goals as goal
 

@@ -1,5 +1,5 @@
 use Rattle.mbr_table.specs.View.{device_view}
-use Rattle.loader_core.proofs.ToldLemmas.{told_both}
+use Rattle.disk_trait.proofs.ToldLemmas.{told_both}
 use Rattle.lilo_run.proofs.ConfLemmas.{conf_listed}
 use Rattle.lilo_run.proofs.conf.query_conf.Goals as goal
 

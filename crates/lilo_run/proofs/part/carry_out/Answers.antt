@@ -1,7 +1,7 @@
 -- `-q` does what its definition says, with the part's path.
 use Rattle.std.proofs.Common.{inl, inr, length}
 use Rattle.bios_model.specs.Memory.{memory_of}
-use Rattle.loader_core.proofs.ToldLemmas.{told_map}
+use Rattle.disk_trait.proofs.ToldLemmas.{told_map}
 use Rattle.lilo_run.proofs.ConfLemmas.{installs, would_install}
 use Rattle.lilo_run.proofs.part.carry_out.Goals as goal
 

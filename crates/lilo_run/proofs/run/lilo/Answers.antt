@@ -6,7 +6,7 @@ use Rattle.bios_model.specs.Machine.{machine_of}
 use Rattle.lilo_model.specs.Words.{run_at}
 use Rattle.stream_trait.specs.Shows.{answer_of}
 use Rattle.stream_trait.proofs.ShowsLemmas.{zero_before}
-use Rattle.loader_core.proofs.ToldLemmas.{told_map}
+use Rattle.disk_trait.proofs.ToldLemmas.{told_map}
 use Rattle.lilo_run.specs.Run.{Tells}
 use Rattle.lilo_run.specs.Verdict.{effect_of, early_answer}
 use Rattle.lilo_run.proofs.LawLemmas.{boot_tells}

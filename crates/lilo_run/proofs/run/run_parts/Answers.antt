@@ -9,7 +9,7 @@ use Rattle.lilo_words.specs.View.{command_view, part_view}
 use Rattle.mbr_table.proofs.ToldLemmas.{same_twice}
 use Rattle.stream_trait.specs.Shows.{state_of}
 use Rattle.stream_trait.proofs.ShowsLemmas.{has_failed_twice}
-use Rattle.loader_core.proofs.ToldLemmas.{told_map, told_both}
+use Rattle.disk_trait.proofs.ToldLemmas.{told_map, told_both}
 use Rattle.lilo_run.specs.Run.{Does}
 use Rattle.lilo_run.specs.Verdict.{part_effect, early_status}
 use Rattle.lilo_run.proofs.ConfLemmas.{read_first, read_more}

@@ -3,7 +3,7 @@ use Rattle.std.proofs.Common.{◌≡◌, ◌++◌, sym, subst}
 use Rattle.std.specs.Prelude.{codes}
 use Rattle.lilo_words.specs.Wrong.{wrong_view}
 use Rattle.stream_trait.specs.Shows.{Shows, state_of}
-use Rattle.loader_core.proofs.ToldLemmas.{told_all}
+use Rattle.disk_trait.proofs.ToldLemmas.{told_all}
 use Rattle.lilo_run.proofs.RunLemmas.{usage_is, usage_does}
 use Rattle.lilo_run.proofs.run.run_words.Goals as goal
 

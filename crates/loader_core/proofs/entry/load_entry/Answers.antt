@@ -2,7 +2,7 @@ use Rattle.std.proofs.Common.{◌≡◌, length, Ok, Err, rules}
 use Rattle.bios_model.specs.Machine.{machine_of}
 use Rattle.bios_model.specs.Memory.{memory_of}
 use Rattle.boot_map.specs.View.{descriptor_view}
-use Rattle.loader_core.proofs.ToldLemmas.{told_map}
+use Rattle.disk_trait.proofs.ToldLemmas.{told_map}
 use Rattle.loader_core.specs.Today.{main_today, initrd_file_today, loaded_today, video_today}
 use Rattle.loader_core.specs.Kernel.{LoadsKernel}
 use Rattle.loader_core.proofs.EntryLemmas.{kernel_started, kernel_refused, entry_other, entry_kernel, flag_set, flag_clear}

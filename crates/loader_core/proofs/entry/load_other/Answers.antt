@@ -6,7 +6,7 @@ use Rattle.sector_address.specs.View.{slot_view}
 use Rattle.lilo_model.specs.Table.{has_flag, table_flag}
 use Rattle.loader_core.specs.File.{rest_in}
 use Rattle.loader_core.specs.Load.{IsCutSector, ReadsCut}
-use Rattle.loader_core.proofs.ToldLemmas.{told_map, told_both}
+use Rattle.disk_trait.proofs.ToldLemmas.{told_map, told_both}
 use Rattle.loader_core.specs.Today.{main_today}
 use Rattle.loader_core.proofs.EntryLemmas.{ends_first, ends_second, other_sectors, left_none}
 use Rattle.loader_core.proofs.KernelLemmas.{ended_rest}

@@ -11,7 +11,7 @@ use Rattle.loader_core.specs.Reading.{file_today}
 use Rattle.loader_core.specs.File.{rest_in}
 use Rattle.loader_core.specs.Load.{Loads}
 use Rattle.loader_core.proofs.KernelLemmas.{initrd_placed, ended_rest, none_from}
-use Rattle.loader_core.proofs.ToldLemmas.{told_all, told_map}
+use Rattle.disk_trait.proofs.ToldLemmas.{told_all, told_map}
 use Rattle.loader_core.proofs.kernel.load_initrd.Goals as goal
 
 pub returns-in_default-2-clause-placed : goal.returns-in_default-2-clause-placed

@@ -13,7 +13,7 @@ use Rattle.loader_core.specs.Today.{main_today, initrd_file_today, video_today}
 use Rattle.loader_core.proofs.LoadedLemmas.{begun_by, ends_short, ends_header, ends_layout, ends_kernel, ends_initrd}
 use Rattle.loader_core.proofs.WholeLemmas.{kernel_whole}
 use Rattle.loader_core.proofs.PlanLemmas.{setup_least, planned_size, region_there, region_sized, holds_kernel}
-use Rattle.loader_core.proofs.ToldLemmas.{told_map, told_both, told_three}
+use Rattle.disk_trait.proofs.ToldLemmas.{told_map, told_both, told_three}
 use Rattle.loader_core.proofs.kernel.load_kernel.Goals as goal
 
 pub place_kernel-requires-clause-kernel : goal.place_kernel-requires-clause-kernel

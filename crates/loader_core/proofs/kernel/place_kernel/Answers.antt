@@ -4,7 +4,7 @@ use Rattle.bios_model.specs.Memory.{memory_of}
 use Rattle.sector_address.specs.View.{slot_view}
 use Rattle.loader_core.specs.File.{rest_in}
 use Rattle.loader_core.proofs.KernelLemmas.{kernel_placed, ended_rest}
-use Rattle.loader_core.proofs.ToldLemmas.{told_both}
+use Rattle.disk_trait.proofs.ToldLemmas.{told_both}
 use Rattle.loader_core.proofs.kernel.place_kernel.Goals as goal
 
 pub returns-clause-placed : goal.returns-clause-placed

@@ -1,7 +1,7 @@
 use Rattle.bios_model.specs.Machine.{machine_of}
 use Rattle.loader_core.specs.File.{rest_in}
 use Rattle.loader_core.proofs.KernelLemmas.{two_read}
-use Rattle.loader_core.proofs.ToldLemmas.{told_both}
+use Rattle.disk_trait.proofs.ToldLemmas.{told_both}
 use Rattle.loader_core.proofs.kernel.read_two.Goals as goal
 
 pub returns-clause-bytes : goal.returns-clause-bytes

@@ -5,7 +5,7 @@ use Rattle.bios_model.specs.Machine.{machine_of}
 use Rattle.bios_model.specs.Memory.{memory_of}
 use Rattle.loader_core.specs.File.{rest_in}
 use Rattle.loader_core.proofs.LoadLemmas.{load_more, cut_less, cut_more}
-use Rattle.loader_core.proofs.ToldLemmas.{told_both}
+use Rattle.disk_trait.proofs.ToldLemmas.{told_both}
 use Rattle.loader_core.proofs.load.load_bytes.Goals as goal
 
 pub loop-done-preserved : goal.loop-done-preserved

@@ -2,7 +2,7 @@ use Rattle.std.proofs.Common.{length}
 use Rattle.bios_model.specs.Machine.{machine_of}
 use Rattle.bios_model.specs.Memory.{memory_of}
 use Rattle.stream_trait.specs.Shows.{state_of}
-use Rattle.loader_core.proofs.ToldLemmas.{told_map}
+use Rattle.disk_trait.proofs.ToldLemmas.{told_map}
 use Rattle.lilo_model.specs.Boot.{whole_boot}
 use Rattle.loader_core.specs.Today.{boot_today}
 use Rattle.loader_core.specs.Start.{span_view}

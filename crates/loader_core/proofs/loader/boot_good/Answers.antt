@@ -3,7 +3,7 @@ use Rattle.bios_model.specs.Machine.{machine_of}
 use Rattle.bios_model.specs.Memory.{memory_of}
 use Rattle.boot_map.specs.View.{descriptor_view, boot_view}
 use Rattle.stream_trait.specs.Shows.{state_of}
-use Rattle.loader_core.proofs.ToldLemmas.{told_all, told_map}
+use Rattle.disk_trait.proofs.ToldLemmas.{told_all, told_map}
 use Rattle.loader_core.proofs.BootLemmas.{good_unbuilt, good_chosen, default_there, default_plain, some_map, some_good}
 use Rattle.loader_core.proofs.loader.boot_good.Goals as goal
 

@@ -3,7 +3,7 @@ use Rattle.bios_model.specs.Machine.{machine_of}
 use Rattle.bios_model.specs.Memory.{memory_of}
 use Rattle.boot_map.specs.View.{boot_view}
 use Rattle.stream_trait.specs.Shows.{state_of}
-use Rattle.loader_core.proofs.ToldLemmas.{told_map, told_both}
+use Rattle.disk_trait.proofs.ToldLemmas.{told_map, told_both}
 use Rattle.loader_core.proofs.BootLemmas.{map_found, map_halted}
 use Rattle.loader_core.proofs.loader.boot_map.Goals as goal
 

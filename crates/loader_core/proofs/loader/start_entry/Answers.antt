@@ -4,7 +4,7 @@ use Rattle.bios_model.specs.Machine.{machine_of}
 use Rattle.bios_model.specs.Memory.{memory_of}
 use Rattle.boot_map.specs.View.{descriptor_view}
 use Rattle.stream_trait.specs.Shows.{state_of}
-use Rattle.loader_core.proofs.ToldLemmas.{told_map}
+use Rattle.disk_trait.proofs.ToldLemmas.{told_map}
 use Rattle.loader_core.specs.Today.{entry_report, entry_today, line_today}
 use Rattle.loader_core.proofs.BootLemmas.{entry_started, entry_halted}
 use Rattle.loader_core.proofs.loader.start_entry.Goals as goal

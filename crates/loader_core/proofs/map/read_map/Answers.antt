@@ -9,8 +9,8 @@ use Rattle.bios_model.specs.Machine.{machine_of, sector_bytes_at}
 use Rattle.boot_map.specs.View.{boot_view, table_view, map_fault_view}
 use Rattle.loader_core.specs.File.{ReadsOne}
 use Rattle.loader_core.specs.Map.{ReadsThere, AreExtras, ReadsExtras, IsReadMap, ReadsMap}
-use Rattle.loader_core.proofs.ToldLemmas.{told_map, told_both}
-use Rattle.loader_core.proofs.MapLemmas.{table_extras, line_halts, table_halts, extras_halt, map_reads, told_three}
+use Rattle.disk_trait.proofs.ToldLemmas.{told_map, told_both, told_three}
+use Rattle.loader_core.proofs.MapLemmas.{table_extras, line_halts, table_halts, extras_halt, map_reads}
 use Rattle.loader_core.proofs.map.read_map.Goals as goal
 
 pub returns-in_err-read_one-clause-parts : goal.returns-in_err-read_one-clause-parts

@@ -5,7 +5,7 @@ use Rattle.lilo_model.specs.Checks.{each}
 use Rattle.bios_model.specs.Machine.{machine_of}
 use Rattle.boot_map.specs.View.{descriptor_view}
 use Rattle.loader_core.specs.Map.{password_sector}
-use Rattle.loader_core.proofs.ToldLemmas.{told_both}
+use Rattle.disk_trait.proofs.ToldLemmas.{told_both}
 use Rattle.loader_core.proofs.MapLemmas.{so_far-next}
 use Rattle.loader_core.proofs.map.read_passwords.Goals as goal
 use Rattle.loader_core.proofs.map.read_passwords.Goals.{then-are_good, else-are_good}

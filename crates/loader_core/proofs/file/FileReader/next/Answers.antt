@@ -5,7 +5,7 @@ use Rattle.sector_address.specs.View.{slot_view}
 use Rattle.lilo_model.specs.Section.{sectors_for}
 use Rattle.loader_core.specs.Reading.{reading_ahead}
 use Rattle.loader_core.proofs.FileLemmas.{read_rest, read_found}
-use Rattle.loader_core.proofs.ToldLemmas.{told_both}
+use Rattle.disk_trait.proofs.ToldLemmas.{told_both}
 use Rattle.loader_core.proofs.file.FileReader.next.Goals as goal
 
 pub returns-clause-bytes : goal.returns-clause-bytes

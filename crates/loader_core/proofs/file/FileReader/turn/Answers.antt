@@ -6,7 +6,7 @@ use Rattle.sector_address.specs.View.{slot_view}
 use Rattle.loader_core.specs.Reading.{ended_reading}
 use Rattle.loader_core.proofs.ReadingLemmas.{ahead_by}
 use Rattle.loader_core.proofs.FileLemmas.{fed_turn}
-use Rattle.loader_core.proofs.ToldLemmas.{told_all, told_map}
+use Rattle.disk_trait.proofs.ToldLemmas.{told_all, told_map}
 use Rattle.loader_core.proofs.file.FileReader.turn.Goals as goal
 
 pub returns-in-Ok-Slot-clause-turn : goal.returns-in-Ok-Slot-clause-turn

@@ -154,8 +154,8 @@ pub record Sound (super : Super) (parts : Parts) : Type 0 where
   pub root_above : HasSomeEntry super parts 1 (entry_with 1 above_name)
   pub above : (directory outer : ℕ) (name : List ℕ) (path : List (List ℕ)) → reached super parts (name ∷ path) ≡ Some directory → reached super parts path ≡ Some outer → is_directory (parts.node directory) ≡ true → HasSomeEntry super parts directory (entry_with outer above_name)
   pub depth : (directory : ℕ) (path : List (List ℕ)) → reached super parts path ≡ Some directory → is_directory (parts.node directory) ≡ true → length path ≤ depth_limit
-  -- at least as many links as names
-  pub links : (number : ℕ) (paths : List (List (List ℕ))) → AreDistinct paths → AllLead super parts number paths → (length paths ≤ (parts.node number).links)
+  -- at least as many links as names; the root has no name
+  pub links : (number : ℕ) (paths : List (List (List ℕ))) → number ≢ 1 → AreDistinct paths → AllLead super parts number paths → (length paths ≤ (parts.node number).links)
 
 -- an image has a sound volume
 pub record HasSound (volume : Volume) (image : Image) : Type 0 where

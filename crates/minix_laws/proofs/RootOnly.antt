@@ -12,7 +12,6 @@ pub record RootOnly (super : Super) (parts : Parts) (zone : ℕ) : Type 0 where
   pub some_mode : (parts.node 1).mode ≢ 0
   pub small : is_size super.kind (parts.node 1).size ≡ true
   pub two : places super.kind (parts.node 1).size ≡ 2
-  pub some_links : 1 ≤ (parts.node 1).links
   pub zones : (parts.node 1).zones ≡ zone ∷ replicate 9 0
   pub first_entry : entry super parts 1 0 ≡ entry_with 1 here_name
   pub second_entry : entry super parts 1 1 ≡ entry_with 1 above_name
@@ -129,22 +128,10 @@ module _ (super : Super) (parts : Parts) (zone : ℕ) (h : RootOnly super parts 
 
   -- ---- links
 
-  links-by : (number : ℕ) (paths : List (List (List ℕ))) → AreDistinct paths → AllLead super parts number paths → length paths ≤ 1
-  links-by number [] distinct lead = omega arith
-  links-by number (path ∷ []) distinct lead = omega arith
-  links-by number (path ∷ (other ∷ paths)) distinct lead =
-      let one : path ≡ [] = (reached-root path number lead.0).0 in
-      let two : other ≡ [] = (reached-root other number lead.1.0).0 in
-      absurd (distinct.0.0 (one ∙ sym two))
-
-  links-root : (number : ℕ) (paths : List (List (List ℕ))) → AreDistinct paths → AllLead super parts number paths → length paths ≤ (parts.node number).links
-  links-root number [] distinct lead = omega arith
-  links-root number (path ∷ paths) distinct lead =
-      let few : length (path ∷ paths) ≤ 1 = links-by number (path ∷ paths) distinct lead in
-      let one : number ≡ 1 = (reached-root path number lead.0).1 in
-      let P : ℕ → Type 0 = λ n. 1 ≤ (parts.node n).links in
-      let some : 1 ≤ (parts.node number).links = subst P (sym one) h.some_links in
-      omega (arith, few, some)
+  -- no path leads to an inode that isn't the root
+  links-root : (number : ℕ) (paths : List (List (List ℕ))) → number ≢ 1 → AreDistinct paths → AllLead super parts number paths → length paths ≤ (parts.node number).links
+  links-root number [] other distinct lead = omega arith
+  links-root number (path ∷ paths) other distinct lead = absurd (other (reached-root path number lead.0).1)
 
   -- ---- all of it
 

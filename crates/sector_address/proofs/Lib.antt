@@ -1,2 +1,4 @@
-pub mod MakeLemmas
 pub mod BytesLemmas
+pub mod MadeLemmas
+pub mod MakeLemmas
+pub mod TrackLemmas

@@ -10,6 +10,9 @@ mod slot;
 mod tests;
 mod track;
 
-pub use laws::{encoded_slot_decodes, made_slot_is_whole, one_spelling};
+pub use laws::{
+    cylinder_of_its_number, encoded_slot_decodes, made_slot_is_whole, made_slot_names_its_sectors,
+    number_of_its_cylinder, one_spelling,
+};
 pub use slot::{Address, AddressFault, Chs, Mode, Slot};
 pub use track::{to_chs, to_lba};

@@ -53,6 +53,38 @@ fn the_first_sector_of_cylinder_1024(rt: HostRuntime) {
     );
 }
 
+// The last sector that INT 13h can name on the disks of the most and of the fewest heads and sectors, and the next one.
+#[test]
+fn the_ends_of_the_largest_and_the_smallest_disk(rt: HostRuntime) {
+    let large = Geometry {
+        heads: 255,
+        sectors: 63,
+    };
+    let last = Chs {
+        cylinder: 1023,
+        head: 254,
+        sector: 63,
+    };
+    assert_eq!(rt; to_chs(large, 16_450_559), Ok(last));
+    assert_eq!(rt; to_lba(large, last), Ok(16_450_559));
+    assert_eq!(rt;
+        to_chs(large, 16_450_560),
+        Err(AddressFault::Cylinder(1024))
+    );
+    let small = Geometry {
+        heads: 1,
+        sectors: 1,
+    };
+    let last = Chs {
+        cylinder: 1023,
+        head: 0,
+        sector: 1,
+    };
+    assert_eq!(rt; to_chs(small, 1023), Ok(last));
+    assert_eq!(rt; to_lba(small, last), Ok(1023));
+    assert_eq!(rt; to_chs(small, 1024), Err(AddressFault::Cylinder(1024)));
+}
+
 #[test]
 fn a_slot_names_its_sectors(rt: HostRuntime) {
     let disk = small_disk();

@@ -1,2 +1,4 @@
 pub mod Pointers
 pub mod Keeps
+pub mod Laid
+pub mod Beside

@@ -1,2 +1,3 @@
 pub mod Keeps
+pub mod Beside
 pub mod Laws

@@ -4,4 +4,7 @@
 
 mod laws;
 
-pub use laws::sound_stays;
+pub use laws::{
+    harmless_bytes_keep_names, harmless_changes_join, harmless_writes_join, kept_parts_stay_sound,
+    what_stands_is_harmless,
+};

@@ -1,0 +1,49 @@
+-- What may be written on a Minix volume without touching what has a name (a rule of this project's own; the
+-- layouts: Minix file system, versions 1 and 2). Sectors are counted from the start of the volume.
+use Rattle.std.specs.Prelude.{◌≡◌, ◌≢◌, ◌<◌, ◌≤◌, ℕ, ◌+◌, ◌*◌, ◌%◌, ◌⊎◌, true, List, length, Option}
+use Rattle.lilo_model.specs.Bytes.{part_of}
+use Rattle.lilo_model.specs.Disks.{Image}
+use Rattle.lilo_model.specs.MinixLayout.{inode_size, inode_place, zone_sector, super_sector}
+use Rattle.lilo_model.specs.MinixParts.{Volume, Pointer, sector_of, bit, inode_mark_sector, zone_bit, zone_mark_sector, inode_part, parts_of}
+use Rattle.lilo_model.specs.MinixNames.{Thing, names_in, Named, Refers, IsSound}
+
+-- in an image an inode is the root of a volume, or has a name
+abbrev pub NamedIn : Volume → Image → ℕ → Type 0
+NamedIn volume image number = Named volume.layout (parts_of volume image) number
+
+-- there a named inode refers to a zone
+abbrev pub RefersIn : Volume → Image → ℕ → Pointer → ℕ → Type 0
+RefersIn volume image number at zone = Refers volume.layout (parts_of volume image) number at zone
+
+-- one of the two sectors of a zone
+abbrev pub IsOfZone : ℕ → ℕ → Type 0
+IsOfZone zone sector = (zone_sector zone ≡ sector) ⊎ (zone_sector zone + 1 ≡ sector)
+
+-- bytes that may stand in a sector without touching what has a name in an image
+pub record Harmless (volume : Volume) (old : Image) (sector : ℕ) (bytes : List ℕ) : Type 0 where
+  pub long : length bytes ≡ 512
+  -- the superblock stays
+  pub super : super_sector ≡ sector → bytes ≡ sector_of volume old sector
+  -- the bytes of a named inode stay, whatever its neighbours become
+  pub nodes : (number : ℕ) → NamedIn volume old number → (inode_place volume.layout number).sector ≡ sector → part_of bytes (inode_place volume.layout number).at (inode_size volume.layout.kind) ≡ inode_part volume old (inode_place volume.layout number)
+  -- a zone that is referred to stays
+  pub zones : (number : ℕ) (at : Pointer) (zone : ℕ) → RefersIn volume old number at zone → IsOfZone zone sector → bytes ≡ sector_of volume old sector
+  -- the marks of these inodes and zones stay set, whatever the others become
+  pub marks : (number : ℕ) → NamedIn volume old number → inode_mark_sector number ≡ sector → bit bytes (number % 4096) ≡ true
+  pub zone_marks : (number : ℕ) (at : Pointer) (zone : ℕ) → RefersIn volume old number at zone → zone_mark_sector volume.layout zone ≡ sector → bit bytes (zone_bit volume.layout zone % 4096) ≡ true
+
+-- a sector of a disk isn't one of the volume's
+abbrev pub IsOutside : Volume → ℕ → ℕ → Type 0
+IsOutside volume disk sector =
+    (disk ≢ volume.span.disk)
+    ⊎ ((sector < volume.span.start) ⊎ (volume.span.start + 2 * volume.layout.zones ≤ sector))
+
+-- an image differs from another in the volume's sectors alone, and there by harmless bytes
+pub record Beside (volume : Volume) (old image : Image) : Type 0 where
+  pub inside : (sector : ℕ) → sector < 2 * volume.layout.zones → Harmless volume old sector (sector_of volume image sector)
+  pub outside : (disk sector : ℕ) → IsOutside volume disk sector → image disk sector ≡ old disk sector
+
+-- the volume is sound in an image, with the same Names as in another
+pub record SoundAsIn (volume : Volume) (old image : Image) : Type 0 where
+  pub sound : IsSound volume image
+  pub same : (path : List (List ℕ)) → names_in volume image path ≡ names_in volume old path

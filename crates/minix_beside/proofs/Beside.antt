@@ -1,13 +1,13 @@
 -- Images beside a sound one.
-use Rattle.std.proofs.Common.{◌≡◌, ◌≢◌, ℕ, ◌+◌, ◌*◌, ◌%◌, ◌<◌, ◌≤◌, ◌==◌, ◌&&◌, ◌⊎◌, Bool, true, false, List, length, ◌++◌, refl, sym, ◌∙◌, ap, subst, arith, eq-eqb, inl, inr}
+use Rattle.std.proofs.Common.{◌≡◌, ℕ, ◌+◌, ◌*◌, ◌%◌, ◌<◌, ◌==◌, ◌&&◌, Bool, true, false, List, ◌++◌, refl, sym, ◌∙◌, ap, subst, arith, eq-eqb, inl, inr}
 use Rattle.std.proofs.lemmas.Bool.{eqb-true, ne_eqb}
 use Rattle.lilo_model.specs.Bytes.{part_of}
 use Rattle.lilo_model.specs.Disks.{Image, with_sector}
 use Rattle.lilo_model.specs.MinixLayout.{inode_size, super_at, inode_of, inode_place, zone_sector, super_sector}
-use Rattle.lilo_model.specs.MinixParts.{Volume, Pointer, sector_of, bit, inode_mark_sector, zone_bit, zone_mark_sector, inode_part, parts_of}
-use Rattle.lilo_model.specs.MinixNames.{names_in, Named, Refers, Sound, HasSound, IsSound}
+use Rattle.lilo_model.specs.MinixParts.{Volume, Pointer, sector_of, bit, inode_mark_sector, zone_bit, zone_mark_sector, parts_of}
+use Rattle.lilo_model.specs.MinixNames.{names_in, HasSound, IsSound}
 use Rattle.minix_beside.specs.Keeps.{Keeps, SoundAs}
-use Rattle.minix_beside.specs.Beside.{NamedIn, RefersIn, IsOfZone, Harmless, IsOutside, Beside, SoundAsIn}
+use Rattle.minix_beside.specs.Beside.{NamedIn, RefersIn, Harmless, IsOutside, Beside, SoundAsIn}
 use Rattle.minix_beside.specs.Laws.{BesideLaw, SameLaw, JoinLaw, WriteLaw}
 use Rattle.minix_beside.proofs.Keeps.{named-new, refers-new, keeps_law}
 use Rattle.minix_beside.proofs.Laid.{Laid, laid, mark-below, zone_mark-below, place-below}

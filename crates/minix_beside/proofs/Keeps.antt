@@ -1,12 +1,11 @@
 -- Parts that keep what has a name stay sound, with the same Names.
-use Rattle.std.proofs.Common.{◌≡◌, ◌≢◌, ℕ, zero, suc, ◌/◌, ◌%◌, ◌<◌, ◌≤◌, ◌==◌, ◌&&◌, ◌||◌, not, Bool, true, false, if◌then◌else◌, List, [], ◌∷◌, length, take, ◌++◌, option_map, Option, Some, None, refl, sym, ◌∙◌, ap, subst, arith, eq-eqb}
+use Rattle.std.proofs.Common.{◌≡◌, ◌≢◌, ℕ, zero, suc, ◌/◌, ◌%◌, ◌<◌, ◌≤◌, ◌==◌, ◌||◌, Bool, true, false, List, [], ◌∷◌, length, take, option_map, Option, Some, None, refl, sym, ◌∙◌, ap, subst, arith, eq-eqb}
 use Rattle.std.specs.Prelude.{slice_index}
-use Rattle.std.specs.Option.{option_or}
 use Rattle.lilo_model.specs.MinixLayout.{Super, Inode, is_size}
 use Rattle.lilo_model.specs.MinixParts.{Parts, Pointer, IsPointer, is_directory, is_file, is_link, has_zones, number_in, number_below, follow, block_pointer, zone_bytes, blocks_for}
-use Rattle.lilo_model.specs.MinixEntries.{Entry, entry_with, entry_in, entries_per_block, places, here_name, above_name, is_dots}
-use Rattle.lilo_model.specs.MinixNames.{pointer, zone_number, block, blocks, content, entry, first_named, lookup, then_lookup, reached, thing, names, Named, Refers, HasEntry, HasSomeEntry, AllLead, AreDistinct, Sound, File, Link, Directory, Other}
-use Rattle.minix_beside.specs.Keeps.{Keeps, SoundAs}
+use Rattle.lilo_model.specs.MinixEntries.{Entry, entry_with, entry_in, entries_per_block, places, here_name, above_name}
+use Rattle.lilo_model.specs.MinixNames.{pointer, zone_number, block, blocks, content, entry, lookup, then_lookup, reached, thing, names, Named, Refers, HasEntry, HasSomeEntry, AllLead, AreDistinct, Sound, File, Link}
+use Rattle.minix_beside.specs.Keeps.{Keeps}
 use Rattle.minix_beside.specs.Laws.{KeepsLaw}
 use Rattle.minix_beside.proofs.Pointers.{is_pointer-block}
 

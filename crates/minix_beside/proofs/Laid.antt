@@ -1,6 +1,6 @@
 -- How the regions of a Minix volume lie whose superblock passed the checks: the superblock, the bitmaps of
 -- inodes and of zones, the table of inodes, and the data zones, one behind the other.
-use Rattle.std.proofs.Common.{◌≡◌, ℕ, ◌+◌, ◌-◌, ◌*◌, ◌/◌, ◌<◌, ◌≤◌, ◌==◌, ◌&&◌, Bool, true, false, nat_le, nat_lt, List, Option, Some, None, Result, Ok, Err, refl, sym, subst, arith}
+use Rattle.std.proofs.Common.{◌≡◌, ℕ, ◌+◌, ◌-◌, ◌*◌, ◌/◌, ◌<◌, ◌≤◌, ◌==◌, ◌&&◌, Bool, true, false, nat_le, nat_lt, List, Option, Some, None, Result, Ok, Err, refl, subst, arith}
 use Rattle.std.proofs.lemmas.Bool.{leb-true, ltb-true}
 use Rattle.lilo_model.specs.Bytes.{number16}
 use Rattle.lilo_model.specs.Checks.{◌>>=◌, require}
@@ -33,9 +33,9 @@ laid-checks : (super : Super) (sectors : ℕ) → super_checks super sectors ≡
 unfolding super_checks
 laid-checks super sectors passes =
     let all = five-true
-      (nat_le 1 super.inodes) (nat_le 1 super.zones && nat_le (2 * super.zones) sectors) (nat_lt super.inodes (8192 * super.imap))
-      (nat_lt (super.zones - super.first) (8192 * super.zmap)) (nat_le (table_start super + table_blocks super) super.first && nat_lt super.first super.zones)
-      (BadSize Inodes) (BadSize Zones) (BadSize InodeMap) (BadSize ZoneMap) (BadSize FirstZone) passes in
+    (nat_le 1 super.inodes) (nat_le 1 super.zones && nat_le (2 * super.zones) sectors) (nat_lt super.inodes (8192 * super.imap))
+    (nat_lt (super.zones - super.first) (8192 * super.zmap)) (nat_le (table_start super + table_blocks super) super.first && nat_lt super.first super.zones)
+    (BadSize Inodes) (BadSize Zones) (BadSize InodeMap) (BadSize ZoneMap) (BadSize FirstZone) passes in
     let last = both-true (nat_le (table_start super + table_blocks super) super.first) (nat_lt super.first super.zones) all.2 in
     record {
       imap = ltb-true super.inodes (8192 * super.imap) all.0;

@@ -2,3 +2,6 @@ pub mod Pointers
 pub mod Keeps
 pub mod Laid
 pub mod Beside
+pub mod Bits
+pub mod Replaced
+pub mod Harmless

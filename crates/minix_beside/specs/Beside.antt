@@ -1,11 +1,11 @@
 -- What may be written on a Minix volume without touching what has a name (a rule of this project's own; the
 -- layouts: Minix file system, versions 1 and 2). Sectors are counted from the start of the volume.
-use Rattle.std.specs.Prelude.{◌≡◌, ◌≢◌, ◌<◌, ◌≤◌, ℕ, ◌+◌, ◌*◌, ◌%◌, ◌⊎◌, true, List, length, Option}
+use Rattle.std.specs.Prelude.{◌≡◌, ◌≢◌, ◌<◌, ◌≤◌, ℕ, ◌+◌, ◌*◌, ◌%◌, ◌⊎◌, true, List, length}
 use Rattle.lilo_model.specs.Bytes.{part_of}
 use Rattle.lilo_model.specs.Disks.{Image}
-use Rattle.lilo_model.specs.MinixLayout.{inode_size, inode_place, zone_sector, super_sector}
+use Rattle.lilo_model.specs.MinixLayout.{Super, inode_size, table_start, inode_place, zone_sector, super_sector}
 use Rattle.lilo_model.specs.MinixParts.{Volume, Pointer, sector_of, bit, inode_mark_sector, zone_bit, zone_mark_sector, inode_part, parts_of}
-use Rattle.lilo_model.specs.MinixNames.{Thing, names_in, Named, Refers, IsSound}
+use Rattle.lilo_model.specs.MinixNames.{names_in, Named, Refers, IsSound}
 
 -- in an image an inode is the root of a volume, or has a name
 abbrev pub NamedIn : Volume → Image → ℕ → Type 0
@@ -31,6 +31,26 @@ pub record Harmless (volume : Volume) (old : Image) (sector : ℕ) (bytes : List
   -- the marks of these inodes and zones stay set, whatever the others become
   pub marks : (number : ℕ) → NamedIn volume old number → inode_mark_sector number ≡ sector → bit bytes (number % 4096) ≡ true
   pub zone_marks : (number : ℕ) (at : Pointer) (zone : ℕ) → RefersIn volume old number at zone → zone_mark_sector volume.layout zone ≡ sector → bit bytes (zone_bit volume.layout zone % 4096) ≡ true
+
+-- an inode is neither the root nor has a name
+abbrev pub IsUnnamed : Volume → Image → ℕ → Type 0
+IsUnnamed volume image number = NamedIn volume image number → ⊥
+
+-- no named inode refers to a zone
+abbrev pub IsUnused : Volume → Image → ℕ → Type 0
+IsUnused volume image zone = (number : ℕ) (at : Pointer) → RefersIn volume image number at zone → ⊥
+
+-- an inode that a volume has
+abbrev pub IsInode : Super → ℕ → Type 0
+IsInode super number = (0 < number) × (number ≤ super.inodes)
+
+-- a data zone
+abbrev pub IsDataZone : Super → ℕ → Type 0
+IsDataZone super zone = (super.first ≤ zone) × (zone < super.zones)
+
+-- a sector of one of the two bitmaps
+abbrev pub IsOfBitmaps : Super → ℕ → Type 0
+IsOfBitmaps super sector = (4 ≤ sector) × (sector < 2 * table_start super)
 
 -- a sector of a disk isn't one of the volume's
 abbrev pub IsOutside : Volume → ℕ → ℕ → Type 0

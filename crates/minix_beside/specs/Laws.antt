@@ -1,11 +1,13 @@
 -- What may be written on a sound Minix volume without touching what has a name.
-use Rattle.std.specs.Prelude.{◌<◌, ℕ, ◌+◌, ◌*◌, List}
+use Rattle.std.specs.Prelude.{◌≡◌, ◌<◌, ℕ, ◌+◌, ◌*◌, ◌%◌, true, false, List, length}
+use Rattle.lilo_model.specs.Bytes.{with_part}
 use Rattle.lilo_model.specs.Disks.{Image, with_sector}
-use Rattle.lilo_model.specs.MinixLayout.{Super}
-use Rattle.lilo_model.specs.MinixParts.{Parts, Volume}
+use Rattle.lilo_model.specs.MinixLayout.{Super, inode_size, inode_place}
+use Rattle.lilo_model.specs.MinixParts.{Parts, Volume, inode_mark_sector, zone_bit, zone_mark_sector}
 use Rattle.lilo_model.specs.MinixNames.{Sound, IsSound}
 use Rattle.minix_beside.specs.Keeps.{Keeps, SoundAs}
-use Rattle.minix_beside.specs.Beside.{Harmless, Beside, SoundAsIn}
+use Rattle.minix_beside.specs.Beside.{IsOfZone, Harmless, IsUnnamed, IsUnused, IsInode, IsDataZone, IsOfBitmaps, Beside, SoundAsIn}
+use Rattle.minix_beside.specs.Bits.{with_bit}
 
 -- parts that keep what has a name stay sound, with the same Names
 abbrev pub KeepsLaw : Type 0
@@ -31,3 +33,43 @@ WriteLaw =
     (volume : Volume) (old image : Image) (sector : ℕ) (bytes : List ℕ)
     → IsSound volume old → Beside volume old image → sector < 2 * volume.layout.zones → Harmless volume old sector bytes
     → Beside volume old (with_sector image (record { disk = volume.span.disk; sector = volume.span.start + sector }) bytes)
+
+-- ---- what is harmless
+
+-- any bytes in a sector of a data zone to which no named inode refers
+abbrev pub UnusedZoneLaw : Type 0
+UnusedZoneLaw =
+    (volume : Volume) (old : Image) (zone sector : ℕ) (bytes : List ℕ)
+    → IsSound volume old → IsDataZone volume.layout zone → IsUnused volume old zone → IsOfZone zone sector → length bytes ≡ 512
+    → Harmless volume old sector bytes
+
+-- harmless bytes in which an inode without a name has become another
+abbrev pub UnnamedInodeLaw : Type 0
+UnnamedInodeLaw =
+    (volume : Volume) (old : Image) (number : ℕ) (bytes part : List ℕ)
+    → IsSound volume old → IsInode volume.layout number → IsUnnamed volume old number
+    → Harmless volume old (inode_place volume.layout number).sector bytes → length part ≡ inode_size volume.layout.kind
+    → Harmless volume old (inode_place volume.layout number).sector (with_part bytes (inode_place volume.layout number).at part)
+
+-- harmless bytes of a bitmap in which a bit is set
+abbrev pub SetBitLaw : Type 0
+SetBitLaw =
+    (volume : Volume) (old : Image) (sector at : ℕ) (bytes : List ℕ)
+    → IsSound volume old → IsOfBitmaps volume.layout sector → at < 4096 → Harmless volume old sector bytes
+    → Harmless volume old sector (with_bit bytes at true)
+
+-- harmless bytes in which the mark of an inode without a name is cleared
+abbrev pub ClearInodeLaw : Type 0
+ClearInodeLaw =
+    (volume : Volume) (old : Image) (number : ℕ) (bytes : List ℕ)
+    → IsSound volume old → IsInode volume.layout number → IsUnnamed volume old number
+    → Harmless volume old (inode_mark_sector number) bytes
+    → Harmless volume old (inode_mark_sector number) (with_bit bytes (number % 4096) false)
+
+-- harmless bytes in which the mark of a data zone is cleared to which no named inode refers
+abbrev pub ClearZoneLaw : Type 0
+ClearZoneLaw =
+    (volume : Volume) (old : Image) (zone : ℕ) (bytes : List ℕ)
+    → IsSound volume old → IsDataZone volume.layout zone → IsUnused volume old zone
+    → Harmless volume old (zone_mark_sector volume.layout zone) bytes
+    → Harmless volume old (zone_mark_sector volume.layout zone) (with_bit bytes (zone_bit volume.layout zone % 4096) false)

@@ -1,3 +1,4 @@
 pub mod Keeps
 pub mod Beside
+pub mod Bits
 pub mod Laws

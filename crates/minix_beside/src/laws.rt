@@ -1,5 +1,16 @@
 // What may be written on a sound Minix volume without touching what has a name.
-ghost use Rattle.minix_beside.specs.Laws.{BesideLaw, JoinLaw, KeepsLaw, SameLaw, WriteLaw};
+ghost use Rattle.minix_beside.specs.Laws.{
+  BesideLaw,
+  ClearInodeLaw,
+  ClearZoneLaw,
+  JoinLaw,
+  KeepsLaw,
+  SameLaw,
+  SetBitLaw,
+  UnnamedInodeLaw,
+  UnusedZoneLaw,
+  WriteLaw,
+};
 
 /// Parts that keep what has a name stay sound, with the same Names.
 pub fn kept_parts_stay_sound()
@@ -24,4 +35,29 @@ pub fn harmless_changes_join()
 /// One more sector with harmless bytes leaves harmless changes.
 pub fn harmless_writes_join()
     ensures { WriteLaw }
+{}
+
+/// In a zone to which no named inode refers any bytes are harmless.
+pub fn unused_zone_may_be_written()
+    ensures { UnusedZoneLaw }
+{}
+
+/// An inode without a name may become any other, its neighbours as they were.
+pub fn unnamed_inode_may_be_written()
+    ensures { UnnamedInodeLaw }
+{}
+
+/// In the bitmaps each bit may be set.
+pub fn marks_may_be_set()
+    ensures { SetBitLaw }
+{}
+
+/// In the bitmap of inodes the bit of one without a name may be cleared.
+pub fn unnamed_inode_may_be_freed()
+    ensures { ClearInodeLaw }
+{}
+
+/// In the bitmap of zones the bit of one to which no named inode refers may be cleared.
+pub fn unused_zone_may_be_freed()
+    ensures { ClearZoneLaw }
 {}

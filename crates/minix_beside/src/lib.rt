@@ -6,5 +6,6 @@ mod laws;
 
 pub use laws::{
     harmless_bytes_keep_names, harmless_changes_join, harmless_writes_join, kept_parts_stay_sound,
-    what_stands_is_harmless,
+    marks_may_be_set, unnamed_inode_may_be_freed, unnamed_inode_may_be_written,
+    unused_zone_may_be_freed, unused_zone_may_be_written, what_stands_is_harmless,
 };

@@ -5,3 +5,4 @@ pub mod Beside
 pub mod Bits
 pub mod Replaced
 pub mod Harmless
+pub mod Change

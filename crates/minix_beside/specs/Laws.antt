@@ -8,6 +8,7 @@ use Rattle.lilo_model.specs.MinixNames.{Sound, IsSound}
 use Rattle.minix_beside.specs.Keeps.{Keeps, SoundAs}
 use Rattle.minix_beside.specs.Beside.{IsOfZone, Harmless, IsUnnamed, IsUnused, IsInode, IsDataZone, IsOfBitmaps, Beside, SoundAsIn}
 use Rattle.minix_beside.specs.Bits.{with_bit}
+use Rattle.minix_beside.specs.Change.{ChangesIn, PathsFrom}
 
 -- parts that keep what has a name stay sound, with the same Names
 abbrev pub KeepsLaw : Type 0
@@ -73,3 +74,11 @@ ClearZoneLaw =
     → IsSound volume old → IsDataZone volume.layout zone → IsUnused volume old zone
     → Harmless volume old (zone_mark_sector volume.layout zone) bytes
     → Harmless volume old (zone_mark_sector volume.layout zone) (with_bit bytes (zone_bit volume.layout zone % 4096) false)
+
+-- ---- a change in one directory
+
+-- where one directory finds other inodes than before, the paths of its names change and no other
+abbrev pub ChangeLaw : Type 0
+ChangeLaw =
+    (super : Super) (old new : Parts) (outer : List (List ℕ)) (directory : ℕ)
+    → Sound super old → ChangesIn super old new outer directory → PathsFrom super old new outer directory

@@ -1,4 +1,5 @@
-pub mod Keeps
 pub mod Beside
 pub mod Bits
+pub mod Change
+pub mod Keeps
 pub mod Laws

@@ -1,6 +1,7 @@
 // What may be written on a sound Minix volume without touching what has a name.
 ghost use Rattle.minix_beside.specs.Laws.{
   BesideLaw,
+  ChangeLaw,
   ClearInodeLaw,
   ClearZoneLaw,
   JoinLaw,
@@ -60,4 +61,10 @@ pub fn unnamed_inode_may_be_freed()
 /// In the bitmap of zones the bit of one to which no named inode refers may be cleared.
 pub fn unused_zone_may_be_freed()
     ensures { ClearZoneLaw }
+{}
+
+/// Where one directory finds other inodes than before, with nothing below them, the paths of its names change
+/// and no other.
+pub fn change_in_a_directory_is_of_its_names()
+    ensures { ChangeLaw }
 {}

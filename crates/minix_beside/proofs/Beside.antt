@@ -7,9 +7,9 @@ use Rattle.lilo_model.specs.MinixLayout.{inode_size, super_at, inode_of, inode_p
 use Rattle.lilo_model.specs.MinixParts.{Volume, Pointer, sector_of, bit, inode_mark_sector, zone_bit, zone_mark_sector, parts_of}
 use Rattle.lilo_model.specs.MinixNames.{names_in, HasSound, IsSound}
 use Rattle.minix_beside.specs.Keeps.{Keeps, SoundAs}
-use Rattle.minix_beside.specs.Beside.{NamedIn, RefersIn, Harmless, IsOutside, Beside, SoundAsIn}
-use Rattle.minix_beside.specs.Laws.{BesideLaw, SameLaw, JoinLaw, WriteLaw}
-use Rattle.minix_beside.proofs.Keeps.{named-new, refers-new, keeps_law}
+use Rattle.minix_beside.specs.Beside.{NamedIn, RefersIn, Harmless, IsOutside, Beside, SoundAsIn, NamedAsIn}
+use Rattle.minix_beside.specs.Laws.{BesideLaw, NamedLaw, SameLaw, JoinLaw, WriteLaw}
+use Rattle.minix_beside.proofs.Keeps.{reached-same, named-old, named-new, refers-old, refers-new, keeps_law}
 use Rattle.minix_beside.proofs.Laid.{Laid, laid, mark-below, zone_mark-below, place-below}
 
 module _ (volume : Volume) (old : Image) (sound : HasSound volume old) where
@@ -89,6 +89,14 @@ module _ (volume : Volume) (old : Image) (sound : HasSound volume old) where
       same = parts-sound.same;
     }
 
+    pub beside-named : NamedAsIn volume old image
+    beside-named = record {
+      leads = reached-same volume.layout (parts_of volume old) (parts_of volume image) keeps;
+      named = λ number. (named-old volume.layout (parts_of volume old) (parts_of volume image) keeps number, named-new volume.layout (parts_of volume old) (parts_of volume image) keeps number);
+      nodes = keeps.nodes;
+      refers = λ number at zone. (refers-old volume.layout (parts_of volume old) (parts_of volume image) keeps number at zone, refers-new volume.layout (parts_of volume old) (parts_of volume image) keeps number at zone);
+    }
+
     -- ---- harmless to what harmless bytes left
 
     pub harmless-join : (sector : ℕ) (bytes : List ℕ) → sector < 2 * volume.layout.zones → Harmless volume image sector bytes → Harmless volume old sector bytes
@@ -144,6 +152,10 @@ module _ (volume : Volume) (old image : Image) (beside : Beside volume old image
 pub beside_law : BesideLaw
 unfolding IsSound
 beside_law volume old image sound beside = beside-sound volume old sound image beside
+
+pub named_law : NamedLaw
+unfolding IsSound
+named_law volume old image sound beside = beside-named volume old sound image beside
 
 pub same_law : SameLaw
 unfolding IsSound

@@ -6,3 +6,4 @@ pub mod Bits
 pub mod Replaced
 pub mod Harmless
 pub mod Change
+pub mod Entries

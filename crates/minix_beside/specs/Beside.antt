@@ -1,11 +1,11 @@
 -- What may be written on a Minix volume without touching what has a name (a rule of this project's own; the
 -- layouts: Minix file system, versions 1 and 2). Sectors are counted from the start of the volume.
-use Rattle.std.specs.Prelude.{◌≡◌, ◌≢◌, ◌<◌, ◌≤◌, ℕ, ◌+◌, ◌*◌, ◌%◌, ◌⊎◌, true, List, length}
+use Rattle.std.specs.Prelude.{◌≡◌, ◌≢◌, ◌<◌, ◌≤◌, ℕ, ◌+◌, ◌*◌, ◌%◌, ◌⊎◌, ◌↔◌, true, List, length}
 use Rattle.lilo_model.specs.Bytes.{part_of}
 use Rattle.lilo_model.specs.Disks.{Image}
 use Rattle.lilo_model.specs.MinixLayout.{Super, inode_size, table_start, inode_place, zone_sector, super_sector}
 use Rattle.lilo_model.specs.MinixParts.{Volume, Pointer, sector_of, bit, inode_mark_sector, zone_bit, zone_mark_sector, inode_part, parts_of}
-use Rattle.lilo_model.specs.MinixNames.{names_in, Named, Refers, IsSound}
+use Rattle.lilo_model.specs.MinixNames.{reached, names_in, Named, Refers, IsSound}
 
 -- in an image an inode is the root of a volume, or has a name
 abbrev pub NamedIn : Volume → Image → ℕ → Type 0
@@ -67,3 +67,11 @@ pub record Beside (volume : Volume) (old image : Image) : Type 0 where
 pub record SoundAsIn (volume : Volume) (old image : Image) : Type 0 where
   pub sound : IsSound volume image
   pub same : (path : List (List ℕ)) → names_in volume image path ≡ names_in volume old path
+
+-- in an image the paths of a volume lead where they led in another, to the same inodes, which refer to the same
+-- zones
+pub record NamedAsIn (volume : Volume) (old image : Image) : Type 0 where
+  pub leads : (path : List (List ℕ)) → reached volume.layout (parts_of volume image) path ≡ reached volume.layout (parts_of volume old) path
+  pub named : (number : ℕ) → NamedIn volume image number ↔ NamedIn volume old number
+  pub nodes : (number : ℕ) → NamedIn volume old number → (parts_of volume image).node number ≡ (parts_of volume old).node number
+  pub refers : (number : ℕ) (at : Pointer) (zone : ℕ) → RefersIn volume image number at zone ↔ RefersIn volume old number at zone

@@ -6,9 +6,9 @@ use Rattle.lilo_model.specs.MinixLayout.{Super, inode_size, inode_place}
 use Rattle.lilo_model.specs.MinixParts.{Parts, Volume, inode_mark_sector, zone_bit, zone_mark_sector}
 use Rattle.lilo_model.specs.MinixNames.{Sound, IsSound}
 use Rattle.minix_beside.specs.Keeps.{Keeps, SoundAs}
-use Rattle.minix_beside.specs.Beside.{IsOfZone, Harmless, IsUnnamed, IsUnused, IsInode, IsDataZone, IsOfBitmaps, Beside, SoundAsIn}
+use Rattle.minix_beside.specs.Beside.{IsOfZone, Harmless, IsUnnamed, IsUnused, IsInode, IsDataZone, IsOfBitmaps, Beside, SoundAsIn, NamedAsIn}
 use Rattle.minix_beside.specs.Bits.{with_bit}
-use Rattle.minix_beside.specs.Change.{ChangesIn, PathsFrom}
+use Rattle.minix_beside.specs.Change.{ChangesEntry, FindsBy, ChangesIn, PathsFrom}
 
 -- parts that keep what has a name stay sound, with the same Names
 abbrev pub KeepsLaw : Type 0
@@ -17,6 +17,10 @@ KeepsLaw = (super : Super) (old new : Parts) → Sound super old → Keeps super
 -- so does a volume of which each sector has harmless bytes
 abbrev pub BesideLaw : Type 0
 BesideLaw = (volume : Volume) (old image : Image) → IsSound volume old → Beside volume old image → SoundAsIn volume old image
+
+-- and what has a name stays what it is
+abbrev pub NamedLaw : Type 0
+NamedLaw = (volume : Volume) (old image : Image) → IsSound volume old → Beside volume old image → NamedAsIn volume old image
 
 -- what stands is harmless
 abbrev pub SameLaw : Type 0
@@ -76,6 +80,12 @@ ClearZoneLaw =
     → Harmless volume old (zone_mark_sector volume.layout zone) (with_bit bytes (zone_bit volume.layout zone % 4096) false)
 
 -- ---- a change in one directory
+
+-- where one entry of a directory is another, the directory finds by its names what it says, and else what it found
+abbrev pub EntryLaw : Type 0
+EntryLaw =
+    (super : Super) (old new : Parts) (directory place : ℕ)
+    → Sound super old → ChangesEntry super old new directory place → FindsBy super old new directory place
 
 -- where one directory finds other inodes than before, the paths of its names change and no other
 abbrev pub ChangeLaw : Type 0

@@ -4,8 +4,10 @@ ghost use Rattle.minix_beside.specs.Laws.{
   ChangeLaw,
   ClearInodeLaw,
   ClearZoneLaw,
+  EntryLaw,
   JoinLaw,
   KeepsLaw,
+  NamedLaw,
   SameLaw,
   SetBitLaw,
   UnnamedInodeLaw,
@@ -21,6 +23,11 @@ pub fn kept_parts_stay_sound()
 /// An image that differs from a sound one by harmless bytes alone is sound, with the same Names.
 pub fn harmless_bytes_keep_names()
     ensures { BesideLaw }
+{}
+
+/// It has the same named inodes, which refer to the same zones.
+pub fn harmless_bytes_keep_what_is_named()
+    ensures { NamedLaw }
 {}
 
 /// What stands is harmless.
@@ -61,6 +68,11 @@ pub fn unnamed_inode_may_be_freed()
 /// In the bitmap of zones the bit of one to which no named inode refers may be cleared.
 pub fn unused_zone_may_be_freed()
     ensures { ClearZoneLaw }
+{}
+
+/// Where one entry of a directory is another, the directory finds by its names what it says, and else what it found.
+pub fn change_of_an_entry_is_of_its_names()
+    ensures { EntryLaw }
 {}
 
 /// Where one directory finds other inodes than before, with nothing below them, the paths of its names change

@@ -16,7 +16,7 @@ pub record ChangesEntry (super : Super) (old new : Parts) (directory place : ℕ
 
 -- what it finds then
 pub record FindsBy (super : Super) (old new : Parts) (directory place : ℕ) : Type 0 where
-  -- what it found, by each name that the entry says as little or as much of as before
+  -- what it found, by each name of which the entry says what it said
   pub kept : (name : List ℕ) → named_inode name (entry super new directory place) ≡ named_inode name (entry super old directory place) → lookup super new name directory ≡ lookup super old name directory
   -- what the entry says, by a name that no other entry had
   pub changed : (name : List ℕ) → is_dots name ≡ false → (lookup super old name directory ≡ None) ⊎ (named_inode name (entry super old directory place) ≢ None) → lookup super new name directory ≡ named_inode name (entry super new directory place)

@@ -6,9 +6,9 @@ use Rattle.lilo_model.specs.Disks.{Image}
 use Rattle.lilo_model.specs.MinixLayout.{Kind, V1Short, V1Long, V2Short, V2Long, Super, inode_size, table_start, inode_place}
 use Rattle.lilo_model.specs.MinixParts.{Volume, Pointer, bit, inode_mark_sector, zone_bit, zone_mark_sector}
 use Rattle.lilo_model.specs.MinixNames.{HasSound, IsSound}
-use Rattle.minix_beside.specs.Beside.{NamedIn, RefersIn, IsOfZone, Harmless, IsUnnamed, IsUnused, IsInode, IsDataZone, IsOfBitmaps}
+use Rattle.minix_beside.specs.Beside.{NamedIn, RefersIn, IsOfZone, Harmless, IsUnnamed, IsUnused, IsInode, IsDataZone, IsOfBitmaps, Regions}
 use Rattle.minix_beside.specs.Bits.{with_bit}
-use Rattle.minix_beside.specs.Laws.{UnusedZoneLaw, UnnamedInodeLaw, SetBitLaw, ClearInodeLaw, ClearZoneLaw}
+use Rattle.minix_beside.specs.Laws.{RegionLaw, UnusedZoneLaw, UnnamedInodeLaw, SetBitLaw, ClearInodeLaw, ClearZoneLaw}
 use Rattle.minix_beside.proofs.Laid.{Laid, mark-below, zone_mark-from, zone_mark-below, place-from, place-below}
 use Rattle.minix_beside.proofs.Beside.{lies}
 use Rattle.minix_beside.proofs.Bits.{length-with_bit, bit-set, bit-clear}
@@ -78,6 +78,17 @@ module _ (volume : Volume) (old : Image) (sound : HasSound volume old) where
   places-below number named =
       let range = sound.parts.in_range number named in
       place-below volume.layout Lies number range.0 range.1
+
+  -- ---- sectors of the volume
+
+  regions : Regions volume.layout
+  regions = record {
+    marks = λ number range. let low = mark-below volume.layout Lies number range.1 in (omega arith, omega (arith, low));
+    zone_marks = λ zone range. let from = zone_mark-from volume.layout Lies zone in (omega (arith, from), zone_mark-below volume.layout Lies zone range.1);
+    bitmaps = λ sector range. let table = Lies.table in let first = Lies.first in omega (arith, range.1, table, first);
+    places = λ number range. let low = place-below volume.layout Lies number range.0 range.1 in let first = Lies.first in omega (arith, low, first);
+    zones = λ zone sector range of. let is : zone ≡ sector / 2 = zone-of zone sector of in omega (arith, is, range.1);
+  }
 
   -- ---- a zone
 
@@ -184,6 +195,10 @@ module _ (volume : Volume) (old : Image) (sound : HasSound volume old) where
       bit-clear bytes (zone_bit volume.layout zone % 4096) fits (zone_bit volume.layout other % 4096) apart (harmless.zone_marks number at other refers e))
 
 -- ---- the laws
+
+pub region_law : RegionLaw
+unfolding IsSound
+region_law volume image sound = regions volume image sound
 
 pub unused_zone_law : UnusedZoneLaw
 unfolding IsSound

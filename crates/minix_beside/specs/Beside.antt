@@ -75,3 +75,11 @@ pub record NamedAsIn (volume : Volume) (old image : Image) : Type 0 where
   pub named : (number : ℕ) → NamedIn volume image number ↔ NamedIn volume old number
   pub nodes : (number : ℕ) → NamedIn volume old number → (parts_of volume image).node number ≡ (parts_of volume old).node number
   pub refers : (number : ℕ) (at : Pointer) (zone : ℕ) → RefersIn volume image number at zone ↔ RefersIn volume old number at zone
+
+-- a volume's inodes, data zones and marks stand in sectors of the volume, the marks in the bitmaps
+pub record Regions (super : Super) : Type 0 where
+  pub marks : (number : ℕ) → IsInode super number → IsOfBitmaps super (inode_mark_sector number)
+  pub zone_marks : (zone : ℕ) → IsDataZone super zone → IsOfBitmaps super (zone_mark_sector super zone)
+  pub bitmaps : (sector : ℕ) → IsOfBitmaps super sector → sector < 2 * super.zones
+  pub places : (number : ℕ) → IsInode super number → (inode_place super number).sector < 2 * super.zones
+  pub zones : (zone sector : ℕ) → IsDataZone super zone → IsOfZone zone sector → sector < 2 * super.zones

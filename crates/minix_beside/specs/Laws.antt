@@ -6,7 +6,7 @@ use Rattle.lilo_model.specs.MinixLayout.{Super, inode_size, inode_place}
 use Rattle.lilo_model.specs.MinixParts.{Parts, Volume, inode_mark_sector, zone_bit, zone_mark_sector}
 use Rattle.lilo_model.specs.MinixNames.{Sound, IsSound}
 use Rattle.minix_beside.specs.Keeps.{Keeps, SoundAs}
-use Rattle.minix_beside.specs.Beside.{IsOfZone, Harmless, IsUnnamed, IsUnused, IsInode, IsDataZone, IsOfBitmaps, Beside, SoundAsIn, NamedAsIn}
+use Rattle.minix_beside.specs.Beside.{IsOfZone, Harmless, IsUnnamed, IsUnused, IsInode, IsDataZone, IsOfBitmaps, Beside, SoundAsIn, NamedAsIn, Regions}
 use Rattle.minix_beside.specs.Bits.{with_bit}
 use Rattle.minix_beside.specs.Change.{ChangesEntry, FindsBy, ChangesIn, PathsFrom}
 
@@ -38,6 +38,10 @@ WriteLaw =
     (volume : Volume) (old image : Image) (sector : ℕ) (bytes : List ℕ)
     → IsSound volume old → Beside volume old image → sector < 2 * volume.layout.zones → Harmless volume old sector bytes
     → Beside volume old (with_sector image (record { disk = volume.span.disk; sector = volume.span.start + sector }) bytes)
+
+-- where inodes, zones and marks stand
+abbrev pub RegionLaw : Type 0
+RegionLaw = (volume : Volume) (image : Image) → IsSound volume image → Regions volume.layout
 
 -- ---- what is harmless
 

@@ -8,6 +8,7 @@ ghost use Rattle.minix_beside.specs.Laws.{
   JoinLaw,
   KeepsLaw,
   NamedLaw,
+  RegionLaw,
   SameLaw,
   SetBitLaw,
   UnnamedInodeLaw,
@@ -43,6 +44,11 @@ pub fn harmless_changes_join()
 /// One more sector with harmless bytes leaves harmless changes.
 pub fn harmless_writes_join()
     ensures { WriteLaw }
+{}
+
+/// Inodes, data zones and marks stand in sectors of the volume.
+pub fn parts_stand_on_the_volume()
+    ensures { RegionLaw }
 {}
 
 /// In a zone to which no named inode refers any bytes are harmless.

@@ -1,7 +1,7 @@
 -- What a Minix volume holds, part by part: inodes, zones and marks, and the zone that stands at each index of a
 -- file (Minix file system, versions 1 and 2). A refusal of a zone's number is this project's own. Inodes are
 -- counted from 1, zones and the blocks of a file from 0.
-use Rattle.std.specs.Prelude.{◌<◌, ◌≤◌, ℕ, zero, suc, ◌+◌, ◌-◌, ◌*◌, ◌/◌, ◌%◌, ◌^◌, ◌==◌, nat_le, nat_lt, Bool, ◌&&◌, ◌||◌, if◌then◌else◌, List, [], ◌∷◌, ◌++◌, length, take, replicate, slice_index, All, Result, Ok, Err}
+use Rattle.std.specs.Prelude.{◌<◌, ◌≤◌, ℕ, zero, suc, ◌+◌, ◌-◌, ◌*◌, ◌/◌, ◌%◌, ◌^◌, ◌==◌, nat_le, nat_lt, bit_and, bit_or, Bool, true, false, ◌&&◌, ◌||◌, if◌then◌else◌, List, [], ◌∷◌, ◌++◌, length, take, replicate, slice_index, slice_set, All, Result, Ok, Err}
 use Rattle.lilo_model.specs.Bytes.{part_of, number16, number32}
 use Rattle.lilo_model.specs.Checks.{◌>>=◌, with_fault}
 use Rattle.lilo_model.specs.Disks.{Image, Span}
@@ -32,6 +32,15 @@ sector_of volume image sector = image volume.span.disk (volume.span.start + sect
 -- a bit, the lowest of a byte first
 unfoldable pub bit : List ℕ → ℕ → Bool
 bit bytes at = slice_index bytes (at / 8) / 2 ^ (at % 8) % 2 == 1
+
+-- a byte with one bit set or cleared, the lowest counted as 0
+abbrev pub byte_with : ℕ → ℕ → Bool → ℕ
+byte_with byte at true = bit_or byte (2 ^ at)
+byte_with byte at false = bit_and byte (255 - 2 ^ at)
+
+-- bytes with one bit set or cleared, the lowest of a byte first
+unfoldable pub with_bit : List ℕ → ℕ → Bool → List ℕ
+with_bit bytes at value = slice_set bytes (at / 8) (byte_with (slice_index bytes (at / 8)) (at % 8) value)
 
 -- the sector with an inode's mark; the bitmap begins at block 2
 abbrev pub inode_mark_sector : ℕ → ℕ

@@ -1,0 +1,4 @@
+pub mod Beside
+pub mod Change
+pub mod Keeps
+pub mod Laws

@@ -1,0 +1,9 @@
+pub mod Same
+pub mod Listings
+pub mod Written
+pub mod Checks
+pub mod Entries
+pub mod Maps
+pub mod Boots
+pub mod Mapped
+pub mod Unlisted

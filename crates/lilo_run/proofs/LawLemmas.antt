@@ -13,7 +13,7 @@ use Rattle.lilo_model.specs.Words as words
 use Rattle.lilo_model.specs.Words.{Command, run_at}
 use Rattle.loader_core.specs.Laws.{EndsSo, IsReported}
 use Rattle.loader_core.specs.Reading.{Why, Unbuilt, Because}
-use Rattle.loader_core.specs.Today.{boot_today}
+use Rattle.loader_core.specs.Today.{boot_today, standing_line}
 use Rattle.loader_core.proofs.TodayLemmas.{today_law}
 use Rattle.lilo_run.specs.Laws.{IsUnbuiltAt, IsBootRun, BootVerdictLaw}
 use Rattle.lilo_run.specs.Run.{Tells}
@@ -36,7 +36,7 @@ boot_verdict_law now machine memory dump (Err fault) keys built = refl
 boot_verdict_law now machine memory dump (Ok span) keys built =
     let report = boot_today now machine span memory in
     let boot = boots.whole_boot now machine span keys memory in
-    let reported : IsReported boot report keys = today_law now machine span keys memory (λ unbuilt. built (span, refl, unbuilt)) in
+    let reported : IsReported boot report (standing_line now machine span) keys = today_law now machine span keys memory (λ unbuilt. built (span, refl, unbuilt)) in
     behind_alike report.shown boot.shown (end_verdict dump report.result) (verdict_of (boot_text dump boot)) reported.shown
     (ends_alike dump boot report.result reported.ends)
 

@@ -1,0 +1,229 @@
+-- On a sound volume the facts of a survey hold of what has a name.
+use Rattle.std.proofs.Common.{◌≡◌, ◌≢◌, ℕ, zero, suc, ◌<◌, ◌≤◌, ◌==◌, Bool, true, false, List, [], ◌∷◌, length, Option, Some, None, refl, sym, ◌∙◌, ap, subst, arith, eq-eqb}
+use Rattle.std.proofs.lemmas.Bool.{eqb-true}
+use Rattle.lilo_model.specs.MinixLayout.{Super}
+use Rattle.lilo_model.specs.MinixParts.{Parts, is_directory}
+use Rattle.lilo_model.specs.MinixEntries.{entry_with, above_name}
+use Rattle.lilo_model.specs.MinixNames.{entry, reached, Named, Refers, HasEntry, HasSomeEntry, AllLead, IsNew, AreDistinct, depth_limit, Sound}
+use Rattle.survey_laws.specs.Survey.{IsGoodInode, IsGoodZone, IsSeenDirectory, IsTaken, NamesAt, EntryPlace, AllName, IsNewPlace, AreApart, Surveyed, AreFound}
+use Rattle.survey_laws.specs.Laws.{AreNamed, SurveyedLaw}
+use Rattle.survey_laws.proofs.Paths.{Step, step-by, root-is, root-leads}
+use Rattle.survey_laws.proofs.Seen.{names-lead}
+
+some-same : (one two : ℕ) → Some one ≡ Some two → one ≡ two
+some-same one two e = cc
+
+-- a place, by its numbers
+abbrev place_with : ℕ → ℕ → EntryPlace
+place_with directory place = record { directory = directory; place = place }
+
+module _ (super : Super) (parts : Parts) (seen : ℕ → Bool) (sound : Sound super parts) (named : AreNamed super parts seen) where
+  -- ---- paths
+
+  no_twice-at : (directory place other : ℕ) → IsSeenDirectory parts seen directory → IsTaken super parts directory place → IsTaken super parts directory other
+      → (entry super parts directory place).name ≡ (entry super parts directory other).name → place ≡ other
+  no_twice-at directory place other from one two same =
+      let name : List ℕ = (entry super parts directory other).name in
+      sound.no_twice directory place other (entry super parts directory place).inode (entry super parts directory other).inode (entry super parts directory other).name
+      (named.only directory from.was) from.is one.some two.some
+      (record { below = one.below; is = ap (entry_with (entry super parts directory place).inode) same })
+      (record { below = two.below; is = refl })
+
+  lead : (path : List (List ℕ)) (directory place inode : ℕ) → reached super parts path ≡ Some directory → NamesAt super parts seen directory place inode
+      → reached super parts ((entry super parts directory place).name ∷ path) ≡ Some inode
+  lead path directory place inode leads names =
+      names-lead super parts seen path directory place inode leads names
+      (λ other taken same. no_twice-at directory other place names.from taken names.at same)
+
+  -- the path of an entry
+  path-at : (directory place inode : ℕ) → NamesAt super parts seen directory place inode → List (List ℕ)
+  path-at directory place inode names = (entry super parts directory place).name ∷ (named.only directory names.from.was).path
+
+  leads-at : (directory place inode : ℕ) (names : NamesAt super parts seen directory place inode) → reached super parts (path-at directory place inode names) ≡ Some inode
+  unfolding path-at
+  leads-at directory place inode names = lead (named.only directory names.from.was).path directory place inode (named.only directory names.from.was).leads names
+
+  entries-at : (directory place inode : ℕ) → NamesAt super parts seen directory place inode → (seen inode ≡ true) × (inode ≢ 1)
+  unfolding path-at
+  entries-at directory place inode names =
+      let leads = leads-at directory place inode names in
+      (named.all inode (record { path = path-at directory place inode names; leads = leads }),
+      λ root.
+      let P : ℕ → Type 0 = λ n. is_directory (parts.node n) ≡ true in
+      let e = sound.one_name inode (path-at directory place inode names) [] (subst P (sym root) sound.root) leads (root-leads super parts ∙ ap Some (sym root)) in
+      cc)
+
+  -- ---- two entries by which one path leads
+
+  -- a path is that of a place of a directory
+  record IsOf (path : List (List ℕ)) (at : EntryPlace) : Type 0 where
+    pub outer : List (List ℕ)
+    pub leads : reached super parts outer ≡ Some at.directory
+    pub from : IsSeenDirectory parts seen at.directory
+    pub taken : IsTaken super parts at.directory at.place
+    pub same : path ≡ (entry super parts at.directory at.place).name ∷ outer
+
+  tail-same : (name other : List ℕ) (path there : List (List ℕ)) → name ∷ path ≡ other ∷ there → (name ≡ other) × (path ≡ there)
+  tail-same name other path there e = (cc, cc)
+
+  place-same : (directory other place there : ℕ) → directory ≡ other → IsSeenDirectory parts seen directory → IsTaken super parts directory place → IsTaken super parts other there
+      → (entry super parts directory place).name ≡ (entry super parts other there).name → place ≡ there
+  place-same directory other place there same from one two name =
+      let P : ℕ → Type 0 = λ d. IsTaken super parts d there in
+      let here : (entry super parts other there).name ≡ (entry super parts directory there).name = ap (λ d. (entry super parts d there).name) (sym same) in
+      no_twice-at directory place there from one (subst P (sym same) two) (name ∙ here)
+
+  same-place : (path : List (List ℕ)) (at there : EntryPlace) → IsOf path at → IsOf path there → (at.directory ≡ there.directory) × (at.place ≡ there.place)
+  same-place path at there one two =
+      let both = tail-same (entry super parts at.directory at.place).name (entry super parts there.directory there.place).name one.outer two.outer (sym one.same ∙ two.same) in
+      let directory : at.directory ≡ there.directory = some-same at.directory there.directory (sym one.leads ∙ ap (reached super parts) both.1 ∙ two.leads) in
+      (directory, place-same at.directory there.directory at.place there.place directory one.from one.taken two.taken both.0)
+
+  is_of-at : (directory place inode : ℕ) (names : NamesAt super parts seen directory place inode) → IsOf (path-at directory place inode names) (place_with directory place)
+  unfolding path-at
+  is_of-at directory place inode names = record {
+    outer = (named.only directory names.from.was).path;
+    leads = (named.only directory names.from.was).leads;
+    from = names.from;
+    taken = names.at;
+    same = refl;
+  }
+
+  one_entry-at : (directory other place there inode : ℕ) → is_directory (parts.node inode) ≡ true → NamesAt super parts seen directory place inode → NamesAt super parts seen other there inode
+      → (directory ≡ other) × (place ≡ there)
+  one_entry-at directory other place there inode is one two =
+      let same = sound.one_name inode (path-at directory place inode one) (path-at other there inode two) is (leads-at directory place inode one) (leads-at other there inode two) in
+      let P : List (List ℕ) → Type 0 = λ p. IsOf p (place_with other there) in
+      same-place (path-at directory place inode one) (place_with directory place) (place_with other there) (is_of-at directory place inode one) (subst P (sym same) (is_of-at other there inode two))
+
+  above-at : (outer place directory : ℕ) → is_directory (parts.node directory) ≡ true → NamesAt super parts seen outer place directory → HasSomeEntry super parts directory (entry_with outer above_name)
+  unfolding path-at
+  above-at outer place directory is names =
+      sound.above directory outer (entry super parts outer place).name (named.only outer names.from.was).path (leads-at outer place directory names) (named.only outer names.from.was).leads is
+
+  -- ---- levels
+
+  level_by : (number : ℕ) (test : Bool) → seen number ≡ test → ℕ
+  level_by number true was = length (named.only number was).path
+  level_by number false was = 0
+
+  level_of : ℕ → ℕ
+  level_of number = level_by number (seen number) refl
+
+  level-by : (number : ℕ) (path : List (List ℕ)) → reached super parts path ≡ Some number → is_directory (parts.node number) ≡ true → (test : Bool) (was : seen number ≡ test) → level_by number test was ≡ length path
+  unfolding level_by
+  level-by number path leads is true was = ap length (sound.one_name number (named.only number was).path path is (named.only number was).leads leads)
+  level-by number path leads is false was = let t = named.all number (record { path = path; leads = leads }) in cc
+
+  level-is : (number : ℕ) (path : List (List ℕ)) → reached super parts path ≡ Some number → is_directory (parts.node number) ≡ true → level_of number ≡ length path
+  unfolding level_of
+  level-is number path leads is = level-by number path leads is _ refl
+
+  next_level-at : (outer place directory : ℕ) → is_directory (parts.node directory) ≡ true → NamesAt super parts seen outer place directory → level_of directory ≡ suc (level_of outer)
+  unfolding path-at
+  next_level-at outer place directory is names =
+      level-is directory (path-at outer place directory names) (leads-at outer place directory names) is
+      ∙ ap suc (sym (level-is outer (named.only outer names.from.was).path (named.only outer names.from.was).leads names.from.is))
+
+  depth-at : (directory : ℕ) → IsSeenDirectory parts seen directory → level_of directory ≤ depth_limit
+  depth-at directory from =
+      let there = named.only directory from.was in
+      let low : length there.path ≤ depth_limit = sound.depth directory there.path there.leads from.is in
+      let same : level_of directory ≡ length there.path = level-is directory there.path there.leads from.is in
+      omega (arith, low, same)
+
+  -- ---- places are names
+
+  -- the paths of some places, one each
+  abbrev AreOf : List EntryPlace → List (List (List ℕ)) → Type 0
+  AreOf [] [] = Unit {0}
+  AreOf [] (path ∷ paths) = ⊥
+  AreOf (at ∷ others) [] = ⊥
+  AreOf (at ∷ others) (path ∷ paths) = IsOf path at × AreOf others paths
+
+  same-of : (path other : List (List ℕ)) (at there : EntryPlace) → IsOf path at → IsOf other there → path ≡ other → at ≡ there
+  same-of path other at there one two same =
+      let P : List (List ℕ) → Type 0 = λ p. IsOf p there in
+      let both = same-place path at there one (subst P (sym same) two) in
+      ap (λ d. place_with d at.place) both.0 ∙ ap (λ k. place_with there.directory k) both.1
+
+  new-of : (path : List (List ℕ)) (at : EntryPlace) → IsOf path at → (others : List EntryPlace) (paths : List (List (List ℕ))) → AreOf others paths → IsNewPlace at others → IsNew path paths
+  new-of path at one [] [] are new = tt
+  new-of path at one [] (next ∷ paths) are new = absurd are
+  new-of path at one (other ∷ others) [] are new = absurd are
+  new-of path at one (other ∷ others) (next ∷ paths) are new =
+      (λ same. new.0 (same-of path next at other one are.0 same), new-of path at one others paths are.1 new.1)
+
+  record PathsOf (number : ℕ) (all : List EntryPlace) : Type 0 where
+    pub paths : List (List (List ℕ))
+    pub are : AreOf all paths
+    pub count : length all ≡ length paths
+    pub distinct : AreDistinct paths
+    pub leads : AllLead super parts number paths
+
+  paths-of : (number : ℕ) (all : List EntryPlace) → AreApart all → AllName super parts seen number all → PathsOf number all
+  paths-of number [] apart name = record { paths = []; are = tt; count = refl; distinct = tt; leads = tt }
+  paths-of number (at ∷ others) apart name =
+      let rest = paths-of number others apart.1 name.1 in
+      let path : List (List ℕ) = path-at at.directory at.place number name.0 in
+      let one : IsOf (path-at at.directory at.place number name.0) at = is_of-at at.directory at.place number name.0 in
+      record {
+        paths = path ∷ rest.paths;
+        are = (one, rest.are);
+        count = ap suc rest.count;
+        distinct = (new-of path at one others rest.paths rest.are apart.0, rest.distinct);
+        leads = (leads-at at.directory at.place number name.0, rest.leads);
+      }
+
+  links-at : (number : ℕ) (all : List EntryPlace) → AreApart all → AllName super parts seen number all → length all ≤ (parts.node number).links
+  links-at number [] apart name = omega arith
+  links-at number (at ∷ others) apart name =
+      let paths = paths-of number (at ∷ others) apart name in
+      let other : number ≢ 1 = (entries-at at.directory at.place number name.0).1 in
+      let enough : length paths.paths ≤ (parts.node number).links = sound.links number paths.paths other paths.distinct paths.leads in
+      let count : length (at ∷ others) ≡ length paths.paths = paths.count in
+      omega (arith, enough, count)
+
+  -- ---- what was seen has an entry
+
+  found-by : (number : ℕ) (path : List (List ℕ)) → reached super parts path ≡ Some number → number ≢ 1 → (directory : ℕ) × (place : ℕ) × NamesAt super parts seen directory place number
+  found-by number [] leads other = absurd (other (root-is super parts number leads))
+  found-by number (name ∷ path) leads other =
+      let step = step-by super parts seen name path number (λ outer leads'. named.all outer (record { path = path; leads = leads' })) _ refl leads in
+      (step.outer, step.place, step.names)
+
+  -- ---- all of it
+
+  root-seen : IsSeenDirectory parts seen 1
+  root-seen = record { was = named.all 1 (record { path = []; leads = root-leads super parts }); is = sound.root }
+
+  facts : Surveyed super parts seen level_of
+  facts = record {
+    root = root-seen;
+    inodes = λ number was.
+        let there = named.only number was in
+        let range = sound.in_range number there in
+        record { some = range.0; below = range.1; marked = sound.marked number there; mode = sound.mode number there; size = sound.size number there };
+    zones = λ number at zone was to.
+        let refers : Refers super parts number at zone = record { named = named.only number was; to = to } in
+        let range = sound.zone_range number at zone refers in
+        record { from = range.0; below = range.1; marked = sound.zone_marked number at zone refers };
+    once = λ number other at there zone was was' to to'.
+        sound.once number other at there zone (record { named = named.only number was; to = to }) (record { named = named.only other was'; to = to' });
+    no_twice = no_twice-at;
+    entries = entries-at;
+    one_entry = one_entry-at;
+    here = λ directory from. sound.here directory (named.only directory from.was) from.is;
+    root_above = sound.root_above;
+    above = above-at;
+    root_level = level-is 1 [] (root-leads super parts) sound.root;
+    next_level = next_level-at;
+    depth = depth-at;
+    links = links-at;
+  }
+
+pub surveyed_law : SurveyedLaw
+surveyed_law super parts seen sound named =
+    (level_of super parts seen sound named,
+    facts super parts seen sound named,
+    λ number was other. found-by super parts seen sound named number (named.only number was).path (named.only number was).leads other)

@@ -5,8 +5,8 @@ use Rattle.lilo_model.specs.MinixLayout.{Super}
 use Rattle.lilo_model.specs.MinixParts.{Parts, is_directory}
 use Rattle.lilo_model.specs.MinixEntries.{entry_with, above_name}
 use Rattle.lilo_model.specs.MinixNames.{entry, reached, Named, Refers, HasEntry, HasSomeEntry, AllLead, IsNew, AreDistinct, depth_limit, Sound}
-use Rattle.survey_laws.specs.Survey.{IsGoodInode, IsGoodZone, IsSeenDirectory, IsTaken, NamesAt, EntryPlace, AllName, IsNewPlace, AreApart, Surveyed, AreFound}
-use Rattle.survey_laws.specs.Laws.{AreNamed, SurveyedLaw}
+use Rattle.survey_laws.specs.Survey.{IsGoodInode, IsGoodZone, IsSeenDirectory, IsTaken, NamesAt, EntryPlace, AllName, IsNewPlace, AreApart, SurveyFacts, Surveyed}
+use Rattle.survey_laws.specs.Laws.{AreNamed, AreLevels, MeetsFacts, FactsLaw, SurveyedLaw}
 use Rattle.survey_laws.proofs.Paths.{Step, step-by, root-is, root-leads}
 use Rattle.survey_laws.proofs.Seen.{names-lead}
 
@@ -25,7 +25,7 @@ module _ (super : Super) (parts : Parts) (seen : ℕ → Bool) (sound : Sound su
   no_twice-at directory place other from one two same =
       let name : List ℕ = (entry super parts directory other).name in
       sound.no_twice directory place other (entry super parts directory place).inode (entry super parts directory other).inode (entry super parts directory other).name
-      (named.only directory from.was) from.is one.some two.some
+      (named directory from.was) from.is one.some two.some
       (record { below = one.below; is = ap (entry_with (entry super parts directory place).inode) same })
       (record { below = two.below; is = refl })
 
@@ -33,25 +33,25 @@ module _ (super : Super) (parts : Parts) (seen : ℕ → Bool) (sound : Sound su
       → reached super parts ((entry super parts directory place).name ∷ path) ≡ Some inode
   lead path directory place inode leads names =
       names-lead super parts seen path directory place inode leads names
-      (λ other taken same. no_twice-at directory other place names.from taken names.at same)
+      (λ other taken same. no_twice-at directory other place names.from taken names.by.taken same)
 
   -- the path of an entry
   path-at : (directory place inode : ℕ) → NamesAt super parts seen directory place inode → List (List ℕ)
-  path-at directory place inode names = (entry super parts directory place).name ∷ (named.only directory names.from.was).path
+  path-at directory place inode names = (entry super parts directory place).name ∷ (named directory names.from.was).path
 
   leads-at : (directory place inode : ℕ) (names : NamesAt super parts seen directory place inode) → reached super parts (path-at directory place inode names) ≡ Some inode
   unfolding path-at
-  leads-at directory place inode names = lead (named.only directory names.from.was).path directory place inode (named.only directory names.from.was).leads names
+  leads-at directory place inode names = lead (named directory names.from.was).path directory place inode (named directory names.from.was).leads names
 
-  entries-at : (directory place inode : ℕ) → NamesAt super parts seen directory place inode → (seen inode ≡ true) × (inode ≢ 1)
+  named-at : (directory place inode : ℕ) → NamesAt super parts seen directory place inode → Named super parts inode
+  named-at directory place inode names = record { path = path-at directory place inode names; leads = leads-at directory place inode names }
+
+  not_root-at : (directory place inode : ℕ) → NamesAt super parts seen directory place inode → inode ≢ 1
   unfolding path-at
-  entries-at directory place inode names =
-      let leads = leads-at directory place inode names in
-      (named.all inode (record { path = path-at directory place inode names; leads = leads }),
-      λ root.
+  not_root-at directory place inode names root =
       let P : ℕ → Type 0 = λ n. is_directory (parts.node n) ≡ true in
-      let e = sound.one_name inode (path-at directory place inode names) [] (subst P (sym root) sound.root) leads (root-leads super parts ∙ ap Some (sym root)) in
-      cc)
+      let e = sound.one_name inode (path-at directory place inode names) [] (subst P (sym root) sound.root) (leads-at directory place inode names) (root-leads super parts ∙ ap Some (sym root)) in
+      cc
 
   -- ---- two entries by which one path leads
 
@@ -82,55 +82,42 @@ module _ (super : Super) (parts : Parts) (seen : ℕ → Bool) (sound : Sound su
   is_of-at : (directory place inode : ℕ) (names : NamesAt super parts seen directory place inode) → IsOf (path-at directory place inode names) (place_with directory place)
   unfolding path-at
   is_of-at directory place inode names = record {
-    outer = (named.only directory names.from.was).path;
-    leads = (named.only directory names.from.was).leads;
+    outer = (named directory names.from.was).path;
+    leads = (named directory names.from.was).leads;
     from = names.from;
-    taken = names.at;
+    taken = names.by.taken;
     same = refl;
   }
 
-  one_entry-at : (directory other place there inode : ℕ) → is_directory (parts.node inode) ≡ true → NamesAt super parts seen directory place inode → NamesAt super parts seen other there inode
+  one_entry-at : (directory other place there inode : ℕ) → IsSeenDirectory parts seen inode → NamesAt super parts seen directory place inode → NamesAt super parts seen other there inode
       → (directory ≡ other) × (place ≡ there)
   one_entry-at directory other place there inode is one two =
-      let same = sound.one_name inode (path-at directory place inode one) (path-at other there inode two) is (leads-at directory place inode one) (leads-at other there inode two) in
+      let same = sound.one_name inode (path-at directory place inode one) (path-at other there inode two) is.is (leads-at directory place inode one) (leads-at other there inode two) in
       let P : List (List ℕ) → Type 0 = λ p. IsOf p (place_with other there) in
       same-place (path-at directory place inode one) (place_with directory place) (place_with other there) (is_of-at directory place inode one) (subst P (sym same) (is_of-at other there inode two))
 
-  above-at : (outer place directory : ℕ) → is_directory (parts.node directory) ≡ true → NamesAt super parts seen outer place directory → HasSomeEntry super parts directory (entry_with outer above_name)
+  above-at : (outer place directory : ℕ) → IsSeenDirectory parts seen directory → NamesAt super parts seen outer place directory → HasSomeEntry super parts directory (entry_with outer above_name)
   unfolding path-at
   above-at outer place directory is names =
-      sound.above directory outer (entry super parts outer place).name (named.only outer names.from.was).path (leads-at outer place directory names) (named.only outer names.from.was).leads is
+      sound.above directory outer (entry super parts outer place).name (named outer names.from.was).path (leads-at outer place directory names) (named outer names.from.was).leads is.is
 
   -- ---- levels
 
   level_by : (number : ℕ) (test : Bool) → seen number ≡ test → ℕ
-  level_by number true was = length (named.only number was).path
+  level_by number true was = length (named number was).path
   level_by number false was = 0
 
   level_of : ℕ → ℕ
   level_of number = level_by number (seen number) refl
 
-  level-by : (number : ℕ) (path : List (List ℕ)) → reached super parts path ≡ Some number → is_directory (parts.node number) ≡ true → (test : Bool) (was : seen number ≡ test) → level_by number test was ≡ length path
+  level-by : (number : ℕ) (path : List (List ℕ)) → IsSeenDirectory parts seen number → reached super parts path ≡ Some number → (test : Bool) (was : seen number ≡ test) → level_by number test was ≡ length path
   unfolding level_by
-  level-by number path leads is true was = ap length (sound.one_name number (named.only number was).path path is (named.only number was).leads leads)
-  level-by number path leads is false was = let t = named.all number (record { path = path; leads = leads }) in cc
+  level-by number path from leads true was = ap length (sound.one_name number (named number was).path path from.is (named number was).leads leads)
+  level-by number path from leads false was = let t = from.was in cc
 
-  level-is : (number : ℕ) (path : List (List ℕ)) → reached super parts path ≡ Some number → is_directory (parts.node number) ≡ true → level_of number ≡ length path
+  level-is : AreLevels super parts seen level_of
   unfolding level_of
-  level-is number path leads is = level-by number path leads is _ refl
-
-  next_level-at : (outer place directory : ℕ) → is_directory (parts.node directory) ≡ true → NamesAt super parts seen outer place directory → level_of directory ≡ suc (level_of outer)
-  unfolding path-at
-  next_level-at outer place directory is names =
-      level-is directory (path-at outer place directory names) (leads-at outer place directory names) is
-      ∙ ap suc (sym (level-is outer (named.only outer names.from.was).path (named.only outer names.from.was).leads names.from.is))
-
-  depth-at : (directory : ℕ) → IsSeenDirectory parts seen directory → level_of directory ≤ depth_limit
-  depth-at directory from =
-      let there = named.only directory from.was in
-      let low : length there.path ≤ depth_limit = sound.depth directory there.path there.leads from.is in
-      let same : level_of directory ≡ length there.path = level-is directory there.path there.leads from.is in
-      omega (arith, low, same)
+  level-is number path from leads = level-by number path from leads _ refl
 
   -- ---- places are names
 
@@ -179,51 +166,75 @@ module _ (super : Super) (parts : Parts) (seen : ℕ → Bool) (sound : Sound su
   links-at number [] apart name = omega arith
   links-at number (at ∷ others) apart name =
       let paths = paths-of number (at ∷ others) apart name in
-      let other : number ≢ 1 = (entries-at at.directory at.place number name.0).1 in
+      let other : number ≢ 1 = not_root-at at.directory at.place number name.0 in
       let enough : length paths.paths ≤ (parts.node number).links = sound.links number paths.paths other paths.distinct paths.leads in
       let count : length (at ∷ others) ≡ length paths.paths = paths.count in
       omega (arith, enough, count)
 
-  -- ---- what was seen has an entry
+  -- ---- the facts
 
-  found-by : (number : ℕ) (path : List (List ℕ)) → reached super parts path ≡ Some number → number ≢ 1 → (directory : ℕ) × (place : ℕ) × NamesAt super parts seen directory place number
-  found-by number [] leads other = absurd (other (root-is super parts number leads))
-  found-by number (name ∷ path) leads other =
-      let step = step-by super parts seen name path number (λ outer leads'. named.all outer (record { path = path; leads = leads' })) _ refl leads in
-      (step.outer, step.place, step.names)
+  module _ (level : ℕ → ℕ) (are : AreLevels super parts seen level) where
+    next_level-at : (outer place directory : ℕ) → IsSeenDirectory parts seen directory → NamesAt super parts seen outer place directory → level directory ≡ suc (level outer)
+    unfolding path-at
+    next_level-at outer place directory is names =
+        are directory (path-at outer place directory names) is (leads-at outer place directory names)
+        ∙ ap suc (sym (are outer (named outer names.from.was).path names.from (named outer names.from.was).leads))
 
-  -- ---- all of it
+    depth-at : (directory : ℕ) → IsSeenDirectory parts seen directory → level directory ≤ depth_limit
+    depth-at directory from =
+        let there = named directory from.was in
+        let low : length there.path ≤ depth_limit = sound.depth directory there.path there.leads from.is in
+        let same : level directory ≡ length there.path = are directory there.path from there.leads in
+        omega (arith, low, same)
 
-  root-seen : IsSeenDirectory parts seen 1
-  root-seen = record { was = named.all 1 (record { path = []; leads = root-leads super parts }); is = sound.root }
+    facts-of : SurveyFacts super parts seen level
+    facts-of = record {
+      inodes = λ number was.
+          let there = named number was in
+          let range = sound.in_range number there in
+          record { some = range.0; below = range.1; marked = sound.marked number there; mode = sound.mode number there; size = sound.size number there };
+      zones = λ number at zone was to.
+          let refers : Refers super parts number at zone = record { named = named number was; to = to } in
+          let range = sound.zone_range number at zone refers in
+          record { from = range.0; below = range.1; marked = sound.zone_marked number at zone refers };
+      once = λ number other at there zone was was' to to'.
+          sound.once number other at there zone (record { named = named number was; to = to }) (record { named = named other was'; to = to' });
+      no_twice = no_twice-at;
+      not_root = not_root-at;
+      one_entry = one_entry-at;
+      here = λ directory from. sound.here directory (named directory from.was) from.is;
+      root_above = λ from. sound.root_above;
+      above = above-at;
+      root_level = λ from. are 1 [] from (root-leads super parts);
+      next_level = next_level-at;
+      depth = depth-at;
+      links = links-at;
+    }
 
-  facts : Surveyed super parts seen level_of
-  facts = record {
-    root = root-seen;
-    inodes = λ number was.
-        let there = named.only number was in
-        let range = sound.in_range number there in
-        record { some = range.0; below = range.1; marked = sound.marked number there; mode = sound.mode number there; size = sound.size number there };
-    zones = λ number at zone was to.
-        let refers : Refers super parts number at zone = record { named = named.only number was; to = to } in
-        let range = sound.zone_range number at zone refers in
-        record { from = range.0; below = range.1; marked = sound.zone_marked number at zone refers };
-    once = λ number other at there zone was was' to to'.
-        sound.once number other at there zone (record { named = named.only number was; to = to }) (record { named = named.only other was'; to = to' });
-    no_twice = no_twice-at;
-    entries = entries-at;
-    one_entry = one_entry-at;
-    here = λ directory from. sound.here directory (named.only directory from.was) from.is;
-    root_above = sound.root_above;
-    above = above-at;
-    root_level = level-is 1 [] (root-leads super parts) sound.root;
-    next_level = next_level-at;
-    depth = depth-at;
-    links = links-at;
-  }
+  meets-facts : MeetsFacts super parts seen
+  meets-facts = record { facts = facts-of; levels = (level_of, level-is); entries = named-at }
+
+  -- ---- all that has a name was seen
+
+  module _ (all : (number : ℕ) → Named super parts number → seen number ≡ true) where
+    done : Surveyed super parts seen level_of
+    done = record {
+      root = record { was = all 1 (record { path = []; leads = root-leads super parts }); is = sound.root };
+      entries = λ directory place inode names. all inode (named-at directory place inode names);
+      facts = facts-of level_of level-is;
+    }
+
+    found-by : (number : ℕ) (path : List (List ℕ)) → reached super parts path ≡ Some number → number ≢ 1 → (directory : ℕ) × (place : ℕ) × NamesAt super parts seen directory place number
+    found-by number [] leads other = absurd (other (root-is super parts number leads))
+    found-by number (name ∷ path) leads other =
+        let step = step-by super parts seen name path number (λ outer leads'. all outer (record { path = path; leads = leads' })) _ refl leads in
+        (step.outer, step.place, step.names)
+
+pub facts_law : FactsLaw
+facts_law super parts seen sound named = meets-facts super parts seen sound named
 
 pub surveyed_law : SurveyedLaw
-surveyed_law super parts seen sound named =
+surveyed_law super parts seen sound named all =
     (level_of super parts seen sound named,
-    facts super parts seen sound named,
-    λ number was other. found-by super parts seen sound named number (named.only number was).path (named.only number was).leads other)
+    done super parts seen sound named all,
+    λ number was other. found-by super parts seen sound named all number (named number was).path (named number was).leads other)

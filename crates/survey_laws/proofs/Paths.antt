@@ -38,9 +38,11 @@ module _ (super : Super) (parts : Parts) where
         leads = leads;
         names = record {
           from = record { was = was; is = finds.is_directory };
-          at = record { below = finds.stands.below; some = λ e. finds.stands.some (sym inode_is ∙ e) };
-          is = inode_is;
-          plain = ap is_dots name_is ∙ finds.plain;
+          by = record {
+            taken = record { below = finds.stands.below; some = λ e. finds.stands.some (sym inode_is ∙ e) };
+            is = inode_is;
+            plain = ap is_dots name_is ∙ finds.plain;
+          };
         };
         by = name_is;
       }
@@ -54,12 +56,12 @@ module _ (super : Super) (parts : Parts) where
 
   -- ---- what the facts say of paths
 
-  module _ (seen : ℕ → Bool) (level : ℕ → ℕ) (facts : Surveyed super parts seen level) where
+  module _ (seen : ℕ → Bool) (level : ℕ → ℕ) (done : Surveyed super parts seen level) where
     pub reached-seen : (path : List (List ℕ)) (number : ℕ) → reached super parts path ≡ Some number → seen number ≡ true
-    reached-seen [] number leads = ap seen (root-is number leads) ∙ facts.root.was
+    reached-seen [] number leads = ap seen (root-is number leads) ∙ done.root.was
     reached-seen (name ∷ path) number leads =
         let step = step-by seen name path number (reached-seen path) _ refl leads in
-        (facts.entries step.outer step.place number step.names).0
+        done.entries step.outer step.place number step.names
 
     pub named-seen : (number : ℕ) → Named super parts number → seen number ≡ true
     named-seen number named = reached-seen named.path number named.leads
@@ -71,14 +73,14 @@ module _ (super : Super) (parts : Parts) where
     not-root : (name : List ℕ) (path : List (List ℕ)) (number : ℕ) → reached super parts (name ∷ path) ≡ Some number → number ≢ 1
     not-root name path number leads =
         let step = step-to name path number leads in
-        (facts.entries step.outer step.place number step.names).1
+        done.facts.not_root step.outer step.place number step.names
 
     -- the level of a directory is the number of components
     level-length : (path : List (List ℕ)) (number : ℕ) → reached super parts path ≡ Some number → is_directory (parts.node number) ≡ true → level number ≡ length path
-    level-length [] number leads is = ap level (root-is number leads) ∙ facts.root_level
+    level-length [] number leads is = ap level (root-is number leads) ∙ done.facts.root_level done.root
     level-length (name ∷ path) number leads is =
         let step = step-to name path number leads in
-        facts.next_level step.outer step.place number is step.names ∙ ap suc (level-length path step.outer step.leads step.names.from.is)
+        done.facts.next_level step.outer step.place number (record { was = reached-seen (name ∷ path) number leads; is = is }) step.names ∙ ap suc (level-length path step.outer step.leads step.names.from.is)
 
     -- a directory is reached by one path
     one-path : (number : ℕ) (path other : List (List ℕ)) → is_directory (parts.node number) ≡ true → reached super parts path ≡ Some number → reached super parts other ≡ Some number → path ≡ other
@@ -88,7 +90,7 @@ module _ (super : Super) (parts : Parts) where
     one-path number (name ∷ path) (name' ∷ other) is leads leads' =
         let one = step-to name path number leads in
         let two = step-to name' other number leads' in
-        let same = facts.one_entry one.outer two.outer one.place two.place number is one.names two.names in
+        let same = done.facts.one_entry one.outer two.outer one.place two.place number (record { was = reached-seen (name ∷ path) number leads; is = is }) one.names two.names in
         let there : reached super parts other ≡ Some one.outer = two.leads ∙ ap Some (sym same.0) in
         let rest : path ≡ other = one-path one.outer path other one.names.from.is one.leads there in
         let here : (entry super parts one.outer one.place).name ≡ (entry super parts two.outer two.place).name =
@@ -168,41 +170,41 @@ module _ (super : Super) (parts : Parts) where
         let step = step-to name path directory leads in
         let same : step.outer ≡ outer = some-same step.outer outer (sym step.leads ∙ leads') in
         let P : ℕ → Type 0 = λ n. HasSomeEntry super parts directory (entry_with n above_name) in
-        subst P same (facts.above step.outer step.place directory is step.names)
+        subst P same (done.facts.above step.outer step.place directory (record { was = reached-seen (name ∷ path) directory leads; is = is }) step.names)
       where
         some-same : (one two : ℕ) → Some one ≡ Some two → one ≡ two
         some-same one two e = cc
 
     pub sound-of : Sound super parts
     sound-of = record {
-      root = facts.root.is;
-      in_range = λ number named. let good = facts.inodes number (named-seen number named) in (good.some, good.below);
-      marked = λ number named. (facts.inodes number (named-seen number named)).marked;
-      mode = λ number named. (facts.inodes number (named-seen number named)).mode;
-      size = λ number named. (facts.inodes number (named-seen number named)).size;
-      zone_range = λ number at zone refers. let good = facts.zones number at zone (named-seen number refers.named) refers.to in (good.from, good.below);
-      zone_marked = λ number at zone refers. (facts.zones number at zone (named-seen number refers.named) refers.to).marked;
-      once = λ number other at there zone one two. facts.once number other at there zone (named-seen number one.named) (named-seen other two.named) one.to two.to;
+      root = done.root.is;
+      in_range = λ number named. let good = done.facts.inodes number (named-seen number named) in (good.some, good.below);
+      marked = λ number named. (done.facts.inodes number (named-seen number named)).marked;
+      mode = λ number named. (done.facts.inodes number (named-seen number named)).mode;
+      size = λ number named. (done.facts.inodes number (named-seen number named)).size;
+      zone_range = λ number at zone refers. let good = done.facts.zones number at zone (named-seen number refers.named) refers.to in (good.from, good.below);
+      zone_marked = λ number at zone refers. (done.facts.zones number at zone (named-seen number refers.named) refers.to).marked;
+      once = λ number other at there zone one two. done.facts.once number other at there zone (named-seen number one.named) (named-seen other two.named) one.to two.to;
       one_name = one-path;
       no_twice = λ directory place other inode inode' name named is some some' one two.
-          facts.no_twice directory place other (seen-directory directory named is)
+          done.facts.no_twice directory place other (seen-directory directory named is)
           (taken directory place inode name some one) (taken directory other inode' name some' two)
           (ap (λ x. x.name) one.is ∙ sym (ap (λ x. x.name) two.is));
-      here = λ directory named is. facts.here directory (seen-directory directory named is);
-      root_above = facts.root_above;
+      here = λ directory named is. done.facts.here directory (seen-directory directory named is);
+      root_above = done.facts.root_above done.root;
       above = above-to;
       depth = λ directory path leads is.
-          let low = facts.depth directory (record { was = reached-seen path directory leads; is = is }) in
+          let low = done.facts.depth directory (record { was = reached-seen path directory leads; is = is }) in
           let same : level directory ≡ length path = level-length path directory leads is in
           omega (arith, low, same);
       links = λ number paths other distinct lead.
           let places = places-of number paths other distinct lead in
-          let enough : length places.all ≤ (parts.node number).links = facts.links number places.all places.apart places.name in
+          let enough : length places.all ≤ (parts.node number).links = done.facts.links number places.all places.apart places.name in
           omega (arith, enough, places.count);
     }
 
 pub survey_law : SurveyLaw
-survey_law super parts seen level facts = sound-of super parts seen level facts
+survey_law super parts seen level done = sound-of super parts seen level done
 
 pub named_law : NamedLaw
-named_law super parts seen level number facts named = named-seen super parts seen level facts number named
+named_law super parts seen level number done named = named-seen super parts seen level done number named

@@ -17,7 +17,7 @@ unfolding reached
 names-lead super parts seen path directory place inode leads names once =
     ap (then_lookup super parts (entry super parts directory place).name) leads ∙ names-found super parts seen directory place inode names once
 
-module _ (super : Super) (parts : Parts) (seen : ℕ → Bool) (level : ℕ → ℕ) (facts : Surveyed super parts seen level) (found : AreFound super parts seen) where
+module _ (super : Super) (parts : Parts) (seen : ℕ → Bool) (level : ℕ → ℕ) (done : Surveyed super parts seen level) (found : AreFound super parts seen) where
   root-named : Named super parts 1
   root-named = record { path = []; leads = root-leads super parts }
 
@@ -25,7 +25,7 @@ module _ (super : Super) (parts : Parts) (seen : ℕ → Bool) (level : ℕ → 
   inner-named directory place inode named names = record {
     path = (entry super parts directory place).name ∷ named.path;
     leads = names-lead super parts seen named.path directory place inode named.leads names
-        (λ other taken same. facts.no_twice directory other place names.from taken names.at same);
+        (λ other taken same. done.facts.no_twice directory other place names.from taken names.by.taken same);
   }
 
   -- an inode, where each directory of a lower level has a name
@@ -41,12 +41,12 @@ module _ (super : Super) (parts : Parts) (seen : ℕ → Bool) (level : ℕ → 
   directory-named : (deep number : ℕ) → level number ≡ deep → seen number ≡ true → is_directory (parts.node number) ≡ true → Named super parts number
   directory-named zero number at was is =
       named-by number was
-      (λ directory place names. let next = facts.next_level directory place number is names in absurd (omega (arith, at, next)))
+      (λ directory place names. let next = done.facts.next_level directory place number (record { was = was; is = is }) names in absurd (omega (arith, at, next)))
       _ refl
   directory-named (suc deep) number at was is =
       named-by number was
       (λ directory place names.
-      let next = facts.next_level directory place number is names in
+      let next = done.facts.next_level directory place number (record { was = was; is = is }) names in
       directory-named deep directory (omega (arith, at, next)) names.from.was names.from.is)
       _ refl
 
@@ -55,4 +55,4 @@ module _ (super : Super) (parts : Parts) (seen : ℕ → Bool) (level : ℕ → 
       named-by number was (λ directory place names. directory-named (level directory) directory refl names.from.was names.from.is) _ refl
 
 pub seen_law : SeenLaw
-seen_law super parts seen level number facts found was = seen-named super parts seen level facts found number was
+seen_law super parts seen level number done found was = seen-named super parts seen level done found number was

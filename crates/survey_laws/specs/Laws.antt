@@ -1,9 +1,9 @@
 -- The facts of a survey hold on sound volumes, and on no others.
-use Rattle.std.specs.Prelude.{◌≡◌, ℕ, Bool, true}
+use Rattle.std.specs.Prelude.{◌≡◌, ℕ, Bool, true, List, length, Some}
 use Rattle.lilo_model.specs.MinixLayout.{Super}
 use Rattle.lilo_model.specs.MinixParts.{Parts}
-use Rattle.lilo_model.specs.MinixNames.{Named, Sound}
-use Rattle.survey_laws.specs.Survey.{Surveyed, AreFound}
+use Rattle.lilo_model.specs.MinixNames.{reached, Named, Sound}
+use Rattle.survey_laws.specs.Survey.{IsSeenDirectory, NamesAt, SurveyFacts, Surveyed, AreFound}
 
 -- where they hold, the volume is sound
 abbrev pub SurveyLaw : Type 0
@@ -21,13 +21,31 @@ SeenLaw =
     (super : Super) (parts : Parts) (seen : ℕ → Bool) (level : ℕ → ℕ) (number : ℕ)
     → Surveyed super parts seen level → AreFound super parts seen → seen number ≡ true → Named super parts number
 
--- all that has a name is seen, and nothing else
-pub record AreNamed (super : Super) (parts : Parts) (seen : ℕ → Bool) : Type 0 where
-  pub all : (number : ℕ) → Named super parts number → seen number ≡ true
-  pub only : (number : ℕ) → seen number ≡ true → Named super parts number
+-- ---- on a sound volume
 
--- on a sound volume the facts hold of what has a name, with some levels
+-- nothing is seen but what has a name
+abbrev pub AreNamed : Super → Parts → (ℕ → Bool) → Type 0
+AreNamed super parts seen = (number : ℕ) → seen number ≡ true → Named super parts number
+
+-- the level of a directory is the number of components of a path to it
+abbrev pub AreLevels : Super → Parts → (ℕ → Bool) → (ℕ → ℕ) → Type 0
+AreLevels super parts seen level =
+    (directory : ℕ) (path : List (List ℕ)) → IsSeenDirectory parts seen directory → reached super parts path ≡ Some directory → level directory ≡ length path
+
+-- what a survey meets where it has seen nothing but what has a name
+pub record MeetsFacts (super : Super) (parts : Parts) (seen : ℕ → Bool) : Type 0 where
+  -- the facts hold, of levels that there are
+  pub facts : (level : ℕ → ℕ) → AreLevels super parts seen level → SurveyFacts super parts seen level
+  pub levels : (level : ℕ → ℕ) × AreLevels super parts seen level
+  -- and what it sees by an entry has a name too
+  pub entries : (directory place inode : ℕ) → NamesAt super parts seen directory place inode → Named super parts inode
+
+-- at each moment of a survey nothing is to refuse
+abbrev pub FactsLaw : Type 0
+FactsLaw = (super : Super) (parts : Parts) (seen : ℕ → Bool) → Sound super parts → AreNamed super parts seen → MeetsFacts super parts seen
+
+-- and where it has seen all that has a name it is done
 abbrev pub SurveyedLaw : Type 0
 SurveyedLaw =
-    (super : Super) (parts : Parts) (seen : ℕ → Bool) → Sound super parts → AreNamed super parts seen
+    (super : Super) (parts : Parts) (seen : ℕ → Bool) → Sound super parts → AreNamed super parts seen → ((number : ℕ) → Named super parts number → seen number ≡ true)
     → (level : ℕ → ℕ) × Surveyed super parts seen level × AreFound super parts seen

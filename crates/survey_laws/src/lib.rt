@@ -5,5 +5,6 @@
 mod laws;
 
 pub use laws::{
-    named_inodes_are_seen, seen_inodes_are_named, sound_volume_is_surveyed, surveyed_volume_is_sound,
+    facts_hold_on_a_sound_volume, named_inodes_are_seen, seen_inodes_are_named,
+    sound_volume_is_surveyed, surveyed_volume_is_sound,
 };

@@ -1,13 +1,12 @@
 -- On a sound volume the facts of a survey hold of what has a name.
-use Rattle.std.proofs.Common.{◌≡◌, ◌≢◌, ℕ, zero, suc, ◌<◌, ◌≤◌, ◌==◌, Bool, true, false, List, [], ◌∷◌, length, Option, Some, None, refl, sym, ◌∙◌, ap, subst, arith, eq-eqb}
-use Rattle.std.proofs.lemmas.Bool.{eqb-true}
+use Rattle.std.proofs.Common.{◌≡◌, ◌≢◌, ℕ, suc, ◌≤◌, Bool, true, false, List, [], ◌∷◌, length, Some, refl, sym, ◌∙◌, ap, subst, arith}
 use Rattle.lilo_model.specs.MinixLayout.{Super}
 use Rattle.lilo_model.specs.MinixParts.{Parts, is_directory}
 use Rattle.lilo_model.specs.MinixEntries.{entry_with, above_name}
-use Rattle.lilo_model.specs.MinixNames.{entry, reached, Named, Refers, HasEntry, HasSomeEntry, AllLead, IsNew, AreDistinct, depth_limit, Sound}
-use Rattle.survey_laws.specs.Survey.{IsGoodInode, IsGoodZone, IsSeenDirectory, IsTaken, NamesAt, EntryPlace, AllName, IsNewPlace, AreApart, SurveyFacts, Surveyed}
+use Rattle.lilo_model.specs.MinixNames.{entry, reached, Named, Refers, HasSomeEntry, AllLead, IsNew, AreDistinct, depth_limit, Sound}
+use Rattle.survey_laws.specs.Survey.{IsSeenDirectory, IsTaken, NamesAt, EntryPlace, AllName, IsNewPlace, AreApart, SurveyFacts, Surveyed}
 use Rattle.survey_laws.specs.Laws.{AreNamed, AreLevels, MeetsFacts, FactsLaw, SurveyedLaw}
-use Rattle.survey_laws.proofs.Paths.{Step, step-by, root-is, root-leads}
+use Rattle.survey_laws.proofs.Paths.{step-by, root-is, root-leads}
 use Rattle.survey_laws.proofs.Seen.{names-lead}
 
 some-same : (one two : ℕ) → Some one ≡ Some two → one ≡ two
@@ -56,7 +55,7 @@ module _ (super : Super) (parts : Parts) (seen : ℕ → Bool) (sound : Sound su
   -- ---- two entries by which one path leads
 
   -- a path is that of a place of a directory
-  record IsOf (path : List (List ℕ)) (at : EntryPlace) : Type 0 where
+  pub record IsOf (path : List (List ℕ)) (at : EntryPlace) : Type 0 where
     pub outer : List (List ℕ)
     pub leads : reached super parts outer ≡ Some at.directory
     pub from : IsSeenDirectory parts seen at.directory
@@ -122,7 +121,7 @@ module _ (super : Super) (parts : Parts) (seen : ℕ → Bool) (sound : Sound su
   -- ---- places are names
 
   -- the paths of some places, one each
-  abbrev AreOf : List EntryPlace → List (List (List ℕ)) → Type 0
+  abbrev pub AreOf : List EntryPlace → List (List (List ℕ)) → Type 0
   AreOf [] [] = Unit {0}
   AreOf [] (path ∷ paths) = ⊥
   AreOf (at ∷ others) [] = ⊥
@@ -141,14 +140,14 @@ module _ (super : Super) (parts : Parts) (seen : ℕ → Bool) (sound : Sound su
   new-of path at one (other ∷ others) (next ∷ paths) are new =
       (λ same. new.0 (same-of path next at other one are.0 same), new-of path at one others paths are.1 new.1)
 
-  record PathsOf (number : ℕ) (all : List EntryPlace) : Type 0 where
+  pub record PathsOf (number : ℕ) (all : List EntryPlace) : Type 0 where
     pub paths : List (List (List ℕ))
     pub are : AreOf all paths
     pub count : length all ≡ length paths
     pub distinct : AreDistinct paths
     pub leads : AllLead super parts number paths
 
-  paths-of : (number : ℕ) (all : List EntryPlace) → AreApart all → AllName super parts seen number all → PathsOf number all
+  pub paths-of : (number : ℕ) (all : List EntryPlace) → AreApart all → AllName super parts seen number all → PathsOf number all
   paths-of number [] apart name = record { paths = []; are = tt; count = refl; distinct = tt; leads = tt }
   paths-of number (at ∷ others) apart name =
       let rest = paths-of number others apart.1 name.1 in
@@ -234,7 +233,8 @@ pub facts_law : FactsLaw
 facts_law super parts seen sound named = meets-facts super parts seen sound named
 
 pub surveyed_law : SurveyedLaw
-surveyed_law super parts seen sound named all =
-    (level_of super parts seen sound named,
-    done super parts seen sound named all,
-    λ number was other. found-by super parts seen sound named all number (named number was).path (named number was).leads other)
+surveyed_law super parts seen sound named all = (
+  level_of super parts seen sound named,
+  done super parts seen sound named all,
+  λ number was other. found-by super parts seen sound named all number (named number was).path (named number was).leads other,
+)

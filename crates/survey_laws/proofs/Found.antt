@@ -122,6 +122,6 @@ pub names-found : (super : Super) (parts : Parts) (seen : ℕ → Bool) (directo
 unfolding lookup
 names-found super parts seen directory place inode names once =
     let found : first_named (entry super parts directory) (entry super parts directory place).name (places super.kind (parts.node directory).size) ≡ Some (entry super parts directory place).inode =
-        first_named-once (entry super parts directory) (entry super parts directory place).name (places super.kind (parts.node directory).size) place names.by.taken.below names.by.taken.some refl
-        (λ other below some same. once other (record { below = below; some = some }) same) in
+    first_named-once (entry super parts directory) (entry super parts directory place).name (places super.kind (parts.node directory).size) place names.by.taken.below names.by.taken.some refl
+    (λ other below some same. once other (record { below = below; some = some }) same) in
     rw (names.from.is, names.by.plain) (found ∙ ap Some names.by.is)

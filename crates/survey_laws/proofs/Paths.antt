@@ -94,14 +94,14 @@ module _ (super : Super) (parts : Parts) where
         let there : reached super parts other ≡ Some one.outer = two.leads ∙ ap Some (sym same.0) in
         let rest : path ≡ other = one-path one.outer path other one.names.from.is one.leads there in
         let here : (entry super parts one.outer one.place).name ≡ (entry super parts two.outer two.place).name =
-            ap (λ d. (entry super parts d one.place).name) same.0 ∙ ap (λ k. (entry super parts two.outer k).name) same.1 in
+        ap (λ d. (entry super parts d one.place).name) same.0 ∙ ap (λ k. (entry super parts two.outer k).name) same.1 in
         let named : name ≡ name' = sym one.by ∙ here ∙ two.by in
         ap (λ n. n ∷ path) named ∙ ap (λ p. name' ∷ p) rest
 
     -- ---- names are places
 
     -- a path is that of a place of a directory
-    record IsOf (path : List (List ℕ)) (at : EntryPlace) : Type 0 where
+    pub record IsOf (path : List (List ℕ)) (at : EntryPlace) : Type 0 where
       pub outer : List (List ℕ)
       pub leads : reached super parts outer ≡ Some at.directory
       pub is : is_directory (parts.node at.directory) ≡ true
@@ -116,7 +116,7 @@ module _ (super : Super) (parts : Parts) where
         one.same ∙ ap (λ n. n ∷ one.outer) name ∙ ap (λ p. (entry super parts there.directory there.place).name ∷ p) outer ∙ sym two.same
 
     -- places of some paths, one each
-    abbrev AreOf : List (List (List ℕ)) → List EntryPlace → Type 0
+    abbrev pub AreOf : List (List (List ℕ)) → List EntryPlace → Type 0
     AreOf [] [] = Unit {0}
     AreOf [] (at ∷ others) = ⊥
     AreOf (path ∷ paths) [] = ⊥
@@ -130,14 +130,14 @@ module _ (super : Super) (parts : Parts) where
         (λ same. new.0 (same-of path next at other one are.0 same), new-of path at one paths others are.1 new.1)
 
     -- the places of paths to an inode
-    record PlacesOf (number : ℕ) (paths : List (List (List ℕ))) : Type 0 where
+    pub record PlacesOf (number : ℕ) (paths : List (List (List ℕ))) : Type 0 where
       pub all : List EntryPlace
       pub are : AreOf paths all
       pub count : length paths ≡ length all
       pub apart : AreApart all
       pub name : AllName super parts seen number all
 
-    places-of : (number : ℕ) (paths : List (List (List ℕ))) → number ≢ 1 → AreDistinct paths → AllLead super parts number paths → PlacesOf number paths
+    pub places-of : (number : ℕ) (paths : List (List (List ℕ))) → number ≢ 1 → AreDistinct paths → AllLead super parts number paths → PlacesOf number paths
     places-of number [] other distinct lead = record { all = []; are = tt; count = refl; apart = tt; name = tt }
     places-of number ([] ∷ paths) other distinct lead = absurd (other (root-is number lead.0))
     places-of number ((name ∷ path) ∷ paths) other distinct lead =

@@ -1,5 +1,5 @@
 -- What was seen by an entry has a name.
-use Rattle.std.proofs.Common.{◌≡◌, ◌≢◌, ℕ, zero, suc, ◌==◌, Bool, true, false, List, [], ◌∷◌, Some, refl, sym, ◌∙◌, ap, subst, arith, eq-eqb}
+use Rattle.std.proofs.Common.{◌≡◌, ℕ, zero, suc, ◌==◌, Bool, true, false, List, [], ◌∷◌, Some, refl, sym, ◌∙◌, ap, subst, arith, eq-eqb}
 use Rattle.std.proofs.lemmas.Bool.{eqb-true}
 use Rattle.lilo_model.specs.MinixLayout.{Super}
 use Rattle.lilo_model.specs.MinixParts.{Parts, is_directory}
@@ -50,7 +50,7 @@ module _ (super : Super) (parts : Parts) (seen : ℕ → Bool) (level : ℕ → 
       directory-named deep directory (omega (arith, at, next)) names.from.was names.from.is)
       _ refl
 
-  seen-named : (number : ℕ) → seen number ≡ true → Named super parts number
+  pub seen-named : (number : ℕ) → seen number ≡ true → Named super parts number
   seen-named number was =
       named-by number was (λ directory place names. directory-named (level directory) directory refl names.from.was names.from.is) _ refl
 

@@ -1,9 +1,10 @@
 -- The facts of a survey hold on sound volumes, and on no others.
-use Rattle.std.specs.Prelude.{◌≡◌, ℕ, Bool, true, List, length, Some}
+use Rattle.std.specs.Prelude.{◌≡◌, ◌≢◌, ◌≤◌, ℕ, suc, Bool, true, List, length, Some}
 use Rattle.lilo_model.specs.MinixLayout.{Super}
 use Rattle.lilo_model.specs.MinixParts.{Parts}
 use Rattle.lilo_model.specs.MinixNames.{reached, Named, Sound}
-use Rattle.survey_laws.specs.Survey.{IsSeenDirectory, NamesAt, SurveyFacts, Surveyed, AreFound}
+use Rattle.survey_laws.specs.Survey.{IsSeenDirectory, NamesIn, NamesAt, EntryPlace, AreApart, AllName, SurveyFacts, Surveyed, AreFound}
+use Rattle.survey_laws.specs.Count.{IsCount, JudgesNext, AreAllJudged, HasNames}
 
 -- where they hold, the volume is sound
 abbrev pub SurveyLaw : Type 0
@@ -49,3 +50,33 @@ abbrev pub SurveyedLaw : Type 0
 SurveyedLaw =
     (super : Super) (parts : Parts) (seen : ℕ → Bool) → Sound super parts → AreNamed super parts seen → ((number : ℕ) → Named super parts number → seen number ≡ true)
     → (level : ℕ → ℕ) × Surveyed super parts seen level × AreFound super parts seen
+
+-- ---- counts of names
+
+-- what one more place does to the count of an inode's names
+pub record CountsNext (super : Super) (parts : Parts) (judged next : ℕ → ℕ) (directory inode count : ℕ) : Type 0 where
+  pub named : NamesIn super parts directory (judged directory) inode → IsCount super parts next inode (suc count)
+  pub other : (NamesIn super parts directory (judged directory) inode → ⊥) → IsCount super parts next inode count
+
+-- a count begins at 0 and goes on place by place
+pub record AreCounts (super : Super) (parts : Parts) : Type 0 where
+  pub none : (judged : ℕ → ℕ) (inode : ℕ) → ((directory : ℕ) → judged directory ≡ 0) → IsCount super parts judged inode 0
+  pub next : (judged next : ℕ → ℕ) (directory inode count : ℕ) → IsCount super parts judged inode count → JudgesNext judged next directory → CountsNext super parts judged next directory inode count
+
+-- on any volume
+abbrev pub CountLaw : Type 0
+CountLaw = (super : Super) (parts : Parts) → AreCounts super parts
+
+-- at the end no list of places is longer
+abbrev pub LinksLaw : Type 0
+LinksLaw =
+    (super : Super) (parts : Parts) (seen : ℕ → Bool) (judged : ℕ → ℕ) (inode count : ℕ) (all : List EntryPlace)
+    → AreAllJudged super parts seen judged → IsCount super parts judged inode count → AreApart all → AllName super parts seen inode all
+    → length all ≤ count
+
+-- and where a survey is done the count is that of the inode's names
+abbrev pub NamesLaw : Type 0
+NamesLaw =
+    (super : Super) (parts : Parts) (seen : ℕ → Bool) (level judged : ℕ → ℕ) (inode count : ℕ)
+    → Surveyed super parts seen level → AreFound super parts seen → AreAllJudged super parts seen judged → inode ≢ 1 → IsCount super parts judged inode count
+    → HasNames super parts inode count

@@ -1,2 +1,3 @@
 pub mod Survey
+pub mod Count
 pub mod Laws

@@ -1,5 +1,14 @@
 // What the facts of a survey say.
-ghost use Rattle.survey_laws.specs.Laws.{FactsLaw, NamedLaw, SeenLaw, SurveyLaw, SurveyedLaw};
+ghost use Rattle.survey_laws.specs.Laws.{
+  CountLaw,
+  FactsLaw,
+  LinksLaw,
+  NamedLaw,
+  NamesLaw,
+  SeenLaw,
+  SurveyLaw,
+  SurveyedLaw,
+};
 
 /// A volume on which the facts of a survey hold is sound.
 pub fn surveyed_volume_is_sound()
@@ -24,4 +33,19 @@ pub fn facts_hold_on_a_sound_volume()
 /// And where all that has a name was seen, the survey is done.
 pub fn sound_volume_is_surveyed()
     ensures { SurveyedLaw }
+{}
+
+/// A count of an inode's names goes on place by place, as the entries do that name it.
+pub fn names_are_counted_by_places()
+    ensures { CountLaw }
+{}
+
+/// Where all places were judged, no list of places that name an inode is longer than its count.
+pub fn count_bounds_all_places()
+    ensures { LinksLaw }
+{}
+
+/// And where a survey is done, an inode has as many names as were counted.
+pub fn count_is_that_of_names()
+    ensures { NamesLaw }
 {}

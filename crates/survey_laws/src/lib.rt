@@ -5,6 +5,7 @@
 mod laws;
 
 pub use laws::{
-    facts_hold_on_a_sound_volume, named_inodes_are_seen, seen_inodes_are_named,
+    count_bounds_all_places, count_is_that_of_names, facts_hold_on_a_sound_volume,
+    named_inodes_are_seen, names_are_counted_by_places, seen_inodes_are_named,
     sound_volume_is_surveyed, surveyed_volume_is_sound,
 };

@@ -1,0 +1,7 @@
+pub mod Bitmap
+pub mod Bits
+pub mod Find
+pub mod Free
+pub mod Laws
+pub mod Mark
+pub mod Numbers

@@ -1,3 +1,6 @@
 pub mod BitLemmas
 pub mod BitmapLemmas
+pub mod FindLemmas
 pub mod RangeLemmas
+pub mod ScanLemmas
+pub mod SetLemmas

@@ -18,6 +18,11 @@ pub record IsBitmapIn (bitmap : Bitmap) (count : ℕ) : Type 0 where
   pub some : bitmap.origin < bitmap.end
   pub fits : bitmap.sector + (bitmap.end - 1 - bitmap.origin) / 4096 < count
 
+-- a number of a bitmap
+pub record IsNumberOf (bitmap : Bitmap) (n : ℕ) : Type 0 where
+  pub above : bitmap.origin < n
+  pub below : n < bitmap.end
+
 -- the number whose bit is the first in the sector with that of another one
 abbrev pub base_of : Bitmap → ℕ → ℕ
 base_of bitmap at = at - (at - bitmap.origin) % 4096

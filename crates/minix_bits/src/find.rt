@@ -6,7 +6,7 @@ ghost use Rattle.lilo_model.specs.MinixParts.{parts_of, sector_of};
 ghost use Rattle.minix_layout.specs.View.{super_view};
 ghost use Rattle.minix_zones.specs.View.{IsDataZone};
 ghost use Rattle.minix_zones.specs.Volume.{volume_view, past_of, faults_of, SameVolume};
-ghost use Rattle.minix_bits.specs.Bitmap.{IsBitmapIn, base_of, end_of, sector_with};
+ghost use Rattle.minix_bits.specs.Bitmap.{IsBitmapIn, IsNumberOf, base_of, end_of, sector_with};
 ghost use Rattle.minix_bits.specs.Free.{is_free_on, free_from, IsLowest, lowest_zones, lowest_inode};
 ghost use Rattle.minix_bits.specs.Find.{Gives, HasBitCause};
 
@@ -103,7 +103,7 @@ fn take_in_sector<D: Disks>(
     found: &mut Vec<u32>,
 ) -> Result<(), BitFault>
     requires inside { IsBitmapIn bitmap.now volume.old.span.count }
-    requires from { bitmap.now.origin ≤ at }
+    requires from { bitmap.now.origin < at }
     requires below { at < bitmap.now.end }
     requires numbers { bitmap.now.end ≤ avoid.now.below }
     requires few { length found.old.items ≤ need }
@@ -111,6 +111,7 @@ fn take_in_sector<D: Disks>(
         ++ free_from (is_free_on (volume_view volume.old) now bitmap.now avoid.now.numbers) at
             (end_of bitmap.now at - at)))) }
     ensures few { OnOk result (length found.new.items ≤ need) }
+    ensures inside { All (IsNumberOf bitmap.now) found.old.items → OnOk result (All (IsNumberOf bitmap.now) found.new.items) }
     ensures cause { IfErr result (HasBitCause need (faults_of volume.old) (faults_of volume.new)) }
     ensures later { faults_of volume.old ≤ faults_of volume.new }
     ensures same { SameVolume volume.old volume.new }

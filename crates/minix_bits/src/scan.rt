@@ -1,5 +1,5 @@
 // Free numbers in one sector of a bitmap.
-ghost use Rattle.std.specs.Prelude.{◌≡◌, ◌+◌, ◌-◌, ◌<◌, ◌≤◌, ◌++◌, All, IfOk, IfSome, OnOk, length, take};
+ghost use Rattle.std.specs.Prelude.{◌≡◌, ◌+◌, ◌-◌, ◌^◌, ◌<◌, ◌≤◌, ◌++◌, OnOk, length, take};
 ghost use Rattle.minix_bits.specs.Free.{is_free_in, IsLowest, free_from};
 
 use crate::bits::has_bit;
@@ -71,11 +71,13 @@ pub(crate) fn take_free(
 {
     let mut at = at;
     while found.len() < need as usize {
-        let Some(number) = first_free(bytes, base, at, end, avoid) else {
-            return Ok(());
-        };
-        found.push(number)?;
-        at = number + 1;
+        match first_free(bytes, base, at, end, avoid) {
+            None => return Ok(()),
+            Some(number) => {
+                found.push(number)?;
+                at = number + 1;
+            }
+        }
     }
     Ok(())
 }

@@ -12,6 +12,12 @@ Gives (Err (faults.NoSpace need short)) found = found ≡ Err (record { need = n
 Gives (Err faults.Device) found = Unit {0}
 Gives (Err faults.Memory) found = Unit {0}
 
+-- The cause of a refusal of one sector, which knows no shortage.
+abbrev pub HasSectorCause : ℕ → ℕ → BitFault → Type 0
+HasSectorCause before now (faults.NoSpace need found) = ⊥
+HasSectorCause before now faults.Device = Rose before now
+HasSectorCause before now faults.Memory = Unit {0}
+
 -- The cause of a refusal: where the disk failed, the count of faults rose; too few are fewer than needed.
 abbrev pub HasBitCause : ℕ → ℕ → ℕ → BitFault → Type 0
 HasBitCause needed before now (faults.NoSpace need found) = (need ≡ needed) × (found < needed)

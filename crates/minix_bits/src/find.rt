@@ -8,7 +8,7 @@ ghost use Rattle.minix_zones.specs.View.{IsDataZone};
 ghost use Rattle.minix_zones.specs.Volume.{volume_view, past_of, faults_of, SameVolume};
 ghost use Rattle.minix_bits.specs.Bitmap.{IsBitmapIn, IsNumberOf, base_of, end_of, sector_with};
 ghost use Rattle.minix_bits.specs.Free.{is_free_on, free_from, IsLowest, lowest_zones, lowest_inode};
-ghost use Rattle.minix_bits.specs.Find.{Gives, HasBitCause};
+ghost use Rattle.minix_bits.specs.Find.{Gives, HasBitCause, HasSectorCause};
 
 use crate::bit_fault::BitFault;
 use crate::bitmap::{Bitmap, SECTOR_BITS, inode_bitmap, zone_bitmap};
@@ -71,7 +71,7 @@ pub fn find_inode<D: Disks>(
     requires { volume.old.layout.inodes < avoid.now.below }
 
     // What is answered.
-    ensures inode { Told (past_of volume.old) (λ now. IfOk result (λ found. found
+    ensures inode { IfOk result (λ found. Told (past_of volume.old) (λ now. found
         ≡ lowest_inode (super_view volume.old.layout) (parts_of (volume_view volume.old) now) avoid.now.numbers)) }
     ensures inside { IfOk result (λ found. IfSome found (λ n. (1 ≤ n) × (n ≤ volume.old.layout.inodes))) }
 
@@ -112,7 +112,7 @@ fn take_in_sector<D: Disks>(
             (end_of bitmap.now at - at)))) }
     ensures few { OnOk result (length found.new.items ≤ need) }
     ensures inside { All (IsNumberOf bitmap.now) found.old.items → OnOk result (All (IsNumberOf bitmap.now) found.new.items) }
-    ensures cause { IfErr result (HasBitCause need (faults_of volume.old) (faults_of volume.new)) }
+    ensures cause { IfErr result (HasSectorCause (faults_of volume.old) (faults_of volume.new)) }
     ensures later { faults_of volume.old ≤ faults_of volume.new }
     ensures same { SameVolume volume.old volume.new }
 {
@@ -137,8 +137,8 @@ fn first_in_sector<D: Disks>(
     requires from { bitmap.now.origin ≤ at }
     requires below { at < bitmap.now.end }
     requires numbers { bitmap.now.end ≤ avoid.now.below }
-    ensures lowest { Told (past_of volume.old) (λ now. IfOk result
-        (IsLowest (is_free_on (volume_view volume.old) now bitmap.now avoid.now.numbers) at (end_of bitmap.now at))) }
+    ensures lowest { IfOk result (λ found. Told (past_of volume.old) (λ now.
+        IsLowest (is_free_on (volume_view volume.old) now bitmap.now avoid.now.numbers) at (end_of bitmap.now at) found)) }
     ensures inside { IfOk result (λ found. IfSome found (λ n. (at ≤ n) × (n < bitmap.now.end))) }
     ensures device { IfErr result (λ fault. (fault ≡ BitFault.Device)
         × Rose (faults_of volume.old) (faults_of volume.new)) }

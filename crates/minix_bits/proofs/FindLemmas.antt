@@ -242,3 +242,7 @@ pub cause_by : (need first before after : ℕ) (fault : BitFault) → first ≤ 
 cause_by need first before after (faults.NoSpace n f) later cause = absurd cause
 cause_by need first before after faults.Device later cause = λ room. let rose : before < after = cause room in omega arith
 cause_by need first before after faults.Memory later cause = tt
+
+-- the numbers of a sector are below the bitmap's end
+pub end_within : (bitmap : Bitmap) (at : ℕ) → at < bitmap.end → end_of bitmap at ≤ bitmap.end
+end_within bitmap at below = omega arith

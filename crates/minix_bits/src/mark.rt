@@ -1,12 +1,12 @@
 // The marks of zones and inodes.
 ghost use Rattle.std.specs.Prelude.{◌≡◌, ◌≢◌, ◌⊎◌, ◌+◌, ◌-◌, ◌≤◌, ◌<◌, ◌%◌, ℕ, true, false, OnOk, IfErr};
 ghost use Rattle.disk_trait.specs.Cause.{Rose};
-ghost use Rattle.disk_trait.specs.Past.{with_sector};
+ghost use Rattle.disk_trait.specs.Past.{Told, with_sector};
 ghost use Rattle.disk_trait.specs.Moments.{IsTold, now, begun, MayLeave, LeftOrWritten, MayWrite, LeavesOnly, IsWhole, StaysWhole};
 ghost use Rattle.lilo_model.specs.MinixLayout.{super_sector};
-ghost use Rattle.lilo_model.specs.MinixParts.{inode_mark_sector, zone_mark_sector, zone_bit};
-ghost use Rattle.minix_layout.specs.View.{super_view};
-ghost use Rattle.minix_zones.specs.Volume.{past_of, faults_of, sizes_of, count_of, geometries_of, KeepsVolume};
+ghost use Rattle.lilo_model.specs.MinixParts.{sector_of};
+ghost use Rattle.minix_zones.specs.Volume.{volume_view, past_of, faults_of, sizes_of, count_of, geometries_of, KeepsVolume, SameVolume};
+ghost use Rattle.minix_bits.specs.Bits.{with_bit};
 ghost use Rattle.minix_bits.specs.Mark.{sector_on_disk, zone_sector, inode_sector, remarked, zone_remarked, inode_remarked};
 
 use crate::bit_fault::BitFault;
@@ -14,6 +14,7 @@ use crate::bitmap::{SECTOR_BITS, inode_bitmap, zone_bitmap};
 use crate::bits::put_bit;
 use disk_trait::Disks;
 use minix_zones::Volume;
+use sector_parts::Sector;
 
 /// Marks a data zone as used: one bit of one sector of the zone bitmap. Until the next flush a stop may leave
 /// that sector written or not, and a call that failed has written it or hasn't.
@@ -282,12 +283,35 @@ fn put_mark<D: Disks>(
     ensures kept { KeepsVolume volume.old volume.new }
 {
     let mut bytes = [0; 512];
-    if volume.read_sector(sector, &mut bytes).is_err() {
-        return Err(BitFault::Device);
-    }
-    put_bit(&mut bytes, at as usize, value);
+    read_with_bit(volume, sector, at, value, &mut bytes)?;
     match volume.write_sector(sector, &bytes) {
         Ok(()) => Ok(()),
+        Err(_) => Err(BitFault::Device),
+    }
+}
+
+// Reads a sector, and sets or clears a bit of its bytes.
+fn read_with_bit<D: Disks>(
+    volume: &mut Volume<'_, D>,
+    sector: u64,
+    at: u32,
+    value: bool,
+    into: &mut Sector,
+) -> Result<(), BitFault>
+    requires inside { sector < volume.old.span.count }
+    requires at { at < 4096 }
+    ensures bytes { OnOk result (Told (past_of volume.old)
+        (λ now. into.new ≡ with_bit (sector_of (volume_view volume.old) now sector) at value)) }
+    ensures device { IfErr result (λ fault. (fault ≡ BitFault.Device)
+        × Rose (faults_of volume.old) (faults_of volume.new)) }
+    ensures later { faults_of volume.old ≤ faults_of volume.new }
+    ensures same { SameVolume volume.old volume.new }
+{
+    match volume.read_sector(sector, into) {
+        Ok(()) => {
+            put_bit(into, at as usize, value);
+            Ok(())
+        }
         Err(_) => Err(BitFault::Device),
     }
 }

@@ -1,6 +1,7 @@
 pub mod BitLemmas
 pub mod BitmapLemmas
 pub mod FindLemmas
+pub mod MarkLaws
 pub mod MarkLemmas
 pub mod RangeLemmas
 pub mod SameLemmas

@@ -42,20 +42,20 @@ pub bit_here : (bytes : List ℕ) (at : ℕ) (value : Bool) → at < 8 * length 
 unfolding bit with_bit
 bit_here bytes at value inside =
     let new : get_or (set bytes (at / 8) (byte_with (get_or bytes (at / 8) 0) (at % 8) value)) (at / 8) 0 ≡ byte_with (get_or bytes (at / 8) 0) (at % 8) value =
-        get_or-set_same bytes (at / 8) (byte_with (get_or bytes (at / 8) 0) (at % 8) value) 0 (omega arith) in
+    get_or-set_same bytes (at / 8) (byte_with (get_or bytes (at / 8) 0) (at % 8) value) 0 (omega arith) in
     ap (λ byte. bit_of byte (at % 8)) new ∙ same_in_byte (get_or bytes (at / 8) 0) (at % 8) value (omega arith)
 
 pub bit_elsewhere : (bytes : List ℕ) (at other : ℕ) (value : Bool) → at < 8 * length bytes → other ≢ at → bit (with_bit bytes at value) other ≡ bit bytes other
 unfolding bit with_bit
 bit_elsewhere bytes at other value inside differ = ⊎_elim
     (λ same.
-      let new : get_or (set bytes (at / 8) (byte_with (get_or bytes (at / 8) 0) (at % 8) value)) (other / 8) 0 ≡ byte_with (get_or bytes (at / 8) 0) (at % 8) value =
-          ap (λ i. get_or (set bytes (at / 8) (byte_with (get_or bytes (at / 8) 0) (at % 8) value)) i 0) same
-          ∙ get_or-set_same bytes (at / 8) (byte_with (get_or bytes (at / 8) 0) (at % 8) value) 0 (omega arith) in
-      let apart : other % 8 ≢ at % 8 = λ equal. differ (omega arith) in
-      ap (λ byte. bit_of byte (other % 8)) new
-      ∙ other_in_byte (get_or bytes (at / 8) 0) (at % 8) (other % 8) value (omega arith) (omega arith) apart
-      ∙ ap (λ i. bit_of (get_or bytes i 0) (other % 8)) (sym same))
+    let new : get_or (set bytes (at / 8) (byte_with (get_or bytes (at / 8) 0) (at % 8) value)) (other / 8) 0 ≡ byte_with (get_or bytes (at / 8) 0) (at % 8) value =
+    ap (λ i. get_or (set bytes (at / 8) (byte_with (get_or bytes (at / 8) 0) (at % 8) value)) i 0) same
+    ∙ get_or-set_same bytes (at / 8) (byte_with (get_or bytes (at / 8) 0) (at % 8) value) 0 (omega arith) in
+    let apart : other % 8 ≢ at % 8 = λ equal. differ (omega arith) in
+    ap (λ byte. bit_of byte (other % 8)) new
+    ∙ other_in_byte (get_or bytes (at / 8) 0) (at % 8) (other % 8) value (omega arith) (omega arith) apart
+    ∙ ap (λ i. bit_of (get_or bytes i 0) (other % 8)) (sym same))
     (λ apart. ap (λ byte. bit_of byte (other % 8)) (get_or-set_other bytes (at / 8) (other / 8) (byte_with (get_or bytes (at / 8) 0) (at % 8) value) 0 apart))
     (cases_eq (other / 8) (at / 8))
 

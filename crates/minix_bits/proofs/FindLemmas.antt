@@ -48,8 +48,8 @@ pub sector_taken : (past : Option Past) (volume : Volume) (bitmap : Bitmap) (byt
 sector_taken past volume bitmap bytes avoid old new at base end need from base_is end_is order held taken =
     told_map past (λ now. bytes ≡ sector_of volume now (sector_with bitmap at)) (λ now. new ≡ take need (old ++ free_from (is_free_on volume now bitmap avoid) at (end_of bitmap at - at)))
     (λ now is. taken ∙ ap (λ (xs : List ℕ). take need (old ++ xs)) (
-      same_free (is_free_in bytes base avoid) (is_free_on volume now bitmap avoid) at (end - at) (λ m low high. same_in volume now bitmap bytes avoid at from is base end m base_is end_is low (omega arith))
-      ∙ ap (λ (e : ℕ). free_from (is_free_on volume now bitmap avoid) at (e - at)) end_is))
+    same_free (is_free_in bytes base avoid) (is_free_on volume now bitmap avoid) at (end - at) (λ m low high. same_in volume now bitmap bytes avoid at from is base end m base_is end_is low (omega arith))
+    ∙ ap (λ (e : ℕ). free_from (is_free_on volume now bitmap avoid) at (e - at)) end_is))
     held
 
 pub sector_lowest : (past : Option Past) (volume : Volume) (bitmap : Bitmap) (bytes avoid : List ℕ) (found : Option ℕ) (at base end : ℕ)
@@ -60,8 +60,8 @@ pub sector_lowest : (past : Option Past) (volume : Volume) (bitmap : Bitmap) (by
 sector_lowest past volume bitmap bytes avoid found at base end from base_is end_is held lowest =
     told_map past (λ now. bytes ≡ sector_of volume now (sector_with bitmap at)) (λ now. IsLowest (is_free_on volume now bitmap avoid) at (end_of bitmap at) found)
     (λ now is.
-      let P : ℕ → Type 0 = λ e. IsLowest (is_free_on volume now bitmap avoid) at e found in
-      subst P end_is (same_lowest (is_free_in bytes base avoid) (is_free_on volume now bitmap avoid) at end found (λ m low high. same_in volume now bitmap bytes avoid at from is base end m base_is end_is low high) lowest))
+    let P : ℕ → Type 0 = λ e. IsLowest (is_free_on volume now bitmap avoid) at e found in
+    subst P end_is (same_lowest (is_free_in bytes base avoid) (is_free_on volume now bitmap avoid) at end found (λ m low high. same_in volume now bitmap bytes avoid at from is base end m base_is end_is low high) lowest))
     held
 
 -- ---- the marks of a volume
@@ -122,8 +122,8 @@ module _ (volume : Volume) (image : Image) (bitmap : Bitmap) (avoid : List ℕ) 
   all_zones need at found from order taken enough = ⊎_elim
       (λ left. took_so_many (is_free_on volume image bitmap avoid) need (bitmap.origin + 1) at bitmap.end [] found from taken order (enough left) ∙ ap (take need) bitmap_zones)
       (λ behind.
-        let ended : at ≡ bitmap.end = omega arith in
-        taken ∙ ap (λ (e : ℕ). take need (free_from (is_free_on volume image bitmap avoid) (bitmap.origin + 1) (e - (bitmap.origin + 1)))) ended ∙ ap (take need) bitmap_zones)
+      let ended : at ≡ bitmap.end = omega arith in
+      taken ∙ ap (λ (e : ℕ). take need (free_from (is_free_on volume image bitmap avoid) (bitmap.origin + 1) (e - (bitmap.origin + 1)))) ended ∙ ap (take need) bitmap_zones)
       (cases_lt at bitmap.end)
 
 -- enough zones
@@ -174,9 +174,9 @@ module _ (past : Option Past) (volume : Volume) (bitmap : Bitmap) (avoid found :
   zones_more next behind later then =
       told_both past (λ now. Taken volume now bitmap avoid need at found) (λ now. next ≡ take need (found ++ free_from (is_free_on volume now bitmap avoid) at (behind - at))) (λ now. Taken volume now bitmap avoid need behind next)
       (λ now took more.
-        let test : ℕ → Bool = is_free_on volume now bitmap avoid in
-        took_more need (free_from test (bitmap.origin + 1) (at - (bitmap.origin + 1))) found took (free_from test at (behind - at)) next more
-        ∙ ap (take need) (sym (free_split test (bitmap.origin + 1) (at - (bitmap.origin + 1)) (behind - at) (behind - (bitmap.origin + 1)) at (omega (arith, from, later)) (omega (arith, from)))))
+      let test : ℕ → Bool = is_free_on volume now bitmap avoid in
+      took_more need (free_from test (bitmap.origin + 1) (at - (bitmap.origin + 1))) found took (free_from test at (behind - at)) next more
+      ∙ ap (take need) (sym (free_split test (bitmap.origin + 1) (at - (bitmap.origin + 1)) (behind - at) (behind - (bitmap.origin + 1)) at (omega (arith, from, later)) (omega (arith, from)))))
       taken then
 
 -- ---- the lowest inode
@@ -188,7 +188,7 @@ inode_is volume image bitmap avoid found is lowest =
     let ends : Bitmap → ℕ = λ b. b.end in
     let test : ℕ → Bool = is_free (parts_of volume image).has_inode avoid in
     let same : IsLowest test 1 bitmap.end found =
-        same_lowest (is_free_on volume image bitmap avoid) test 1 bitmap.end found (λ m low high. ap (λ (b : Bitmap). is_free_on volume image b avoid m) is ∙ free_inode volume image avoid m) lowest in
+    same_lowest (is_free_on volume image bitmap avoid) test 1 bitmap.end found (λ m low high. ap (λ (b : Bitmap). is_free_on volume image b avoid m) is ∙ free_inode volume image avoid m) lowest in
     sym (find_lowest test 1 volume.layout.inodes bitmap.end found (omega (arith, ap ends is)) same)
 
 lowest_behind : (p : ℕ → Bool) (at end last : ℕ) (found : Option ℕ) → is_some found ≡ true → 1 ≤ at → end ≤ last → ((m : ℕ) → 1 ≤ m → m < at → p m ≡ false)

@@ -102,12 +102,12 @@ module _ (volume : Volume) (image : Image) (zone : ℕ) (value : Bool) (is : IsS
   unfolding new
   zone_other other low apart = ⊎_elim
       (λ same.
-        let one : zone_mark_sector volume.layout other ≡ sector = omega arith in
-        let differ : zone_bit volume.layout other % 4096 ≢ at = λ equal. apart (omega arith) in
-        has_zone_beside volume image sector at value long within other one differ)
+      let one : zone_mark_sector volume.layout other ≡ sector = omega arith in
+      let differ : zone_bit volume.layout other % 4096 ≢ at = λ equal. apart (omega arith) in
+      has_zone_beside volume image sector at value long within other one differ)
       (λ differ.
-        let two : zone_mark_sector volume.layout other ≢ sector = λ equal. differ (omega arith) in
-        has_zone_same volume image sector at value long within other two)
+      let two : zone_mark_sector volume.layout other ≢ sector = λ equal. differ (omega arith) in
+      has_zone_same volume image sector at value long within other two)
       (cases_eq (zone_bit volume.layout other / 4096) (zone_bit volume.layout zone / 4096))
 
   pub one_zone_mark : OneZoneMark volume (parts_of volume image) (parts_of volume (with_mark volume image sector at value)) zone value
@@ -156,12 +156,12 @@ module _ (volume : Volume) (image : Image) (inode : ℕ) (value : Bool) (is : Is
   unfolding new
   inode_other other apart = ⊎_elim
       (λ same.
-        let one : inode_mark_sector other ≡ mark_sector = omega arith in
-        let differ : other % 4096 ≢ mark_bit = λ equal. apart (omega arith) in
-        has_inode_beside volume image mark_sector mark_bit value long bit_within other one differ)
+      let one : inode_mark_sector other ≡ mark_sector = omega arith in
+      let differ : other % 4096 ≢ mark_bit = λ equal. apart (omega arith) in
+      has_inode_beside volume image mark_sector mark_bit value long bit_within other one differ)
       (λ differ.
-        let two : inode_mark_sector other ≢ mark_sector = λ equal. differ (omega arith) in
-        has_inode_same volume image mark_sector mark_bit value long bit_within other two)
+      let two : inode_mark_sector other ≢ mark_sector = λ equal. differ (omega arith) in
+      has_inode_same volume image mark_sector mark_bit value long bit_within other two)
       (cases_eq (other / 4096) (inode / 4096))
 
   pub one_inode_mark : OneInodeMark volume (parts_of volume image) (parts_of volume (with_mark volume image mark_sector mark_bit value)) inode value

@@ -63,17 +63,17 @@ find_lowest p a (suc n) end None is lowest =
     rw here (find_lowest p (a + 1) n end None (omega arith) (λ m low high. lowest m (omega arith) high))
 find_lowest p a (suc n) end (Some m) is lowest = ⊎_elim
     (λ before.
-      let here : p a ≡ false = lowest.none_before a (omega arith) before in
-      rw here (find_lowest p (a + 1) n end (Some m) (omega arith) (record {
-        from_on = omega arith;
-        below = lowest.below;
-        passes = lowest.passes;
-        none_before = λ k low high. lowest.none_before k (omega arith) high;
-      })))
+    let here : p a ≡ false = lowest.none_before a (omega arith) before in
+    rw here (find_lowest p (a + 1) n end (Some m) (omega arith) (record {
+      from_on = omega arith;
+      below = lowest.below;
+      passes = lowest.passes;
+      none_before = λ k low high. lowest.none_before k (omega arith) high;
+    })))
     (λ at.
-      let same : m ≡ a = omega (arith, at, lowest.from_on) in
-      let here : p a ≡ true = ap p (sym same) ∙ lowest.passes in
-      rw here (ap Some (sym same)))
+    let same : m ≡ a = omega (arith, at, lowest.from_on) in
+    let here : p a ≡ true = ap p (sym same) ∙ lowest.passes in
+    rw here (ap Some (sym same)))
     (cases_lt a m)
 
 -- ---- so many of some numbers, one after another
@@ -116,7 +116,7 @@ module _ (p : ℕ → Bool) (need start at end : ℕ) (old found : List ℕ) (fr
   took_next n few least =
       let low = least.from_on in
       let part : free_from p start (n + 1 - start) ≡ free_from p start (at - start) ++ free_from p at (n + 1 - at) =
-          free_split p start (at - start) (n + 1 - at) (n + 1 - start) at (omega (arith, low, from)) (omega (arith, from)) in
+      free_split p start (at - start) (n + 1 - at) (n + 1 - start) at (omega (arith, low, from)) (omega (arith, from)) in
       let one : free_from p at (n + 1 - at) ≡ n ∷ [] = last_free p at (n + 1 - at) n low refl least.passes least.none_before in
       took_one need (old ++ free_from p start (at - start)) found is n few
       ∙ ap (take need) (append_assoc old (free_from p start (at - start)) (n ∷ []) ∙ ap (λ (xs : List ℕ). old ++ xs) (sym (part ∙ ap (λ (xs : List ℕ). free_from p start (at - start) ++ xs) one)))

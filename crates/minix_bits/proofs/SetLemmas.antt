@@ -32,17 +32,17 @@ any_free : (p : ℕ → Bool) (a count n : ℕ) → a ≤ n → n < a + count �
 any_free p a zero n from below = absurd (omega arith)
 any_free p a (suc count) n from below = ⊎_elim
     (λ later.
-      let rest : list_any (λ other. n == other) (free_from p (a + 1) count) ≡ p n = any_free p (a + 1) count n (omega arith) (omega arith) in
-      let differ : (n == a) ≡ false = grind (arith, nat_tests) in
-      ⊎_elim (λ is. rw is (ap₂ (λ (b c : Bool). b || c) differ rest)) (λ is. rw is rest) (cases_Bool (p a)))
+    let rest : list_any (λ other. n == other) (free_from p (a + 1) count) ≡ p n = any_free p (a + 1) count n (omega arith) (omega arith) in
+    let differ : (n == a) ≡ false = grind (arith, nat_tests) in
+    ⊎_elim (λ is. rw is (ap₂ (λ (b c : Bool). b || c) differ rest)) (λ is. rw is rest) (cases_Bool (p a)))
     (λ here.
-      let same : n ≡ a = omega arith in
-      let equal : (n == a) ≡ true = grind (arith, nat_tests) in
-      let rest : list_any (λ other. n == other) (free_from p (a + 1) count) ≡ false = any_below p (a + 1) count n (omega arith) in
-      ⊎_elim
-          (λ is. let yes : p n ≡ true = ap p same ∙ is in rw is (ap (λ (b : Bool). b || list_any (λ other. n == other) (free_from p (a + 1) count)) equal ∙ sym yes))
-          (λ is. let no : p n ≡ false = ap p same ∙ is in rw is (rest ∙ sym no))
-          (cases_Bool (p a)))
+    let same : n ≡ a = omega arith in
+    let equal : (n == a) ≡ true = grind (arith, nat_tests) in
+    let rest : list_any (λ other. n == other) (free_from p (a + 1) count) ≡ false = any_below p (a + 1) count n (omega arith) in
+    ⊎_elim
+    (λ is. let yes : p n ≡ true = ap p same ∙ is in rw is (ap (λ (b : Bool). b || list_any (λ other. n == other) (free_from p (a + 1) count)) equal ∙ sym yes))
+    (λ is. let no : p n ≡ false = ap p same ∙ is in rw is (rest ∙ sym no))
+    (cases_Bool (p a)))
     (cases_lt a n)
 
 pub has_by_bit : (bytes : List ℕ) (below n : ℕ) → n < below → has_number (numbers_in bytes below) n ≡ bit bytes n
@@ -115,9 +115,9 @@ filter_both : (p q : ℕ → Bool) (xs : List ℕ) → filter q (filter p xs) �
 filter_both p q [] = refl
 filter_both p q (x ∷ xs) = ⊎_elim
     (λ (is : p x ≡ true). rw is (⊎_elim
-      (λ (yes : q x ≡ true). rw yes (ap (λ (ys : List ℕ). x ∷ ys) (filter_both p q xs)))
-      (λ (no : q x ≡ false). rw no (filter_both p q xs))
-      (cases_Bool (q x))))
+    (λ (yes : q x ≡ true). rw yes (ap (λ (ys : List ℕ). x ∷ ys) (filter_both p q xs)))
+    (λ (no : q x ≡ false). rw no (filter_both p q xs))
+    (cases_Bool (q x))))
     (λ (is : p x ≡ false). rw is (filter_both p q xs))
     (cases_Bool (p x))
 

@@ -12,13 +12,13 @@ use Rattle.minix_bits.specs.Bits.{with_bit}
 abbrev pub sector_on_disk : {D : Type 0} {disks : Ghosts D} → Volume D disks → ℕ → ℕ
 sector_on_disk volume sector = volume.span.start + sector
 
--- the sector with a zone's mark
-abbrev pub zone_sector : {D : Type 0} {disks : Ghosts D} → Volume D disks → ℕ → ℕ
-zone_sector volume zone = sector_on_disk volume (zone_mark_sector (super_view volume.layout) zone)
+-- the sector with a zone's mark, counted from the start of the disk
+abbrev pub zone_mark_on_disk : {D : Type 0} {disks : Ghosts D} → Volume D disks → ℕ → ℕ
+zone_mark_on_disk volume zone = sector_on_disk volume (zone_mark_sector (super_view volume.layout) zone)
 
--- the sector with an inode's mark
-abbrev pub inode_sector : {D : Type 0} {disks : Ghosts D} → Volume D disks → ℕ → ℕ
-inode_sector volume inode = sector_on_disk volume (inode_mark_sector inode)
+-- the sector with an inode's mark, counted from the start of the disk
+abbrev pub inode_mark_on_disk : {D : Type 0} {disks : Ghosts D} → Volume D disks → ℕ → ℕ
+inode_mark_on_disk volume inode = sector_on_disk volume (inode_mark_sector inode)
 
 -- the bytes of a sector of a volume now, with one bit set or cleared
 abbrev pub remarked : {D : Type 0} {disks : Ghosts D} → Volume D disks → ℕ → ℕ → Bool → List ℕ

@@ -109,7 +109,7 @@ fn take_in_sector<D: Disks>(
     requires few { length found.old.items ≤ need }
     ensures taken { OnOk result (Told (past_of volume.old) (λ now. found.new.items ≡ take need (found.old.items
         ++ free_from (is_free_on (volume_view volume.old) now bitmap.now avoid.now.numbers) at
-            (end_of bitmap.now at - at)))) }
+        (end_of bitmap.now at - at)))) }
     ensures few { OnOk result (length found.new.items ≤ need) }
     ensures inside { All (IsNumberOf bitmap.now) found.old.items → OnOk result (All (IsNumberOf bitmap.now) found.new.items) }
     ensures cause { IfErr result (HasSectorCause (faults_of volume.old) (faults_of volume.new)) }

@@ -7,7 +7,7 @@ ghost use Rattle.lilo_model.specs.MinixLayout.{super_sector};
 ghost use Rattle.lilo_model.specs.MinixParts.{sector_of};
 ghost use Rattle.minix_zones.specs.Volume.{volume_view, past_of, faults_of, sizes_of, count_of, geometries_of, KeepsVolume, SameVolume};
 ghost use Rattle.minix_bits.specs.Bits.{with_bit};
-ghost use Rattle.minix_bits.specs.Mark.{sector_on_disk, zone_sector, inode_sector, remarked, zone_remarked, inode_remarked};
+ghost use Rattle.minix_bits.specs.Mark.{sector_on_disk, zone_mark_on_disk, inode_mark_on_disk, remarked, zone_remarked, inode_remarked};
 
 use crate::bit_fault::BitFault;
 use crate::bitmap::{SECTOR_BITS, inode_bitmap, zone_bitmap};
@@ -29,16 +29,20 @@ pub fn mark_zone<D: Disks>(volume: &mut Volume<'_, D>, n: u32) -> Result<(), Bit
 
     // What the disks hold now, and what they held at the last flush.
     ensures written { IsTold (past_of volume.old) → OnOk result (now (past_of volume.new)
-        ≡ with_sector (now (past_of volume.old)) volume.old.span.disk (zone_sector volume.old n) (zone_remarked volume.old n true)) }
+        ≡ with_sector (now (past_of volume.old)) volume.old.span.disk (zone_mark_on_disk volume.old n)
+        (zone_remarked volume.old n true)) }
     ensures made { IsTold (past_of volume.old) → (now (past_of volume.new)
-        ≡ with_sector (now (past_of volume.old)) volume.old.span.disk (zone_sector volume.old n) (zone_remarked volume.old n true))
+        ≡ with_sector (now (past_of volume.old)) volume.old.span.disk (zone_mark_on_disk volume.old n)
+        (zone_remarked volume.old n true))
         ⊎ (now (past_of volume.new) ≡ now (past_of volume.old)) }
     ensures begun { begun (past_of volume.new) ≡ begun (past_of volume.old) }
 
     // What a stop may leave after the call, and at any moment of it.
-    ensures left { MayWrite volume.old.span.disk (zone_sector volume.old n) (zone_remarked volume.old n true) (past_of volume.old) (past_of volume.new) }
+    ensures left { MayWrite volume.old.span.disk (zone_mark_on_disk volume.old n) (zone_remarked volume.old n true)
+        (past_of volume.old) (past_of volume.new) }
     ensures any_moment { LeavesOnly (past_of volume.old) (past_of volume.new)
-        (LeftOrWritten (past_of volume.old) volume.old.span.disk (zone_sector volume.old n) (zone_remarked volume.old n true)) }
+        (LeftOrWritten (past_of volume.old) volume.old.span.disk (zone_mark_on_disk volume.old n)
+        (zone_remarked volume.old n true)) }
     ensures at_now { IsTold (past_of volume.new) → MayLeave (past_of volume.new) (now (past_of volume.new)) }
     ensures whole { IsWhole (sizes_of volume.old) (past_of volume.old)
         → StaysWhole (sizes_of volume.old) (past_of volume.old) (past_of volume.new) }
@@ -68,16 +72,20 @@ pub fn clear_zone<D: Disks>(volume: &mut Volume<'_, D>, n: u32) -> Result<(), Bi
 
     // What the disks hold now, and what they held at the last flush.
     ensures written { IsTold (past_of volume.old) → OnOk result (now (past_of volume.new)
-        ≡ with_sector (now (past_of volume.old)) volume.old.span.disk (zone_sector volume.old n) (zone_remarked volume.old n false)) }
+        ≡ with_sector (now (past_of volume.old)) volume.old.span.disk (zone_mark_on_disk volume.old n)
+        (zone_remarked volume.old n false)) }
     ensures made { IsTold (past_of volume.old) → (now (past_of volume.new)
-        ≡ with_sector (now (past_of volume.old)) volume.old.span.disk (zone_sector volume.old n) (zone_remarked volume.old n false))
+        ≡ with_sector (now (past_of volume.old)) volume.old.span.disk (zone_mark_on_disk volume.old n)
+        (zone_remarked volume.old n false))
         ⊎ (now (past_of volume.new) ≡ now (past_of volume.old)) }
     ensures begun { begun (past_of volume.new) ≡ begun (past_of volume.old) }
 
     // What a stop may leave after the call, and at any moment of it.
-    ensures left { MayWrite volume.old.span.disk (zone_sector volume.old n) (zone_remarked volume.old n false) (past_of volume.old) (past_of volume.new) }
+    ensures left { MayWrite volume.old.span.disk (zone_mark_on_disk volume.old n) (zone_remarked volume.old n false)
+        (past_of volume.old) (past_of volume.new) }
     ensures any_moment { LeavesOnly (past_of volume.old) (past_of volume.new)
-        (LeftOrWritten (past_of volume.old) volume.old.span.disk (zone_sector volume.old n) (zone_remarked volume.old n false)) }
+        (LeftOrWritten (past_of volume.old) volume.old.span.disk (zone_mark_on_disk volume.old n)
+        (zone_remarked volume.old n false)) }
     ensures at_now { IsTold (past_of volume.new) → MayLeave (past_of volume.new) (now (past_of volume.new)) }
     ensures whole { IsWhole (sizes_of volume.old) (past_of volume.old)
         → StaysWhole (sizes_of volume.old) (past_of volume.old) (past_of volume.new) }
@@ -107,16 +115,20 @@ pub fn mark_inode<D: Disks>(volume: &mut Volume<'_, D>, n: u32) -> Result<(), Bi
 
     // What the disks hold now, and what they held at the last flush.
     ensures written { IsTold (past_of volume.old) → OnOk result (now (past_of volume.new)
-        ≡ with_sector (now (past_of volume.old)) volume.old.span.disk (inode_sector volume.old n) (inode_remarked volume.old n true)) }
+        ≡ with_sector (now (past_of volume.old)) volume.old.span.disk (inode_mark_on_disk volume.old n)
+        (inode_remarked volume.old n true)) }
     ensures made { IsTold (past_of volume.old) → (now (past_of volume.new)
-        ≡ with_sector (now (past_of volume.old)) volume.old.span.disk (inode_sector volume.old n) (inode_remarked volume.old n true))
+        ≡ with_sector (now (past_of volume.old)) volume.old.span.disk (inode_mark_on_disk volume.old n)
+        (inode_remarked volume.old n true))
         ⊎ (now (past_of volume.new) ≡ now (past_of volume.old)) }
     ensures begun { begun (past_of volume.new) ≡ begun (past_of volume.old) }
 
     // What a stop may leave after the call, and at any moment of it.
-    ensures left { MayWrite volume.old.span.disk (inode_sector volume.old n) (inode_remarked volume.old n true) (past_of volume.old) (past_of volume.new) }
+    ensures left { MayWrite volume.old.span.disk (inode_mark_on_disk volume.old n) (inode_remarked volume.old n true)
+        (past_of volume.old) (past_of volume.new) }
     ensures any_moment { LeavesOnly (past_of volume.old) (past_of volume.new)
-        (LeftOrWritten (past_of volume.old) volume.old.span.disk (inode_sector volume.old n) (inode_remarked volume.old n true)) }
+        (LeftOrWritten (past_of volume.old) volume.old.span.disk (inode_mark_on_disk volume.old n)
+        (inode_remarked volume.old n true)) }
     ensures at_now { IsTold (past_of volume.new) → MayLeave (past_of volume.new) (now (past_of volume.new)) }
     ensures whole { IsWhole (sizes_of volume.old) (past_of volume.old)
         → StaysWhole (sizes_of volume.old) (past_of volume.old) (past_of volume.new) }
@@ -146,16 +158,20 @@ pub fn clear_inode<D: Disks>(volume: &mut Volume<'_, D>, n: u32) -> Result<(), B
 
     // What the disks hold now, and what they held at the last flush.
     ensures written { IsTold (past_of volume.old) → OnOk result (now (past_of volume.new)
-        ≡ with_sector (now (past_of volume.old)) volume.old.span.disk (inode_sector volume.old n) (inode_remarked volume.old n false)) }
+        ≡ with_sector (now (past_of volume.old)) volume.old.span.disk (inode_mark_on_disk volume.old n)
+        (inode_remarked volume.old n false)) }
     ensures made { IsTold (past_of volume.old) → (now (past_of volume.new)
-        ≡ with_sector (now (past_of volume.old)) volume.old.span.disk (inode_sector volume.old n) (inode_remarked volume.old n false))
+        ≡ with_sector (now (past_of volume.old)) volume.old.span.disk (inode_mark_on_disk volume.old n)
+        (inode_remarked volume.old n false))
         ⊎ (now (past_of volume.new) ≡ now (past_of volume.old)) }
     ensures begun { begun (past_of volume.new) ≡ begun (past_of volume.old) }
 
     // What a stop may leave after the call, and at any moment of it.
-    ensures left { MayWrite volume.old.span.disk (inode_sector volume.old n) (inode_remarked volume.old n false) (past_of volume.old) (past_of volume.new) }
+    ensures left { MayWrite volume.old.span.disk (inode_mark_on_disk volume.old n) (inode_remarked volume.old n false)
+        (past_of volume.old) (past_of volume.new) }
     ensures any_moment { LeavesOnly (past_of volume.old) (past_of volume.new)
-        (LeftOrWritten (past_of volume.old) volume.old.span.disk (inode_sector volume.old n) (inode_remarked volume.old n false)) }
+        (LeftOrWritten (past_of volume.old) volume.old.span.disk (inode_mark_on_disk volume.old n)
+        (inode_remarked volume.old n false)) }
     ensures at_now { IsTold (past_of volume.new) → MayLeave (past_of volume.new) (now (past_of volume.new)) }
     ensures whole { IsWhole (sizes_of volume.old) (past_of volume.old)
         → StaysWhole (sizes_of volume.old) (past_of volume.old) (past_of volume.new) }
@@ -180,16 +196,20 @@ fn put_zone_mark<D: Disks>(volume: &mut Volume<'_, D>, n: u32, value: bool) -> R
 
     // What the disks hold now, and what they held at the last flush.
     ensures written { IsTold (past_of volume.old) → OnOk result (now (past_of volume.new)
-        ≡ with_sector (now (past_of volume.old)) volume.old.span.disk (zone_sector volume.old n) (zone_remarked volume.old n value)) }
+        ≡ with_sector (now (past_of volume.old)) volume.old.span.disk (zone_mark_on_disk volume.old n)
+        (zone_remarked volume.old n value)) }
     ensures made { IsTold (past_of volume.old) → (now (past_of volume.new)
-        ≡ with_sector (now (past_of volume.old)) volume.old.span.disk (zone_sector volume.old n) (zone_remarked volume.old n value))
+        ≡ with_sector (now (past_of volume.old)) volume.old.span.disk (zone_mark_on_disk volume.old n)
+        (zone_remarked volume.old n value))
         ⊎ (now (past_of volume.new) ≡ now (past_of volume.old)) }
     ensures begun { begun (past_of volume.new) ≡ begun (past_of volume.old) }
 
     // What a stop may leave after the call, and at any moment of it.
-    ensures left { MayWrite volume.old.span.disk (zone_sector volume.old n) (zone_remarked volume.old n value) (past_of volume.old) (past_of volume.new) }
+    ensures left { MayWrite volume.old.span.disk (zone_mark_on_disk volume.old n) (zone_remarked volume.old n value)
+        (past_of volume.old) (past_of volume.new) }
     ensures any_moment { LeavesOnly (past_of volume.old) (past_of volume.new)
-        (LeftOrWritten (past_of volume.old) volume.old.span.disk (zone_sector volume.old n) (zone_remarked volume.old n value)) }
+        (LeftOrWritten (past_of volume.old) volume.old.span.disk (zone_mark_on_disk volume.old n)
+        (zone_remarked volume.old n value)) }
     ensures at_now { IsTold (past_of volume.new) → MayLeave (past_of volume.new) (now (past_of volume.new)) }
     ensures whole { IsWhole (sizes_of volume.old) (past_of volume.old)
         → StaysWhole (sizes_of volume.old) (past_of volume.old) (past_of volume.new) }
@@ -217,16 +237,20 @@ fn put_inode_mark<D: Disks>(volume: &mut Volume<'_, D>, n: u32, value: bool) -> 
 
     // What the disks hold now, and what they held at the last flush.
     ensures written { IsTold (past_of volume.old) → OnOk result (now (past_of volume.new)
-        ≡ with_sector (now (past_of volume.old)) volume.old.span.disk (inode_sector volume.old n) (inode_remarked volume.old n value)) }
+        ≡ with_sector (now (past_of volume.old)) volume.old.span.disk (inode_mark_on_disk volume.old n)
+        (inode_remarked volume.old n value)) }
     ensures made { IsTold (past_of volume.old) → (now (past_of volume.new)
-        ≡ with_sector (now (past_of volume.old)) volume.old.span.disk (inode_sector volume.old n) (inode_remarked volume.old n value))
+        ≡ with_sector (now (past_of volume.old)) volume.old.span.disk (inode_mark_on_disk volume.old n)
+        (inode_remarked volume.old n value))
         ⊎ (now (past_of volume.new) ≡ now (past_of volume.old)) }
     ensures begun { begun (past_of volume.new) ≡ begun (past_of volume.old) }
 
     // What a stop may leave after the call, and at any moment of it.
-    ensures left { MayWrite volume.old.span.disk (inode_sector volume.old n) (inode_remarked volume.old n value) (past_of volume.old) (past_of volume.new) }
+    ensures left { MayWrite volume.old.span.disk (inode_mark_on_disk volume.old n) (inode_remarked volume.old n value)
+        (past_of volume.old) (past_of volume.new) }
     ensures any_moment { LeavesOnly (past_of volume.old) (past_of volume.new)
-        (LeftOrWritten (past_of volume.old) volume.old.span.disk (inode_sector volume.old n) (inode_remarked volume.old n value)) }
+        (LeftOrWritten (past_of volume.old) volume.old.span.disk (inode_mark_on_disk volume.old n)
+        (inode_remarked volume.old n value)) }
     ensures at_now { IsTold (past_of volume.new) → MayLeave (past_of volume.new) (now (past_of volume.new)) }
     ensures whole { IsWhole (sizes_of volume.old) (past_of volume.old)
         → StaysWhole (sizes_of volume.old) (past_of volume.old) (past_of volume.new) }
@@ -259,16 +283,20 @@ fn put_mark<D: Disks>(
 
     // What the disks hold now, and what they held at the last flush.
     ensures written { IsTold (past_of volume.old) → OnOk result (now (past_of volume.new)
-        ≡ with_sector (now (past_of volume.old)) volume.old.span.disk (sector_on_disk volume.old sector) (remarked volume.old sector at value)) }
+        ≡ with_sector (now (past_of volume.old)) volume.old.span.disk (sector_on_disk volume.old sector)
+        (remarked volume.old sector at value)) }
     ensures made { IsTold (past_of volume.old) → (now (past_of volume.new)
-        ≡ with_sector (now (past_of volume.old)) volume.old.span.disk (sector_on_disk volume.old sector) (remarked volume.old sector at value))
+        ≡ with_sector (now (past_of volume.old)) volume.old.span.disk (sector_on_disk volume.old sector)
+        (remarked volume.old sector at value))
         ⊎ (now (past_of volume.new) ≡ now (past_of volume.old)) }
     ensures begun { begun (past_of volume.new) ≡ begun (past_of volume.old) }
 
     // What a stop may leave after the call, and at any moment of it.
-    ensures left { MayWrite volume.old.span.disk (sector_on_disk volume.old sector) (remarked volume.old sector at value) (past_of volume.old) (past_of volume.new) }
+    ensures left { MayWrite volume.old.span.disk (sector_on_disk volume.old sector) (remarked volume.old sector at value)
+        (past_of volume.old) (past_of volume.new) }
     ensures any_moment { LeavesOnly (past_of volume.old) (past_of volume.new)
-        (LeftOrWritten (past_of volume.old) volume.old.span.disk (sector_on_disk volume.old sector) (remarked volume.old sector at value)) }
+        (LeftOrWritten (past_of volume.old) volume.old.span.disk (sector_on_disk volume.old sector)
+        (remarked volume.old sector at value)) }
     ensures at_now { IsTold (past_of volume.new) → MayLeave (past_of volume.new) (now (past_of volume.new)) }
     ensures whole { IsWhole (sizes_of volume.old) (past_of volume.old)
         → StaysWhole (sizes_of volume.old) (past_of volume.old) (past_of volume.new) }

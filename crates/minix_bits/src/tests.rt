@@ -26,7 +26,7 @@ fn disks_with(
         sectors: 8 + 2 * zones,
         geometry,
     };
-    let mut disks = MemDisks::new(alloc, &[disk], 2, failing)?;
+    let mut disks = MemDisks::new(alloc, &[disk], 4, failing)?;
     put(&mut disks, 2, &superblock(zones));
     for (sector, bytes) in marks {
         put(&mut disks, *sector, bytes);
@@ -122,8 +122,14 @@ fn free_zones(
 fn lowest_free_zones(rt: HostRuntime) -> Result<(), Fail> {
     let map = bytes([0b0001_0111, 0xFF, 0, 0, 0]);
     let alloc = rt.alloc();
-    assert_eq!(rt; free_zones(&rt, alloc, map, 3, &[7, 10])?, Found::Zones(vec![in alloc; 9, 11, 20]?));
-    assert_eq!(rt; free_zones(&rt, alloc, map, 0, &[])?, Found::Zones(Vec::new(alloc)));
+    assert_eq!(rt;
+        free_zones(&rt, alloc, map, 3, &[7, 10])?,
+        Found::Zones(vec![in alloc; 9, 11, 20]?)
+    );
+    assert_eq!(rt;
+        free_zones(&rt, alloc, map, 0, &[])?,
+        Found::Zones(Vec::new(alloc))
+    );
     Ok(())
 }
 
@@ -134,7 +140,10 @@ fn too_few_free_zones(rt: HostRuntime) -> Result<(), Fail> {
     let alloc = rt.alloc();
     let short = Found::Fault(BitFault::NoSpace { need: 3, found: 2 });
     assert_eq!(rt; free_zones(&rt, alloc, map, 3, &[])?, short);
-    assert_eq!(rt; free_zones(&rt, alloc, map, 2, &[])?, Found::Zones(vec![in alloc; 37, 39]?));
+    assert_eq!(rt;
+        free_zones(&rt, alloc, map, 2, &[])?,
+        Found::Zones(vec![in alloc; 37, 39]?)
+    );
     let none = Found::Fault(BitFault::NoSpace { need: 1, found: 0 });
     assert_eq!(rt; free_zones(&rt, alloc, map, 1, &[39, 37])?, none);
     Ok(())
@@ -189,5 +198,82 @@ fn mark_leaves_its_neighbours(rt: HostRuntime) -> Result<(), Fail> {
     assert_eq!(rt; mark_zone(&mut volume, 12), Ok(()));
     assert!(rt; sector(&rt, &mut volume, 6)? == bytes([0xA5, 0x5B, 0xC3, 0, 0]));
     assert!(rt; *volume.layout() == layout);
+    Ok(())
+}
+
+// Zone 13 has bit 9, which is set, and inode 5 bit 5.
+#[test]
+fn cleared_mark_leaves_its_neighbours(rt: HostRuntime) -> Result<(), Fail> {
+    let map = bytes([0xA5, 0x5A, 0xC3, 0, 0]);
+    let mut disks = disks_with(rt.alloc(), 40, &[(4, map), (6, map)], &[])?;
+    let mut volume = attach(&rt, &mut disks, 80)?;
+    assert!(rt; volume.layout().first == 5 && volume.layout().zones == 40);
+    assert_eq!(rt; clear_zone(&mut volume, 13), Ok(()));
+    assert!(rt; volume.layout().inodes == 16);
+    assert_eq!(rt; clear_inode(&mut volume, 5), Ok(()));
+    assert!(rt; sector(&rt, &mut volume, 6)? == bytes([0xA5, 0x58, 0xC3, 0, 0]));
+    assert!(rt; sector(&rt, &mut volume, 4)? == bytes([0x85, 0x5A, 0xC3, 0, 0]));
+    Ok(())
+}
+
+// Inode 3 has bit 3; it is marked twice. Zone 39 has bit 35, which isn't set.
+#[test]
+fn mark_that_stands_stays(rt: HostRuntime) -> Result<(), Fail> {
+    let map = bytes([0xA5, 0x5A, 0xC3, 0, 0]);
+    let mut disks = disks_with(rt.alloc(), 40, &[(4, map), (6, map)], &[])?;
+    let mut volume = attach(&rt, &mut disks, 80)?;
+    assert!(rt; volume.layout().inodes == 16);
+    assert_eq!(rt; mark_inode(&mut volume, 3), Ok(()));
+    assert!(rt; volume.layout().inodes == 16);
+    assert_eq!(rt; mark_inode(&mut volume, 3), Ok(()));
+    assert!(rt; volume.layout().first == 5 && volume.layout().zones == 40);
+    assert_eq!(rt; clear_zone(&mut volume, 39), Ok(()));
+    assert!(rt; sector(&rt, &mut volume, 4)? == bytes([0xAD, 0x5A, 0xC3, 0, 0]));
+    assert!(rt; sector(&rt, &mut volume, 6)? == map);
+    Ok(())
+}
+
+// The first sector of the zone bitmap is full: bit 4096, the first of the next one, is zone 4100.
+#[test]
+fn second_sector_of_a_bitmap(rt: HostRuntime) -> Result<(), Fail> {
+    let alloc = rt.alloc();
+    let mut disks = disks_with(alloc, 4200, &[(6, [0xFF; 512])], &[])?;
+    let mut volume = attach(&rt, &mut disks, 8400)?;
+    let avoid = set_with(&rt, alloc, 4200, &[4101])?;
+    assert!(rt; volume.layout().zones == 4200 && avoid.below() == 4200);
+    let list = find_free(alloc, &mut volume, 2, &avoid)?;
+    assert!(rt; list.items() == [4100, 4102].as_slice());
+    assert!(rt; volume.layout().first == 5 && volume.layout().zones == 4200);
+    assert_eq!(rt; mark_zone(&mut volume, 4100), Ok(()));
+    assert!(rt; sector(&rt, &mut volume, 6)? == [0xFF; 512]);
+    assert!(rt; sector(&rt, &mut volume, 7)? == bytes([1, 0, 0, 0, 0]));
+    Ok(())
+}
+
+// A volume's first call is the read of its superblock, so call 1 is the first of a bitmap.
+#[test]
+fn failed_calls(rt: HostRuntime) -> Result<(), Fail> {
+    let failing = [1, 2, 3, 5].map(|call| Failing { call, made: false });
+    let mut disks = disks_with(rt.alloc(), 40, &[], &failing)?;
+    let mut volume = attach(&rt, &mut disks, 80)?;
+    let avoid = NumberSet::new(rt.alloc(), 40)?;
+    assert!(rt; volume.layout().zones == 40 && avoid.below() == 40);
+    assert!(rt; find_free(rt.alloc(), &mut volume, 1, &avoid).is_err());
+    assert!(rt; volume.layout().inodes == 16);
+    assert_eq!(rt; find_inode(&mut volume, &avoid), Err(BitFault::Device));
+    assert!(rt; volume.layout().inodes == 16);
+    assert_eq!(rt; mark_inode(&mut volume, 7), Err(BitFault::Device));
+    assert!(rt; volume.layout().inodes == 16);
+    assert_eq!(rt; mark_inode(&mut volume, 7), Err(BitFault::Device));
+    assert!(rt; sector(&rt, &mut volume, 4)? == [0; 512]);
+    Ok(())
+}
+
+#[test]
+fn numbers_of_a_set(rt: HostRuntime) -> Result<(), Fail> {
+    let set = set_with(&rt, rt.alloc(), 20, &[19, 0, 7, 7])?;
+    assert!(rt; set.below() == 20);
+    assert!(rt; set.has(0) && set.has(7) && set.has(19));
+    assert!(rt; !set.has(1) && !set.has(6) && !set.has(8) && !set.has(18));
     Ok(())
 }

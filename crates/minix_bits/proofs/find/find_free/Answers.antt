@@ -38,7 +38,7 @@ returns-then-len-need-2-clause-zones g c =
     let found = c.loop-at.found.items in
     let few : length found < c.args.need = omega arith in
     let looked : c.loop-at.at < c.zone_bitmap-bitmap.result.end → c.args.need ≤ length found =
-        λ before. elim c.loop-at-test.branch [ then-loop-at-test+else-len-need w ↦ omega arith | else-loop-at-test w ↦ omega arith ] in
+    λ before. elim c.loop-at-test.branch [ then-loop-at-test+else-len-need w ↦ omega arith | else-loop-at-test w ↦ omega arith ] in
     zones_short (past_of c.args.volume.now) (volume_view c.args.volume.now) c.zone_bitmap-bitmap.result c.args.avoid.now.numbers found c.args.need c.loop-at.at c.zone_bitmap-bitmap.ensures.value c.zone_bitmap-bitmap.ensures.origin c.loop-at.invariant.from c.loop-at.invariant.order c.loop-at.invariant.taken
     _ few looked (omega arith)
 

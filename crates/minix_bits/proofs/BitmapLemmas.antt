@@ -1,5 +1,5 @@
 -- What the checks of a superblock say of the bitmaps.
-use Rattle.std.proofs.Common.{◌≡◌, ◌≤◌, ◌<◌, ◌+◌, ◌*◌, ◌-◌, ◌/◌, ◌%◌, ℕ, Bool, true, false, nat_le, nat_lt, ◌&&◌, Result, Ok, refl, arith}
+use Rattle.std.proofs.Common.{◌≡◌, ◌≤◌, ◌<◌, ◌+◌, ◌*◌, ◌-◌, ◌/◌, ℕ, Bool, true, false, nat_le, nat_lt, ◌&&◌, Result, Ok, refl, arith}
 use Rattle.std.proofs.lemmas.Bool.Decides.{nat_tests}
 use Rattle.lilo_model.specs.Checks.{◌>>=◌, require}
 use Rattle.lilo_model.specs.MinixLayout.{Super, IsSuper, super_checks, table_start, table_blocks, BadSize, Inodes, Zones, InodeMap, ZoneMap, FirstZone}

@@ -1,6 +1,6 @@
 -- What the sectors of a bitmap say of the free numbers of a volume.
-use Rattle.std.proofs.Common.{◌≡◌, ◌≤◌, ◌<◌, ◌+◌, ◌*◌, ◌-◌, ◌/◌, ◌%◌, ◌&&◌, not, nat_le, ℕ, Bool, true, false, List, [], ◌++◌, length, take, Option, None, Some, Result, Ok, Err, refl, ap, ap₂, sym, ◌∙◌, subst, arith, ⊎_elim}
-use Rattle.std.specs.Prelude.{All, find, min, is_some}
+use Rattle.std.proofs.Common.{◌≡◌, ◌≤◌, ◌<◌, ◌+◌, ◌*◌, ◌-◌, ◌/◌, ◌%◌, ◌&&◌, not, nat_le, ℕ, Bool, true, false, List, [], ◌++◌, length, take, Option, None, Some, Result, Ok, Err, ap, ap₂, sym, ◌∙◌, subst, arith, ⊎_elim}
+use Rattle.std.specs.Prelude.{All, min, is_some}
 use Rattle.std.specs.List.{range_with_len}
 use Rattle.std.proofs.lemmas.Bool.{cases_lt}
 use Rattle.std.proofs.lemmas.List.{length-take}
@@ -18,7 +18,7 @@ use Rattle.minix_bits.specs.declared.bit_fault.BitFault.TheVariants as faults
 use Rattle.minix_bits.specs.Bitmap.{base_of, end_of, sector_with, marked, zone_bitmap, inode_bitmap}
 use Rattle.minix_bits.specs.Find.{Gives, HasBitCause, HasSectorCause}
 use Rattle.minix_bits.specs.Numbers.{has_number}
-use Rattle.minix_bits.specs.Free.{free_from, is_free, free_zones, Shortage, enough, lowest_zones, lowest_inode, is_free_on, is_free_in, IsLeast, IsLowest}
+use Rattle.minix_bits.specs.Free.{free_from, is_free, free_zones, Shortage, enough, lowest_zones, lowest_inode, is_free_on, is_free_in, IsLowest}
 use Rattle.minix_bits.proofs.RangeLemmas.{same_free, same_lowest, find_lowest, took_all, took_more, took_so_many, free_split}
 
 -- ---- one sector

@@ -1,12 +1,12 @@
 -- What a mark changes of the parts of a volume.
-use Rattle.std.proofs.Common.{◌≡◌, ◌≢◌, ◌≤◌, ◌<◌, ◌+◌, ◌*◌, ◌-◌, ◌/◌, ◌%◌, ◌==◌, ◌&&◌, ◌++◌, ℕ, Bool, true, false, List, length, refl, ap, ap₂, sym, ◌∙◌, arith, ⊎_elim}
+use Rattle.std.proofs.Common.{◌≡◌, ◌≢◌, ◌≤◌, ◌<◌, ◌+◌, ◌*◌, ◌/◌, ◌%◌, ◌++◌, ℕ, Bool, false, List, length, refl, ap, ap₂, sym, ◌∙◌, arith, ⊎_elim}
 use Rattle.std.proofs.lemmas.Bool.{cases_eq}
 use Rattle.std.proofs.lemmas.Bool.Decides.{nat_tests}
 use Rattle.disk_trait.proofs.MomentLemmas.{here, here_is, with_same, with_other}
 use Rattle.lilo_model.specs.Bytes.{part_of}
 use Rattle.lilo_model.specs.Disks.{Image}
-use Rattle.lilo_model.specs.MinixLayout.{Super, Inode, IsSuper, inode_of, inode_place, inode_size, table_start, zone_sector}
-use Rattle.lilo_model.specs.MinixParts.{Parts, Volume, sector_of, bit, parts_of, inode_mark_sector, zone_bit, zone_mark_sector}
+use Rattle.lilo_model.specs.MinixLayout.{Super, IsSuper, inode_of, inode_place, inode_size, table_start}
+use Rattle.lilo_model.specs.MinixParts.{Volume, sector_of, bit, parts_of, inode_mark_sector, zone_bit, zone_mark_sector}
 use Rattle.minix_bits.specs.Bits.{with_bit}
 use Rattle.minix_bits.specs.Laws.{with_mark, OneZoneMark, OneInodeMark}
 use Rattle.minix_bits.proofs.BitLemmas.{bit_here, bit_elsewhere}

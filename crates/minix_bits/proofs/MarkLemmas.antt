@@ -1,5 +1,5 @@
 -- A write of a sector whose bytes were made of those that were read.
-use Rattle.std.proofs.Common.{◌≡◌, ◌⊎◌, ◌+◌, ℕ, Bool, List, Option, Some, None, OnOk, Result, Ok, Err, refl, sym, subst, ⊎_elim, inl, inr}
+use Rattle.std.proofs.Common.{◌≡◌, ◌⊎◌, ◌+◌, ℕ, Bool, List, Option, Some, None, refl, sym, subst, inl}
 use Rattle.disk_trait.specs.Past.{Image, Past, Told, with_sector}
 use Rattle.disk_trait.specs.Moments.{IsTold, now, MayLeave, LeftOrWritten, MayWrite, LeavesOnly, IsWhole, StaysWhole}
 use Rattle.std.proofs.Math.Path.{subst₂}

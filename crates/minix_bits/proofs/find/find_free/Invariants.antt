@@ -1,4 +1,4 @@
-use Rattle.std.proofs.Common.{◌≡◌, ◌≤◌, ◌<◌, ◌+◌, ◌-◌, length, take}
+use Rattle.std.proofs.Common.{◌≡◌, ◌≤◌, ◌+◌, ◌-◌, length, take}
 use Rattle.std.specs.Prelude.{All}
 use Rattle.disk_trait.specs.Past.{Told}
 use Rattle.minix_zones.specs.Volume.{volume_view, past_of, faults_of, SameVolume}

@@ -1,4 +1,4 @@
-use Rattle.std.proofs.Common.{◌≡◌, ◌≤◌, ◌∙◌, sym, true, arith, ℕ}
+use Rattle.std.proofs.Common.{◌≡◌, ◌∙◌, sym, true, arith}
 use Rattle.std.specs.Prelude.{is_some}
 use Rattle.disk_trait.specs.Past.{Image}
 use Rattle.lilo_model.specs.MinixParts.{Volume}

@@ -1,4 +1,4 @@
-use Rattle.std.proofs.Common.{◌≡◌, ◌≤◌, ◌<◌, ◌+◌, ◌-◌, ℕ, false}
+use Rattle.std.proofs.Common.{◌≡◌, ◌≤◌, ◌<◌, ◌-◌, ℕ, false}
 use Rattle.disk_trait.specs.Past.{Told}
 use Rattle.minix_zones.specs.Volume.{volume_view, past_of, faults_of, SameVolume}
 use Rattle.minix_bits.specs.Free.{is_free_on}

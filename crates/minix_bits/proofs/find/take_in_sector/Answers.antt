@@ -1,4 +1,4 @@
-use Rattle.std.proofs.Common.{◌≤◌, ◌<◌, arith}
+use Rattle.std.proofs.Common.{arith}
 use Rattle.minix_zones.specs.Volume.{volume_view, past_of}
 use Rattle.minix_bits.specs.Bitmap.{IsNumberOf}
 use Rattle.minix_bits.specs.Free.{is_free_in}

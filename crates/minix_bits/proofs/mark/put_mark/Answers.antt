@@ -1,6 +1,6 @@
 use Rattle.disk_trait.proofs.MomentLemmas.{at_now}
 use Rattle.minix_zones.specs.Volume.{past_of}
-use Rattle.minix_bits.specs.Mark.{sector_on_disk, remarked}
+use Rattle.minix_bits.specs.Mark.{remarked}
 use Rattle.minix_bits.proofs.MarkLemmas.{mark_left, mark_leaves, mark_made, mark_written, read_bytes, same_leaves, same_whole}
 use Rattle.minix_bits.proofs.mark.put_mark.Goals as goal
 

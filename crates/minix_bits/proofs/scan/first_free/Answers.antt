@@ -1,4 +1,4 @@
-use Rattle.std.proofs.Common.{◌≡◌, ◌≤◌, ◌+◌, ◌*◌, ◌/◌, arith, get_or}
+use Rattle.std.proofs.Common.{arith}
 use Rattle.minix_bits.proofs.ScanLemmas.{skip_byte}
 use Rattle.minix_bits.proofs.scan.first_free.Goals as goal
 

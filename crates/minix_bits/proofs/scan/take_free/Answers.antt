@@ -1,5 +1,5 @@
-use Rattle.std.proofs.Common.{◌≡◌, ◌≤◌, ◌<◌, ◌+◌, ◌-◌, ◌++◌, ◌∷◌, [], ◌∙◌, ap, take, length, arith}
-use Rattle.minix_bits.specs.Free.{is_free_in, free_from}
+use Rattle.std.proofs.Common.{◌<◌, ◌∙◌, length, arith}
+use Rattle.minix_bits.specs.Free.{is_free_in}
 use Rattle.minix_bits.proofs.RangeLemmas.{took_next, took_last, took_so_many}
 use Rattle.minix_bits.proofs.scan.take_free.Goals as goal
 

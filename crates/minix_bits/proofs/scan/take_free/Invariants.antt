@@ -1,4 +1,4 @@
-use Rattle.std.proofs.Common.{◌≡◌, ◌≤◌, ◌+◌, ◌-◌, ◌++◌, length, take}
+use Rattle.std.proofs.Common.{◌≡◌, ◌≤◌, ◌-◌, ◌++◌, length, take}
 use Rattle.minix_bits.specs.Free.{is_free_in, free_from}
 use Rattle.minix_bits.proofs.scan.take_free.Given as goal
 

@@ -1,4 +1,4 @@
-use Rattle.std.proofs.Common.{◌≡◌, ◌<◌, ◌∙◌, ap, arith, length, List, ℕ, true}
+use Rattle.std.proofs.Common.{◌≡◌, ◌∙◌, ap, arith, length, List, ℕ, true}
 use Rattle.std.proofs.lemmas.List.{with_items_is}
 use Rattle.minix_bits.specs.Bits.{with_bit}
 use Rattle.minix_bits.proofs.SetLemmas.{rising, inside, set_added}

@@ -1,4 +1,4 @@
-use Rattle.std.proofs.Common.{◌≡◌, ◌<◌, ◌∙◌, ap, sym, Bool, true, ℕ, List, arith}
+use Rattle.std.proofs.Common.{◌≡◌, ◌<◌, ◌∙◌, ap, sym, Bool, ℕ, List, arith}
 use Rattle.lilo_model.specs.MinixParts.{bit}
 use Rattle.minix_bits.specs.Numbers.{Numbers, has_number}
 use Rattle.minix_bits.proofs.SetLemmas.{has_by_bit, contains_from, has_from}

@@ -1,5 +1,4 @@
-use Rattle.std.proofs.Common.{◌≡◌, ◌≤◌, ◌*◌, ◌∙◌, arith}
-use Rattle.std.specs.Int.{div_ceil}
+use Rattle.std.proofs.Common.{◌≤◌, ◌*◌, arith}
 use Rattle.minix_bits.proofs.SetLemmas.{set_empty}
 use Rattle.minix_bits.proofs.number_set.NumberSet.new.Goals as goal
 

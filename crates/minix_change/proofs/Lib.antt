@@ -1,0 +1,5 @@
+pub mod Inode
+pub mod Lists
+pub mod Only
+pub mod Finds
+pub mod Changed

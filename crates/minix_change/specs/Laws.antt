@@ -1,0 +1,60 @@
+-- What a change of one entry of a directory does to a sound Minix volume.
+use Rattle.std.specs.Prelude.{◌≡◌, ◌<◌, ℕ, List, ◌∷◌, false, Some, None}
+use Rattle.lilo_model.specs.MinixLayout.{Super}
+use Rattle.lilo_model.specs.MinixParts.{Parts, is_directory}
+use Rattle.lilo_model.specs.MinixNames.{thing, Named, Directory, Sound}
+use Rattle.minix_change.specs.Only.{ChangesOnlyEntry, KeepsInode}
+use Rattle.minix_change.specs.Comes.{IsFit, MayChange, SoundAfter}
+use Rattle.minix_change.specs.Enter.{MayStand, DirectoryMayStand, Enters, Removes, Redirects, Renames, NamesWith, NamesMoved}
+
+-- where an entry that may go becomes one that may come, a sound volume stays sound
+abbrev pub ChangedLaw : Type 0
+ChangedLaw =
+    (super : Super) (old new : Parts) (outer : List (List ℕ)) (directory place : ℕ)
+    → Sound super old → MayChange super old new outer directory place → SoundAfter super old new outer directory place
+
+-- an inode with a name is fit for another
+abbrev pub FitLaw : Type 0
+FitLaw = (super : Super) (parts : Parts) (number : ℕ) → Sound super parts → Named super parts number → IsFit super parts number
+
+-- one that is no directory stays as it is
+abbrev pub FileLaw : Type 0
+FileLaw =
+    (super : Super) (old new : Parts) (directory place number : ℕ)
+    → Sound super old → ChangesOnlyEntry super old new directory place → Named super old number → is_directory (old.node number) ≡ false
+    → KeepsInode super old new number
+
+-- an entry that is made adds one name
+abbrev pub EnterLaw : Type 0
+EnterLaw =
+    (super : Super) (old new : Parts) (outer : List (List ℕ)) (directory place number : ℕ) (name : List ℕ)
+    → Sound super old → Enters super old new outer directory place number name → MayStand super old new number
+    → NamesWith super old new (name ∷ outer) (Some (thing super old number))
+
+-- and so does that of a new directory
+abbrev pub EnterDirectoryLaw : Type 0
+EnterDirectoryLaw =
+    (super : Super) (old new : Parts) (outer : List (List ℕ)) (directory place number : ℕ) (name : List ℕ)
+    → Sound super old → Enters super old new outer directory place number name → DirectoryMayStand super old new outer directory number
+    → NamesWith super old new (name ∷ outer) (Some (thing super old number))
+
+-- an entry that becomes free takes one name away
+abbrev pub RemoveLaw : Type 0
+RemoveLaw =
+    (super : Super) (old new : Parts) (outer : List (List ℕ)) (directory place number : ℕ) (name : List ℕ)
+    → Sound super old → Removes super old new outer directory place number name
+    → NamesWith super old new (name ∷ outer) None
+
+-- an entry of another inode leads its name to that one
+abbrev pub RedirectLaw : Type 0
+RedirectLaw =
+    (super : Super) (old new : Parts) (outer : List (List ℕ)) (directory place former number : ℕ) (name : List ℕ)
+    → Sound super old → Redirects super old new outer directory place former number name → MayStand super old new number
+    → NamesWith super old new (name ∷ outer) (Some (thing super old number))
+
+-- an entry with another name leads that one to where the former one led
+abbrev pub RenameLaw : Type 0
+RenameLaw =
+    (super : Super) (old new : Parts) (outer : List (List ℕ)) (directory place number : ℕ) (former name : List ℕ)
+    → Sound super old → Renames super old new outer directory place number former name
+    → NamesMoved super old new (former ∷ outer) (name ∷ outer)

@@ -1,0 +1,4 @@
+pub mod Only
+pub mod Comes
+pub mod Enter
+pub mod Laws

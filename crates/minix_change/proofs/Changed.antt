@@ -4,11 +4,12 @@ use Rattle.std.proofs.lemmas.Bool.{eqb-true}
 use Rattle.lilo_model.specs.MinixLayout.{Super, Inode, is_size}
 use Rattle.lilo_model.specs.MinixParts.{Parts, Pointer, is_directory}
 use Rattle.lilo_model.specs.MinixEntries.{Entry, entry_with, named_inode, places, is_dots, here_name, above_name}
-use Rattle.lilo_model.specs.MinixNames.{entry, lookup, then_lookup, reached, Named, PointsTo, Refers, HasEntry, HasSomeEntry, AllLead, AreDistinct, depth_limit, Sound}
+use Rattle.lilo_model.specs.MinixNames.{entry, lookup, then_lookup, reached, Named, PointsTo, Refers, HasEntry, HasSomeEntry, AllLead, IsNew, AreDistinct, depth_limit, Sound}
 use Rattle.minix_beside.specs.Change.{ChangesEntry}
 use Rattle.minix_change.specs.Comes.{MayCome, MayChange, SoundAfter}
 use Rattle.minix_change.specs.Laws.{ChangedLaw}
 use Rattle.minix_change.proofs.Inode.{directory-zones, points-old, keeps-above, has_entry-same, has_entry-kept}
+use Rattle.minix_change.proofs.Lists.{without, new-without, distinct-without, absent-without, length-without, lead-without, lead-new}
 use Rattle.minix_change.proofs.Only.{named-above, other-kept, thing-kept}
 use Rattle.minix_change.proofs.Finds.{LeadsAnew, named-some, named-is, finds, found, comes-kept-leaf, paths-from, leads-by, outer-leads}
 
@@ -291,6 +292,39 @@ module _ (super : Super) (old new : Parts) (outer : List (List ℕ)) (directory 
   lead-by number [] lead = inl tt
   lead-by number (path ∷ paths) lead = lead-more number path paths (leads-by super old new outer directory place sound may path number lead.0) (lead-by number paths lead.1)
 
+  -- the path of what goes isn't among those of the inode that comes
+  gone-new : Was.inode ≢ 0 → (number : ℕ) (paths : List (List (List ℕ))) → AllLead super new number paths → IsNew (Was.name ∷ outer) (without (Now.name ∷ outer) paths)
+  gone-new some number paths lead = by_now _ refl
+    where
+      by_now : (now : Option ℕ) → named_inode Was.name Now ≡ now → IsNew (Was.name ∷ outer) (without (Now.name ∷ outer) paths)
+      by_now (Some inode) is =
+          let one = named-some Was.name Now inode is in
+          let called : Now.name ≡ Was.name = ap (λ (e : Entry). e.name) one.1 in
+          subst (λ n. IsNew (n ∷ outer) (without (Now.name ∷ outer) paths)) called (absent-without (Now.name ∷ outer) paths)
+      by_now None is =
+          let was : named_inode Was.name Was ≡ Some Was.inode = named-is Was.name Was.inode some in
+          let none : lookup super new Was.name directory ≡ None =
+              (finds super old new outer directory place sound may).changed Was.name (may.goes some).plain (inr (λ e. let t = sym was ∙ e in cc)) ∙ is in
+          let nowhere : reached super new (Was.name ∷ outer) ≡ None = (paths-from super old new outer directory place sound may).here Was.name ∙ none in
+          new-without (Now.name ∷ outer) (Was.name ∷ outer) paths (lead-new super new number (Was.name ∷ outer) paths (λ leads. let t = sym nowhere ∙ leads in cc) lead)
+
+  -- paths but that of what comes led where they lead
+  was-lead : (number : ℕ) (paths : List (List (List ℕ))) → AllLead super new number paths → AllLead super old number (without (Now.name ∷ outer) paths)
+  was-lead number paths lead = lead-without super old new number (Now.name ∷ outer) paths
+      (λ path apart leads. by_path path apart (leads-by super old new outer directory place sound may path number leads)) lead
+    where
+      by_path : (path : List (List ℕ)) → path ≢ Now.name ∷ outer → Leads path number → reached super old path ≡ Some number
+      by_path path apart (inl leads) = leads
+      by_path path apart (inr anew) = absurd (apart anew.path_is)
+
+  come-links : (some : Now.inode ≢ 0) (paths : List (List (List ℕ))) → AreDistinct paths → AllLead super new Now.inode paths → length paths ≤ (old.node Now.inode).links
+  come-links some paths distinct lead =
+      let most : length paths ≤ suc (length (without (Now.name ∷ outer) paths)) = length-without (Now.name ∷ outer) paths distinct in
+      let enough : length (without (Now.name ∷ outer) paths) < (old.node Now.inode).links =
+          (may.comes some).links (without (Now.name ∷ outer) paths) (distinct-without (Now.name ∷ outer) paths distinct) (was-lead Now.inode paths lead)
+          (λ went. gone-new went Now.inode paths lead) in
+      omega (arith, most, enough)
+
   links-by : (number : ℕ) (path : List (List ℕ)) (paths : List (List (List ℕ))) → number ≢ 1 → AreDistinct (path ∷ paths) → AllLead super new number (path ∷ paths)
       → AllLead super old number (path ∷ paths) ⊎ IsAnew super new directory place number → length (path ∷ paths) ≤ (new.node number).links
   links-by number path paths other distinct lead (inl was) =
@@ -299,7 +333,7 @@ module _ (super : Super) (old new : Parts) (outer : List (List ℕ)) (directory 
       subst (λ (n : Inode). length (path ∷ paths) ≤ n.links) (sym node) enough
   links-by number path paths other distinct lead (inr anew) =
       let P : ℕ → Type 0 = λ n. length (path ∷ paths) ≤ (new.node n).links in
-      let enough : length (path ∷ paths) ≤ (old.node Now.inode).links = (may.comes anew.some).links (path ∷ paths) distinct (subst (λ n. AllLead super new n (path ∷ paths)) anew.is lead) in
+      let enough : length (path ∷ paths) ≤ (old.node Now.inode).links = come-links anew.some (path ∷ paths) distinct (subst (λ n. AllLead super new n (path ∷ paths)) anew.is lead) in
       subst P (sym anew.is) (subst (λ (n : Inode). length (path ∷ paths) ≤ n.links) (sym (may.comes anew.some).kept.node) enough)
 
   links-new : (number : ℕ) (paths : List (List (List ℕ))) → number ≢ 1 → AreDistinct paths → AllLead super new number paths → length paths ≤ (new.node number).links

@@ -3,3 +3,4 @@ pub mod Lists
 pub mod Only
 pub mod Finds
 pub mod Changed
+pub mod Names

@@ -22,7 +22,8 @@ unfolding unless_same
 new-by one path other (inl same) rest apart new = new
 new-by one path other (inr here) rest apart new = (apart, new)
 
-new-without : (one other : Path) (paths : List Path) → IsNew other paths → IsNew other (without one paths)
+-- what isn't among them isn't among the others
+pub new-without : (one other : Path) (paths : List Path) → IsNew other paths → IsNew other (without one paths)
 unfolding without
 new-without one other [] new = tt
 new-without one other (path ∷ paths) new = new-by one path other (path-cases path one) (without one paths) new.0 (new-without one other paths new.1)
@@ -87,3 +88,8 @@ unfolding without
 lead-without super old new number one [] leads lead = tt
 lead-without super old new number one (path ∷ paths) leads lead =
     lead-by super old number one path (path-cases path one) (without one paths) (λ apart. leads path apart lead.0) (lead-without super old new number one paths leads lead.1)
+
+-- a path that leads elsewhere isn't among those that lead to an inode
+pub lead-new : (super : Super) (parts : Parts) (number : ℕ) (one : Path) (paths : List Path) → reached super parts one ≢ Some number → AllLead super parts number paths → IsNew one paths
+lead-new super parts number one [] elsewhere lead = tt
+lead-new super parts number one (path ∷ paths) elsewhere lead = ((λ same. elsewhere (ap (reached super parts) same ∙ lead.0)), lead-new super parts number one paths elsewhere lead.1)

@@ -4,7 +4,7 @@ use Rattle.std.specs.Prelude.{◌≡◌, ◌≢◌, ◌<◌, ◌≤◌, ℕ, ◌
 use Rattle.lilo_model.specs.MinixLayout.{Super, is_size}
 use Rattle.lilo_model.specs.MinixParts.{Parts, Pointer, is_directory}
 use Rattle.lilo_model.specs.MinixEntries.{Entry, entry_with, named_inode, here_name, above_name, is_dots}
-use Rattle.lilo_model.specs.MinixNames.{entry, lookup, reached, thing, Named, PointsTo, Refers, HasEntry, HasSomeEntry, AllLead, AreDistinct, depth_limit, Sound}
+use Rattle.lilo_model.specs.MinixNames.{entry, lookup, reached, thing, Named, PointsTo, Refers, HasEntry, HasSomeEntry, AllLead, IsNew, AreDistinct, depth_limit, Sound}
 use Rattle.minix_beside.specs.Change.{IsLeaf, FindsBy, PathsFrom}
 use Rattle.minix_change.specs.Only.{ChangesOnlyEntry, KeepsInode}
 
@@ -41,7 +41,8 @@ pub record MayCome (super : Super) (old new : Parts) (outer : List (List ℕ)) (
   pub alone : (lookup super old what.name directory ≡ None) ⊎ (named_inode what.name (entry super old directory place) ≢ None)
   pub fit : IsFit super old what.inode
   pub kept : KeepsInode super old new what.inode
-  pub links : (paths : List (List (List ℕ))) → AreDistinct paths → AllLead super new what.inode paths → length paths ≤ (old.node what.inode).links
+  -- one more than its names, that of the entry that goes not counted
+  pub links : (paths : List (List (List ℕ))) → AreDistinct paths → AllLead super old what.inode paths → ((entry super old directory place).inode ≢ 0 → IsNew ((entry super old directory place).name ∷ outer) paths) → length paths < (old.node what.inode).links
   pub fresh : is_directory (old.node what.inode) ≡ true → IsNewDirectory super old outer directory what.inode
 
 -- one entry of the directory that a path leads to changes, and nothing else that has a name; an entry that isn't

@@ -1,7 +1,51 @@
 // What a change of one entry of a directory does to a sound Minix volume.
-ghost use Rattle.minix_change.specs.Laws.{ChangedLaw};
+ghost use Rattle.minix_change.specs.Laws.{
+  ChangedLaw,
+  EnterDirectoryLaw,
+  EnterLaw,
+  FileLaw,
+  FitLaw,
+  RedirectLaw,
+  RemoveLaw,
+  RenameLaw,
+};
 
 /// Where an entry that may go becomes one that may come, a sound volume stays sound.
 pub fn changed_entry_keeps_a_volume_sound()
     ensures { ChangedLaw }
+{}
+
+/// An inode with a name is fit for another.
+pub fn named_inode_is_fit()
+    ensures { FitLaw }
+{}
+
+/// One that is no directory stays as it is where one entry changes.
+pub fn named_file_stays()
+    ensures { FileLaw }
+{}
+
+/// An entry that is made adds one name.
+pub fn made_entry_adds_a_name()
+    ensures { EnterLaw }
+{}
+
+/// The entry of a new directory adds one name.
+pub fn new_directory_adds_a_name()
+    ensures { EnterDirectoryLaw }
+{}
+
+/// An entry that becomes free takes one name away.
+pub fn freed_entry_takes_a_name_away()
+    ensures { RemoveLaw }
+{}
+
+/// An entry of another inode leads its name to that one.
+pub fn redirected_entry_leads_its_name()
+    ensures { RedirectLaw }
+{}
+
+/// An entry with another name leads that one to where the former one led.
+pub fn renamed_entry_moves_a_name()
+    ensures { RenameLaw }
 {}

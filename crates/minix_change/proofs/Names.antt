@@ -1,0 +1,265 @@
+-- Names that are made, removed, led elsewhere and changed.
+use Rattle.std.proofs.Common.{◌≡◌, ◌≢◌, ℕ, ◌<◌, ◌==◌, ◌⊎◌, Bool, true, false, List, [], ◌∷◌, length, bytes_eq, option_map, Option, Some, None, refl, sym, ◌∙◌, ap, subst, arith, inl, inr}
+use Rattle.std.proofs.lemmas.Slice.Eq.{bytes_eq-Decides}
+use Rattle.lilo_model.specs.MinixLayout.{Super}
+use Rattle.lilo_model.specs.MinixParts.{Parts, is_directory}
+use Rattle.lilo_model.specs.MinixEntries.{Entry, entry_with, named_inode, is_dots}
+use Rattle.lilo_model.specs.MinixNames.{entry, lookup, then_lookup, reached, thing, names, Named, AllLead, IsNew, AreDistinct, Sound}
+use Rattle.minix_beside.specs.Change.{ChangesEntry}
+use Rattle.minix_beside.proofs.Change.{path-cases}
+use Rattle.minix_beside.proofs.Entries.{entry_law}
+use Rattle.minix_change.specs.Only.{ChangesOnlyEntry, KeepsInode}
+use Rattle.minix_change.specs.Comes.{IsFit, MayGo, MayCome, MayChange, SoundAfter}
+use Rattle.minix_change.specs.Enter.{MayStand, DirectoryMayStand, Enters, Removes, Redirects, Renames, NamesWith, NamesMoved}
+use Rattle.minix_change.specs.Laws.{EnterLaw, EnterDirectoryLaw, RemoveLaw, RedirectLaw, RenameLaw}
+use Rattle.minix_change.proofs.Inode.{thing-same}
+use Rattle.minix_change.proofs.Only.{fit_law, file-kept}
+use Rattle.minix_change.proofs.Finds.{named-is, named-free}
+use Rattle.minix_change.proofs.Changed.{changed_law}
+
+-- an entry of another name
+other-by : (name other : List ℕ) (inode : ℕ) (is_free same : Bool) → (inode == 0) ≡ is_free → bytes_eq other name ≡ same → other ≢ name → named_inode name (entry_with inode other) ≡ None
+other-by name other inode true same free is apart = rw free refl
+other-by name other inode false true free is apart = absurd (apart ((bytes_eq-Decides other name).0 is))
+other-by name other inode false false free is apart = rw (free, is) refl
+
+named-other : (name other : List ℕ) (inode : ℕ) → other ≢ name → named_inode name (entry_with inode other) ≡ None
+named-other name other inode apart = other-by name other inode _ _ refl refl apart
+
+-- ---- what holds after each change
+
+module _ (super : Super) (old new : Parts) (outer : List (List ℕ)) (directory place : ℕ) (leads : reached super old outer ≡ Some directory) (after : SoundAfter super old new outer directory place) where
+  abbrev Was : Entry
+  Was = entry super old directory place
+
+  abbrev Now : Entry
+  Now = entry super new directory place
+
+  was-name : (name : List ℕ) → reached super old (name ∷ outer) ≡ lookup super old name directory
+  unfolding reached
+  was-name name = ap (then_lookup super old name) leads
+
+  things-by : (path : List (List ℕ)) (found : Option ℕ) → reached super old path ≡ found → option_map (thing super new) found ≡ option_map (thing super old) found
+  things-by path None is = refl
+  things-by path (Some number) is = ap Some (after.things number (record { path = path; leads = is }))
+
+  names-same : (path : List (List ℕ)) → reached super new path ≡ reached super old path → names super new path ≡ names super old path
+  unfolding names
+  names-same path same = ap (option_map (thing super new)) same ∙ things-by path (reached super old path) refl
+
+  -- what a name of the directory leads to now
+  now-name : (name : List ℕ) (found : Option ℕ) → lookup super new name directory ≡ found → names super new (name ∷ outer) ≡ option_map (thing super new) found
+  unfolding names
+  now-name name found is = ap (option_map (thing super new)) (after.paths.here name ∙ is)
+
+  -- a name of which the entry says what it said
+  kept-name : (name : List ℕ) → named_inode name Now ≡ named_inode name Was → names super new (name ∷ outer) ≡ names super old (name ∷ outer)
+  kept-name name same = names-same (name ∷ outer) (after.paths.here name ∙ (after.finds.kept name same ∙ sym (was-name name)))
+
+  -- a path that none of the entry's names ends
+  other-path : (path : List (List ℕ)) → ((name : List ℕ) → path ≡ name ∷ outer → named_inode name Now ≡ named_inode name Was) → names super new path ≡ names super old path
+  other-path [] same = names-same [] (after.paths.elsewhere [] (λ name e. cc))
+  other-path (name ∷ path) same = by_path (path-cases path outer)
+    where
+      by_path : (path ≡ outer) ⊎ (path ≢ outer) → names super new (name ∷ path) ≡ names super old (name ∷ path)
+      by_path (inl is) =
+          let P : List (List ℕ) → Type 0 = λ p. names super new (name ∷ p) ≡ names super old (name ∷ p) in
+          subst P (sym is) (kept-name name (same name (ap (λ p. name ∷ p) is)))
+      by_path (inr apart) = names-same (name ∷ path) (after.paths.elsewhere (name ∷ path) (λ other e. apart cc))
+
+-- ---- an entry is made
+
+module _ (super : Super) (old new : Parts) (outer : List (List ℕ)) (directory place number : ℕ) (name : List ℕ) (sound : Sound super old) (enters : Enters super old new outer directory place number name) where
+  enter-may : MayCome super old new outer directory place (entry_with number name) → MayChange super old new outer directory place
+  enter-may come = record {
+    only = enters.only;
+    leads = enters.leads;
+    goes = λ some. absurd (some enters.free);
+    comes = λ some. subst (MayCome super old new outer directory place) (sym enters.entered) come;
+  }
+
+  enter-names : MayCome super old new outer directory place (entry_with number name) → number ≢ 0 → NamesWith super old new (name ∷ outer) (Some (thing super old number))
+  enter-names come some =
+      let after = changed_law super old new outer directory place sound (enter-may come) in
+      let finds_it : lookup super new name directory ≡ Some number =
+          after.finds.changed name enters.plain (inl enters.absent) ∙ (ap (named_inode name) enters.entered ∙ named-is name number some) in
+      record {
+        sound = after.sound;
+        here = now-name super old new outer directory place enters.leads after name (Some number) finds_it ∙ ap Some (come-thing come);
+        others = λ other apart. other-path super old new outer directory place enters.leads after other (λ last is.
+            ap (named_inode last) enters.entered
+            ∙ (named-other last name number (λ same. apart (is ∙ ap (λ n. n ∷ outer) (sym same)))
+            ∙ sym (named-free last (entry super old directory place) enters.free)));
+      }
+    where
+      come-thing : MayCome super old new outer directory place (entry_with number name) → thing super new number ≡ thing super old number
+      come-thing c = thing-same super old new number c.kept.node c.kept.zones
+
+some-number : (super : Super) (parts : Parts) (number : ℕ) → IsFit super parts number → number ≢ 0
+some-number super parts number fit = let low = fit.range.0 in λ e. absurd (omega (arith, low, e))
+
+pub enter_law : EnterLaw
+enter_law super old new outer directory place number name sound enters stand =
+    enter-names super old new outer directory place number name sound enters (record {
+      plain = enters.plain;
+      alone = inl enters.absent;
+      fit = stand.fit;
+      kept = stand.kept;
+      links = λ paths distinct lead gone. stand.links paths distinct lead;
+      fresh = λ is. let file = stand.file in let t = sym is ∙ file in cc;
+    }) (some-number super old number stand.fit)
+
+unnamed-links : (super : Super) (parts : Parts) (number : ℕ) (paths : List (List (List ℕ))) → (Named super parts number → ⊥) → AllLead super parts number paths → 0 < (parts.node number).links → length paths < (parts.node number).links
+unnamed-links super parts number [] unnamed lead some = some
+unnamed-links super parts number (path ∷ paths) unnamed lead some = absurd (unnamed (record { path = path; leads = lead.0 }))
+
+pub enter_directory_law : EnterDirectoryLaw
+enter_directory_law super old new outer directory place number name sound enters stand =
+    enter-names super old new outer directory place number name sound enters (record {
+      plain = enters.plain;
+      alone = inl enters.absent;
+      fit = stand.fit;
+      kept = stand.kept;
+      links = λ paths distinct lead gone. unnamed-links super old number paths stand.fresh.unnamed lead stand.some_link;
+      fresh = λ is. stand.fresh;
+    }) (some-number super old number stand.fit)
+
+-- ---- an entry stood that is no directory's
+
+stood-goes : (parts : Parts) (stood : Entry) (number : ℕ) (name : List ℕ) → stood ≡ entry_with number name → is_dots name ≡ false → is_directory (parts.node number) ≡ false → MayGo parts stood
+stood-goes parts stood number name is plain file = subst (MayGo parts) (sym is) (record { plain = plain; file = file })
+
+named-stood : (stood : Entry) (number : ℕ) (name : List ℕ) → stood ≡ entry_with number name → number ≢ 0 → named_inode name stood ≢ None
+named-stood stood number name is some none = let t = sym (ap (named_inode name) is ∙ named-is name number some) ∙ none in cc
+
+-- ---- it is removed
+
+pub remove_law : RemoveLaw
+remove_law super old new outer directory place number name sound removes =
+    let may : MayChange super old new outer directory place = record {
+      only = removes.only;
+      leads = removes.leads;
+      goes = λ some. stood-goes old (entry super old directory place) number name removes.stood removes.plain removes.file;
+      comes = λ some. absurd (some removes.free);
+    } in
+    let after = changed_law super old new outer directory place sound may in
+    let free : (last : List ℕ) → named_inode last (entry super new directory place) ≡ None = λ last. named-free last (entry super new directory place) removes.free in
+    let finds_it : lookup super new name directory ≡ None =
+        after.finds.changed name removes.plain (inr (named-stood (entry super old directory place) number name removes.stood removes.some)) ∙ free name in
+    record {
+      sound = after.sound;
+      here = now-name super old new outer directory place removes.leads after name None finds_it;
+      others = λ other apart. other-path super old new outer directory place removes.leads after other (λ last is.
+          free last ∙ sym (ap (named_inode last) removes.stood ∙ named-other last name number (λ same. apart (is ∙ ap (λ n. n ∷ outer) (sym same)))));
+    }
+
+-- ---- it names another inode
+
+pub redirect_law : RedirectLaw
+redirect_law super old new outer directory place former number name sound redirects stand =
+    let come : MayCome super old new outer directory place (entry_with number name) = record {
+      plain = redirects.plain;
+      alone = inr (named-stood (entry super old directory place) former name redirects.stood redirects.some);
+      fit = stand.fit;
+      kept = stand.kept;
+      links = λ paths distinct lead gone. stand.links paths distinct lead;
+      fresh = λ is. let file = stand.file in let t = sym is ∙ file in cc;
+    } in
+    let may : MayChange super old new outer directory place = record {
+      only = redirects.only;
+      leads = redirects.leads;
+      goes = λ some. stood-goes old (entry super old directory place) former name redirects.stood redirects.plain redirects.file;
+      comes = λ some. subst (MayCome super old new outer directory place) (sym redirects.entered) come;
+    } in
+    let after = changed_law super old new outer directory place sound may in
+    let finds_it : lookup super new name directory ≡ Some number =
+        after.finds.changed name redirects.plain (inr (named-stood (entry super old directory place) former name redirects.stood redirects.some))
+        ∙ (ap (named_inode name) redirects.entered ∙ named-is name number (some-number super old number stand.fit)) in
+    record {
+      sound = after.sound;
+      here = now-name super old new outer directory place redirects.leads after name (Some number) finds_it ∙ ap Some (thing-same super old new number stand.kept.node stand.kept.zones);
+      others = λ other apart. other-path super old new outer directory place redirects.leads after other (λ last is.
+          let away : name ≢ last = λ same. apart (is ∙ ap (λ n. n ∷ outer) (sym same)) in
+          ap (named_inode last) redirects.entered ∙ (named-other last name number away
+          ∙ sym (ap (named_inode last) redirects.stood ∙ named-other last name former away)));
+    }
+
+-- ---- it gets another name
+
+module _ (super : Super) (old new : Parts) (outer : List (List ℕ)) (directory place number : ℕ) (former name : List ℕ) (sound : Sound super old) (renames : Renames super old new outer directory place number former name) where
+  abbrev Stood : Entry
+  Stood = entry super old directory place
+
+  stays : ChangesEntry super old old directory place
+  stays = record { named = renames.only.change.named; is = renames.only.change.is; below = renames.only.change.below; node = refl; others = λ other below apart. refl }
+
+  was-found : lookup super old former directory ≡ Some number
+  was-found =
+      (entry_law super old old directory place sound stays).changed former renames.plain_former (inr (named-stood Stood number former renames.stood renames.some))
+      ∙ (ap (named_inode former) renames.stood ∙ named-is former number renames.some)
+
+  was-reached : reached super old (former ∷ outer) ≡ Some number
+  unfolding reached
+  was-reached = ap (then_lookup super old former) renames.leads ∙ was-found
+
+  -- the two names aren't the same
+  apart-names : former ≢ name
+  apart-names same = let t = sym was-found ∙ (ap (λ n. lookup super old n directory) same ∙ renames.absent) in cc
+
+  number-named : Named super old number
+  number-named = record { path = former ∷ outer; leads = was-reached }
+
+  not-root : number ≢ 1
+  not-root same =
+      let is : is_directory (old.node number) ≡ true = ap (λ n. is_directory (old.node n)) same ∙ sound.root in
+      let file = renames.file in
+      cc
+
+  come : MayCome super old new outer directory place (entry_with number name)
+  come = record {
+    plain = renames.plain;
+    alone = inl renames.absent;
+    fit = fit_law super old number sound number-named;
+    kept = file-kept super old new directory place sound renames.only number number-named renames.file;
+    links = λ paths distinct lead gone.
+        let went : IsNew (former ∷ outer) paths =
+            subst (λ (e : Entry). IsNew (e.name ∷ outer) paths) renames.stood (gone (λ e. renames.some (ap (λ (s : Entry). s.inode) (sym renames.stood) ∙ e))) in
+        sound.links number ((former ∷ outer) ∷ paths) not-root (went, distinct) (was-reached, lead);
+    fresh = λ is. let file = renames.file in let t = sym is ∙ file in cc;
+  }
+
+  may : MayChange super old new outer directory place
+  may = record {
+    only = renames.only;
+    leads = renames.leads;
+    goes = λ some. stood-goes old Stood number former renames.stood renames.plain_former renames.file;
+    comes = λ some. subst (MayCome super old new outer directory place) (sym renames.entered) come;
+  }
+
+  rename-after : SoundAfter super old new outer directory place
+  rename-after = changed_law super old new outer directory place sound may
+
+  now-former : lookup super new former directory ≡ None
+  now-former =
+      rename-after.finds.changed former renames.plain_former (inr (named-stood Stood number former renames.stood renames.some))
+      ∙ (ap (named_inode former) renames.entered ∙ named-other former name number (λ e. apart-names (sym e)))
+
+  now-found : lookup super new name directory ≡ Some number
+  now-found = rename-after.finds.changed name renames.plain (inl renames.absent) ∙ (ap (named_inode name) renames.entered ∙ named-is name number renames.some)
+
+  was-thing : names super old (former ∷ outer) ≡ Some (thing super old number)
+  unfolding names
+  was-thing = ap (option_map (thing super old)) was-reached
+
+  rename-names : NamesMoved super old new (former ∷ outer) (name ∷ outer)
+  rename-names = record {
+    sound = rename-after.sound;
+    gone = now-name super old new outer directory place renames.leads rename-after former None now-former;
+    here = now-name super old new outer directory place renames.leads rename-after name (Some number) now-found ∙ (ap Some (rename-after.things number number-named) ∙ sym was-thing);
+    others = λ other apart away. other-path super old new outer directory place renames.leads rename-after other (λ last is.
+        ap (named_inode last) renames.entered ∙ (named-other last name number (λ same. away (is ∙ ap (λ n. n ∷ outer) (sym same)))
+        ∙ sym (ap (named_inode last) renames.stood ∙ named-other last former number (λ same. apart (is ∙ ap (λ n. n ∷ outer) (sym same))))));
+  }
+
+pub rename_law : RenameLaw
+rename_law super old new outer directory place number former name sound renames = rename-names super old new outer directory place number former name sound renames

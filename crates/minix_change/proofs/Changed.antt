@@ -6,7 +6,7 @@ use Rattle.lilo_model.specs.MinixParts.{Parts, Pointer, is_directory}
 use Rattle.lilo_model.specs.MinixEntries.{Entry, entry_with, named_inode, places, is_dots, here_name, above_name}
 use Rattle.lilo_model.specs.MinixNames.{entry, lookup, then_lookup, reached, Named, PointsTo, Refers, HasEntry, HasSomeEntry, AllLead, IsNew, AreDistinct, depth_limit, Sound}
 use Rattle.minix_beside.specs.Change.{ChangesEntry}
-use Rattle.minix_change.specs.Comes.{MayCome, MayChange, SoundAfter}
+use Rattle.minix_change.specs.Comes.{MayChange, SoundAfter}
 use Rattle.minix_change.specs.Laws.{ChangedLaw}
 use Rattle.minix_change.proofs.Inode.{directory-zones, points-old, keeps-above, has_entry-same, has_entry-kept}
 use Rattle.minix_change.proofs.Lists.{without, new-without, distinct-without, absent-without, length-without, lead-without, lead-new}
@@ -304,7 +304,7 @@ module _ (super : Super) (old new : Parts) (outer : List (List ℕ)) (directory 
       by_now None is =
           let was : named_inode Was.name Was ≡ Some Was.inode = named-is Was.name Was.inode some in
           let none : lookup super new Was.name directory ≡ None =
-              (finds super old new outer directory place sound may).changed Was.name (may.goes some).plain (inr (λ e. let t = sym was ∙ e in cc)) ∙ is in
+          (finds super old new outer directory place sound may).changed Was.name (may.goes some).plain (inr (λ e. let t = sym was ∙ e in cc)) ∙ is in
           let nowhere : reached super new (Was.name ∷ outer) ≡ None = (paths-from super old new outer directory place sound may).here Was.name ∙ none in
           new-without (Now.name ∷ outer) (Was.name ∷ outer) paths (lead-new super new number (Was.name ∷ outer) paths (λ leads. let t = sym nowhere ∙ leads in cc) lead)
 
@@ -321,8 +321,8 @@ module _ (super : Super) (old new : Parts) (outer : List (List ℕ)) (directory 
   come-links some paths distinct lead =
       let most : length paths ≤ suc (length (without (Now.name ∷ outer) paths)) = length-without (Now.name ∷ outer) paths distinct in
       let enough : length (without (Now.name ∷ outer) paths) < (old.node Now.inode).links =
-          (may.comes some).links (without (Now.name ∷ outer) paths) (distinct-without (Now.name ∷ outer) paths distinct) (was-lead Now.inode paths lead)
-          (λ went. gone-new went Now.inode paths lead) in
+      (may.comes some).links (without (Now.name ∷ outer) paths) (distinct-without (Now.name ∷ outer) paths distinct) (was-lead Now.inode paths lead)
+      (λ went. gone-new went Now.inode paths lead) in
       omega (arith, most, enough)
 
   links-by : (number : ℕ) (path : List (List ℕ)) (paths : List (List (List ℕ))) → number ≢ 1 → AreDistinct (path ∷ paths) → AllLead super new number (path ∷ paths)

@@ -5,7 +5,7 @@ use Rattle.std.proofs.lemmas.Slice.Eq.{bytes_eq-Decides}
 use Rattle.lilo_model.specs.MinixLayout.{Super}
 use Rattle.lilo_model.specs.MinixParts.{Parts, is_directory}
 use Rattle.lilo_model.specs.MinixEntries.{Entry, entry_with, named_inode, is_dots}
-use Rattle.lilo_model.specs.MinixNames.{entry, lookup, then_lookup, reached, Named, Sound}
+use Rattle.lilo_model.specs.MinixNames.{entry, lookup, then_lookup, reached, Sound}
 use Rattle.minix_beside.specs.Change.{ChangesEntry, FindsBy, IsLeaf, FindsLeaf, ChangesIn, PathsFrom}
 use Rattle.minix_beside.proofs.Change.{path-cases, change_law}
 use Rattle.minix_beside.proofs.Entries.{entry_law}
@@ -153,10 +153,13 @@ module _ (super : Super) (old new : Parts) (outer : List (List ℕ)) (directory 
           → (lookup super new name directory ≡ lookup super old name directory) ⊎ (FindsLeaf super old directory name × FindsLeaf super new directory name)
       by_name name (inl same) = inl same
       by_name name (inr (inl goes)) = inr (goes.leaf, λ number leads. let t = sym goes.now ∙ leads in cc)
-      by_name name (inr (inr comes)) = inr (comes.leaf, λ number leads.
-          let same : Some Now.inode ≡ Some number = sym comes.now ∙ leads in
-          let is : Now.inode ≡ number = cc in
-          subst (IsLeaf super new) is (comes-kept-leaf comes.some))
+      by_name name (inr (inr comes)) = inr (
+        comes.leaf,
+        λ number leads.
+            let same : Some Now.inode ≡ Some number = sym comes.now ∙ leads in
+            let is : Now.inode ≡ number = cc in
+            subst (IsLeaf super new) is (comes-kept-leaf comes.some),
+      )
 
   pub paths-from : PathsFrom super old new outer directory
   paths-from = change_law super old new outer directory sound changes-in

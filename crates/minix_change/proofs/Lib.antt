@@ -4,3 +4,5 @@ pub mod Only
 pub mod Finds
 pub mod Changed
 pub mod Names
+pub mod Blocks
+pub mod Written

@@ -4,13 +4,12 @@ use Rattle.std.proofs.lemmas.Slice.Eq.{bytes_eq-Decides}
 use Rattle.lilo_model.specs.MinixLayout.{Super}
 use Rattle.lilo_model.specs.MinixParts.{Parts, is_directory}
 use Rattle.lilo_model.specs.MinixEntries.{Entry, entry_with, named_inode, is_dots}
-use Rattle.lilo_model.specs.MinixNames.{entry, lookup, then_lookup, reached, thing, names, Named, AllLead, IsNew, AreDistinct, Sound}
+use Rattle.lilo_model.specs.MinixNames.{entry, lookup, then_lookup, reached, thing, names, Named, AllLead, IsNew, Sound}
 use Rattle.minix_beside.specs.Change.{ChangesEntry}
 use Rattle.minix_beside.proofs.Change.{path-cases}
 use Rattle.minix_beside.proofs.Entries.{entry_law}
-use Rattle.minix_change.specs.Only.{ChangesOnlyEntry, KeepsInode}
 use Rattle.minix_change.specs.Comes.{IsFit, MayGo, MayCome, MayChange, SoundAfter}
-use Rattle.minix_change.specs.Enter.{MayStand, DirectoryMayStand, Enters, Removes, Redirects, Renames, NamesWith, NamesMoved}
+use Rattle.minix_change.specs.Enter.{Enters, Renames, NamesWith, NamesMoved}
 use Rattle.minix_change.specs.Laws.{EnterLaw, EnterDirectoryLaw, RemoveLaw, RedirectLaw, RenameLaw}
 use Rattle.minix_change.proofs.Inode.{thing-same}
 use Rattle.minix_change.proofs.Only.{fit_law, file-kept}
@@ -82,7 +81,7 @@ module _ (super : Super) (old new : Parts) (outer : List (List ℕ)) (directory 
   enter-names come some =
       let after = changed_law super old new outer directory place sound (enter-may come) in
       let finds_it : lookup super new name directory ≡ Some number =
-          after.finds.changed name enters.plain (inl enters.absent) ∙ (ap (named_inode name) enters.entered ∙ named-is name number some) in
+      after.finds.changed name enters.plain (inl enters.absent) ∙ (ap (named_inode name) enters.entered ∙ named-is name number some) in
       record {
         sound = after.sound;
         here = now-name super old new outer directory place enters.leads after name (Some number) finds_it ∙ ap Some (come-thing come);
@@ -145,7 +144,7 @@ remove_law super old new outer directory place number name sound removes =
     let after = changed_law super old new outer directory place sound may in
     let free : (last : List ℕ) → named_inode last (entry super new directory place) ≡ None = λ last. named-free last (entry super new directory place) removes.free in
     let finds_it : lookup super new name directory ≡ None =
-        after.finds.changed name removes.plain (inr (named-stood (entry super old directory place) number name removes.stood removes.some)) ∙ free name in
+    after.finds.changed name removes.plain (inr (named-stood (entry super old directory place) number name removes.stood removes.some)) ∙ free name in
     record {
       sound = after.sound;
       here = now-name super old new outer directory place removes.leads after name None finds_it;
@@ -173,8 +172,8 @@ redirect_law super old new outer directory place former number name sound redire
     } in
     let after = changed_law super old new outer directory place sound may in
     let finds_it : lookup super new name directory ≡ Some number =
-        after.finds.changed name redirects.plain (inr (named-stood (entry super old directory place) former name redirects.stood redirects.some))
-        ∙ (ap (named_inode name) redirects.entered ∙ named-is name number (some-number super old number stand.fit)) in
+    after.finds.changed name redirects.plain (inr (named-stood (entry super old directory place) former name redirects.stood redirects.some))
+    ∙ (ap (named_inode name) redirects.entered ∙ named-is name number (some-number super old number stand.fit)) in
     record {
       sound = after.sound;
       here = now-name super old new outer directory place redirects.leads after name (Some number) finds_it ∙ ap Some (thing-same super old new number stand.kept.node stand.kept.zones);
@@ -223,7 +222,7 @@ module _ (super : Super) (old new : Parts) (outer : List (List ℕ)) (directory 
     kept = file-kept super old new directory place sound renames.only number number-named renames.file;
     links = λ paths distinct lead gone.
         let went : IsNew (former ∷ outer) paths =
-            subst (λ (e : Entry). IsNew (e.name ∷ outer) paths) renames.stood (gone (λ e. renames.some (ap (λ (s : Entry). s.inode) (sym renames.stood) ∙ e))) in
+        subst (λ (e : Entry). IsNew (e.name ∷ outer) paths) renames.stood (gone (λ e. renames.some (ap (λ (s : Entry). s.inode) (sym renames.stood) ∙ e))) in
         sound.links number ((former ∷ outer) ∷ paths) not-root (went, distinct) (was-reached, lead);
     fresh = λ is. let file = renames.file in let t = sym is ∙ file in cc;
   }

@@ -10,38 +10,48 @@ use Rattle.minix_change.specs.Only.{zone_of_entry, ChangesOnlyEntry, KeepsInode}
 use Rattle.minix_change.specs.Laws.{FitLaw, FileLaw}
 use Rattle.minix_change.proofs.Inode.{KeepsAbove, directory-zones, thing-same}
 
-module _ (super : Super) (old new : Parts) (directory place : ℕ) (sound : Sound super old) (only : ChangesOnlyEntry super old new directory place) where
+-- the zones but that of an entry stay
+abbrev pub KeepsOtherZones : Super → Parts → Parts → ℕ → ℕ → Type 0
+KeepsOtherZones super old new directory place =
+    (number : ℕ) (at : Pointer) (zone : ℕ) → Refers super old number at zone → zone ≢ zone_of_entry super old directory place → new.zone zone ≡ old.zone zone
+
+module _ (super : Super) (old : Parts) (directory place : ℕ) (named : Named super old directory) (is : is_directory (old.node directory) ≡ true) where
   -- the pointer of the entry's block
-  abbrev Here : Pointer
+  abbrev pub Here : Pointer
   Here = block_pointer super.kind (place / entries_per_block super.kind)
 
-  directory-refers : (zone : ℕ) → zone ≢ 0 → zone ≡ zone_of_entry super old directory place → Refers super old directory Here zone
+  pub directory-refers : (zone : ℕ) → zone ≢ 0 → zone ≡ zone_of_entry super old directory place → Refers super old directory Here zone
   unfolding zone_number
-  directory-refers zone some is = record {
-    named = only.change.named;
-    to = record { kind = directory-zones old directory only.change.is; place = (pointer_law super.kind).is (place / entries_per_block super.kind); is = sym is; some = some };
+  directory-refers zone some same = record {
+    named = named;
+    to = record { kind = directory-zones old directory is; place = (pointer_law super.kind).is (place / entries_per_block super.kind); is = sym same; some = some };
   }
 
-  -- a zone that isn't that block's stays
-  zone-kept : (number : ℕ) (at : Pointer) (zone : ℕ) → Refers super old number at zone → (number ≡ directory → at ≡ Here → ⊥) → new.zone zone ≡ old.zone zone
-  zone-kept number at zone refers apart = only.zones number at zone refers (λ is.
-      let same = sound.once number directory at Here zone refers (directory-refers zone refers.to.some is) in
-      apart same.0 same.1)
+  module _ (new : Parts) (sound : Sound super old) (zones : KeepsOtherZones super old new directory place) where
+    -- a zone that isn't that block's stays
+    pub zone-kept : (number : ℕ) (at : Pointer) (zone : ℕ) → Refers super old number at zone → (number ≡ directory → at ≡ Here → ⊥) → new.zone zone ≡ old.zone zone
+    zone-kept number at zone refers apart = zones number at zone refers (λ same.
+        let one = sound.once number directory at Here zone refers (directory-refers zone refers.to.some same) in
+        apart one.0 one.1)
 
-  -- of each inode with a name the zones above others stay
+    -- of each inode with a name the zones above others stay
+    pub above-kept : (number : ℕ) → Named super old number → KeepsAbove super old new number
+    above-kept number named' top index trail zone pointer to = zone-kept number (record { top = top; trail = trail }) zone (record { named = named'; to = to }) (λ here same.
+        let whole : length Here.trail ≡ Here.top - 6 = (pointer_law super.kind).whole (place / entries_per_block super.kind) in
+        let long : length trail ≡ length Here.trail = ap (λ (p : Pointer). length p.trail) same in
+        let high : top ≡ Here.top = ap (λ (p : Pointer). p.top) same in
+        omega (arith, pointer.deep, whole, long, high))
+
+module _ (super : Super) (old new : Parts) (directory place : ℕ) (sound : Sound super old) (only : ChangesOnlyEntry super old new directory place) where
   pub named-above : (number : ℕ) → Named super old number → KeepsAbove super old new number
-  named-above number named top index trail zone is to = zone-kept number (record { top = top; trail = trail }) zone (record { named = named; to = to }) (λ here same.
-      let whole : length Here.trail ≡ Here.top - 6 = (pointer_law super.kind).whole (place / entries_per_block super.kind) in
-      let long : length trail ≡ length Here.trail = ap (λ (p : Pointer). length p.trail) same in
-      let high : top ≡ Here.top = ap (λ (p : Pointer). p.top) same in
-      omega (arith, is.deep, whole, long, high))
+  named-above number named = above-kept super old directory place only.change.named only.change.is new sound only.zones number named
 
   -- each inode but the directory keeps all its zones
   pub other-kept : (number : ℕ) → Named super old number → number ≢ directory → KeepsInode super old new number
   other-kept number named other = record {
     node = only.nodes number named;
     mark = only.marks number named;
-    zones = λ at zone to. zone-kept number at zone (record { named = named; to = to }) (λ here same. other here);
+    zones = λ at zone to. zone-kept super old directory place only.change.named only.change.is new sound only.zones number at zone (record { named = named; to = to }) (λ here same. other here);
     zone_marks = λ at zone to. only.zone_marks number at zone (record { named = named; to = to });
   }
 

@@ -1,11 +1,14 @@
 -- What a change of one entry of a directory does to a sound Minix volume.
-use Rattle.std.specs.Prelude.{◌≡◌, ◌<◌, ℕ, List, ◌∷◌, false, Some, None}
-use Rattle.lilo_model.specs.MinixLayout.{Super}
-use Rattle.lilo_model.specs.MinixParts.{Parts, is_directory}
-use Rattle.lilo_model.specs.MinixNames.{thing, Named, Directory, Sound}
+use Rattle.std.specs.Prelude.{◌≡◌, ℕ, ◌+◌, List, ◌∷◌, length, false, Some, None}
+use Rattle.lilo_model.specs.Bytes.{with_part}
+use Rattle.lilo_model.specs.Disks.{Image, with_sector}
+use Rattle.lilo_model.specs.MinixLayout.{Super, Place, entry_size}
+use Rattle.lilo_model.specs.MinixParts.{Parts, Volume, sector_of, is_directory}
+use Rattle.lilo_model.specs.MinixNames.{thing, Named, Sound, IsSound}
 use Rattle.minix_change.specs.Only.{ChangesOnlyEntry, KeepsInode}
 use Rattle.minix_change.specs.Comes.{IsFit, MayChange, SoundAfter}
 use Rattle.minix_change.specs.Enter.{MayStand, DirectoryMayStand, Enters, Removes, Redirects, Renames, NamesWith, NamesMoved}
+use Rattle.minix_change.specs.Written.{place_in, IsPlaced, HasEntryBytes, EntryIsWritten}
 
 -- where an entry that may go becomes one that may come, a sound volume stays sound
 abbrev pub ChangedLaw : Type 0
@@ -58,3 +61,26 @@ RenameLaw =
     (super : Super) (old new : Parts) (outer : List (List ℕ)) (directory place number : ℕ) (former name : List ℕ)
     → Sound super old → Renames super old new outer directory place number former name
     → NamesMoved super old new (former ∷ outer) (name ∷ outer)
+
+-- ---- bytes
+
+-- other bytes of one entry are a change of that entry alone
+abbrev pub WrittenLaw : Type 0
+WrittenLaw =
+    (volume : Volume) (old image : Image) (directory place : ℕ) (bytes : List ℕ)
+    → IsSound volume old → IsPlaced volume old directory place → HasEntryBytes volume old image directory place bytes
+    → EntryIsWritten volume old image directory place bytes
+
+-- an image has them after one write
+abbrev pub WriteEntryLaw : Type 0
+WriteEntryLaw =
+    (volume : Volume) (old : Image) (directory place : ℕ) (bytes : List ℕ)
+    → length bytes ≡ entry_size volume.layout.kind
+    → let at : Place = place_in volume old directory place in
+    HasEntryBytes
+    volume
+    old
+    (with_sector old (record { disk = volume.span.disk; sector = volume.span.start + at.sector }) (with_part (sector_of volume old at.sector) at.at bytes))
+    directory
+    place
+    bytes

@@ -8,6 +8,8 @@ ghost use Rattle.minix_change.specs.Laws.{
   RedirectLaw,
   RemoveLaw,
   RenameLaw,
+  WriteEntryLaw,
+  WrittenLaw,
 };
 
 /// Where an entry that may go becomes one that may come, a sound volume stays sound.
@@ -48,4 +50,14 @@ pub fn redirected_entry_leads_its_name()
 /// An entry with another name leads that one to where the former one led.
 pub fn renamed_entry_moves_a_name()
     ensures { RenameLaw }
+{}
+
+/// Other bytes of one entry are a change of that entry alone.
+pub fn written_entry_changes_alone()
+    ensures { WrittenLaw }
+{}
+
+/// One write of a sector leaves them.
+pub fn one_write_leaves_an_entry()
+    ensures { WriteEntryLaw }
 {}

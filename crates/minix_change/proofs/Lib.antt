@@ -6,3 +6,4 @@ pub mod Changed
 pub mod Names
 pub mod Blocks
 pub mod Written
+pub mod Images

@@ -8,8 +8,9 @@ use Rattle.lilo_model.specs.MinixNames.{entry, lookup, then_lookup, reached, thi
 use Rattle.minix_beside.specs.Change.{ChangesEntry}
 use Rattle.minix_beside.proofs.Change.{path-cases}
 use Rattle.minix_beside.proofs.Entries.{entry_law}
+use Rattle.minix_change.specs.Only.{KeepsInode}
 use Rattle.minix_change.specs.Comes.{IsFit, MayGo, MayCome, MayChange, SoundAfter}
-use Rattle.minix_change.specs.Enter.{Enters, Renames, NamesWith, NamesMoved}
+use Rattle.minix_change.specs.Enter.{MayStand, DirectoryMayStand, MayEnter, MayRemove, MayRename, Becomes, NamesWith, NamesMoved}
 use Rattle.minix_change.specs.Laws.{EnterLaw, EnterDirectoryLaw, RemoveLaw, RedirectLaw, RenameLaw}
 use Rattle.minix_change.proofs.Inode.{thing-same}
 use Rattle.minix_change.proofs.Only.{fit_law, file-kept}
@@ -68,142 +69,147 @@ module _ (super : Super) (old new : Parts) (outer : List (List ℕ)) (directory 
 
 -- ---- an entry is made
 
-module _ (super : Super) (old new : Parts) (outer : List (List ℕ)) (directory place number : ℕ) (name : List ℕ) (sound : Sound super old) (enters : Enters super old new outer directory place number name) where
+some-number : (super : Super) (parts : Parts) (number : ℕ) → IsFit super parts number → number ≢ 0
+some-number super parts number fit = let low = fit.range.0 in λ e. absurd (omega (arith, low, e))
+
+module _ (super : Super) (old new : Parts) (outer : List (List ℕ)) (directory place number : ℕ) (name : List ℕ) (sound : Sound super old) (enter : MayEnter super old outer directory place name) (becomes : Becomes super old new directory place (entry_with number name)) (kept : KeepsInode super old new number) where
   enter-may : MayCome super old new outer directory place (entry_with number name) → MayChange super old new outer directory place
   enter-may come = record {
-    only = enters.only;
-    leads = enters.leads;
-    goes = λ some. absurd (some enters.free);
-    comes = λ some. subst (MayCome super old new outer directory place) (sym enters.entered) come;
+    only = becomes.only;
+    leads = enter.leads;
+    goes = λ some. absurd (some enter.free);
+    comes = λ some. subst (MayCome super old new outer directory place) (sym becomes.says) come;
   }
 
   enter-names : MayCome super old new outer directory place (entry_with number name) → number ≢ 0 → NamesWith super old new (name ∷ outer) (Some (thing super old number))
   enter-names come some =
       let after = changed_law super old new outer directory place sound (enter-may come) in
       let finds_it : lookup super new name directory ≡ Some number =
-      after.finds.changed name enters.plain (inl enters.absent) ∙ (ap (named_inode name) enters.entered ∙ named-is name number some) in
+          after.finds.changed name enter.plain (inl enter.absent) ∙ (ap (named_inode name) becomes.says ∙ named-is name number some) in
       record {
         sound = after.sound;
-        here = now-name super old new outer directory place enters.leads after name (Some number) finds_it ∙ ap Some (come-thing come);
-        others = λ other apart. other-path super old new outer directory place enters.leads after other (λ last is.
-            ap (named_inode last) enters.entered
+        here = now-name super old new outer directory place enter.leads after name (Some number) finds_it ∙ ap Some (thing-same super old new number kept.node kept.zones);
+        others = λ other apart. other-path super old new outer directory place enter.leads after other (λ last is.
+            ap (named_inode last) becomes.says
             ∙ (named-other last name number (λ same. apart (is ∙ ap (λ n. n ∷ outer) (sym same)))
-            ∙ sym (named-free last (entry super old directory place) enters.free)));
+            ∙ sym (named-free last (entry super old directory place) enter.free)));
       }
-    where
-      come-thing : MayCome super old new outer directory place (entry_with number name) → thing super new number ≡ thing super old number
-      come-thing c = thing-same super old new number c.kept.node c.kept.zones
 
-some-number : (super : Super) (parts : Parts) (number : ℕ) → IsFit super parts number → number ≢ 0
-some-number super parts number fit = let low = fit.range.0 in λ e. absurd (omega (arith, low, e))
+  enter-file : MayStand super old number → NamesWith super old new (name ∷ outer) (Some (thing super old number))
+  enter-file stand = enter-names (record {
+    plain = enter.plain;
+    alone = inl enter.absent;
+    fit = stand.fit;
+    kept = kept;
+    links = λ paths distinct lead gone. stand.links paths distinct lead;
+    fresh = λ is. let file = stand.file in let t = sym is ∙ file in cc;
+  }) (some-number super old number stand.fit)
+
+  unnamed-links : (paths : List (List (List ℕ))) → (Named super old number → ⊥) → AllLead super old number paths → 0 < (old.node number).links → length paths < (old.node number).links
+  unnamed-links [] unnamed lead some = some
+  unnamed-links (path ∷ paths) unnamed lead some = absurd (unnamed (record { path = path; leads = lead.0 }))
+
+  enter-directory : DirectoryMayStand super old outer directory number → NamesWith super old new (name ∷ outer) (Some (thing super old number))
+  enter-directory stand = enter-names (record {
+    plain = enter.plain;
+    alone = inl enter.absent;
+    fit = stand.fit;
+    kept = kept;
+    links = λ paths distinct lead gone. unnamed-links paths stand.fresh.unnamed lead stand.some_link;
+    fresh = λ is. stand.fresh;
+  }) (some-number super old number stand.fit)
 
 pub enter_law : EnterLaw
-enter_law super old new outer directory place number name sound enters stand =
-    enter-names super old new outer directory place number name sound enters (record {
-      plain = enters.plain;
-      alone = inl enters.absent;
-      fit = stand.fit;
-      kept = stand.kept;
-      links = λ paths distinct lead gone. stand.links paths distinct lead;
-      fresh = λ is. let file = stand.file in let t = sym is ∙ file in cc;
-    }) (some-number super old number stand.fit)
-
-unnamed-links : (super : Super) (parts : Parts) (number : ℕ) (paths : List (List (List ℕ))) → (Named super parts number → ⊥) → AllLead super parts number paths → 0 < (parts.node number).links → length paths < (parts.node number).links
-unnamed-links super parts number [] unnamed lead some = some
-unnamed-links super parts number (path ∷ paths) unnamed lead some = absurd (unnamed (record { path = path; leads = lead.0 }))
+enter_law super old new outer directory place number name sound enter stand becomes kept =
+    enter-file super old new outer directory place number name sound enter becomes kept stand
 
 pub enter_directory_law : EnterDirectoryLaw
-enter_directory_law super old new outer directory place number name sound enters stand =
-    enter-names super old new outer directory place number name sound enters (record {
-      plain = enters.plain;
-      alone = inl enters.absent;
-      fit = stand.fit;
-      kept = stand.kept;
-      links = λ paths distinct lead gone. unnamed-links super old number paths stand.fresh.unnamed lead stand.some_link;
-      fresh = λ is. stand.fresh;
-    }) (some-number super old number stand.fit)
+enter_directory_law super old new outer directory place number name sound enter stand becomes kept =
+    enter-directory super old new outer directory place number name sound enter becomes kept stand
 
 -- ---- an entry stood that is no directory's
 
-stood-goes : (parts : Parts) (stood : Entry) (number : ℕ) (name : List ℕ) → stood ≡ entry_with number name → is_dots name ≡ false → is_directory (parts.node number) ≡ false → MayGo parts stood
-stood-goes parts stood number name is plain file = subst (MayGo parts) (sym is) (record { plain = plain; file = file })
+module _ (super : Super) (old : Parts) (outer : List (List ℕ)) (directory place number : ℕ) (name : List ℕ) (remove : MayRemove super old outer directory place number name) where
+  stood-goes : MayGo old (entry super old directory place)
+  stood-goes = subst (MayGo old) (sym remove.stands) (record { plain = remove.plain; file = remove.file })
 
-named-stood : (stood : Entry) (number : ℕ) (name : List ℕ) → stood ≡ entry_with number name → number ≢ 0 → named_inode name stood ≢ None
-named-stood stood number name is some none = let t = sym (ap (named_inode name) is ∙ named-is name number some) ∙ none in cc
+  named-stood : named_inode name (entry super old directory place) ≢ None
+  named-stood none = let t = sym (ap (named_inode name) remove.stands ∙ named-is name number remove.some) ∙ none in cc
 
 -- ---- it is removed
 
 pub remove_law : RemoveLaw
-remove_law super old new outer directory place number name sound removes =
+remove_law super old new outer directory place number name sound remove becomes =
     let may : MayChange super old new outer directory place = record {
-      only = removes.only;
-      leads = removes.leads;
-      goes = λ some. stood-goes old (entry super old directory place) number name removes.stood removes.plain removes.file;
-      comes = λ some. absurd (some removes.free);
+      only = becomes.only;
+      leads = remove.leads;
+      goes = λ some. stood-goes super old outer directory place number name remove;
+      comes = λ some. absurd (some becomes.free);
     } in
     let after = changed_law super old new outer directory place sound may in
-    let free : (last : List ℕ) → named_inode last (entry super new directory place) ≡ None = λ last. named-free last (entry super new directory place) removes.free in
+    let free : (last : List ℕ) → named_inode last (entry super new directory place) ≡ None = λ last. named-free last (entry super new directory place) becomes.free in
     let finds_it : lookup super new name directory ≡ None =
-    after.finds.changed name removes.plain (inr (named-stood (entry super old directory place) number name removes.stood removes.some)) ∙ free name in
+        after.finds.changed name remove.plain (inr (named-stood super old outer directory place number name remove)) ∙ free name in
     record {
       sound = after.sound;
-      here = now-name super old new outer directory place removes.leads after name None finds_it;
-      others = λ other apart. other-path super old new outer directory place removes.leads after other (λ last is.
-          free last ∙ sym (ap (named_inode last) removes.stood ∙ named-other last name number (λ same. apart (is ∙ ap (λ n. n ∷ outer) (sym same)))));
+      here = now-name super old new outer directory place remove.leads after name None finds_it;
+      others = λ other apart. other-path super old new outer directory place remove.leads after other (λ last is.
+          free last ∙ sym (ap (named_inode last) remove.stands ∙ named-other last name number (λ same. apart (is ∙ ap (λ n. n ∷ outer) (sym same)))));
     }
 
 -- ---- it names another inode
 
 pub redirect_law : RedirectLaw
-redirect_law super old new outer directory place former number name sound redirects stand =
+redirect_law super old new outer directory place former number name sound remove stand becomes kept =
+    let had : named_inode name (entry super old directory place) ≢ None = named-stood super old outer directory place former name remove in
     let come : MayCome super old new outer directory place (entry_with number name) = record {
-      plain = redirects.plain;
-      alone = inr (named-stood (entry super old directory place) former name redirects.stood redirects.some);
+      plain = remove.plain;
+      alone = inr had;
       fit = stand.fit;
-      kept = stand.kept;
+      kept = kept;
       links = λ paths distinct lead gone. stand.links paths distinct lead;
       fresh = λ is. let file = stand.file in let t = sym is ∙ file in cc;
     } in
     let may : MayChange super old new outer directory place = record {
-      only = redirects.only;
-      leads = redirects.leads;
-      goes = λ some. stood-goes old (entry super old directory place) former name redirects.stood redirects.plain redirects.file;
-      comes = λ some. subst (MayCome super old new outer directory place) (sym redirects.entered) come;
+      only = becomes.only;
+      leads = remove.leads;
+      goes = λ some. stood-goes super old outer directory place former name remove;
+      comes = λ some. subst (MayCome super old new outer directory place) (sym becomes.says) come;
     } in
     let after = changed_law super old new outer directory place sound may in
     let finds_it : lookup super new name directory ≡ Some number =
-    after.finds.changed name redirects.plain (inr (named-stood (entry super old directory place) former name redirects.stood redirects.some))
-    ∙ (ap (named_inode name) redirects.entered ∙ named-is name number (some-number super old number stand.fit)) in
+        after.finds.changed name remove.plain (inr had)
+        ∙ (ap (named_inode name) becomes.says ∙ named-is name number (some-number super old number stand.fit)) in
     record {
       sound = after.sound;
-      here = now-name super old new outer directory place redirects.leads after name (Some number) finds_it ∙ ap Some (thing-same super old new number stand.kept.node stand.kept.zones);
-      others = λ other apart. other-path super old new outer directory place redirects.leads after other (λ last is.
+      here = now-name super old new outer directory place remove.leads after name (Some number) finds_it ∙ ap Some (thing-same super old new number kept.node kept.zones);
+      others = λ other apart. other-path super old new outer directory place remove.leads after other (λ last is.
           let away : name ≢ last = λ same. apart (is ∙ ap (λ n. n ∷ outer) (sym same)) in
-          ap (named_inode last) redirects.entered ∙ (named-other last name number away
-          ∙ sym (ap (named_inode last) redirects.stood ∙ named-other last name former away)));
+          ap (named_inode last) becomes.says ∙ (named-other last name number away
+          ∙ sym (ap (named_inode last) remove.stands ∙ named-other last name former away)));
     }
 
 -- ---- it gets another name
 
-module _ (super : Super) (old new : Parts) (outer : List (List ℕ)) (directory place number : ℕ) (former name : List ℕ) (sound : Sound super old) (renames : Renames super old new outer directory place number former name) where
-  abbrev Stood : Entry
-  Stood = entry super old directory place
+module _ (super : Super) (old new : Parts) (outer : List (List ℕ)) (directory place number : ℕ) (former name : List ℕ) (sound : Sound super old) (rename : MayRename super old outer directory place number former name) (becomes : Becomes super old new directory place (entry_with number name)) where
+  had : named_inode former (entry super old directory place) ≢ None
+  had = named-stood super old outer directory place number former rename.may
 
   stays : ChangesEntry super old old directory place
-  stays = record { named = renames.only.change.named; is = renames.only.change.is; below = renames.only.change.below; node = refl; others = λ other below apart. refl }
+  stays = record { named = becomes.only.change.named; is = becomes.only.change.is; below = becomes.only.change.below; node = refl; others = λ other below apart. refl }
 
   was-found : lookup super old former directory ≡ Some number
   was-found =
-      (entry_law super old old directory place sound stays).changed former renames.plain_former (inr (named-stood Stood number former renames.stood renames.some))
-      ∙ (ap (named_inode former) renames.stood ∙ named-is former number renames.some)
+      (entry_law super old old directory place sound stays).changed former rename.may.plain (inr had)
+      ∙ (ap (named_inode former) rename.may.stands ∙ named-is former number rename.may.some)
 
   was-reached : reached super old (former ∷ outer) ≡ Some number
   unfolding reached
-  was-reached = ap (then_lookup super old former) renames.leads ∙ was-found
+  was-reached = ap (then_lookup super old former) rename.may.leads ∙ was-found
 
   -- the two names aren't the same
   apart-names : former ≢ name
-  apart-names same = let t = sym was-found ∙ (ap (λ n. lookup super old n directory) same ∙ renames.absent) in cc
+  apart-names same = let t = sym was-found ∙ (ap (λ n. lookup super old n directory) same ∙ rename.absent) in cc
 
   number-named : Named super old number
   number-named = record { path = former ∷ outer; leads = was-reached }
@@ -211,28 +217,28 @@ module _ (super : Super) (old new : Parts) (outer : List (List ℕ)) (directory 
   not-root : number ≢ 1
   not-root same =
       let is : is_directory (old.node number) ≡ true = ap (λ n. is_directory (old.node n)) same ∙ sound.root in
-      let file = renames.file in
+      let file = rename.may.file in
       cc
 
   come : MayCome super old new outer directory place (entry_with number name)
   come = record {
-    plain = renames.plain;
-    alone = inl renames.absent;
+    plain = rename.plain;
+    alone = inl rename.absent;
     fit = fit_law super old number sound number-named;
-    kept = file-kept super old new directory place sound renames.only number number-named renames.file;
+    kept = file-kept super old new directory place sound becomes.only number number-named rename.may.file;
     links = λ paths distinct lead gone.
         let went : IsNew (former ∷ outer) paths =
-        subst (λ (e : Entry). IsNew (e.name ∷ outer) paths) renames.stood (gone (λ e. renames.some (ap (λ (s : Entry). s.inode) (sym renames.stood) ∙ e))) in
+            subst (λ (e : Entry). IsNew (e.name ∷ outer) paths) rename.may.stands (gone (λ e. rename.may.some (ap (λ (s : Entry). s.inode) (sym rename.may.stands) ∙ e))) in
         sound.links number ((former ∷ outer) ∷ paths) not-root (went, distinct) (was-reached, lead);
-    fresh = λ is. let file = renames.file in let t = sym is ∙ file in cc;
+    fresh = λ is. let file = rename.may.file in let t = sym is ∙ file in cc;
   }
 
   may : MayChange super old new outer directory place
   may = record {
-    only = renames.only;
-    leads = renames.leads;
-    goes = λ some. stood-goes old Stood number former renames.stood renames.plain_former renames.file;
-    comes = λ some. subst (MayCome super old new outer directory place) (sym renames.entered) come;
+    only = becomes.only;
+    leads = rename.may.leads;
+    goes = λ some. stood-goes super old outer directory place number former rename.may;
+    comes = λ some. subst (MayCome super old new outer directory place) (sym becomes.says) come;
   }
 
   rename-after : SoundAfter super old new outer directory place
@@ -240,11 +246,11 @@ module _ (super : Super) (old new : Parts) (outer : List (List ℕ)) (directory 
 
   now-former : lookup super new former directory ≡ None
   now-former =
-      rename-after.finds.changed former renames.plain_former (inr (named-stood Stood number former renames.stood renames.some))
-      ∙ (ap (named_inode former) renames.entered ∙ named-other former name number (λ e. apart-names (sym e)))
+      rename-after.finds.changed former rename.may.plain (inr had)
+      ∙ (ap (named_inode former) becomes.says ∙ named-other former name number (λ e. apart-names (sym e)))
 
   now-found : lookup super new name directory ≡ Some number
-  now-found = rename-after.finds.changed name renames.plain (inl renames.absent) ∙ (ap (named_inode name) renames.entered ∙ named-is name number renames.some)
+  now-found = rename-after.finds.changed name rename.plain (inl rename.absent) ∙ (ap (named_inode name) becomes.says ∙ named-is name number rename.may.some)
 
   was-thing : names super old (former ∷ outer) ≡ Some (thing super old number)
   unfolding names
@@ -253,12 +259,12 @@ module _ (super : Super) (old new : Parts) (outer : List (List ℕ)) (directory 
   rename-names : NamesMoved super old new (former ∷ outer) (name ∷ outer)
   rename-names = record {
     sound = rename-after.sound;
-    gone = now-name super old new outer directory place renames.leads rename-after former None now-former;
-    here = now-name super old new outer directory place renames.leads rename-after name (Some number) now-found ∙ (ap Some (rename-after.things number number-named) ∙ sym was-thing);
-    others = λ other apart away. other-path super old new outer directory place renames.leads rename-after other (λ last is.
-        ap (named_inode last) renames.entered ∙ (named-other last name number (λ same. away (is ∙ ap (λ n. n ∷ outer) (sym same)))
-        ∙ sym (ap (named_inode last) renames.stood ∙ named-other last former number (λ same. apart (is ∙ ap (λ n. n ∷ outer) (sym same))))));
+    gone = now-name super old new outer directory place rename.may.leads rename-after former None now-former;
+    here = now-name super old new outer directory place rename.may.leads rename-after name (Some number) now-found ∙ (ap Some (rename-after.things number number-named) ∙ sym was-thing);
+    others = λ other apart away. other-path super old new outer directory place rename.may.leads rename-after other (λ last is.
+        ap (named_inode last) becomes.says ∙ (named-other last name number (λ same. away (is ∙ ap (λ n. n ∷ outer) (sym same)))
+        ∙ sym (ap (named_inode last) rename.may.stands ∙ named-other last former number (λ same. apart (is ∙ ap (λ n. n ∷ outer) (sym same))))));
   }
 
 pub rename_law : RenameLaw
-rename_law super old new outer directory place number former name sound renames = rename-names super old new outer directory place number former name sound renames
+rename_law super old new outer directory place number former name sound rename becomes = rename-names super old new outer directory place number former name sound rename becomes

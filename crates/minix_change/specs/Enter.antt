@@ -3,72 +3,64 @@
 use Rattle.std.specs.Prelude.{◌≡◌, ◌≢◌, ◌<◌, ℕ, false, List, length, Option, Some, None}
 use Rattle.lilo_model.specs.MinixLayout.{Super}
 use Rattle.lilo_model.specs.MinixParts.{Parts, is_directory}
-use Rattle.lilo_model.specs.MinixEntries.{entry_with, is_dots}
+use Rattle.lilo_model.specs.MinixEntries.{Entry, entry_with, is_dots}
 use Rattle.lilo_model.specs.MinixNames.{Thing, entry, lookup, reached, names, AllLead, AreDistinct, Sound}
-use Rattle.minix_change.specs.Only.{ChangesOnlyEntry, KeepsInode}
+use Rattle.minix_change.specs.Only.{ChangesOnlyEntry}
 use Rattle.minix_change.specs.Comes.{IsFit, IsNewDirectory}
+
+-- ---- an inode that may get a name
 
 -- an inode has more links than names
 abbrev pub HasLinkLeft : Super → Parts → ℕ → Type 0
 HasLinkLeft super parts number =
     (paths : List (List (List ℕ))) → AreDistinct paths → AllLead super parts number paths → length paths < (parts.node number).links
 
--- an inode that is no directory may get one more name, and stays as it is
-pub record MayStand (super : Super) (old new : Parts) (number : ℕ) : Type 0 where
-  pub file : is_directory (old.node number) ≡ false
-  pub fit : IsFit super old number
-  pub links : HasLinkLeft super old number
-  pub kept : KeepsInode super old new number
+-- an inode that is no directory, whether it has a name or not, may get one more
+pub record MayStand (super : Super) (parts : Parts) (number : ℕ) : Type 0 where
+  pub file : is_directory (parts.node number) ≡ false
+  pub fit : IsFit super parts number
+  pub links : HasLinkLeft super parts number
 
--- a directory without a name, and with nothing in it but `.` and `..`, may get its name, and stays as it is
-pub record DirectoryMayStand (super : Super) (old new : Parts) (outer : List (List ℕ)) (directory number : ℕ) : Type 0 where
-  pub fit : IsFit super old number
-  pub some_link : 0 < (old.node number).links
-  pub fresh : IsNewDirectory super old outer directory number
-  pub kept : KeepsInode super old new number
+-- a directory without a name, and with nothing in it but `.` and `..`, may get its name in another
+pub record DirectoryMayStand (super : Super) (parts : Parts) (outer : List (List ℕ)) (directory number : ℕ) : Type 0 where
+  pub fit : IsFit super parts number
+  pub some_link : 0 < (parts.node number).links
+  pub fresh : IsNewDirectory super parts outer directory number
 
--- ---- what happens to an entry
+-- ---- an entry that may become another
 
--- a free entry becomes one with a name that the directory hasn't
-pub record Enters (super : Super) (old new : Parts) (outer : List (List ℕ)) (directory place number : ℕ) (name : List ℕ) : Type 0 where
-  pub only : ChangesOnlyEntry super old new directory place
-  pub leads : reached super old outer ≡ Some directory
+-- a name may be made at a place of the directory that a path leads to: it isn't there yet, and the entry is free
+pub record MayEnter (super : Super) (parts : Parts) (outer : List (List ℕ)) (directory place : ℕ) (name : List ℕ) : Type 0 where
+  pub leads : reached super parts outer ≡ Some directory
   pub plain : is_dots name ≡ false
-  pub absent : lookup super old name directory ≡ None
-  pub free : (entry super old directory place).inode ≡ 0
-  pub entered : entry super new directory place ≡ entry_with number name
+  pub absent : lookup super parts name directory ≡ None
+  pub free : (entry super parts directory place).inode ≡ 0
 
--- an entry of an inode that is no directory becomes free
-pub record Removes (super : Super) (old new : Parts) (outer : List (List ℕ)) (directory place number : ℕ) (name : List ℕ) : Type 0 where
-  pub only : ChangesOnlyEntry super old new directory place
-  pub leads : reached super old outer ≡ Some directory
+-- the name that stands there may go, since its inode is no directory
+pub record MayRemove (super : Super) (parts : Parts) (outer : List (List ℕ)) (directory place number : ℕ) (name : List ℕ) : Type 0 where
+  pub leads : reached super parts outer ≡ Some directory
   pub plain : is_dots name ≡ false
   pub some : number ≢ 0
-  pub stood : entry super old directory place ≡ entry_with number name
-  pub file : is_directory (old.node number) ≡ false
+  pub stands : entry super parts directory place ≡ entry_with number name
+  pub file : is_directory (parts.node number) ≡ false
+
+-- it may become another, which isn't there yet
+pub record MayRename (super : Super) (parts : Parts) (outer : List (List ℕ)) (directory place number : ℕ) (former name : List ℕ) : Type 0 where
+  pub may : MayRemove super parts outer directory place number former
+  pub plain : is_dots name ≡ false
+  pub absent : lookup super parts name directory ≡ None
+
+-- ---- what it becomes
+
+-- one entry of a directory changes, to what is said
+pub record Becomes (super : Super) (old new : Parts) (directory place : ℕ) (what : Entry) : Type 0 where
+  pub only : ChangesOnlyEntry super old new directory place
+  pub says : entry super new directory place ≡ what
+
+-- it becomes free
+pub record BecomesFree (super : Super) (old new : Parts) (directory place : ℕ) : Type 0 where
+  pub only : ChangesOnlyEntry super old new directory place
   pub free : (entry super new directory place).inode ≡ 0
-
--- an entry of an inode that is no directory becomes that of another, under the same name
-pub record Redirects (super : Super) (old new : Parts) (outer : List (List ℕ)) (directory place former number : ℕ) (name : List ℕ) : Type 0 where
-  pub only : ChangesOnlyEntry super old new directory place
-  pub leads : reached super old outer ≡ Some directory
-  pub plain : is_dots name ≡ false
-  pub some : former ≢ 0
-  pub stood : entry super old directory place ≡ entry_with former name
-  pub file : is_directory (old.node former) ≡ false
-  pub entered : entry super new directory place ≡ entry_with number name
-
--- an entry of an inode that is no directory gets another name, which the directory hasn't
-pub record Renames (super : Super) (old new : Parts) (outer : List (List ℕ)) (directory place number : ℕ) (former name : List ℕ) : Type 0 where
-  pub only : ChangesOnlyEntry super old new directory place
-  pub leads : reached super old outer ≡ Some directory
-  pub plain_former : is_dots former ≡ false
-  pub plain : is_dots name ≡ false
-  pub absent : lookup super old name directory ≡ None
-  pub some : number ≢ 0
-  pub stood : entry super old directory place ≡ entry_with number former
-  pub file : is_directory (old.node number) ≡ false
-  pub entered : entry super new directory place ≡ entry_with number name
 
 -- ---- what comes of it
 

@@ -3,18 +3,21 @@ use Rattle.std.specs.Prelude.{◌≡◌, ℕ, ◌+◌, List, ◌∷◌, length, 
 use Rattle.lilo_model.specs.Bytes.{with_part}
 use Rattle.lilo_model.specs.Disks.{Image, with_sector}
 use Rattle.lilo_model.specs.MinixLayout.{Super, Place, entry_size}
-use Rattle.lilo_model.specs.MinixParts.{Parts, Volume, sector_of, is_directory}
+use Rattle.lilo_model.specs.MinixParts.{Parts, Volume, sector_of, is_directory, parts_of}
+use Rattle.lilo_model.specs.MinixEntries.{entry_with, entry_of}
 use Rattle.lilo_model.specs.MinixNames.{thing, Named, Sound, IsSound}
 use Rattle.minix_change.specs.Only.{ChangesOnlyEntry, KeepsInode}
 use Rattle.minix_change.specs.Comes.{IsFit, MayChange, SoundAfter}
-use Rattle.minix_change.specs.Enter.{MayStand, DirectoryMayStand, Enters, Removes, Redirects, Renames, NamesWith, NamesMoved}
-use Rattle.minix_change.specs.Written.{place_in, IsPlaced, HasEntryBytes, EntryIsWritten}
+use Rattle.minix_change.specs.Enter.{MayStand, DirectoryMayStand, MayEnter, MayRemove, MayRename, Becomes, BecomesFree, NamesWith, NamesMoved}
+use Rattle.minix_change.specs.Written.{place_in, IsPlaced, HasEntryBytes, EntryIsWritten, HasNamesWith, HasNamesMoved}
 
 -- where an entry that may go becomes one that may come, a sound volume stays sound
 abbrev pub ChangedLaw : Type 0
 ChangedLaw =
     (super : Super) (old new : Parts) (outer : List (List ℕ)) (directory place : ℕ)
     → Sound super old → MayChange super old new outer directory place → SoundAfter super old new outer directory place
+
+-- ---- what may get a name
 
 -- an inode with a name is fit for another
 abbrev pub FitLaw : Type 0
@@ -27,39 +30,46 @@ FileLaw =
     → Sound super old → ChangesOnlyEntry super old new directory place → Named super old number → is_directory (old.node number) ≡ false
     → KeepsInode super old new number
 
+-- ---- names
+
 -- an entry that is made adds one name
 abbrev pub EnterLaw : Type 0
 EnterLaw =
     (super : Super) (old new : Parts) (outer : List (List ℕ)) (directory place number : ℕ) (name : List ℕ)
-    → Sound super old → Enters super old new outer directory place number name → MayStand super old new number
+    → Sound super old → MayEnter super old outer directory place name → MayStand super old number
+    → Becomes super old new directory place (entry_with number name) → KeepsInode super old new number
     → NamesWith super old new (name ∷ outer) (Some (thing super old number))
 
 -- and so does that of a new directory
 abbrev pub EnterDirectoryLaw : Type 0
 EnterDirectoryLaw =
     (super : Super) (old new : Parts) (outer : List (List ℕ)) (directory place number : ℕ) (name : List ℕ)
-    → Sound super old → Enters super old new outer directory place number name → DirectoryMayStand super old new outer directory number
+    → Sound super old → MayEnter super old outer directory place name → DirectoryMayStand super old outer directory number
+    → Becomes super old new directory place (entry_with number name) → KeepsInode super old new number
     → NamesWith super old new (name ∷ outer) (Some (thing super old number))
 
 -- an entry that becomes free takes one name away
 abbrev pub RemoveLaw : Type 0
 RemoveLaw =
     (super : Super) (old new : Parts) (outer : List (List ℕ)) (directory place number : ℕ) (name : List ℕ)
-    → Sound super old → Removes super old new outer directory place number name
+    → Sound super old → MayRemove super old outer directory place number name
+    → BecomesFree super old new directory place
     → NamesWith super old new (name ∷ outer) None
 
 -- an entry of another inode leads its name to that one
 abbrev pub RedirectLaw : Type 0
 RedirectLaw =
     (super : Super) (old new : Parts) (outer : List (List ℕ)) (directory place former number : ℕ) (name : List ℕ)
-    → Sound super old → Redirects super old new outer directory place former number name → MayStand super old new number
+    → Sound super old → MayRemove super old outer directory place former name → MayStand super old number
+    → Becomes super old new directory place (entry_with number name) → KeepsInode super old new number
     → NamesWith super old new (name ∷ outer) (Some (thing super old number))
 
 -- an entry with another name leads that one to where the former one led
 abbrev pub RenameLaw : Type 0
 RenameLaw =
     (super : Super) (old new : Parts) (outer : List (List ℕ)) (directory place number : ℕ) (former name : List ℕ)
-    → Sound super old → Renames super old new outer directory place number former name
+    → Sound super old → MayRename super old outer directory place number former name
+    → Becomes super old new directory place (entry_with number name)
     → NamesMoved super old new (former ∷ outer) (name ∷ outer)
 
 -- ---- bytes
@@ -84,3 +94,50 @@ WriteEntryLaw =
     directory
     place
     bytes
+
+-- ---- names in images
+
+-- the bytes of an entry that is made add one name
+abbrev pub EnterBytesLaw : Type 0
+EnterBytesLaw =
+    (volume : Volume) (old image : Image) (outer : List (List ℕ)) (directory place number : ℕ) (name bytes : List ℕ)
+    → IsSound volume old → IsPlaced volume old directory place → HasEntryBytes volume old image directory place bytes
+    → entry_of volume.layout.kind bytes ≡ entry_with number name
+    → MayEnter volume.layout (parts_of volume old) outer directory place name → MayStand volume.layout (parts_of volume old) number
+    → HasNamesWith volume old image (name ∷ outer) (Some (thing volume.layout (parts_of volume old) number))
+
+-- and so do those of the entry of a new directory
+abbrev pub EnterDirectoryBytesLaw : Type 0
+EnterDirectoryBytesLaw =
+    (volume : Volume) (old image : Image) (outer : List (List ℕ)) (directory place number : ℕ) (name bytes : List ℕ)
+    → IsSound volume old → IsPlaced volume old directory place → HasEntryBytes volume old image directory place bytes
+    → entry_of volume.layout.kind bytes ≡ entry_with number name
+    → MayEnter volume.layout (parts_of volume old) outer directory place name → DirectoryMayStand volume.layout (parts_of volume old) outer directory number
+    → HasNamesWith volume old image (name ∷ outer) (Some (thing volume.layout (parts_of volume old) number))
+
+-- those of a free entry take one name away
+abbrev pub RemoveBytesLaw : Type 0
+RemoveBytesLaw =
+    (volume : Volume) (old image : Image) (outer : List (List ℕ)) (directory place number : ℕ) (name bytes : List ℕ)
+    → IsSound volume old → IsPlaced volume old directory place → HasEntryBytes volume old image directory place bytes
+    → (entry_of volume.layout.kind bytes).inode ≡ 0
+    → MayRemove volume.layout (parts_of volume old) outer directory place number name
+    → HasNamesWith volume old image (name ∷ outer) None
+
+-- those of an entry of another inode lead its name to that one
+abbrev pub RedirectBytesLaw : Type 0
+RedirectBytesLaw =
+    (volume : Volume) (old image : Image) (outer : List (List ℕ)) (directory place former number : ℕ) (name bytes : List ℕ)
+    → IsSound volume old → IsPlaced volume old directory place → HasEntryBytes volume old image directory place bytes
+    → entry_of volume.layout.kind bytes ≡ entry_with number name
+    → MayRemove volume.layout (parts_of volume old) outer directory place former name → MayStand volume.layout (parts_of volume old) number
+    → HasNamesWith volume old image (name ∷ outer) (Some (thing volume.layout (parts_of volume old) number))
+
+-- those of an entry with another name lead that one to where the former one led
+abbrev pub RenameBytesLaw : Type 0
+RenameBytesLaw =
+    (volume : Volume) (old image : Image) (outer : List (List ℕ)) (directory place number : ℕ) (former name bytes : List ℕ)
+    → IsSound volume old → IsPlaced volume old directory place → HasEntryBytes volume old image directory place bytes
+    → entry_of volume.layout.kind bytes ≡ entry_with number name
+    → MayRename volume.layout (parts_of volume old) outer directory place number former name
+    → HasNamesMoved volume old image (former ∷ outer) (name ∷ outer)

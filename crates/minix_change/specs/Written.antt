@@ -1,12 +1,12 @@
 -- The bytes of a directory's entry on a Minix volume, and an image in which they are others. Sectors are counted
 -- from the start of the volume.
-use Rattle.std.specs.Prelude.{◌≡◌, ◌≢◌, ◌<◌, ◌≤◌, ℕ, ◌+◌, ◌*◌, ◌/◌, ◌%◌, true, List, length}
+use Rattle.std.specs.Prelude.{◌≡◌, ◌≢◌, ◌<◌, ◌≤◌, ℕ, ◌+◌, ◌*◌, ◌/◌, ◌%◌, true, List, length, Option, None}
 use Rattle.lilo_model.specs.Bytes.{with_part}
 use Rattle.lilo_model.specs.Disks.{Image}
 use Rattle.lilo_model.specs.MinixLayout.{Super, Place, entry_size, reach, zone_sector}
 use Rattle.lilo_model.specs.MinixParts.{Parts, Volume, sector_of, is_directory, blocks_for, parts_of}
 use Rattle.lilo_model.specs.MinixEntries.{entry_of, entries_per_block, places}
-use Rattle.lilo_model.specs.MinixNames.{entry, Sound, IsSound}
+use Rattle.lilo_model.specs.MinixNames.{Thing, entry, names_in, Sound, IsSound}
 use Rattle.minix_beside.specs.Beside.{NamedIn}
 use Rattle.minix_change.specs.Only.{zone_of_entry, ChangesOnlyEntry, KeepsInode}
 use Rattle.minix_change.specs.Comes.{IsFit}
@@ -48,3 +48,17 @@ pub record EntryIsWritten (volume : Volume) (old image : Image) (directory place
   pub says : entry volume.layout (parts_of volume image) directory place ≡ entry_of volume.layout.kind bytes
   pub kept : (number : ℕ) → IsFit volume.layout (parts_of volume old) number → number ≢ directory → KeepsInode volume.layout (parts_of volume old) (parts_of volume image) number
   pub sound : Sound volume.layout (parts_of volume image) → IsSound volume image
+
+-- in an image the volume is sound, and its Names are those in another but for what one path leads to
+pub record HasNamesWith (volume : Volume) (old image : Image) (path : List (List ℕ)) (what : Option Thing) : Type 0 where
+  pub sound : IsSound volume image
+  pub here : names_in volume image path ≡ what
+  pub others : (other : List (List ℕ)) → other ≢ path → names_in volume image other ≡ names_in volume old other
+
+-- it is sound, and its Names are those in another, but that one path leads nowhere, and another to what that one
+-- led to
+pub record HasNamesMoved (volume : Volume) (old image : Image) (former path : List (List ℕ)) : Type 0 where
+  pub sound : IsSound volume image
+  pub gone : names_in volume image former ≡ None
+  pub here : names_in volume image path ≡ names_in volume old former
+  pub others : (other : List (List ℕ)) → other ≢ former → other ≢ path → names_in volume image other ≡ names_in volume old other

@@ -1,12 +1,17 @@
 // What a change of one entry of a directory does to a sound Minix volume.
 ghost use Rattle.minix_change.specs.Laws.{
   ChangedLaw,
+  EnterBytesLaw,
+  EnterDirectoryBytesLaw,
   EnterDirectoryLaw,
   EnterLaw,
   FileLaw,
   FitLaw,
+  RedirectBytesLaw,
   RedirectLaw,
+  RemoveBytesLaw,
   RemoveLaw,
+  RenameBytesLaw,
   RenameLaw,
   WriteEntryLaw,
   WrittenLaw,
@@ -32,7 +37,7 @@ pub fn made_entry_adds_a_name()
     ensures { EnterLaw }
 {}
 
-/// The entry of a new directory adds one name.
+/// And so does that of a new directory.
 pub fn new_directory_adds_a_name()
     ensures { EnterDirectoryLaw }
 {}
@@ -60,4 +65,29 @@ pub fn written_entry_changes_alone()
 /// One write of a sector leaves them.
 pub fn one_write_leaves_an_entry()
     ensures { WriteEntryLaw }
+{}
+
+/// The bytes of an entry that is made add one name.
+pub fn bytes_of_an_entry_add_a_name()
+    ensures { EnterBytesLaw }
+{}
+
+/// And so do those of the entry of a new directory.
+pub fn bytes_of_a_directory_add_a_name()
+    ensures { EnterDirectoryBytesLaw }
+{}
+
+/// Those of a free entry take one name away.
+pub fn bytes_of_a_free_entry_take_a_name_away()
+    ensures { RemoveBytesLaw }
+{}
+
+/// Those of an entry of another inode lead its name to that one.
+pub fn bytes_of_another_inode_lead_a_name()
+    ensures { RedirectBytesLaw }
+{}
+
+/// Those of an entry with another name lead that one to where the former one led.
+pub fn bytes_of_another_name_move_a_name()
+    ensures { RenameBytesLaw }
 {}

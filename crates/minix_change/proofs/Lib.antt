@@ -7,3 +7,5 @@ pub mod Names
 pub mod Blocks
 pub mod Written
 pub mod Images
+pub mod Room
+pub mod Sample

@@ -2,7 +2,7 @@
 use Rattle.std.specs.Prelude.{◌≡◌, ℕ, ◌+◌, List, ◌∷◌, length, false, Some, None}
 use Rattle.lilo_model.specs.Bytes.{with_part}
 use Rattle.lilo_model.specs.Disks.{Image, with_sector}
-use Rattle.lilo_model.specs.MinixLayout.{Super, Place, entry_size}
+use Rattle.lilo_model.specs.MinixLayout.{Kind, Super, Place, entry_size}
 use Rattle.lilo_model.specs.MinixParts.{Parts, Volume, sector_of, is_directory, parts_of}
 use Rattle.lilo_model.specs.MinixEntries.{entry_with, entry_of}
 use Rattle.lilo_model.specs.MinixNames.{thing, Named, Sound, IsSound}
@@ -10,6 +10,7 @@ use Rattle.minix_change.specs.Only.{ChangesOnlyEntry, KeepsInode}
 use Rattle.minix_change.specs.Comes.{IsFit, MayChange, SoundAfter}
 use Rattle.minix_change.specs.Enter.{MayStand, DirectoryMayStand, MayEnter, MayRemove, MayRename, Becomes, BecomesFree, NamesWith, NamesMoved}
 use Rattle.minix_change.specs.Written.{place_in, IsPlaced, HasEntryBytes, EntryIsWritten, HasNamesWith, HasNamesMoved}
+use Rattle.minix_change.specs.Sample.{CanEnter}
 
 -- where an entry that may go becomes one that may come, a sound volume stays sound
 abbrev pub ChangedLaw : Type 0
@@ -141,3 +142,9 @@ RenameBytesLaw =
     → entry_of volume.layout.kind bytes ≡ entry_with number name
     → MayRename volume.layout (parts_of volume old) outer directory place number former name
     → HasNamesMoved volume old image (former ∷ outer) (name ∷ outer)
+
+-- ---- a sample
+
+-- there are sound volumes on which a name may be made, removed and changed
+abbrev pub SampleLaw : Type 0
+SampleLaw = (kind : Kind) → CanEnter kind

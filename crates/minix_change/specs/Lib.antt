@@ -2,4 +2,5 @@ pub mod Only
 pub mod Comes
 pub mod Enter
 pub mod Written
+pub mod Sample
 pub mod Laws

@@ -13,6 +13,7 @@ ghost use Rattle.minix_change.specs.Laws.{
   RemoveLaw,
   RenameBytesLaw,
   RenameLaw,
+  SampleLaw,
   WriteEntryLaw,
   WrittenLaw,
 };
@@ -90,4 +91,9 @@ pub fn bytes_of_another_inode_lead_a_name()
 /// Those of an entry with another name lead that one to where the former one led.
 pub fn bytes_of_another_name_move_a_name()
     ensures { RenameBytesLaw }
+{}
+
+/// There are sound volumes on which a name may be made, removed and changed.
+pub fn names_may_be_made()
+    ensures { SampleLaw }
 {}

@@ -15,6 +15,7 @@ pub use laws::{
     made_entry_adds_a_name,
     named_file_stays,
     named_inode_is_fit,
+    names_may_be_made,
     new_directory_adds_a_name,
     one_write_leaves_an_entry,
     redirected_entry_leads_its_name,

@@ -1,11 +1,9 @@
 -- Names that the bytes of one entry make, remove, lead elsewhere and change.
-use Rattle.std.proofs.Common.{◌≡◌, ◌≢◌, ℕ, true, false, List, ◌∷◌, Option, refl, sym, ◌∙◌, ap, subst}
+use Rattle.std.proofs.Common.{◌≡◌, ◌≢◌, ℕ, true, false, List, ◌∷◌, Option, sym, ◌∙◌, ap, subst}
 use Rattle.lilo_model.specs.Disks.{Image}
 use Rattle.lilo_model.specs.MinixParts.{Volume, is_directory, parts_of}
 use Rattle.lilo_model.specs.MinixEntries.{Entry, entry_of}
 use Rattle.lilo_model.specs.MinixNames.{Thing, Named, names_in, HasSound, IsSound}
-use Rattle.minix_change.specs.Only.{KeepsInode}
-use Rattle.minix_change.specs.Comes.{IsFit}
 use Rattle.minix_change.specs.Enter.{Becomes, NamesWith, NamesMoved}
 use Rattle.minix_change.specs.Written.{IsPlaced, HasEntryBytes, EntryIsWritten, HasNamesWith, HasNamesMoved}
 use Rattle.minix_change.specs.Laws.{EnterBytesLaw, EnterDirectoryBytesLaw, RemoveBytesLaw, RedirectBytesLaw, RenameBytesLaw}

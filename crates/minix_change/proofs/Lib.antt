@@ -9,3 +9,4 @@ pub mod Written
 pub mod Images
 pub mod Room
 pub mod Sample
+pub mod Dots

@@ -3,7 +3,7 @@ use Rattle.std.proofs.Common.{◌≡◌, ◌≢◌, ℕ, ◌<◌, ◌==◌, ◌�
 use Rattle.std.proofs.lemmas.Slice.Eq.{bytes_eq-Decides}
 use Rattle.lilo_model.specs.MinixLayout.{Super}
 use Rattle.lilo_model.specs.MinixParts.{Parts, is_directory}
-use Rattle.lilo_model.specs.MinixEntries.{Entry, entry_with, named_inode, is_dots}
+use Rattle.lilo_model.specs.MinixEntries.{Entry, entry_with, named_inode}
 use Rattle.lilo_model.specs.MinixNames.{entry, lookup, then_lookup, reached, thing, names, Named, AllLead, IsNew, Sound}
 use Rattle.minix_beside.specs.Change.{ChangesEntry}
 use Rattle.minix_beside.proofs.Change.{path-cases}
@@ -23,7 +23,7 @@ other-by name other inode true same free is apart = rw free refl
 other-by name other inode false true free is apart = absurd (apart ((bytes_eq-Decides other name).0 is))
 other-by name other inode false false free is apart = rw (free, is) refl
 
-named-other : (name other : List ℕ) (inode : ℕ) → other ≢ name → named_inode name (entry_with inode other) ≡ None
+pub named-other : (name other : List ℕ) (inode : ℕ) → other ≢ name → named_inode name (entry_with inode other) ≡ None
 named-other name other inode apart = other-by name other inode _ _ refl refl apart
 
 -- ---- what holds after each change
@@ -85,7 +85,7 @@ module _ (super : Super) (old new : Parts) (outer : List (List ℕ)) (directory 
   enter-names come some =
       let after = changed_law super old new outer directory place sound (enter-may come) in
       let finds_it : lookup super new name directory ≡ Some number =
-          after.finds.changed name enter.plain (inl enter.absent) ∙ (ap (named_inode name) becomes.says ∙ named-is name number some) in
+      after.finds.changed name enter.plain (inl enter.absent) ∙ (ap (named_inode name) becomes.says ∙ named-is name number some) in
       record {
         sound = after.sound;
         here = now-name super old new outer directory place enter.leads after name (Some number) finds_it ∙ ap Some (thing-same super old new number kept.node kept.zones);
@@ -149,7 +149,7 @@ remove_law super old new outer directory place number name sound remove becomes 
     let after = changed_law super old new outer directory place sound may in
     let free : (last : List ℕ) → named_inode last (entry super new directory place) ≡ None = λ last. named-free last (entry super new directory place) becomes.free in
     let finds_it : lookup super new name directory ≡ None =
-        after.finds.changed name remove.plain (inr (named-stood super old outer directory place number name remove)) ∙ free name in
+    after.finds.changed name remove.plain (inr (named-stood super old outer directory place number name remove)) ∙ free name in
     record {
       sound = after.sound;
       here = now-name super old new outer directory place remove.leads after name None finds_it;
@@ -178,8 +178,8 @@ redirect_law super old new outer directory place former number name sound remove
     } in
     let after = changed_law super old new outer directory place sound may in
     let finds_it : lookup super new name directory ≡ Some number =
-        after.finds.changed name remove.plain (inr had)
-        ∙ (ap (named_inode name) becomes.says ∙ named-is name number (some-number super old number stand.fit)) in
+    after.finds.changed name remove.plain (inr had)
+    ∙ (ap (named_inode name) becomes.says ∙ named-is name number (some-number super old number stand.fit)) in
     record {
       sound = after.sound;
       here = now-name super old new outer directory place remove.leads after name (Some number) finds_it ∙ ap Some (thing-same super old new number kept.node kept.zones);
@@ -228,7 +228,7 @@ module _ (super : Super) (old new : Parts) (outer : List (List ℕ)) (directory 
     kept = file-kept super old new directory place sound becomes.only number number-named rename.may.file;
     links = λ paths distinct lead gone.
         let went : IsNew (former ∷ outer) paths =
-            subst (λ (e : Entry). IsNew (e.name ∷ outer) paths) rename.may.stands (gone (λ e. rename.may.some (ap (λ (s : Entry). s.inode) (sym rename.may.stands) ∙ e))) in
+        subst (λ (e : Entry). IsNew (e.name ∷ outer) paths) rename.may.stands (gone (λ e. rename.may.some (ap (λ (s : Entry). s.inode) (sym rename.may.stands) ∙ e))) in
         sound.links number ((former ∷ outer) ∷ paths) not-root (went, distinct) (was-reached, lead);
     fresh = λ is. let file = rename.may.file in let t = sym is ∙ file in cc;
   }

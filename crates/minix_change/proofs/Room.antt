@@ -5,9 +5,7 @@ use Rattle.lilo_model.specs.MinixLayout.{Kind, Super, is_size}
 use Rattle.lilo_model.specs.MinixParts.{Parts, Pointer, is_directory, follow}
 use Rattle.lilo_model.specs.MinixEntries.{Entry, entry_with, places, here_name, above_name, is_dots}
 use Rattle.lilo_model.specs.MinixNames.{pointer, entry, first_named, lookup, reached, Named, PointsTo, Refers, HasEntry, HasSomeEntry, AllLead, AreDistinct, Sound}
-use Rattle.minix_change.specs.Comes.{IsFit}
 use Rattle.minix_change.specs.Enter.{MayStand, MayEnter}
-use Rattle.minix_change.proofs.Finds.{named-free}
 
 -- the root directory has `.` and `..` in one zone, and a free entry behind them; inode 2 is an empty file
 pub record RootRoom (super : Super) (parts : Parts) (zone : ℕ) : Type 0 where

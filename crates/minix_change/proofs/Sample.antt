@@ -1,17 +1,17 @@
 -- On a volume with room in its root a name may be made.
-use Rattle.std.proofs.Common.{◌≡◌, ◌≢◌, ◌≤◌, ℕ, ◌+◌, ◌==◌, Bool, true, false, if◌then◌else◌, List, [], ◌∷◌, length, Some, None, Ok, refl, sym, ◌∙◌, ap, subst, arith}
+use Rattle.std.proofs.Common.{◌≡◌, ◌≤◌, ℕ, ◌+◌, ◌==◌, Bool, true, false, if◌then◌else◌, List, [], ◌∷◌, length, Some, None, Ok, refl, sym, ◌∙◌, ap, subst, arith}
 use Rattle.lilo_model.specs.Bytes.{number16, number32}
 use Rattle.lilo_model.specs.Disks.{Image}
 use Rattle.lilo_model.specs.MinixLayout.{Kind, V1Short, V1Long, V2Short, V2Long, kind_of, super_of, super_checks, super_in, super_at, with_counts, super_bytes, v1_inode, v2_inode, inode_of, v1_inode_bytes, v2_inode_bytes, inode_bytes, inode_place, reach}
 use Rattle.lilo_model.specs.MinixParts.{bit, is_directory, blocks_for, parts_of, number_in, follow, pointer_by}
 use Rattle.lilo_model.specs.MinixEntries.{entry_of, entry_with, named_inode, is_dots}
-use Rattle.lilo_model.specs.MinixNames.{zone_number, block, content, entry, lookup, reached, thing, Sound, HasSound, IsSound, File}
+use Rattle.lilo_model.specs.MinixNames.{zone_number, block, content, entry, lookup, reached, thing, Sound, IsSound, File}
 use Rattle.minix_laws.specs.RootVolume.{root_layout, root_volume}
 use Rattle.minix_beside.proofs.Entries.{entry_law}
 use Rattle.minix_change.specs.Only.{zone_of_entry}
 use Rattle.minix_change.specs.Enter.{MayStand, MayEnter, MayRemove}
 use Rattle.minix_change.specs.Written.{IsPlaced, HasEntryBytes, EntryIsWritten, HasNamesWith}
-use Rattle.minix_change.specs.Sample.{room_sector, room_image, sample_name, other_name, sample_entry, IsEntered, CanEnter}
+use Rattle.minix_change.specs.Sample.{room_sector, room_image, sample_name, other_name, sample_entry, IsEntered}
 use Rattle.minix_change.specs.Laws.{SampleLaw}
 use Rattle.minix_change.proofs.Finds.{named-free}
 use Rattle.minix_change.proofs.Written.{written_law}

@@ -3,7 +3,7 @@
 use Rattle.std.specs.Prelude.{◌≡◌, ◌≢◌, ◌<◌, ◌≤◌, ℕ, ◌⊎◌, true, false, List, ◌∷◌, length, Some, None}
 use Rattle.lilo_model.specs.MinixLayout.{Super, is_size}
 use Rattle.lilo_model.specs.MinixParts.{Parts, Pointer, is_directory}
-use Rattle.lilo_model.specs.MinixEntries.{Entry, entry_with, named_inode, here_name, above_name, is_dots}
+use Rattle.lilo_model.specs.MinixEntries.{Entry, entry_with, named_inode, places, here_name, above_name, is_dots}
 use Rattle.lilo_model.specs.MinixNames.{entry, lookup, reached, thing, Named, PointsTo, Refers, HasEntry, HasSomeEntry, AllLead, IsNew, AreDistinct, depth_limit, Sound}
 use Rattle.minix_beside.specs.Change.{IsLeaf, FindsBy, PathsFrom}
 use Rattle.minix_change.specs.Only.{ChangesOnlyEntry, KeepsInode}
@@ -28,6 +28,13 @@ pub record IsNewDirectory (super : Super) (parts : Parts) (outer : List (List �
   pub here : HasSomeEntry super parts number (entry_with number here_name)
   pub above : HasSomeEntry super parts number (entry_with directory above_name)
   pub depth : length outer < depth_limit
+
+-- a directory's first two entries are its `.` and `..`, and the others are free
+pub record HasOnlyDots (super : Super) (parts : Parts) (directory number : ℕ) : Type 0 where
+  pub two : 2 ≤ places super.kind (parts.node number).size
+  pub first : entry super parts number 0 ≡ entry_with number here_name
+  pub second : entry super parts number 1 ≡ entry_with directory above_name
+  pub rest : (place : ℕ) → 2 ≤ place → place < places super.kind (parts.node number).size → (entry super parts number place).inode ≡ 0
 
 -- what an entry says may go: it isn't `.` or `..`, and its inode no directory
 pub record MayGo (parts : Parts) (what : Entry) : Type 0 where

@@ -1,15 +1,15 @@
 -- What a change of one entry of a directory does to a sound Minix volume.
-use Rattle.std.specs.Prelude.{◌≡◌, ℕ, ◌+◌, List, ◌∷◌, length, false, Some, None}
+use Rattle.std.specs.Prelude.{◌≡◌, ◌<◌, ℕ, ◌+◌, ◌^◌, List, ◌∷◌, length, false, Some, None}
 use Rattle.lilo_model.specs.Bytes.{with_part}
 use Rattle.lilo_model.specs.Disks.{Image, with_sector}
 use Rattle.lilo_model.specs.MinixLayout.{Kind, Super, Place, entry_size}
 use Rattle.lilo_model.specs.MinixParts.{Parts, Volume, sector_of, is_directory, parts_of}
 use Rattle.lilo_model.specs.MinixEntries.{entry_with, entry_of}
-use Rattle.lilo_model.specs.MinixNames.{thing, Named, Sound, IsSound}
+use Rattle.lilo_model.specs.MinixNames.{thing, Named, depth_limit, Sound, IsSound}
 use Rattle.minix_change.specs.Only.{ChangesOnlyEntry, KeepsInode}
-use Rattle.minix_change.specs.Comes.{IsFit, MayChange, SoundAfter}
+use Rattle.minix_change.specs.Comes.{IsFit, IsNewDirectory, HasOnlyDots, MayChange, SoundAfter}
 use Rattle.minix_change.specs.Enter.{MayStand, DirectoryMayStand, MayEnter, MayRemove, MayRename, Becomes, BecomesFree, NamesWith, NamesMoved}
-use Rattle.minix_change.specs.Written.{place_in, IsPlaced, HasEntryBytes, EntryIsWritten, HasNamesWith, HasNamesMoved}
+use Rattle.minix_change.specs.Written.{entry_bytes, FitsEntry, place_in, IsPlaced, HasEntryBytes, EntryIsWritten, HasNamesWith, HasNamesMoved}
 use Rattle.minix_change.specs.Sample.{CanEnter}
 
 -- where an entry that may go becomes one that may come, a sound volume stays sound
@@ -30,6 +30,13 @@ FileLaw =
     (super : Super) (old new : Parts) (directory place number : ℕ)
     → Sound super old → ChangesOnlyEntry super old new directory place → Named super old number → is_directory (old.node number) ≡ false
     → KeepsInode super old new number
+
+-- a directory without a name, with nothing in it but `.` and `..`, is new
+abbrev pub NewDirectoryLaw : Type 0
+NewDirectoryLaw =
+    (super : Super) (parts : Parts) (outer : List (List ℕ)) (directory number : ℕ)
+    → HasOnlyDots super parts directory number → (Named super parts number → ⊥) → length outer < depth_limit
+    → IsNewDirectory super parts outer directory number
 
 -- ---- names
 
@@ -74,6 +81,13 @@ RenameLaw =
     → NamesMoved super old new (former ∷ outer) (name ∷ outer)
 
 -- ---- bytes
+
+-- the bytes of an entry say its inode and its name
+abbrev pub EntryBytesLaw : Type 0
+EntryBytesLaw =
+    (kind : Kind) (number : ℕ) (name : List ℕ)
+    → number < 2 ^ 16 → FitsEntry kind name
+    → (length (entry_bytes kind number name) ≡ entry_size kind) × (entry_of kind (entry_bytes kind number name) ≡ entry_with number name)
 
 -- other bytes of one entry are a change of that entry alone
 abbrev pub WrittenLaw : Type 0

@@ -1,15 +1,15 @@
 -- A volume on which a name may be made, byte by byte (Minix file system, versions 1 and 2): its root directory has
 -- room for one more entry, and inode 2 is an empty file without a name.
-use Rattle.std.specs.Prelude.{◌≡◌, ℕ, ◌*◌, ◌==◌, if◌then◌else◌, List, [], ◌∷◌, ◌++◌, replicate, Some, None}
-use Rattle.lilo_model.specs.Bytes.{bytes16, filled_bytes}
+use Rattle.std.specs.Prelude.{◌≡◌, ℕ, ◌*◌, ◌==◌, if◌then◌else◌, List, [], ◌∷◌, ◌++◌, replicate, Some}
+use Rattle.lilo_model.specs.Bytes.{filled_bytes}
 use Rattle.lilo_model.specs.Disks.{Image}
-use Rattle.lilo_model.specs.MinixLayout.{Kind, Inode, entry_size, name_size, super_bytes, inode_bytes}
+use Rattle.lilo_model.specs.MinixLayout.{Kind, Inode, entry_size, super_bytes, inode_bytes}
 use Rattle.lilo_model.specs.MinixParts.{parts_of}
 use Rattle.lilo_model.specs.MinixEntries.{entry_with, entry_of, here_name, above_name}
 use Rattle.lilo_model.specs.MinixNames.{IsSound, File}
 use Rattle.minix_laws.specs.RootVolume.{root_layout, root_volume, root_inode, root_entry}
 use Rattle.minix_change.specs.Enter.{MayStand, MayEnter, MayRemove, MayRename}
-use Rattle.minix_change.specs.Written.{IsPlaced, HasEntryBytes, HasNamesWith}
+use Rattle.minix_change.specs.Written.{entry_bytes, IsPlaced, HasEntryBytes, HasNamesWith}
 
 -- the root, with places for three entries
 abbrev pub room_root : Kind → Inode
@@ -41,7 +41,7 @@ abbrev pub other_name : List ℕ
 other_name = 98 ∷ []
 
 abbrev pub sample_entry : Kind → List ℕ
-sample_entry kind = bytes16 2 ++ filled_bytes (name_size kind) sample_name
+sample_entry kind = entry_bytes kind 2 sample_name
 
 -- an image after the name was made: it leads to the file, and may be removed or become the other
 pub record IsEntered (kind : Kind) (image : Image) : Type 0 where

@@ -1,15 +1,24 @@
 -- The bytes of a directory's entry on a Minix volume, and an image in which they are others. Sectors are counted
 -- from the start of the volume.
-use Rattle.std.specs.Prelude.{◌≡◌, ◌≢◌, ◌<◌, ◌≤◌, ℕ, ◌+◌, ◌*◌, ◌/◌, ◌%◌, true, List, length, Option, None}
-use Rattle.lilo_model.specs.Bytes.{with_part}
+use Rattle.std.specs.Prelude.{◌≡◌, ◌≢◌, ◌<◌, ◌≤◌, ℕ, ◌+◌, ◌*◌, ◌/◌, ◌%◌, true, List, ◌++◌, length, All, Option, None}
+use Rattle.lilo_model.specs.Bytes.{with_part, bytes16, filled_bytes}
 use Rattle.lilo_model.specs.Disks.{Image}
-use Rattle.lilo_model.specs.MinixLayout.{Super, Place, entry_size, reach, zone_sector}
+use Rattle.lilo_model.specs.MinixLayout.{Kind, Super, Place, entry_size, name_size, reach, zone_sector}
 use Rattle.lilo_model.specs.MinixParts.{Parts, Volume, sector_of, is_directory, blocks_for, parts_of}
 use Rattle.lilo_model.specs.MinixEntries.{entry_of, entries_per_block, places}
 use Rattle.lilo_model.specs.MinixNames.{Thing, entry, names_in, Sound, IsSound}
 use Rattle.minix_beside.specs.Beside.{NamedIn}
 use Rattle.minix_change.specs.Only.{zone_of_entry, ChangesOnlyEntry, KeepsInode}
 use Rattle.minix_change.specs.Comes.{IsFit}
+
+-- the bytes of an entry of a kind, by the inode and the name
+abbrev pub entry_bytes : Kind → ℕ → List ℕ → List ℕ
+entry_bytes kind number name = bytes16 number ++ filled_bytes (name_size kind) name
+
+-- a name that an entry of a kind can hold: it isn't too long, and has no zero byte
+pub record FitsEntry (kind : Kind) (name : List ℕ) : Type 0 where
+  pub short : length name ≤ name_size kind
+  pub no_zero : All (λ byte. byte ≢ 0) name
 
 -- how far into its block an entry begins
 abbrev pub offset_of_entry : Super → ℕ → ℕ

@@ -5,8 +5,10 @@ ghost use Rattle.minix_change.specs.Laws.{
   EnterDirectoryBytesLaw,
   EnterDirectoryLaw,
   EnterLaw,
+  EntryBytesLaw,
   FileLaw,
   FitLaw,
+  NewDirectoryLaw,
   RedirectBytesLaw,
   RedirectLaw,
   RemoveBytesLaw,
@@ -33,6 +35,11 @@ pub fn named_file_stays()
     ensures { FileLaw }
 {}
 
+/// A directory without a name, with nothing in it but `.` and `..`, is new.
+pub fn directory_with_dots_is_new()
+    ensures { NewDirectoryLaw }
+{}
+
 /// An entry that is made adds one name.
 pub fn made_entry_adds_a_name()
     ensures { EnterLaw }
@@ -56,6 +63,11 @@ pub fn redirected_entry_leads_its_name()
 /// An entry with another name leads that one to where the former one led.
 pub fn renamed_entry_moves_a_name()
     ensures { RenameLaw }
+{}
+
+/// The bytes of an entry say its inode and its name.
+pub fn entry_bytes_say_an_entry()
+    ensures { EntryBytesLaw }
 {}
 
 /// Other bytes of one entry are a change of that entry alone.

@@ -7,6 +7,7 @@ use Rattle.lilo_model.specs.MinixEntries.{Entry, entry_with, named_inode, places
 use Rattle.lilo_model.specs.MinixNames.{entry, lookup, then_lookup, reached, Named, PointsTo, Refers, HasEntry, HasSomeEntry, AllLead, IsNew, AreDistinct, depth_limit, Sound}
 use Rattle.minix_beside.specs.Change.{ChangesEntry}
 use Rattle.minix_change.specs.Comes.{MayChange, SoundAfter}
+use Rattle.minix_change.specs.Enter.{IsOnlyName, IsLeft}
 use Rattle.minix_change.specs.Laws.{ChangedLaw}
 use Rattle.minix_change.proofs.Inode.{directory-zones, points-old, keeps-above, has_entry-same, has_entry-kept}
 use Rattle.minix_change.proofs.Lists.{without, new-without, distinct-without, absent-without, length-without, lead-without, lead-new}
@@ -376,6 +377,46 @@ module _ (super : Super) (old new : Parts) (outer : List (List ℕ)) (directory 
     paths = paths-from super old new outer directory place sound may;
     things = thing-kept super old new directory place sound may.only;
   }
+
+  -- ---- what went has no name, where that was its only one and it doesn't come
+
+  module _ (number : ℕ) (which : Was.inode ≡ number) (last : IsOnlyName super old (Was.name ∷ outer) number) (apart : Now.inode ≢ number) where
+    some-went : Was.inode ≢ 0
+    some-went e = some-named number (record { path = Was.name ∷ outer; leads = last.leads }) (sym which ∙ e)
+
+    -- its path leads elsewhere
+    elsewhere : reached super new (Was.name ∷ outer) ≢ Some number
+    elsewhere leads = by_now _ refl
+      where
+        by_now : (now : Option ℕ) → named_inode Was.name Now ≡ now → ⊥
+        by_now now is =
+            let was : named_inode Was.name Was ≡ Some Was.inode = named-is Was.name Was.inode some-went in
+            let here : lookup super new Was.name directory ≡ named_inode Was.name Now =
+            (finds super old new outer directory place sound may).changed Was.name (may.goes some-went).plain (inr (λ e. let t = sym was ∙ e in cc)) in
+            let says : named_inode Was.name Now ≡ Some number = sym here ∙ (sym ((paths-from super old new outer directory place sound may).here Was.name) ∙ leads) in
+            apart (ap (λ (e : Entry). e.inode) (named-some Was.name Now number says).1)
+
+    left-by : (path : List (List ℕ)) → reached super new path ≡ Some number → Leads path number → ⊥
+    left-by path leads (inl was) = elsewhere (ap (reached super new) (sym (last.only path was)) ∙ leads)
+    left-by path leads (inr anew) = apart (sym anew.is)
+
+    no-name : Named super new number → ⊥
+    no-name named = left-by named.path named.leads (leads-by super old new outer directory place sound may named.path number named.leads)
+
+    was-named : Named super old number
+    was-named = record { path = Was.name ∷ outer; leads = last.leads }
+
+    not-used : (other : ℕ) (at there : Pointer) (zone : ℕ) → Refers super old number at zone → Refers super new other there zone → Refers super old other there zone ⊎ RefersAnew super old new directory place other there zone → ⊥
+    not-used other at there zone refers now (inl was) = no-name (subst (Named super new) (sym (sound.once number other at there zone refers was).0) now.named)
+    not-used other at there zone refers now (inr anew) = apart ((may.comes anew.some).fit.apart number there at zone anew.to refers)
+
+    pub is-left : IsLeft super new number
+    is-left = record {
+      unnamed = no-name;
+      unused = λ at zone points other there refers.
+          let to : PointsTo super old number at zone = points-old super old new number (may.only.nodes number was-named) (named-above super old new directory place sound may.only number was-named) at zone points in
+          not-used other at there zone (record { named = was-named; to = to }) refers (refers-by other there zone refers);
+    }
 
 pub changed_law : ChangedLaw
 changed_law super old new outer directory place sound may = sound-after super old new outer directory place sound may

@@ -6,9 +6,9 @@ use Rattle.lilo_model.specs.MinixEntries.{Entry, entry_of}
 use Rattle.lilo_model.specs.MinixNames.{Thing, Named, names_in, HasSound, IsSound}
 use Rattle.minix_change.specs.Enter.{Becomes, NamesWith, NamesMoved}
 use Rattle.minix_change.specs.Written.{IsPlaced, HasEntryBytes, EntryIsWritten, HasNamesWith, HasNamesMoved}
-use Rattle.minix_change.specs.Laws.{EnterBytesLaw, EnterDirectoryBytesLaw, RemoveBytesLaw, RedirectBytesLaw, RenameBytesLaw}
+use Rattle.minix_change.specs.Laws.{EnterBytesLaw, EnterDirectoryBytesLaw, RemoveBytesLaw, RedirectBytesLaw, RenameBytesLaw, RemoveLastBytesLaw, RedirectLastBytesLaw}
 use Rattle.minix_change.proofs.Written.{written_law}
-use Rattle.minix_change.proofs.Names.{enter_law, enter_directory_law, remove_law, redirect_law, rename_law}
+use Rattle.minix_change.proofs.Names.{enter_law, enter_directory_law, remove_law, redirect_law, rename_law, remove_last_law, redirect_last_law}
 
 module _ (volume : Volume) (old image : Image) (directory place : ℕ) (bytes : List ℕ) (sound : IsSound volume old) (placed : IsPlaced volume old directory place) (has : HasEntryBytes volume old image directory place bytes) where
   written : EntryIsWritten volume old image directory place bytes
@@ -73,3 +73,15 @@ rename_bytes_law volume old image outer directory place number former name bytes
     has-moved volume old image directory place bytes sound placed has (former ∷ outer) (name ∷ outer)
     (rename_law volume.layout (parts_of volume old) (parts_of volume image) outer directory place number former name (parts-sound volume old sound).parts rename
     (becomes volume old image directory place bytes sound placed has _ says))
+
+pub remove_last_bytes_law : RemoveLastBytesLaw
+remove_last_bytes_law volume old image outer directory place number name bytes sound placed has free remove last =
+    let all = written volume old image directory place bytes sound placed has in
+    remove_last_law volume.layout (parts_of volume old) (parts_of volume image) outer directory place number name (parts-sound volume old sound).parts remove last
+    (record { only = all.only; free = ap (λ (e : Entry). e.inode) all.says ∙ free })
+
+pub redirect_last_bytes_law : RedirectLastBytesLaw
+redirect_last_bytes_law volume old image outer directory place former number name bytes sound placed has says remove last stand apart =
+    let what = (written volume old image directory place bytes sound placed has).kept number stand.fit (file-apart volume old image directory place bytes sound placed has number stand.file) in
+    redirect_last_law volume.layout (parts_of volume old) (parts_of volume image) outer directory place former number name (parts-sound volume old sound).parts remove last stand apart
+    (becomes volume old image directory place bytes sound placed has _ says) what

@@ -10,12 +10,12 @@ use Rattle.minix_beside.proofs.Change.{path-cases}
 use Rattle.minix_beside.proofs.Entries.{entry_law}
 use Rattle.minix_change.specs.Only.{KeepsInode}
 use Rattle.minix_change.specs.Comes.{IsFit, MayGo, MayCome, MayChange, SoundAfter}
-use Rattle.minix_change.specs.Enter.{MayStand, DirectoryMayStand, MayEnter, MayRemove, MayRename, Becomes, NamesWith, NamesMoved}
-use Rattle.minix_change.specs.Laws.{EnterLaw, EnterDirectoryLaw, RemoveLaw, RedirectLaw, RenameLaw}
+use Rattle.minix_change.specs.Enter.{MayStand, DirectoryMayStand, MayEnter, MayRemove, MayRename, Becomes, BecomesFree, NamesWith, NamesMoved, IsOnlyName, IsLeft}
+use Rattle.minix_change.specs.Laws.{EnterLaw, EnterDirectoryLaw, RemoveLaw, RedirectLaw, RenameLaw, RemoveLastLaw, RedirectLastLaw}
 use Rattle.minix_change.proofs.Inode.{thing-same}
 use Rattle.minix_change.proofs.Only.{fit_law, file-kept}
 use Rattle.minix_change.proofs.Finds.{named-is, named-free}
-use Rattle.minix_change.proofs.Changed.{changed_law}
+use Rattle.minix_change.proofs.Changed.{changed_law, is-left}
 
 -- an entry of another name
 other-by : (name other : List ℕ) (inode : ℕ) (is_free same : Bool) → (inode == 0) ≡ is_free → bytes_eq other name ≡ same → other ≢ name → named_inode name (entry_with inode other) ≡ None
@@ -138,56 +138,94 @@ module _ (super : Super) (old : Parts) (outer : List (List ℕ)) (directory plac
 
 -- ---- it is removed
 
+module _ (super : Super) (old new : Parts) (outer : List (List ℕ)) (directory place number : ℕ) (name : List ℕ) (sound : Sound super old) (remove : MayRemove super old outer directory place number name) (becomes : BecomesFree super old new directory place) where
+  remove-may : MayChange super old new outer directory place
+  remove-may = record {
+    only = becomes.only;
+    leads = remove.leads;
+    goes = λ some. stood-goes super old outer directory place number name remove;
+    comes = λ some. absurd (some becomes.free);
+  }
+
+  free : (last : List ℕ) → named_inode last (entry super new directory place) ≡ None
+  free last = named-free last (entry super new directory place) becomes.free
+
+  remove-names : NamesWith super old new (name ∷ outer) None
+  remove-names =
+      let after = changed_law super old new outer directory place sound remove-may in
+      let finds_it : lookup super new name directory ≡ None =
+      after.finds.changed name remove.plain (inr (named-stood super old outer directory place number name remove)) ∙ free name in
+      record {
+        sound = after.sound;
+        here = now-name super old new outer directory place remove.leads after name None finds_it;
+        others = λ other apart. other-path super old new outer directory place remove.leads after other (λ last is.
+            free last ∙ sym (ap (named_inode last) remove.stands ∙ named-other last name number (λ same. apart (is ∙ ap (λ n. n ∷ outer) (sym same)))));
+      }
+
+  remove-left : IsOnlyName super old (name ∷ outer) number → IsLeft super new number
+  remove-left last = is-left super old new outer directory place sound remove-may number
+      (ap (λ (e : Entry). e.inode) remove.stands)
+      (subst (λ n. IsOnlyName super old (n ∷ outer) number) (sym (ap (λ (e : Entry). e.name) remove.stands)) last)
+      (λ same. remove.some (sym same ∙ becomes.free))
+
 pub remove_law : RemoveLaw
-remove_law super old new outer directory place number name sound remove becomes =
-    let may : MayChange super old new outer directory place = record {
-      only = becomes.only;
-      leads = remove.leads;
-      goes = λ some. stood-goes super old outer directory place number name remove;
-      comes = λ some. absurd (some becomes.free);
-    } in
-    let after = changed_law super old new outer directory place sound may in
-    let free : (last : List ℕ) → named_inode last (entry super new directory place) ≡ None = λ last. named-free last (entry super new directory place) becomes.free in
-    let finds_it : lookup super new name directory ≡ None =
-    after.finds.changed name remove.plain (inr (named-stood super old outer directory place number name remove)) ∙ free name in
-    record {
-      sound = after.sound;
-      here = now-name super old new outer directory place remove.leads after name None finds_it;
-      others = λ other apart. other-path super old new outer directory place remove.leads after other (λ last is.
-          free last ∙ sym (ap (named_inode last) remove.stands ∙ named-other last name number (λ same. apart (is ∙ ap (λ n. n ∷ outer) (sym same)))));
-    }
+remove_law super old new outer directory place number name sound remove becomes = remove-names super old new outer directory place number name sound remove becomes
+
+pub remove_last_law : RemoveLastLaw
+remove_last_law super old new outer directory place number name sound remove last becomes = remove-left super old new outer directory place number name sound remove becomes last
 
 -- ---- it names another inode
 
+module _ (super : Super) (old new : Parts) (outer : List (List ℕ)) (directory place former number : ℕ) (name : List ℕ) (sound : Sound super old) (remove : MayRemove super old outer directory place former name) (stand : MayStand super old number) (becomes : Becomes super old new directory place (entry_with number name)) (kept : KeepsInode super old new number) where
+  had-former : named_inode name (entry super old directory place) ≢ None
+  had-former = named-stood super old outer directory place former name remove
+
+  redirect-come : MayCome super old new outer directory place (entry_with number name)
+  redirect-come = record {
+    plain = remove.plain;
+    alone = inr had-former;
+    fit = stand.fit;
+    kept = kept;
+    links = λ paths distinct lead gone. stand.links paths distinct lead;
+    fresh = λ is. let file = stand.file in let t = sym is ∙ file in cc;
+  }
+
+  redirect-may : MayChange super old new outer directory place
+  redirect-may = record {
+    only = becomes.only;
+    leads = remove.leads;
+    goes = λ some. stood-goes super old outer directory place former name remove;
+    comes = λ some. subst (MayCome super old new outer directory place) (sym becomes.says) redirect-come;
+  }
+
+  redirect-names : NamesWith super old new (name ∷ outer) (Some (thing super old number))
+  redirect-names =
+      let after = changed_law super old new outer directory place sound redirect-may in
+      let finds_it : lookup super new name directory ≡ Some number =
+      after.finds.changed name remove.plain (inr had-former)
+      ∙ (ap (named_inode name) becomes.says ∙ named-is name number (some-number super old number stand.fit)) in
+      record {
+        sound = after.sound;
+        here = now-name super old new outer directory place remove.leads after name (Some number) finds_it ∙ ap Some (thing-same super old new number kept.node kept.zones);
+        others = λ other apart. other-path super old new outer directory place remove.leads after other (λ last is.
+            let away : name ≢ last = λ same. apart (is ∙ ap (λ n. n ∷ outer) (sym same)) in
+            ap (named_inode last) becomes.says ∙ (named-other last name number away
+            ∙ sym (ap (named_inode last) remove.stands ∙ named-other last name former away)));
+      }
+
+  redirect-left : IsOnlyName super old (name ∷ outer) former → number ≢ former → IsLeft super new former
+  redirect-left last apart = is-left super old new outer directory place sound redirect-may former
+      (ap (λ (e : Entry). e.inode) remove.stands)
+      (subst (λ n. IsOnlyName super old (n ∷ outer) former) (sym (ap (λ (e : Entry). e.name) remove.stands)) last)
+      (λ same. apart (ap (λ (e : Entry). e.inode) (sym becomes.says) ∙ same))
+
 pub redirect_law : RedirectLaw
 redirect_law super old new outer directory place former number name sound remove stand becomes kept =
-    let had : named_inode name (entry super old directory place) ≢ None = named-stood super old outer directory place former name remove in
-    let come : MayCome super old new outer directory place (entry_with number name) = record {
-      plain = remove.plain;
-      alone = inr had;
-      fit = stand.fit;
-      kept = kept;
-      links = λ paths distinct lead gone. stand.links paths distinct lead;
-      fresh = λ is. let file = stand.file in let t = sym is ∙ file in cc;
-    } in
-    let may : MayChange super old new outer directory place = record {
-      only = becomes.only;
-      leads = remove.leads;
-      goes = λ some. stood-goes super old outer directory place former name remove;
-      comes = λ some. subst (MayCome super old new outer directory place) (sym becomes.says) come;
-    } in
-    let after = changed_law super old new outer directory place sound may in
-    let finds_it : lookup super new name directory ≡ Some number =
-    after.finds.changed name remove.plain (inr had)
-    ∙ (ap (named_inode name) becomes.says ∙ named-is name number (some-number super old number stand.fit)) in
-    record {
-      sound = after.sound;
-      here = now-name super old new outer directory place remove.leads after name (Some number) finds_it ∙ ap Some (thing-same super old new number kept.node kept.zones);
-      others = λ other apart. other-path super old new outer directory place remove.leads after other (λ last is.
-          let away : name ≢ last = λ same. apart (is ∙ ap (λ n. n ∷ outer) (sym same)) in
-          ap (named_inode last) becomes.says ∙ (named-other last name number away
-          ∙ sym (ap (named_inode last) remove.stands ∙ named-other last name former away)));
-    }
+    redirect-names super old new outer directory place former number name sound remove stand becomes kept
+
+pub redirect_last_law : RedirectLastLaw
+redirect_last_law super old new outer directory place former number name sound remove last stand apart becomes kept =
+    redirect-left super old new outer directory place former number name sound remove stand becomes kept last apart
 
 -- ---- it gets another name
 

@@ -2,9 +2,9 @@
 -- list of components, the last one first.
 use Rattle.std.specs.Prelude.{◌≡◌, ◌≢◌, ◌<◌, ℕ, false, List, length, Option, Some, None}
 use Rattle.lilo_model.specs.MinixLayout.{Super}
-use Rattle.lilo_model.specs.MinixParts.{Parts, is_directory}
+use Rattle.lilo_model.specs.MinixParts.{Parts, Pointer, is_directory}
 use Rattle.lilo_model.specs.MinixEntries.{Entry, entry_with, is_dots}
-use Rattle.lilo_model.specs.MinixNames.{Thing, entry, lookup, reached, names, AllLead, AreDistinct, Sound}
+use Rattle.lilo_model.specs.MinixNames.{Thing, entry, lookup, reached, names, Named, PointsTo, Refers, AllLead, AreDistinct, Sound}
 use Rattle.minix_change.specs.Only.{ChangesOnlyEntry}
 use Rattle.minix_change.specs.Comes.{IsFit, IsNewDirectory}
 
@@ -77,3 +77,15 @@ pub record NamesMoved (super : Super) (old new : Parts) (former path : List (Lis
   pub gone : names super new former ≡ None
   pub here : names super new path ≡ names super old former
   pub others : (other : List (List ℕ)) → other ≢ former → other ≢ path → names super new other ≡ names super old other
+
+-- ---- the last name
+
+-- a path leads to an inode, and no other does
+pub record IsOnlyName (super : Super) (parts : Parts) (path : List (List ℕ)) (number : ℕ) : Type 0 where
+  pub leads : reached super parts path ≡ Some number
+  pub only : (other : List (List ℕ)) → reached super parts other ≡ Some number → other ≡ path
+
+-- an inode has no name, and no named inode refers to the zones that it has
+pub record IsLeft (super : Super) (parts : Parts) (number : ℕ) : Type 0 where
+  pub unnamed : Named super parts number → ⊥
+  pub unused : (at : Pointer) (zone : ℕ) → PointsTo super parts number at zone → (other : ℕ) (there : Pointer) → Refers super parts other there zone → ⊥

@@ -1,5 +1,5 @@
 -- What a change of one entry of a directory does to a sound Minix volume.
-use Rattle.std.specs.Prelude.{◌≡◌, ◌<◌, ℕ, ◌+◌, ◌^◌, List, ◌∷◌, length, false, Some, None}
+use Rattle.std.specs.Prelude.{◌≡◌, ◌≢◌, ◌<◌, ℕ, ◌+◌, ◌^◌, List, ◌∷◌, length, false, Some, None}
 use Rattle.lilo_model.specs.Bytes.{with_part}
 use Rattle.lilo_model.specs.Disks.{Image, with_sector}
 use Rattle.lilo_model.specs.MinixLayout.{Kind, Super, Place, entry_size}
@@ -8,7 +8,7 @@ use Rattle.lilo_model.specs.MinixEntries.{entry_with, entry_of}
 use Rattle.lilo_model.specs.MinixNames.{thing, Named, depth_limit, Sound, IsSound}
 use Rattle.minix_change.specs.Only.{ChangesOnlyEntry, KeepsInode}
 use Rattle.minix_change.specs.Comes.{IsFit, IsNewDirectory, HasOnlyDots, MayChange, SoundAfter}
-use Rattle.minix_change.specs.Enter.{MayStand, DirectoryMayStand, MayEnter, MayRemove, MayRename, Becomes, BecomesFree, NamesWith, NamesMoved}
+use Rattle.minix_change.specs.Enter.{MayStand, DirectoryMayStand, MayEnter, MayRemove, MayRename, Becomes, BecomesFree, NamesWith, NamesMoved, IsOnlyName, IsLeft}
 use Rattle.minix_change.specs.Written.{entry_bytes, FitsEntry, place_in, IsPlaced, HasEntryBytes, EntryIsWritten, HasNamesWith, HasNamesMoved}
 use Rattle.minix_change.specs.Sample.{CanEnter}
 
@@ -79,6 +79,25 @@ RenameLaw =
     → Sound super old → MayRename super old outer directory place number former name
     → Becomes super old new directory place (entry_with number name)
     → NamesMoved super old new (former ∷ outer) (name ∷ outer)
+
+-- ---- the last name
+
+-- an inode whose only name goes is left without one
+abbrev pub RemoveLastLaw : Type 0
+RemoveLastLaw =
+    (super : Super) (old new : Parts) (outer : List (List ℕ)) (directory place number : ℕ) (name : List ℕ)
+    → Sound super old → MayRemove super old outer directory place number name → IsOnlyName super old (name ∷ outer) number
+    → BecomesFree super old new directory place
+    → IsLeft super new number
+
+-- and so is one whose only name is led to another
+abbrev pub RedirectLastLaw : Type 0
+RedirectLastLaw =
+    (super : Super) (old new : Parts) (outer : List (List ℕ)) (directory place former number : ℕ) (name : List ℕ)
+    → Sound super old → MayRemove super old outer directory place former name → IsOnlyName super old (name ∷ outer) former
+    → MayStand super old number → number ≢ former
+    → Becomes super old new directory place (entry_with number name) → KeepsInode super old new number
+    → IsLeft super new former
 
 -- ---- bytes
 
@@ -156,6 +175,29 @@ RenameBytesLaw =
     → entry_of volume.layout.kind bytes ≡ entry_with number name
     → MayRename volume.layout (parts_of volume old) outer directory place number former name
     → HasNamesMoved volume old image (former ∷ outer) (name ∷ outer)
+
+-- ---- the last name in images
+
+-- an inode whose only name goes is left without one
+abbrev pub RemoveLastBytesLaw : Type 0
+RemoveLastBytesLaw =
+    (volume : Volume) (old image : Image) (outer : List (List ℕ)) (directory place number : ℕ) (name bytes : List ℕ)
+    → IsSound volume old → IsPlaced volume old directory place → HasEntryBytes volume old image directory place bytes
+    → (entry_of volume.layout.kind bytes).inode ≡ 0
+    → MayRemove volume.layout (parts_of volume old) outer directory place number name
+    → IsOnlyName volume.layout (parts_of volume old) (name ∷ outer) number
+    → IsLeft volume.layout (parts_of volume image) number
+
+-- and so is one whose only name is led to another
+abbrev pub RedirectLastBytesLaw : Type 0
+RedirectLastBytesLaw =
+    (volume : Volume) (old image : Image) (outer : List (List ℕ)) (directory place former number : ℕ) (name bytes : List ℕ)
+    → IsSound volume old → IsPlaced volume old directory place → HasEntryBytes volume old image directory place bytes
+    → entry_of volume.layout.kind bytes ≡ entry_with number name
+    → MayRemove volume.layout (parts_of volume old) outer directory place former name
+    → IsOnlyName volume.layout (parts_of volume old) (name ∷ outer) former
+    → MayStand volume.layout (parts_of volume old) number → number ≢ former
+    → IsLeft volume.layout (parts_of volume image) former
 
 -- ---- a sample
 

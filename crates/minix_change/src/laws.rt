@@ -10,8 +10,12 @@ ghost use Rattle.minix_change.specs.Laws.{
   FitLaw,
   NewDirectoryLaw,
   RedirectBytesLaw,
+  RedirectLastBytesLaw,
+  RedirectLastLaw,
   RedirectLaw,
   RemoveBytesLaw,
+  RemoveLastBytesLaw,
+  RemoveLastLaw,
   RemoveLaw,
   RenameBytesLaw,
   RenameLaw,
@@ -108,4 +112,24 @@ pub fn bytes_of_another_name_move_a_name()
 /// There are sound volumes on which a name may be made, removed and changed.
 pub fn names_may_be_made()
     ensures { SampleLaw }
+{}
+
+/// An inode whose only name goes is left without one.
+pub fn last_name_leaves_an_inode()
+    ensures { RemoveLastLaw }
+{}
+
+/// And so is one whose only name is led to another.
+pub fn redirected_last_name_leaves_an_inode()
+    ensures { RedirectLastLaw }
+{}
+
+/// An inode whose only name goes by the bytes of its entry is left without one.
+pub fn bytes_of_a_last_name_leave_an_inode()
+    ensures { RemoveLastBytesLaw }
+{}
+
+/// And so is one whose only name they lead to another.
+pub fn bytes_of_a_redirected_last_name_leave_an_inode()
+    ensures { RedirectLastBytesLaw }
 {}

@@ -1,10 +1,11 @@
 -- An inode of which the node and the zones stay.
 use Rattle.std.proofs.Common.{◌≡◌, ◌≢◌, ℕ, zero, suc, ◌/◌, ◌%◌, ◌<◌, ◌==◌, ◌||◌, Bool, true, false, List, [], ◌∷◌, take, refl, sym, ◌∙◌, ap, subst, arith, eq-eqb}
 use Rattle.std.specs.Prelude.{slice_index}
+use Rattle.std.proofs.lemmas.Bool.{eqb-true}
 use Rattle.lilo_model.specs.MinixLayout.{Super}
 use Rattle.lilo_model.specs.MinixParts.{Parts, Pointer, IsPointer, is_directory, is_file, is_link, has_zones, number_in, number_below, follow, block_pointer, zone_bytes, blocks_for}
 use Rattle.lilo_model.specs.MinixEntries.{Entry, entry_in, entries_per_block, places}
-use Rattle.lilo_model.specs.MinixNames.{pointer, zone_number, block, blocks, content, entry, lookup, thing, PointsTo, HasEntry, File, Link}
+use Rattle.lilo_model.specs.MinixNames.{pointer, zone_number, block, blocks, content, entry, lookup, thing, PointsTo, HasEntry, Directory, File, Link}
 use Rattle.minix_laws.proofs.Pointers.{pointer_law}
 
 -- ---- kinds of files that have zones
@@ -21,6 +22,13 @@ link-zones false false link is = is
 
 pub directory-zones : (parts : Parts) (number : ℕ) → is_directory (parts.node number) ≡ true → has_zones (parts.node number) ≡ true
 directory-zones parts number is = rw is refl
+
+-- what a directory is
+pub thing-directory : (super : Super) (parts : Parts) (number : ℕ) → is_directory (parts.node number) ≡ true → thing super parts number ≡ Directory
+unfolding thing
+thing-directory super parts number is =
+    let four : (parts.node number).mode / 4096 ≡ 4 = eqb-true ((parts.node number).mode / 4096) 4 is in
+    rw four refl
 
 -- ---- pointers, of which each but the last zone stays
 

@@ -4,7 +4,7 @@ use Rattle.std.proofs.lemmas.Slice.Eq.{bytes_eq-Decides}
 use Rattle.lilo_model.specs.MinixLayout.{Super}
 use Rattle.lilo_model.specs.MinixParts.{Parts, is_directory}
 use Rattle.lilo_model.specs.MinixEntries.{Entry, entry_with, named_inode}
-use Rattle.lilo_model.specs.MinixNames.{entry, lookup, then_lookup, reached, thing, names, Named, AllLead, IsNew, Sound}
+use Rattle.lilo_model.specs.MinixNames.{Directory, entry, lookup, then_lookup, reached, thing, names, Named, AllLead, IsNew, Sound}
 use Rattle.minix_beside.specs.Change.{ChangesEntry}
 use Rattle.minix_beside.proofs.Change.{path-cases}
 use Rattle.minix_beside.proofs.Entries.{entry_law}
@@ -12,7 +12,7 @@ use Rattle.minix_change.specs.Only.{KeepsInode}
 use Rattle.minix_change.specs.Comes.{IsFit, MayGo, MayCome, MayChange, SoundAfter}
 use Rattle.minix_change.specs.Enter.{MayStand, DirectoryMayStand, MayEnter, MayRemove, MayRename, Becomes, BecomesFree, NamesWith, NamesMoved, IsOnlyName, IsLeft}
 use Rattle.minix_change.specs.Laws.{EnterLaw, EnterDirectoryLaw, RemoveLaw, RedirectLaw, RenameLaw, RemoveLastLaw, RedirectLastLaw}
-use Rattle.minix_change.proofs.Inode.{thing-same}
+use Rattle.minix_change.proofs.Inode.{thing-directory, thing-same}
 use Rattle.minix_change.proofs.Only.{fit_law, file-kept}
 use Rattle.minix_change.proofs.Finds.{named-is, named-free}
 use Rattle.minix_change.proofs.Changed.{changed_law, is-left}
@@ -109,15 +109,15 @@ module _ (super : Super) (old new : Parts) (outer : List (List ℕ)) (directory 
   unnamed-links [] unnamed lead some = some
   unnamed-links (path ∷ paths) unnamed lead some = absurd (unnamed (record { path = path; leads = lead.0 }))
 
-  enter-directory : DirectoryMayStand super old outer directory number → NamesWith super old new (name ∷ outer) (Some (thing super old number))
-  enter-directory stand = enter-names (record {
+  enter-directory : DirectoryMayStand super old outer directory number → NamesWith super old new (name ∷ outer) (Some Directory)
+  enter-directory stand = subst (λ what. NamesWith super old new (name ∷ outer) (Some what)) (thing-directory super old number stand.is) (enter-names (record {
     plain = enter.plain;
     alone = inl enter.absent;
     fit = stand.fit;
     kept = kept;
     links = λ paths distinct lead gone. unnamed-links paths stand.fresh.unnamed lead stand.some_link;
     fresh = λ is. stand.fresh;
-  }) (some-number super old number stand.fit)
+  }) (some-number super old number stand.fit))
 
 pub enter_law : EnterLaw
 enter_law super old new outer directory place number name sound enter stand becomes kept =

@@ -4,11 +4,11 @@ use Rattle.std.proofs.lemmas.Bool.{eqb-true}
 use Rattle.lilo_model.specs.MinixLayout.{Super}
 use Rattle.lilo_model.specs.MinixParts.{Parts, Pointer, is_directory, block_pointer}
 use Rattle.lilo_model.specs.MinixEntries.{entries_per_block}
-use Rattle.lilo_model.specs.MinixNames.{zone_number, thing, Named, Refers, Sound, Directory}
+use Rattle.lilo_model.specs.MinixNames.{zone_number, thing, Named, Refers, Sound}
 use Rattle.minix_laws.proofs.Pointers.{pointer_law}
 use Rattle.minix_change.specs.Only.{zone_of_entry, ChangesOnlyEntry, KeepsInode}
 use Rattle.minix_change.specs.Laws.{FitLaw, FileLaw}
-use Rattle.minix_change.proofs.Inode.{KeepsAbove, directory-zones, thing-same}
+use Rattle.minix_change.proofs.Inode.{KeepsAbove, directory-zones, thing-directory, thing-same}
 
 -- the zones but that of an entry stay
 abbrev pub KeepsOtherZones : Super → Parts → Parts → ℕ → ℕ → Type 0
@@ -61,17 +61,11 @@ module _ (super : Super) (old new : Parts) (directory place : ℕ) (sound : Soun
       cc)
 
   -- and each stays what it is
-  thing-directory : (parts : Parts) → is_directory (parts.node directory) ≡ true → thing super parts directory ≡ Directory
-  unfolding thing
-  thing-directory parts is =
-      let four : (parts.node directory).mode / 4096 ≡ 4 = eqb-true ((parts.node directory).mode / 4096) 4 is in
-      rw four refl
-
   thing-by : (number : ℕ) → Named super old number → (here : Bool) → (number == directory) ≡ here → thing super new number ≡ thing super old number
   thing-by number named true here =
       let now : is_directory (new.node directory) ≡ true = ap (λ node. is_directory node) only.change.node ∙ only.change.is in
       let same : number ≡ directory = eqb-true number directory here in
-      ap (thing super new) same ∙ thing-directory new now ∙ sym (thing-directory old only.change.is) ∙ ap (thing super old) (sym same)
+      ap (thing super new) same ∙ thing-directory super new directory now ∙ sym (thing-directory super old directory only.change.is) ∙ ap (thing super old) (sym same)
   thing-by number named false here =
       let kept = other-kept number named (λ e. let t = eq-eqb number directory e in cc) in
       thing-same super old new number kept.node kept.zones

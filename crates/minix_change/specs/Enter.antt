@@ -1,6 +1,6 @@
 -- Names that are made, removed, led elsewhere and changed on a sound Minix volume, each by one entry. A path is a
 -- list of components, the last one first.
-use Rattle.std.specs.Prelude.{◌≡◌, ◌≢◌, ◌<◌, ℕ, false, List, length, Option, Some, None}
+use Rattle.std.specs.Prelude.{◌≡◌, ◌≢◌, ◌<◌, ℕ, true, false, List, length, Option, Some, None}
 use Rattle.lilo_model.specs.MinixLayout.{Super}
 use Rattle.lilo_model.specs.MinixParts.{Parts, Pointer, is_directory}
 use Rattle.lilo_model.specs.MinixEntries.{Entry, entry_with, is_dots}
@@ -23,6 +23,7 @@ pub record MayStand (super : Super) (parts : Parts) (number : ℕ) : Type 0 wher
 
 -- a directory without a name, and with nothing in it but `.` and `..`, may get its name in another
 pub record DirectoryMayStand (super : Super) (parts : Parts) (outer : List (List ℕ)) (directory number : ℕ) : Type 0 where
+  pub is : is_directory (parts.node number) ≡ true
   pub fit : IsFit super parts number
   pub some_link : 0 < (parts.node number).links
   pub fresh : IsNewDirectory super parts outer directory number

@@ -5,7 +5,7 @@ use Rattle.lilo_model.specs.Disks.{Image, with_sector}
 use Rattle.lilo_model.specs.MinixLayout.{Kind, Super, Place, entry_size}
 use Rattle.lilo_model.specs.MinixParts.{Parts, Volume, sector_of, is_directory, parts_of}
 use Rattle.lilo_model.specs.MinixEntries.{entry_with, entry_of}
-use Rattle.lilo_model.specs.MinixNames.{thing, Named, depth_limit, Sound, IsSound}
+use Rattle.lilo_model.specs.MinixNames.{Directory, thing, Named, depth_limit, Sound, IsSound}
 use Rattle.minix_change.specs.Only.{ChangesOnlyEntry, KeepsInode}
 use Rattle.minix_change.specs.Comes.{IsFit, IsNewDirectory, HasOnlyDots, MayChange, SoundAfter}
 use Rattle.minix_change.specs.Enter.{MayStand, DirectoryMayStand, MayEnter, MayRemove, MayRename, Becomes, BecomesFree, NamesWith, NamesMoved, IsOnlyName, IsLeft}
@@ -54,7 +54,7 @@ EnterDirectoryLaw =
     (super : Super) (old new : Parts) (outer : List (List ℕ)) (directory place number : ℕ) (name : List ℕ)
     → Sound super old → MayEnter super old outer directory place name → DirectoryMayStand super old outer directory number
     → Becomes super old new directory place (entry_with number name) → KeepsInode super old new number
-    → NamesWith super old new (name ∷ outer) (Some (thing super old number))
+    → NamesWith super old new (name ∷ outer) (Some Directory)
 
 -- an entry that becomes free takes one name away
 abbrev pub RemoveLaw : Type 0
@@ -147,7 +147,7 @@ EnterDirectoryBytesLaw =
     → IsSound volume old → IsPlaced volume old directory place → HasEntryBytes volume old image directory place bytes
     → entry_of volume.layout.kind bytes ≡ entry_with number name
     → MayEnter volume.layout (parts_of volume old) outer directory place name → DirectoryMayStand volume.layout (parts_of volume old) outer directory number
-    → HasNamesWith volume old image (name ∷ outer) (Some (thing volume.layout (parts_of volume old) number))
+    → HasNamesWith volume old image (name ∷ outer) (Some Directory)
 
 -- those of a free entry take one name away
 abbrev pub RemoveBytesLaw : Type 0

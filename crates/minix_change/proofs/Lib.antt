@@ -7,6 +7,6 @@ pub mod Names
 pub mod Blocks
 pub mod Written
 pub mod Images
+pub mod Dots
 pub mod Room
 pub mod Sample
-pub mod Dots

@@ -1,14 +1,18 @@
--- Parts with a root directory that has room for an entry, and with an inode of an empty file, are sound.
+-- Parts with a root directory that has room for an entry, and with an empty file and a new directory that have no
+-- names, are sound.
 use Rattle.std.proofs.Common.{◌≡◌, ◌≢◌, ℕ, zero, suc, ◌-◌, ◌<◌, ◌≤◌, Bool, true, false, ◌||◌, List, [], ◌∷◌, length, replicate, bytes_eq, Some, None, refl, sym, ◌∙◌, ap, subst, arith}
 use Rattle.std.specs.Prelude.{slice_index}
 use Rattle.lilo_model.specs.MinixLayout.{Kind, Super, is_size}
 use Rattle.lilo_model.specs.MinixParts.{Parts, Pointer, is_directory, follow}
 use Rattle.lilo_model.specs.MinixEntries.{Entry, entry_with, places, here_name, above_name, is_dots}
 use Rattle.lilo_model.specs.MinixNames.{pointer, entry, first_named, lookup, reached, Named, PointsTo, Refers, HasEntry, HasSomeEntry, AllLead, AreDistinct, Sound}
-use Rattle.minix_change.specs.Enter.{MayStand, MayEnter}
+use Rattle.minix_change.specs.Comes.{HasOnlyDots}
+use Rattle.minix_change.specs.Enter.{MayStand, DirectoryMayStand, MayEnter}
+use Rattle.minix_change.proofs.Dots.{new_directory_law}
 
--- the root directory has `.` and `..` in one zone, and a free entry behind them; inode 2 is an empty file
-pub record RootRoom (super : Super) (parts : Parts) (zone : ℕ) : Type 0 where
+-- the root directory has `.` and `..` in one zone, and a free entry behind them; inode 2 is an empty file, and inode
+-- 3 a directory with its two entries in another zone
+pub record RootRoom (super : Super) (parts : Parts) (zone other : ℕ) : Type 0 where
   pub directory : is_directory (parts.node 1) ≡ true
   pub some_mode : (parts.node 1).mode ≢ 0
   pub small : is_size super.kind (parts.node 1).size ≡ true
@@ -17,7 +21,7 @@ pub record RootRoom (super : Super) (parts : Parts) (zone : ℕ) : Type 0 where
   pub first_entry : entry super parts 1 0 ≡ entry_with 1 here_name
   pub second_entry : entry super parts 1 1 ≡ entry_with 1 above_name
   pub third_free : (entry super parts 1 2).inode ≡ 0
-  pub some_inode : 2 ≤ super.inodes
+  pub some_inode : 3 ≤ super.inodes
   pub inode_mark : parts.has_inode 1 ≡ true
   pub zone_mark : parts.has_zone zone ≡ true
   pub from : super.first ≤ zone
@@ -28,6 +32,19 @@ pub record RootRoom (super : Super) (parts : Parts) (zone : ℕ) : Type 0 where
   pub file_mark : parts.has_inode 2 ≡ true
   pub file_zones : (parts.node 2).zones ≡ replicate 10 0
   pub file_links : (parts.node 2).links ≡ 1
+  pub new_directory : is_directory (parts.node 3) ≡ true
+  pub new_mode : (parts.node 3).mode ≢ 0
+  pub new_small : is_size super.kind (parts.node 3).size ≡ true
+  pub new_two : places super.kind (parts.node 3).size ≡ 2
+  pub new_zones : (parts.node 3).zones ≡ other ∷ replicate 9 0
+  pub new_links : (parts.node 3).links ≡ 2
+  pub new_first : entry super parts 3 0 ≡ entry_with 3 here_name
+  pub new_second : entry super parts 3 1 ≡ entry_with 1 above_name
+  pub new_inode_mark : parts.has_inode 3 ≡ true
+  pub new_zone_mark : parts.has_zone other ≡ true
+  pub new_from : super.first ≤ other
+  pub new_below : other < super.zones
+  pub apart : other ≢ zone
 
 -- ---- paths
 
@@ -43,7 +60,7 @@ first_named-dots at name here above free other =
     let no : (bytes_eq here_name name ≡ false) × (bytes_eq above_name name ≡ false) = both-false _ _ other in
     rw (here, above, free, no.0, no.1) refl
 
-module _ (super : Super) (parts : Parts) (zone : ℕ) (h : RootRoom super parts zone) where
+module _ (super : Super) (parts : Parts) (zone other : ℕ) (h : RootRoom super parts zone other) where
   lookup-by : (name : List ℕ) (dots : Bool) → is_dots name ≡ dots → lookup super parts name 1 ≡ None
   unfolding lookup
   lookup-by name true is = rw (h.directory, is) refl
@@ -79,14 +96,14 @@ module _ (super : Super) (parts : Parts) (zone : ℕ) (h : RootRoom super parts 
   no-more (suc n) zero = refl
   no-more (suc n) (suc index) = no-more n index
 
-  -- the one pointer of the root that isn't a hole
-  pointer-by : (top : ℕ) (trail : List ℕ) (zones : List ℕ) (to : ℕ) → zones ≡ zone ∷ replicate 9 0 → length trail ≤ top - 6
+  -- the one pointer that isn't a hole, where all numbers but the first are 0
+  pointer-by : (first top : ℕ) (trail : List ℕ) (zones : List ℕ) (to : ℕ) → zones ≡ first ∷ replicate 9 0 → length trail ≤ top - 6
       → follow super.kind parts.zone (slice_index zones top) trail ≡ to → to ≢ 0
-      → (top ≡ 0) × (trail ≡ []) × (to ≡ zone)
+      → (top ≡ 0) × (trail ≡ []) × (to ≡ first)
   unfolding follow
-  pointer-by zero [] zones to are deep is some = (refl, refl, sym is ∙ ap (λ numbers. slice_index numbers 0) are)
-  pointer-by zero (index ∷ before) zones to are deep is some = absurd (omega (arith, deep))
-  pointer-by (suc top) trail zones to are deep is some =
+  pointer-by first zero [] zones to are deep is some = (refl, refl, sym is ∙ ap (λ numbers. slice_index numbers 0) are)
+  pointer-by first zero (index ∷ before) zones to are deep is some = absurd (omega (arith, deep))
+  pointer-by first (suc top) trail zones to are deep is some =
       let hole : slice_index zones (suc top) ≡ 0 = ap (λ numbers. slice_index numbers (suc top)) are ∙ no-more 9 top in
       let none : to ≡ 0 = sym is ∙ ap (λ n. follow super.kind parts.zone n trail) hole ∙ follow-hole super.kind parts.zone trail in
       absurd (some none)
@@ -96,7 +113,7 @@ module _ (super : Super) (parts : Parts) (zone : ℕ) (h : RootRoom super parts 
       let one : number ≡ 1 = named-root number refers.named in
       let P : ℕ → Type 0 = λ n. pointer super parts n at ≡ to in
       let is : pointer super parts 1 at ≡ to = subst P one refers.to.is in
-      let found = pointer-by at.top at.trail (parts.node 1).zones to h.zones refers.to.place.deep is refers.to.some in
+      let found = pointer-by zone at.top at.trail (parts.node 1).zones to h.zones refers.to.place.deep is refers.to.some in
       (one, found.0, found.1, found.2)
 
   same-pointer : (at there : Pointer) → at.top ≡ 0 → at.trail ≡ [] → there.top ≡ 0 → there.trail ≡ [] → at ≡ there
@@ -191,7 +208,7 @@ module _ (super : Super) (parts : Parts) (zone : ℕ) (h : RootRoom super parts 
   room-stands = record {
     file = h.file;
     fit = record {
-      range = (omega arith, h.some_inode);
+      range = (omega arith, omega (arith, h.some_inode));
       marked = h.file_mark;
       mode = h.file_mode;
       size = h.file_small;
@@ -209,6 +226,37 @@ module _ (super : Super) (parts : Parts) (zone : ℕ) (h : RootRoom super parts 
   pub room-enter : (name : List ℕ) → is_dots name ≡ false → MayEnter super parts [] 1 2 name
   unfolding reached
   room-enter name plain = record { leads = refl; plain = plain; absent = lookup-root name; free = h.third_free }
+
+  -- ---- the new directory
+
+  points-new : (at : Pointer) (to : ℕ) → PointsTo super parts 3 at to → (at.top ≡ 0) × (at.trail ≡ []) × (to ≡ other)
+  points-new at to points = pointer-by other at.top at.trail (parts.node 3).zones to h.new_zones points.place.deep points.is points.some
+
+  only-dots : HasOnlyDots super parts 1 3
+  only-dots = record {
+    two = omega (arith, h.new_two);
+    first = h.new_first;
+    second = h.new_second;
+    rest = λ place high below. absurd (omega (arith, high, below, h.new_two));
+  }
+
+  -- it may get a name in the root
+  pub room-directory : DirectoryMayStand super parts [] 1 3
+  room-directory = record {
+    is = h.new_directory;
+    fit = record {
+      range = (omega arith, h.some_inode);
+      marked = h.new_inode_mark;
+      mode = h.new_mode;
+      size = h.new_small;
+      zone_range = λ at to points. let is : to ≡ other = (points-new at to points).2 in (omega (arith, is, h.new_from), omega (arith, is, h.new_below));
+      zone_marked = λ at to points. ap parts.has_zone (points-new at to points).2 ∙ h.new_zone_mark;
+      once = λ at there to one two. let f = points-new at to one in let g = points-new there to two in same-pointer at there f.0 f.1 g.0 g.1;
+      apart = λ number at there to points refers. absurd (h.apart (sym (points-new at to points).2 ∙ (refers-root number there to refers).3));
+    };
+    some_link = omega (arith, h.new_links);
+    fresh = new_directory_law super parts [] 1 3 only-dots (λ named. let one : 3 ≡ 1 = named-root 3 named in absurd (omega (arith, one))) (omega arith);
+  }
 
   pub room-named : Named super parts 1
   unfolding reached

@@ -92,7 +92,7 @@ module _ (super : Super) (old new : Parts) (number : ℕ) (node : new.node numbe
         let same : new.zone zone ≡ old.zone zone = kept (block_pointer super.kind index) zone (record { kind = zones; place = (pointer_law super.kind).is index; is = to; some = some }) in
         rw hole same
 
-    zone-same : (index : ℕ) → zone_number super new number index ≡ zone_number super old number index
+    pub zone-same : (index : ℕ) → zone_number super new number index ≡ zone_number super old number index
     unfolding zone_number
     zone-same index = pointer-same super old new number node (keeps-above super old new number kept) zones (block_pointer super.kind index) ((pointer_law super.kind).is index)
 

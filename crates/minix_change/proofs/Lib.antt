@@ -10,3 +10,4 @@ pub mod Images
 pub mod Dots
 pub mod Room
 pub mod Sample
+pub mod Still

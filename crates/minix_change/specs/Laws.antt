@@ -1,15 +1,17 @@
 -- What a change of one entry of a directory does to a sound Minix volume.
-use Rattle.std.specs.Prelude.{◌≡◌, ◌≢◌, ◌<◌, ℕ, ◌+◌, ◌^◌, List, ◌∷◌, length, false, Some, None}
+use Rattle.std.specs.Prelude.{◌≡◌, ◌≢◌, ◌<◌, ℕ, ◌+◌, ◌^◌, List, ◌∷◌, length, false, Option, Some, None}
 use Rattle.lilo_model.specs.Bytes.{with_part}
 use Rattle.lilo_model.specs.Disks.{Image, with_sector}
 use Rattle.lilo_model.specs.MinixLayout.{Kind, Super, Place, entry_size}
 use Rattle.lilo_model.specs.MinixParts.{Parts, Volume, sector_of, is_directory, parts_of}
 use Rattle.lilo_model.specs.MinixEntries.{entry_with, entry_of}
-use Rattle.lilo_model.specs.MinixNames.{Directory, thing, Named, depth_limit, Sound, IsSound}
+use Rattle.lilo_model.specs.MinixNames.{Thing, Directory, thing, Named, depth_limit, Sound, IsSound}
+use Rattle.minix_beside.specs.Beside.{Beside}
 use Rattle.minix_change.specs.Only.{ChangesOnlyEntry, KeepsInode}
 use Rattle.minix_change.specs.Comes.{IsFit, IsNewDirectory, HasOnlyDots, MayChange, SoundAfter}
 use Rattle.minix_change.specs.Enter.{MayStand, DirectoryMayStand, MayEnter, MayRemove, MayRename, Becomes, BecomesFree, NamesWith, NamesMoved, IsOnlyName, IsLeft}
 use Rattle.minix_change.specs.Written.{entry_bytes, FitsEntry, place_in, IsPlaced, HasEntryBytes, EntryIsWritten, HasNamesWith, HasNamesMoved}
+use Rattle.minix_change.specs.Still.{StandsAsIn, IsNewFile}
 use Rattle.minix_change.specs.Sample.{CanEnter}
 
 -- where an entry that may go becomes one that may come, a sound volume stays sound
@@ -37,6 +39,10 @@ NewDirectoryLaw =
     (super : Super) (parts : Parts) (outer : List (List ℕ)) (directory number : ℕ)
     → HasOnlyDots super parts directory number → (Named super parts number → ⊥) → length outer < depth_limit
     → IsNewDirectory super parts outer directory number
+
+-- a new file may get its name
+abbrev pub NewFileLaw : Type 0
+NewFileLaw = (super : Super) (parts : Parts) (number : ℕ) → IsNewFile super parts number → MayStand super parts number
 
 -- ---- names
 
@@ -198,6 +204,39 @@ RedirectLastBytesLaw =
     → IsOnlyName volume.layout (parts_of volume old) (name ∷ outer) former
     → MayStand volume.layout (parts_of volume old) number → number ≢ former
     → IsLeft volume.layout (parts_of volume image) former
+
+-- ---- harmless writes before and after
+
+-- what may be done to entries may be done after harmless writes
+abbrev pub StillLaw : Type 0
+StillLaw = (volume : Volume) (old image : Image) → IsSound volume old → Beside volume old image → StandsAsIn volume old image
+
+-- a name that is made or goes after harmless writes makes the same of the image before them
+abbrev pub WithAfterLaw : Type 0
+WithAfterLaw =
+    (volume : Volume) (old middle image : Image) (path : List (List ℕ)) (what : Option Thing)
+    → IsSound volume old → Beside volume old middle → HasNamesWith volume middle image path what
+    → HasNamesWith volume old image path what
+
+-- and so does one before them
+abbrev pub WithBeforeLaw : Type 0
+WithBeforeLaw =
+    (volume : Volume) (old middle image : Image) (path : List (List ℕ)) (what : Option Thing)
+    → HasNamesWith volume old middle path what → Beside volume middle image
+    → HasNamesWith volume old image path what
+
+-- the same of a name that is changed
+abbrev pub MovedAfterLaw : Type 0
+MovedAfterLaw =
+    (volume : Volume) (old middle image : Image) (former path : List (List ℕ))
+    → IsSound volume old → Beside volume old middle → HasNamesMoved volume middle image former path
+    → HasNamesMoved volume old image former path
+
+abbrev pub MovedBeforeLaw : Type 0
+MovedBeforeLaw =
+    (volume : Volume) (old middle image : Image) (former path : List (List ℕ))
+    → HasNamesMoved volume old middle former path → Beside volume middle image
+    → HasNamesMoved volume old image former path
 
 -- ---- a sample
 

@@ -2,5 +2,6 @@ pub mod Only
 pub mod Comes
 pub mod Enter
 pub mod Written
+pub mod Still
 pub mod Sample
 pub mod Laws

@@ -8,7 +8,10 @@ ghost use Rattle.minix_change.specs.Laws.{
   EntryBytesLaw,
   FileLaw,
   FitLaw,
+  MovedAfterLaw,
+  MovedBeforeLaw,
   NewDirectoryLaw,
+  NewFileLaw,
   RedirectBytesLaw,
   RedirectLastBytesLaw,
   RedirectLastLaw,
@@ -20,6 +23,9 @@ ghost use Rattle.minix_change.specs.Laws.{
   RenameBytesLaw,
   RenameLaw,
   SampleLaw,
+  StillLaw,
+  WithAfterLaw,
+  WithBeforeLaw,
   WriteEntryLaw,
   WrittenLaw,
 };
@@ -132,4 +138,34 @@ pub fn bytes_of_a_last_name_leave_an_inode()
 /// And so is one whose only name they lead to another.
 pub fn bytes_of_a_redirected_last_name_leave_an_inode()
     ensures { RedirectLastBytesLaw }
+{}
+
+/// A new file may get its name.
+pub fn new_file_may_stand()
+    ensures { NewFileLaw }
+{}
+
+/// What may be done to entries may be done after harmless writes.
+pub fn what_may_be_done_still_may()
+    ensures { StillLaw }
+{}
+
+/// A name that is made or goes after harmless writes makes the same of the image before them.
+pub fn name_after_harmless_writes()
+    ensures { WithAfterLaw }
+{}
+
+/// And so does one before them.
+pub fn name_before_harmless_writes()
+    ensures { WithBeforeLaw }
+{}
+
+/// A name that is changed after harmless writes makes the same of the image before them.
+pub fn moved_name_after_harmless_writes()
+    ensures { MovedAfterLaw }
+{}
+
+/// And so does one before them.
+pub fn moved_name_before_harmless_writes()
+    ensures { MovedBeforeLaw }
 {}

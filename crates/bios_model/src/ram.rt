@@ -25,7 +25,11 @@ impl Model for Ram {
 }
 
 impl Ram {
-    /// A memory of `size` bytes, all zero. It fails where the allocator has no such memory.
+    /// A memory of `size` bytes, all zero: 1,048,576 to 1,073,741,824 of them.
+    ///
+    /// # Errors
+    ///
+    /// The allocator has no such memory.
     pub fn new(alloc: Global, size: u32) -> Result<Ram, AllocError>
         requires low { 1048576 ≤ size }
         requires high { size ≤ 1073741824 }
@@ -35,7 +39,7 @@ impl Ram {
         Ok(Ram { bytes })
     }
 
-    /// How many bytes there are.
+    /// How many bytes there are, 1,048,576 to 1,073,741,824.
     pub fn size(&self) -> u32
         ensures value { result ≡ length self.now }
         ensures range { (1048576 ≤ result) × (result ≤ 1073741824) }

@@ -10,7 +10,6 @@ use Rattle.minix_tree.specs.declared.tree_fault.TreeFault.{TreeFault}
 use Rattle.minix_tree.specs.declared.tree_fault.TreeFault.TheVariants as trees
 use Rattle.minix_zones.specs.declared.zone_fault.ZoneFault.TheVariants as zones
 use Rattle.volume_search.specs.View.{Tells}
-use Rattle.conf_text.specs.declared.text.Text.{Text}
 use Rattle.conf_file.specs.declared.conf_file.ConfFile.{ConfFile}
 use Rattle.conf_file.specs.declared.file_fault.FileFault.{FileFault}
 use Rattle.conf_file.specs.declared.file_fault.FileFault.TheVariants as faults

@@ -35,7 +35,8 @@ pub struct ConfFile {
 ///
 /// # Errors
 ///
-/// In this order: there is no volume, its superblock is refused, the path is.
+/// In this order: there is no volume, its superblock is refused, the path is. A disk that failed is told where it failed,
+/// and want of memory where the file is read.
 #[tactic(auto, unfolding(lilo_model::specs::ConfVerdict::conf_file))]
 pub fn read_conf_file<D: Disks>(
     alloc: Global,

@@ -77,6 +77,11 @@ fn the_file_of_a_path_is_read(rt: HostRuntime) -> Result<(), Fail> {
     Ok(())
 }
 
+// No call has this number.
+const NONE: u64 = u64::MAX;
+
+// The search reads the superblock by call 0, and the volume reads it again by call 1. On the file's way stand the root,
+// the two halves of its zone, the file's inode and the two halves of its own zone: calls 2 to 7.
 #[test]
 fn each_refusal_is_told(rt: HostRuntime) -> Result<(), Fail> {
     let whole = Device {
@@ -87,21 +92,30 @@ fn each_refusal_is_told(rt: HostRuntime) -> Result<(), Fail> {
         disk: 1,
         partition: 0,
     };
-    let cases: &[(u8, Option<Device>, &[u8], FileFault)] = &[
-        (32, None, b"/none", FileFault::Missing),
-        (32, None, b"/", FileFault::BadPath),
-        (32, None, b"/conf/x", FileFault::BadPath),
-        (33, None, PATH, FileFault::Layout),
-        (33, Some(whole), PATH, FileFault::Layout),
+    let cases: &[(u8, Option<Device>, &[u8], u64, FileFault)] = &[
+        (32, None, b"/none", NONE, FileFault::Missing),
+        (32, None, b"/", NONE, FileFault::BadPath),
+        (32, None, b"/conf/x", NONE, FileFault::BadPath),
+        (33, None, PATH, NONE, FileFault::Layout),
+        (33, Some(whole), PATH, NONE, FileFault::Layout),
         (
             32,
             Some(absent),
             PATH,
+            NONE,
             FileFault::Place(TableFault::NoDisk(1)),
         ),
+        (32, None, PATH, 0, FileFault::Place(TableFault::Device)),
+        (32, None, PATH, 1, FileFault::Device),
+        (32, None, PATH, 2, FileFault::Device),
+        (32, None, PATH, 7, FileFault::Device),
     ];
-    for (zones, root, path, wanted) in cases {
-        let mut disks = one_disk(rt.alloc(), &[])?;
+    for (zones, root, path, call, wanted) in cases {
+        let failing = Failing {
+            call: *call,
+            made: false,
+        };
+        let mut disks = one_disk(rt.alloc(), &[failing])?;
         volume(&mut disks, *zones);
         match read_conf_file(rt.alloc(), &mut disks, *root, path) {
             Ok(_) => return Err("not refused".into()),

@@ -30,8 +30,11 @@ pub enum DiskFault {
 /// Where a command stands that changes what boots: before, in, or after the one write that does it.
 #[derive(Clone, Copy, Debug, PartialEq, Eq)]
 pub enum Phase {
+    /// No such write was begun.
     Before,
+    /// It was begun, and isn't known to be durable.
     Commit,
+    /// It is durable.
     After,
 }
 
@@ -49,9 +52,14 @@ pub trait Disks {
     /// How many disks there are room for.
     ghost count_of: { Self → ℕ };
 
+    /// The division of each disk into tracks.
     ghost geometry_of: { Self → ℕ → GeometryOf };
 
     /// Reads a sector. A refusal leaves `into` as it was.
+    ///
+    /// # Errors
+    ///
+    /// `OutOfRange` where there is no such sector, and then the device isn't tried; `Failed` where it failed.
     fn read(&mut self, disk: u8, sector: u64, into: &mut Sector) -> Result<(), DiskFault>
         ensures cause { HasCause (size_of self.old disk) sector (faults self.old) (faults self.new) result }
         ensures bytes { OnOk result (Told (past self.old) (λ now. into.new ≡ now disk sector)) }
@@ -62,6 +70,10 @@ pub trait Disks {
         ensures geometry { geometry_of self.new ≡ geometry_of self.old };
 
     /// Writes a sector. A write that failed was made or wasn't.
+    ///
+    /// # Errors
+    ///
+    /// As for a read. What is out of range changes nothing.
     fn write(&mut self, disk: u8, sector: u64, from: &Sector) -> Result<(), DiskFault>
         ensures cause { HasCause (size_of self.old disk) sector (faults self.old) (faults self.new) result }
         ensures ok { OnOk result (past self.new ≡ appended (Write disk sector from.now) (past self.old)) }
@@ -73,6 +85,10 @@ pub trait Disks {
         ensures geometry { geometry_of self.new ≡ geometry_of self.old };
 
     /// Makes all writes so far durable, on all disks. A flush that failed did nothing.
+    ///
+    /// # Errors
+    ///
+    /// `Failed` alone, where a device failed.
     fn flush(&mut self) -> Result<(), DiskFault>
         ensures cause { HasFlushCause (faults self.old) (faults self.new) result }
         ensures ok { OnOk result (past self.new ≡ appended Flush (past self.old)) }
@@ -91,6 +107,7 @@ pub trait Disks {
         ensures size { result ≡ size_of self.now disk }
         ensures absent { count_of self.now ≤ disk → result ≡ 0 };
 
+    /// The heads and the sectors per track of a disk.
     fn geometry(&self, disk: u8) -> Geometry
         ensures { result ≡ geometry_of self.now disk };
 }

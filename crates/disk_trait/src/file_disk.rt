@@ -35,6 +35,7 @@ impl<F> FileDisk<F> {
         self.sectors
     }
 
+    /// The heads and the sectors per track that it was given.
     pub fn geometry(&self) -> Geometry
         ensures { result ≡ self.now.geometry }
     {

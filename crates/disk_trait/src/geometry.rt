@@ -17,14 +17,20 @@ pub struct Geometry {
 /// Which number of a geometry is out of its range.
 #[derive(Clone, Copy, Debug, PartialEq, Eq)]
 pub enum GeometryFault {
+    /// There are no heads, or more than 255.
     Heads,
+    /// A track has no sectors, or more than 63.
     Sectors,
 }
 
 impl Geometry {
     ghost use Rattle.disk_trait.specs.Absent.{absent_geometry};
 
-    /// A geometry of 1 to 255 heads and 1 to 63 sectors per track. The heads are judged first.
+    /// A geometry of 1 to 255 heads and 1 to 63 sectors per track.
+    ///
+    /// # Errors
+    ///
+    /// The number that is out of its range; the heads are judged first.
     pub fn new(heads: u16, sectors: u8) -> Result<Geometry, GeometryFault>
         ensures ok { IfOk result (λ geometry. (geometry.heads ≡ heads) × (geometry.sectors ≡ sectors)) }
         ensures heads { IsErrOf result GeometryFault.Heads ↔ ((heads < 1) ⊎ (255 < heads)) }

@@ -1,36 +1,90 @@
 -- What `get` prints are the bytes of a file.
-use Rattle.std.proofs.Common.{◌≡◌, ◌≢◌, ◌<◌, ◌≤◌, ◌+◌, ◌*◌, ◌-◌, ◌==◌, ◌↔◌, min, ◌∙◌, ℕ, zero, suc, Bool, true, false, List, [], ◌++◌, length, take, Result, Ok, Err, refl, sym, ap, arith, length-append}
+use Rattle.std.proofs.Common.{◌≡◌, ◌≢◌, ◌<◌, ◌≤◌, ◌+◌, ◌*◌, ◌-◌, ◌==◌, ◌↔◌, min, ◌∙◌, ℕ, zero, suc, nat_le, nat_lt, Bool, true, false, ◌&&◌, ◌||◌, List, [], ◌∷◌, ◌++◌, length, take, slice_index, Result, Ok, Err, refl, sym, ap, subst, arith, length-append}
 use Rattle.std.proofs.Math.Seq.{take-append-add}
+use Rattle.std.proofs.lemmas.Bool.{eq-eqb}
+use Rattle.std.proofs.lemmas.Bool.Decides.{nat_tests}
 use Rattle.std.proofs.lemmas.List.{length-replicate, take_all, take_min}
 use Rattle.lilo_model.specs.Checks.{◌>>=◌, with_fault}
 use Rattle.lilo_model.specs.Verdict.{Verdict}
 use Rattle.lilo_model.specs.MinixLayout.{Super, Inode}
-use Rattle.lilo_model.specs.MinixParts.{Parts, ZoneFault, is_file, zone_at, zone_bytes, block_at, blocks_at, blocks_for, content_at}
+use Rattle.lilo_model.specs.MinixParts.{Parts, ZoneFault, is_file, number_below, block_pointer, inside, follow_at, zone_at, zone_bytes, block_at, blocks_at, blocks_for, content_at}
 use Rattle.lilo_model.specs.MinixFind.{TreeFault, Zone, find, bytes_in_block, first_of_block, file_block, file_at}
 use Rattle.lilo_model.specs.LdiskVerdict.{silent, then_piece, printed, file_found, file_verdict, get_verdict}
 use Rattle.ldisk_run.specs.Laws.{HasWholeZones, ContentLaw}
 use Rattle.ldisk_run.proofs.AddsLemmas.{piece_behind, piece_stuck}
 
+-- ---- the zone of a block
+
+-- a zone's number is 0, or that of a data zone
+abbrev MayFollow : Super → ℕ → Type 0
+MayFollow super zone = zone ≢ 0 → (super.first ≤ zone) × (zone < super.zones)
+
+tested_inside :
+    (super : Super) (zone : ℕ) → (zone == 0 || (nat_le super.first zone && nat_lt zone super.zones)) ≡ true → MayFollow super zone
+tested_inside super zone is some = (grind (arith, nat_tests), grind (arith, nat_tests))
+
+inside_by :
+    (super : Super) (number zone : ℕ) (test : Bool) → (number == 0 || (nat_le super.first number && nat_lt number super.zones)) ≡ test
+    → inside super number ≡ Ok zone → MayFollow super zone
+unfolding inside
+inside_by super number zone true is found =
+    let same : number ≡ zone = let read = rw is at found in cc in
+    subst (MayFollow super) same (tested_inside super number is)
+inside_by super number zone false is found = absurd (let read = rw is at found in cc)
+
+inside_follows : (super : Super) (number zone : ℕ) → inside super number ≡ Ok zone → MayFollow super zone
+inside_follows super number zone found = inside_by super number zone _ refl found
+
+below_follows :
+    (super : Super) (bytes_of : ℕ → List ℕ) (index zone : ℕ) (above : Result ℕ ZoneFault)
+    → (above >>= λ number. inside super (number_below super.kind bytes_of number index)) ≡ Ok zone → MayFollow super zone
+below_follows super bytes_of index zone (Ok number) found =
+    inside_follows super (number_below super.kind bytes_of number index) zone found
+below_follows super bytes_of index zone (Err fault) found = absurd cc
+
+trail_follows :
+    (super : Super) (bytes_of : ℕ → List ℕ) (top : ℕ) (trail : List ℕ) (zone : ℕ)
+    → follow_at super bytes_of top trail ≡ Ok zone → MayFollow super zone
+unfolding follow_at
+trail_follows super bytes_of top [] zone found = inside_follows super top zone found
+trail_follows super bytes_of top (index ∷ before) zone found =
+    below_follows super bytes_of index zone (follow_at super bytes_of top before) found
+
+-- so is that of a block
+zone_follows :
+    (super : Super) (parts : Parts) (inode : Inode) (index zone : ℕ) → zone_at super parts inode index ≡ Ok zone → MayFollow super zone
+unfolding zone_at
+zone_follows super parts inode index zone found =
+    let pointer = block_pointer super.kind index in
+    trail_follows super parts.zone (slice_index inode.zones pointer.top) pointer.trail zone found
+
 -- ---- a block
 
-zone_by : (parts : Parts) (zone : ℕ) (hole : Bool) → HasWholeZones parts → zone == 0 ≡ hole → length (zone_bytes parts zone) ≡ 1024
-zone_by parts zone true whole is = rw is (length-replicate {A = ℕ} 1024 0)
-zone_by parts zone false whole is = rw is (whole zone)
+zone_by :
+    (super : Super) (parts : Parts) (zone : ℕ) (hole : Bool) → HasWholeZones super parts → MayFollow super zone
+    → zone == 0 ≡ hole → length (zone_bytes parts zone) ≡ 1024
+zone_by super parts zone true whole may is = rw is (length-replicate {A = ℕ} 1024 0)
+zone_by super parts zone false whole may is =
+    let some : zone ≢ 0 = λ none. let is_none = eq-eqb zone 0 none in cc in
+    let (from, below) = may some in
+    rw is (whole zone from below)
 
 block_by :
-    (parts : Parts) (found : Result ℕ ZoneFault) (block : List ℕ) → HasWholeZones parts
+    (super : Super) (parts : Parts) (found : Result ℕ ZoneFault) (block : List ℕ) → HasWholeZones super parts
+    → ((zone : ℕ) → found ≡ Ok zone → MayFollow super zone)
     → (found >>= λ zone. Ok (zone_bytes parts zone)) ≡ Ok block → length block ≡ 1024
-block_by parts (Ok zone) block whole is =
+block_by super parts (Ok zone) block whole may is =
     let same : block ≡ zone_bytes parts zone = cc in
-    ap length same ∙ zone_by parts zone (zone == 0) whole refl
-block_by parts (Err fault) block whole is = absurd cc
+    ap length same ∙ zone_by super parts zone (zone == 0) whole (may zone refl) refl
+block_by super parts (Err fault) block whole may is = absurd cc
 
 -- a block has 1024 bytes
 block_whole :
-    (super : Super) (parts : Parts) (inode : Inode) (index : ℕ) (block : List ℕ) → HasWholeZones parts
+    (super : Super) (parts : Parts) (inode : Inode) (index : ℕ) (block : List ℕ) → HasWholeZones super parts
     → block_at super parts inode index ≡ Ok block → length block ≡ 1024
 unfolding block_at
-block_whole super parts inode index block whole read = block_by parts (zone_at super parts inode index) block whole read
+block_whole super parts inode index block whole read =
+    block_by super parts (zone_at super parts inode index) block whole (zone_follows super parts inode index) read
 
 first_by :
     (super : Super) (parts : Parts) (inode : Inode) (index count : ℕ) → count ≢ 0
@@ -90,7 +144,7 @@ prints_more size count (Err fault) here v within whole ended =
     rw (piece_stuck v (with_fault Zone here >>= λ block. Ok (take (bytes_in_block size count) block)) ended) ended
 
 prints :
-    (super : Super) (parts : Parts) (inode : Inode) (count : ℕ) → HasWholeZones parts → is_file inode ≡ true → count ≤ blocks_for inode.size
+    (super : Super) (parts : Parts) (inode : Inode) (count : ℕ) → HasWholeZones super parts → is_file inode ≡ true → count ≤ blocks_for inode.size
     → Prints inode.size count (blocks_at (block_at super parts inode) count) (printed (file_block super parts inode) count)
 unfolding printed
 prints super parts inode zero whole file within = (refl, ap (λ l. record { status = 0; text = l }) (sym (take_all inode.size [] (omega arith))))
@@ -121,7 +175,7 @@ bytes_exactly size count (Ok all) v bytes (long, is) = (
 bytes_exactly size count (Err fault) v bytes ended = refused_exactly v (Zone fault) bytes ended
 
 file_exactly :
-    (super : Super) (parts : Parts) (inode : Inode) (bytes : List ℕ) → HasWholeZones parts → is_file inode ≡ true
+    (super : Super) (parts : Parts) (inode : Inode) (bytes : List ℕ) → HasWholeZones super parts → is_file inode ≡ true
     → PrintsExactly (file_verdict super parts inode) (with_fault Zone (content_at super parts inode)) bytes
 unfolding file_verdict content_at
 file_exactly super parts inode bytes whole file =
@@ -132,7 +186,7 @@ file_exactly super parts inode bytes whole file =
 -- ---- the path
 
 kind_exactly :
-    (super : Super) (parts : Parts) (path bytes : List ℕ) (number : ℕ) (file : Bool) → HasWholeZones parts
+    (super : Super) (parts : Parts) (path bytes : List ℕ) (number : ℕ) (file : Bool) → HasWholeZones super parts
     → find super parts path ≡ Ok number → is_file (parts.node number) ≡ file
     → PrintsExactly (get_verdict super parts path) (file_at super parts path) bytes
 unfolding get_verdict file_found file_at
@@ -142,7 +196,7 @@ kind_exactly super parts path bytes number false whole found is =
     rw (found, is) (refused_exactly (silent 3) _ bytes (omega arith))
 
 path_exactly :
-    (super : Super) (parts : Parts) (path bytes : List ℕ) (found : Result ℕ TreeFault) → HasWholeZones parts
+    (super : Super) (parts : Parts) (path bytes : List ℕ) (found : Result ℕ TreeFault) → HasWholeZones super parts
     → find super parts path ≡ found → PrintsExactly (get_verdict super parts path) (file_at super parts path) bytes
 unfolding get_verdict file_found file_at
 path_exactly super parts path bytes (Ok number) whole found =

@@ -1,5 +1,5 @@
 -- What `ls` prints, in words of a directory's entries, and `get`, in those of a file.
-use Rattle.std.specs.Prelude.{◌≡◌, ◌↔◌, ℕ, List, [], length, flat_map, if◌then◌else◌, Ok}
+use Rattle.std.specs.Prelude.{◌≡◌, ◌↔◌, ◌≤◌, ◌<◌, ℕ, List, [], length, flat_map, if◌then◌else◌, Ok}
 use Rattle.lilo_model.specs.MinixLayout.{Super, Inode}
 use Rattle.lilo_model.specs.MinixParts.{Parts}
 use Rattle.lilo_model.specs.MinixEntries.{Entry, entries_at}
@@ -21,12 +21,12 @@ ListingLaw =
     → (directory : Inode) × (entries : List Entry) × (directory_found super parts path ≡ Ok directory)
     × (entries_at super parts directory ≡ Ok entries) × ((ls_verdict super parts path).text ≡ lines_of parts entries)
 
--- each zone has 1024 bytes
-abbrev pub HasWholeZones : Parts → Type 0
-HasWholeZones parts = (zone : ℕ) → length (parts.zone zone) ≡ 1024
+-- each data zone has 1024 bytes
+abbrev pub HasWholeZones : Super → Parts → Type 0
+HasWholeZones super parts = (zone : ℕ) → super.first ≤ zone → zone < super.zones → length (parts.zone zone) ≡ 1024
 
 -- `get` answers 0 and prints some bytes exactly where they are those of the file that the path leads to
 abbrev pub ContentLaw : Type 0
 ContentLaw =
-    (super : Super) (parts : Parts) (path bytes : List ℕ) → HasWholeZones parts
+    (super : Super) (parts : Parts) (path bytes : List ℕ) → HasWholeZones super parts
     → (get_verdict super parts path ≡ record { status = 0; text = bytes }) ↔ (file_at super parts path ≡ Ok bytes)

@@ -6,8 +6,11 @@ use std::marker::Model;
 /// How a kernel is to mount its root.
 #[derive(Clone, Copy, Debug, PartialEq, Eq)]
 pub enum Mount {
+    /// As the kernel does by itself.
     Unsaid,
+    /// `ro` on the command line.
     ReadOnly,
+    /// `rw` on the command line.
     ReadWrite,
 }
 
@@ -18,20 +21,30 @@ pub struct Section {
     pub other: Option<Device>,
     /// The path of a kernel, or the name of that device as it is written.
     pub path: Text,
+    /// The name that chooses it, 1 to 15 bytes.
     pub label: Text,
+    /// A second name.
     pub alias: Option<Text>,
+    /// The path of the initial ramdisk.
     pub initrd: Option<Text>,
     /// The number of the root's device.
     pub root: Option<u16>,
     pub mount: Mount,
+    /// What goes behind on the command line.
     pub append: Option<Text>,
+    /// What stands on it in place of all that the other options say.
     pub literal: Option<Text>,
     /// The video mode.
     pub vga: Option<u16>,
+    /// What is asked for before it boots, 1 to 31 bytes.
     pub password: Option<Text>,
+    /// Whether the password is asked for only where words are typed behind the name.
     pub restricted: bool,
+    /// Whether it is left out where its file isn't there.
     pub optional: bool,
+    /// Whether its choice is kept as the default line.
     pub lock: bool,
+    /// The default line that is kept once it was chosen.
     pub fallback: Option<Text>,
     /// The device whose partition table another system is given.
     pub table: Option<Device>,

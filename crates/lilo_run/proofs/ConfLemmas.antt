@@ -1,7 +1,6 @@
 -- A configuration that can be used, or can't.
-use Rattle.std.proofs.Common.{◌≡◌, ◌≤◌, ◌||◌, ℕ, Bool, true, false, inl, inr, List, [], ◌∷◌, Option, None, Some, Result, Ok, Err, refl, sym, subst, arith, tests, ◌++◌}
+use Rattle.std.proofs.Common.{◌≡◌, ◌≤◌, ◌||◌, ℕ, Bool, true, false, inl, inr, List, ◌∷◌, Option, None, Some, Result, Ok, Err, refl, subst, arith, ◌++◌}
 use Rattle.std.specs.Prelude.{codes, is_none, option_map, IfSome}
-use Rattle.std.specs.List.{list_any}
 use Rattle.lilo_model.specs.ConfRefusal.{ConfRefusal, ConfReason, config_line}
 use Rattle.lilo_model.specs.ConfVerdict.{conf_device, conf_query_verdict, conf_names_text, place_at}
 use Rattle.lilo_model.specs.Devices.{Device}

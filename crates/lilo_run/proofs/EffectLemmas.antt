@@ -1,29 +1,26 @@
--- Commands one after another, and how a boot ends.
-use Rattle.std.proofs.Common.{◌≡◌, ◌≤◌, ◌≢◌, ◌⊎◌, ◌∙◌, ◌==◌, ℕ, inl, inr, Bool, true, false, List, [], ◌∷◌, ◌++◌, map, length, Option, None, Some, Result, Ok, Err, refl, sym, ap, subst, arith, append-nil}
-use Rattle.std.proofs.lemmas.Bool.{ne_eqb}
+-- How a boot ends.
+use Rattle.std.proofs.Common.{◌≡◌, ◌≤◌, ◌∙◌, ℕ, inl, inr, Bool, List, [], ◌∷◌, ◌++◌, map, Option, None, Some, Result, Ok, Err, refl, arith}
 use Rattle.lilo_model.specs.Boot as boots
 use Rattle.lilo_model.specs.Disks.{Image, Machine, Span}
 use Rattle.lilo_model.specs.Place.{Memory, Written, with_bytes, memory_after}
 use Rattle.lilo_model.specs.Refusal.{DeviceFault}
 use Rattle.lilo_model.specs.Verdict.{start_check, told_regions}
-use Rattle.lilo_model.specs.Words.{Part}
 use Rattle.bios_model.specs.Memory.{memory_of}
 use Rattle.setup_header.specs.declared.layout.Layout.{Layout}
 use Rattle.setup_header.specs.declared.layout.Region.{Region}
-use Rattle.setup_header.specs.View.{layout_view, region_view}
-use Rattle.loader_core.specs.Kernel.{regions_in, optional_region, region_in}
-use Rattle.loader_core.specs.Reading.{Why}
+use Rattle.setup_header.specs.View.{layout_view}
+use Rattle.loader_core.specs.Kernel.{regions_in}
 use Rattle.stream_trait.specs.Shows.{SinkState, Shows, ShowsOne}
 use Rattle.loader_core.specs.Start.{Reports, result_of}
 use Rattle.loader_core.specs.Today.{Report, boot_today}
-use Rattle.loader_core.specs.View.{reason_view, started_view}
+use Rattle.loader_core.specs.View.{reason_view}
 use Rattle.loader_core.specs.declared.outcome.Reason.{Reason}
 use Rattle.loader_core.specs.declared.outcome.Outcome.TheVariants as outcomes
-use Rattle.stream_trait.proofs.ShowsLemmas.{shows_join, shows_nothing, shows_one_join}
+use Rattle.stream_trait.proofs.ShowsLemmas.{shows_join}
 use Rattle.lilo_run.specs.Dump as dumps
 use Rattle.lilo_run.specs.Refusal.{device_failed, halt_verdict, why_verdict}
-use Rattle.lilo_run.specs.Run.{IsDone, IsFailed, Does, HaltsAt}
-use Rattle.lilo_run.specs.Verdict.{Effect, report_effect, boot_effect, regions_text, then_effect, effect_behind, run_effect}
+use Rattle.lilo_run.specs.Run.{Does, HaltsAt}
+use Rattle.lilo_run.specs.Verdict.{report_effect, boot_effect, regions_text}
 use Rattle.lilo_run.specs.declared.refusal.Halt.{Halt}
 use Rattle.lilo_run.specs.declared.refusal.Halt.TheVariants.{Device, NotBuilt, NoPlace, NotOurs, Boot}
 
@@ -37,18 +34,9 @@ shows_one_then a b c [] other first second = first
 shows_one_then a b c (text ∷ texts) other (inl shown) second = inl (shows_join a b c text other shown second)
 shows_one_then a b c (text ∷ texts) other (inr shown) second = inr (shows_one_then a b c texts other shown second)
 
-shows_one_left : (a b : SinkState) (texts others : List (List ℕ)) → ShowsOne a texts b → ShowsOne a (texts ++ others) b
-shows_one_left a b [] others shown = absurd shown
-shows_one_left a b (text ∷ texts) others (inl shown) = inl shown
-shows_one_left a b (text ∷ texts) others (inr shown) = inr (shows_one_left a b texts others shown)
-
-shows_one_right : (a b : SinkState) (texts others : List (List ℕ)) → ShowsOne a others b → ShowsOne a (texts ++ others) b
-shows_one_right a b [] others shown = shown
-shows_one_right a b (text ∷ texts) others shown = inr (shows_one_right a b texts others shown)
-
 -- ---- memory
 
-memory_after-append :
+pub memory_after-append :
     (memory : Memory) (one other : List Written)
     → memory_after memory (one ++ other) ≡ memory_after (memory_after memory one) other
 memory_after-append memory [] other = refl
@@ -144,78 +132,3 @@ place_failed now machine size dump place (NoPlace fault) status memory old new h
 place_failed now machine size dump place NotBuilt status memory old new halts answer some told = absurd halts
 place_failed now machine size dump place NotOurs status memory old new halts answer some told = absurd halts
 place_failed now machine size dump place (Boot reason) status memory old new halts answer some told = absurd halts
-
--- ---- a run
-
-zero_not_eight : ◌≡◌ {A = ℕ} 0 8 → ⊥
-zero_not_eight is = omega (arith, is)
-
-zero_not_thirteen : ◌≡◌ {A = ℕ} 0 13 → ⊥
-zero_not_thirteen is = omega (arith, is)
-
-failed_behind_one :
-    (code : ℕ) (before texts : List (List ℕ)) (first : List ℕ) (status : ℕ) (old mid new : SinkState)
-    → Shows old first mid → IsFailed code texts status mid new
-    → IsFailed code (before ++ map (λ text. first ++ text) texts) status old new
-failed_behind_one code before texts first status old mid new shown failed = record {
-  answer = failed.answer;
-  shown = shows_one_right old new before _ (shows_one_join old mid new first texts shown failed.shown);
-}
-
-failed_before_one :
-    (code : ℕ) (texts others : List (List ℕ)) (status : ℕ) (old new : SinkState)
-    → IsFailed code texts status old new → IsFailed code (texts ++ others) status old new
-failed_before_one code texts others status old new failed =
-    record { answer = failed.answer; shown = shows_one_left old new texts others failed.shown }
-
-does_then_by :
-    (first rest : Effect) (status : ℕ) (m0 m1 m2 : Memory) (old mid new : SinkState)
-    → IsDone first 0 m0 m1 old mid → Does rest status m1 m2 mid new
-    → Does (effect_behind first rest) status m0 m2 old new
-does_then_by first rest status m0 m1 m2 old mid new done (inl behind) =
-    inl (record {
-      answer = behind.answer;
-      shown = shows_join old mid new first.verdict.text rest.verdict.text done.shown behind.shown;
-      placed = λ zero. behind.placed zero ∙ ap (λ m. memory_after m rest.written) (done.placed refl)
-          ∙ sym (memory_after-append m0 first.written rest.written);
-    })
-does_then_by first rest status m0 m1 m2 old mid new done (inr (inl behind)) =
-    inr (inl (failed_behind_one 8 first.failures rest.failures first.verdict.text status old mid new done.shown behind))
-does_then_by first rest status m0 m1 m2 old mid new done (inr (inr behind)) =
-    inr (inr (failed_behind_one 13 first.starved rest.starved first.verdict.text status old mid new done.shown behind))
-
--- a command that answered 0, and then others
-pub does_then :
-    (first rest : Effect) (status : ℕ) (m0 m1 m2 : Memory) (old mid new : SinkState)
-    → Does first 0 m0 m1 old mid → Does rest status m1 m2 mid new → Does (then_effect first rest) status m0 m2 old new
-unfolding then_effect
-does_then first rest status m0 m1 m2 old mid new (inl done) behind =
-    rw (← done.answer) (does_then_by first rest status m0 m1 m2 old mid new done behind)
-does_then first rest status m0 m1 m2 old mid new (inr (inl failed)) behind = absurd (zero_not_eight failed.answer)
-does_then first rest status m0 m1 m2 old mid new (inr (inr failed)) behind = absurd (zero_not_thirteen failed.answer)
-
-failed_first_by :
-    (zero : Bool) (first rest : Effect) (status : ℕ) (m0 m1 : Memory) (old new : SinkState)
-    → first.verdict.status == 0 ≡ zero
-    → IsFailed 8 first.failures status old new ⊎ IsFailed 13 first.starved status old new
-    → Does (then_effect first rest) status m0 m1 old new
-unfolding then_effect
-failed_first_by true first rest status m0 m1 old new is (inl failed) =
-    rw is (inr (inl (failed_before_one 8 first.failures _ status old new failed)))
-failed_first_by true first rest status m0 m1 old new is (inr failed) =
-    rw is (inr (inr (failed_before_one 13 first.starved _ status old new failed)))
-failed_first_by false first rest status m0 m1 old new is failed = rw is (inr failed)
-
--- a command that answered otherwise
-pub does_first :
-    (first rest : Effect) (status : ℕ) (m0 m1 : Memory) (old new : SinkState)
-    → Does first status m0 m1 old new → status ≢ 0 → Does (then_effect first rest) status m0 m1 old new
-unfolding then_effect
-does_first first rest status m0 m1 old new (inl done) some =
-    let other = ne_eqb first.verdict.status 0 (λ is. some (done.answer ∙ is)) in rw other (inl done)
-does_first first rest status m0 m1 old new (inr failed) some =
-    failed_first_by (first.verdict.status == 0) first rest status m0 m1 old new refl failed
-
--- no command
-pub does_nothing : (effect : Part → Effect) (memory : Memory) (old : SinkState) → Does (run_effect effect []) 0 memory memory old old
-does_nothing effect memory old = inl (record { answer = refl; shown = shows_nothing old; placed = λ zero. refl })

@@ -3,3 +3,4 @@ pub mod DumpLemmas
 pub mod EffectLemmas
 pub mod LawLemmas
 pub mod RunLemmas
+pub mod TellLemmas

@@ -1,18 +1,15 @@
 -- The loop over the parts of a run.
-use Rattle.std.proofs.Common.{◌≡◌, ◌≤◌, ◌<◌, ◌≢◌, ◌∙◌, ◌==◌, ◌⊎◌, ◌+◌, ◌-◌, ℕ, inl, inr, Bool, true, false, cond, ◌||◌, List, [], ◌∷◌, ◌++◌, Option, None, Some, Result, Ok, Err, codes, IfSome, refl, sym, ap, subst, arith}
-use Rattle.std.proofs.lemmas.Bool.{eqb-true}
-use Rattle.std.specs.List.{list_any}
+use Rattle.std.proofs.Common.{◌≡◌, ◌≤◌, ◌<◌, ◌≢◌, ◌∙◌, ◌==◌, ◌⊎◌, ◌+◌, ◌-◌, ℕ, inl, inr, Bool, true, false, cond, ◌||◌, List, [], ◌∷◌, ◌++◌, map, Option, None, Some, Err, codes, IfSome, IsTrue, refl, sym, subst, arith}
+use Rattle.std.proofs.lemmas.Bool.{eqb-true, false≢true}
 use Rattle.disk_trait.specs.Past.{Image, Past, Told, SameDisks}
 use Rattle.lilo_model.specs.Disks.{Machine}
-use Rattle.lilo_model.specs.Place.{Memory, memory_after}
+use Rattle.lilo_model.specs.Place.{Memory}
 use Rattle.lilo_model.specs.Words as words
 use Rattle.lilo_model.specs.Words.{Command, Part, run_at, usage_text, wrong_word}
-use Rattle.stream_trait.specs.Fault.{Rose}
-use Rattle.stream_trait.specs.Shows.{SinkState, Shows, ShowsOne, HasFailed, answer_of, Prints, PrintsOne}
-use Rattle.stream_trait.proofs.ShowsLemmas.{prints_of, prints_one_of, answered}
-use Rattle.lilo_run.specs.Run.{Does, Tells}
-use Rattle.lilo_run.specs.Verdict.{Effect, run_effect, early_at, early_status, early_parts, early_answer, effect_of, is_boot, has_boot}
-use Rattle.lilo_run.proofs.EffectLemmas.{does_then, does_first, does_nothing}
+use Rattle.stream_trait.specs.Shows.{SinkState, Shows, answer_of}
+use Rattle.stream_trait.proofs.ShowsLemmas.{zero_before}
+use Rattle.lilo_run.specs.Run.{IsDone, Does, Runs, is_part_status}
+use Rattle.lilo_run.specs.Verdict.{Effect, early_status, early_parts, effects_of, is_boot, has_boot}
 
 -- how many turns are left at most
 abbrev pub turns_left : Option ℕ → ℕ → ℕ
@@ -25,33 +22,63 @@ pub place_within :
 place_within None from len within = tt
 place_within (Some place) from len within = within.1
 
+-- ---- parts in order
+
+-- a part that ended with 0 was done
+pub done_with_zero :
+    (effect : Effect) (own : ℕ) (m0 m1 : Memory) (old new : SinkState)
+    → Does effect own m0 m1 old new → own ≡ 0 → IsDone effect 0 m0 m1 old new
+done_with_zero effect own m0 m1 old new (inl done) zero =
+    record { answer = sym zero ∙ done.answer; shown = done.shown; placed = λ none. done.placed zero }
+done_with_zero effect own m0 m1 old new (inr (inl failed)) zero = absurd (let eight = failed.answer in omega (arith, zero, eight))
+done_with_zero effect own m0 m1 old new (inr (inr failed)) zero = absurd (let thirteen = failed.answer in omega (arith, zero, thirteen))
+
+-- a part that answers 0 was shown
+shown_by : (failed : Bool) (own : ℕ) → own ≡ 0 → answer_of own failed ≡ 0 → failed ≡ false
+shown_by false own none zero = refl
+shown_by true own none zero = absurd (let twelve : answer_of own true ≡ 12 = rw none refl in omega (arith, zero, twelve))
+
 -- what the rest of the parts does is what is left of all of them
 abbrev pub Continues : (Part → Effect) → List Part → List Part → Memory → Memory → SinkState → SinkState → Type 0
 Continues effect all rest m0 m1 s0 s1 =
-    (status : ℕ) (m2 : Memory) (s2 : SinkState) → Does (run_effect effect rest) status m1 m2 s1 s2
-    → Does (run_effect effect all) status m0 m2 s0 s2
+    (status : ℕ) (m2 : Memory) (s2 : SinkState) → Runs (map effect rest) status m1 m2 s1 s2
+    → Runs (map effect all) status m0 m2 s0 s2
 
 pub continues_more :
-    (effect : Part → Effect) (all rest behind : List Part) (part : Part) (status : ℕ) (m0 m1 m2 : Memory)
+    (effect : Part → Effect) (all rest behind : List Part) (part : Part) (own : ℕ) (m0 m1 m2 : Memory)
     (s0 s1 s2 : SinkState)
-    → Continues effect all rest m0 m1 s0 s1 → rest ≡ part ∷ behind → Does (effect part) status m1 m2 s1 s2
-    → status ≡ 0 → Continues effect all behind m0 m2 s0 s2
-continues_more effect all rest behind part status m0 m1 m2 s0 s1 s2 goes is done zero later m3 s3 does =
-    let first = subst (λ answer. Does (effect part) answer m1 m2 s1 s2) zero done in
-    goes later m3 s3 (rw is (does_then (effect part) (run_effect effect behind) later m1 m2 m3 s1 s2 s3 first does))
+    → Continues effect all rest m0 m1 s0 s1 → rest ≡ part ∷ behind → Does (effect part) own m1 m2 s1 s2
+    → answer_of own s2.failed ≡ 0 → Continues effect all behind m0 m2 s0 s2
+continues_more effect all rest behind part own m0 m1 m2 s0 s1 s2 goes is does zero later m3 s3 runs =
+    let none = zero_before own s2.failed zero in
+    let done = done_with_zero (effect part) own m1 m2 s1 s2 does none in
+    goes later m3 s3 (rw is (inr (m2, s2, done, shown_by s2.failed own none zero, runs)))
 
 pub continues_end :
     (effect : Part → Effect) (all rest : List Part) (m0 m1 : Memory) (s0 s1 : SinkState)
-    → Continues effect all rest m0 m1 s0 s1 → rest ≡ [] → Does (run_effect effect all) 0 m0 m1 s0 s1
-continues_end effect all rest m0 m1 s0 s1 goes is = goes 0 m1 s1 (rw is (does_nothing effect m1 s1))
+    → Continues effect all rest m0 m1 s0 s1 → rest ≡ [] → Runs (map effect all) 0 m0 m1 s0 s1
+continues_end effect all rest m0 m1 s0 s1 goes is = goes 0 m1 s1 (rw is (refl, refl, refl))
+
+not_12 : (own : ℕ) → IsTrue (is_part_status own) → own ≢ 12
+not_12 own known is = false≢true (rw is at known)
 
 pub continues_last :
-    (effect : Part → Effect) (all rest behind : List Part) (part : Part) (status : ℕ) (m0 m1 m2 : Memory)
+    (effect : Part → Effect) (all rest behind : List Part) (part : Part) (own status : ℕ) (m0 m1 m2 : Memory)
     (s0 s1 s2 : SinkState)
-    → Continues effect all rest m0 m1 s0 s1 → rest ≡ part ∷ behind → Does (effect part) status m1 m2 s1 s2
-    → status ≢ 0 → Does (run_effect effect all) status m0 m2 s0 s2
-continues_last effect all rest behind part status m0 m1 m2 s0 s1 s2 goes is done some =
-    goes status m2 s2 (rw is (does_first (effect part) (run_effect effect behind) status m1 m2 s1 s2 done some))
+    → Continues effect all rest m0 m1 s0 s1 → rest ≡ part ∷ behind → Does (effect part) own m1 m2 s1 s2
+    → IsTrue (is_part_status own) → status ≡ answer_of own s2.failed → status ≢ 0 → Runs (map effect all) status m0 m2 s0 s2
+continues_last effect all rest behind part own status m0 m1 m2 s0 s1 s2 goes is does known answer some =
+    goes status m2 s2
+    (rw is (inl (record { own = own; does = does; answer = answer; some = some; own_not_12 = not_12 own known })))
+
+-- a status that the sink doesn't change
+pub own_status : (own known : ℕ) (failed : Bool) → answer_of own failed ≡ known → known ≢ 12 → own ≡ known
+own_status own known failed is other = by (own == 0) failed refl is
+  where
+    by : (first failed : Bool) → own == 0 ≡ first → answer_of own failed ≡ known → own ≡ known
+    by true true zero is = absurd (other (let twelve : answer_of own true ≡ 12 = rw zero refl in sym is ∙ twelve))
+    by true false zero is = let plain : answer_of own false ≡ own = rw zero refl in sym plain ∙ is
+    by false failed zero is = let plain : answer_of own failed ≡ own = rw zero refl in sym plain ∙ is
 
 -- ---- what is known whatever disks hold
 
@@ -76,25 +103,36 @@ abbrev pub Begun : (ℕ → ℕ) → List Part → Option ℕ → Type 0
 Begun size_of all next = (next ≡ Some 0) ⊎ (early_parts size_of all ≡ None)
 
 pub begun_more :
-    (size_of : ℕ → ℕ) (all behind : List Part) (part : Part) (from status : ℕ) (next : Option ℕ)
+    (size_of : ℕ → ℕ) (all behind : List Part) (part : Part) (from own : ℕ) (failed : Bool) (next : Option ℕ)
     → Begun size_of all (Some from) → (from ≡ 0 → all ≡ part ∷ behind)
-    → IfSome (early_status size_of part.command) (λ known. status ≡ known) → status ≡ 0 → Begun size_of all next
+    → IfSome (early_status size_of part.command) (λ known. own ≡ known) → answer_of own failed ≡ 0 → Begun size_of all next
 unfolding early_parts
-begun_more size_of all behind part from status next (inl first) is early answer =
+begun_more size_of all behind part from own failed next (inl first) is early answer =
     let zero : from ≡ 0 = cc in
-    let known = subst (λ answered. IfSome (early_status size_of part.command) (λ known. answered ≡ known)) answer early in
+    let none = zero_before own failed answer in
+    let known = subst (λ answered. IfSome (early_status size_of part.command) (λ known. answered ≡ known)) none early in
     inr (rw (is zero) (zero_status size_of part.command known))
-begun_more size_of all behind part from status next (inr later) is early answer = inr later
+begun_more size_of all behind part from own failed next (inr later) is early answer = inr later
+
+early_answered_by :
+    (first failed : Bool) (size_of : ℕ → ℕ) (command : Command) (own : ℕ) → own == 0 ≡ first
+    → IfSome (early_status size_of command) (λ known. own ≡ known)
+    → IfSome (early_status size_of command) (λ known. answer_of own failed ≡ known)
+early_answered_by true failed size_of command own is known =
+    let zero = eqb-true own 0 is in
+    let none = zero_status size_of command (subst (λ answer. IfSome (early_status size_of command) (λ known. answer ≡ known)) zero known) in
+    rw none tt
+early_answered_by false failed size_of command own is known = let plain : answer_of own failed ≡ own = rw is refl in rw plain known
 
 pub begun_last :
-    (size_of : ℕ → ℕ) (all behind : List Part) (part : Part) (from status : ℕ)
+    (size_of : ℕ → ℕ) (all behind : List Part) (part : Part) (from own : ℕ) (failed : Bool)
     → Begun size_of all (Some from) → (from ≡ 0 → all ≡ part ∷ behind)
-    → IfSome (early_status size_of part.command) (λ known. status ≡ known)
-    → IfSome (early_parts size_of all) (λ known. status ≡ known)
+    → IfSome (early_status size_of part.command) (λ known. own ≡ known)
+    → IfSome (early_parts size_of all) (λ known. answer_of own failed ≡ known)
 unfolding early_parts
-begun_last size_of all behind part from status (inl first) is early =
-    let zero : from ≡ 0 = cc in rw (is zero) early
-begun_last size_of all behind part from status (inr later) is early = rw later tt
+begun_last size_of all behind part from own failed (inl first) is early =
+    let zero : from ≡ 0 = cc in rw (is zero) (early_answered_by (own == 0) failed size_of part.command own refl early)
+begun_last size_of all behind part from own failed (inr later) is early = rw later tt
 
 -- ---- memory
 
@@ -141,67 +179,17 @@ pub usage_is :
 unfolding usage_text
 usage_is words wrong is = rw is refl
 
-pub usage_does :
+pub usage_runs :
     (now : Image) (machine : Machine) (size : ℕ) (words : List (List ℕ)) (wrong : Option ℕ) (memory : Memory)
     (old new : SinkState)
     → run_at words ≡ Err wrong → Shows old (usage_text words) new
-    → Does (effect_of now machine size words) 1 memory memory old new
-unfolding effect_of
-usage_does now machine size words wrong memory old new is shown =
-    rw is (inl (record { answer = refl; shown = shown; placed = λ zero. absurd (omega (arith, zero)) }))
-
--- ---- the whole
-
-pub zero_answer :
-    (size_of : ℕ → ℕ) (run : Result (List Part) (Option ℕ)) → IfSome (early_answer size_of run) (λ known. 0 ≡ known)
-    → early_answer size_of run ≡ None
-unfolding early_answer early_parts
-zero_answer size_of (Ok []) known = refl
-zero_answer size_of (Ok (part ∷ parts)) known = zero_status size_of part.command known
-zero_answer size_of (Err wrong) known = absurd (omega (arith, known))
-
-eight_stays : (status : ℕ) (failed : Bool) → status ≡ 8 → answer_of status failed ≡ 8
-eight_stays status failed is = rw is refl
-
-thirteen_stays : (status : ℕ) (failed : Bool) → status ≡ 13 → answer_of status failed ≡ 13
-thirteen_stays status failed is = rw is refl
-
-pub does_tells :
-    (effect : Effect) (status : ℕ) (failed : Bool) (m0 m1 : Memory) (old new : SinkState)
-    → Does effect status m0 m1 old new → old.failed ≡ false
-    → Tells effect (answer_of status failed) old.taken new.taken old.faults new.faults
-does_tells effect status failed m0 m1 old new (inl done) fine =
-    inl (answered (status == 0) failed status effect.verdict.status refl done.answer, prints_of old new effect.verdict.text done.shown fine)
-does_tells effect status failed m0 m1 old new (inr (inl failure)) fine =
-    inr (inl (eight_stays status failed failure.answer, prints_one_of old new effect.failures failure.shown fine))
-does_tells effect status failed m0 m1 old new (inr (inr failure)) fine =
-    inr (inr (thirteen_stays status failed failure.answer, prints_one_of old new effect.starved failure.shown fine))
-
-early_answered_by :
-    (first failed : Bool) (size_of : ℕ → ℕ) (run : Result (List Part) (Option ℕ)) (status : ℕ) → status == 0 ≡ first
-    → IfSome (early_answer size_of run) (λ known. status ≡ known)
-    → IfSome (early_answer size_of run) (λ known. answer_of status failed ≡ known)
-early_answered_by true failed size_of run status is known =
-    let zero = eqb-true status 0 is in
-    let none = zero_answer size_of run (subst (λ answer. IfSome (early_answer size_of run) (λ known. answer ≡ known)) zero known) in
-    rw none tt
-early_answered_by false failed size_of run status is known = let plain : answer_of status failed ≡ status = rw is refl in rw plain known
-
-pub early_answered :
-    (failed : Bool) (size_of : ℕ → ℕ) (run : Result (List Part) (Option ℕ)) (status : ℕ)
-    → IfSome (early_answer size_of run) (λ known. status ≡ known)
-    → IfSome (early_answer size_of run) (λ known. answer_of status failed ≡ known)
-early_answered failed size_of run status known = early_answered_by (status == 0) failed size_of run status refl known
-
--- what holds of two values holds of two others that are the same
-pub held_of_two :
-    {A : Type 0} (P : A → A → Type 0) (one other : A) {one' other' : A} → P one other → one ≡ one' → other ≡ other'
-    → P one' other'
-held_of_two P one other held first second = subst (P _) second (subst (λ x. P x other) first held)
-
-pub does_places :
-    (effect : Effect) (status : ℕ) (m0 m1 : Memory) (old new : SinkState)
-    → Does effect status m0 m1 old new → status ≡ 0 → m1 ≡ memory_after m0 effect.written
-does_places effect status m0 m1 old new (inl done) zero = done.placed zero
-does_places effect status m0 m1 old new (inr (inl failed)) zero = absurd (let eight = failed.answer in omega (arith, zero, eight))
-does_places effect status m0 m1 old new (inr (inr failed)) zero = absurd (let thirteen = failed.answer in omega (arith, zero, thirteen))
+    → Runs (effects_of now machine size words) 1 memory memory old new
+unfolding effects_of
+usage_runs now machine size words wrong memory old new is shown =
+    rw is (inl (record {
+      own = 1;
+      does = inl (record { answer = refl; shown = shown; placed = λ zero. absurd (omega (arith, zero)) });
+      answer = refl;
+      some = λ zero. omega (arith, zero);
+      own_not_12 = λ twelve. omega (arith, twelve);
+    }))

@@ -1,11 +1,11 @@
 -- How what was done stands to what the definitions give.
-use Rattle.std.specs.Prelude.{◌≡◌, ◌⊎◌, ℕ, ◌==◌, ◌&&◌, if◌then◌else◌, Bool, List, [], ◌∷◌, Option, Result, Ok, Err}
+use Rattle.std.specs.Prelude.{◌≡◌, ◌≢◌, ◌⊎◌, ℕ, ◌==◌, Bool, false, List, [], ◌∷◌, ◌++◌, Option, Result, Ok, Err}
 use Rattle.std.specs.List.{list_any}
+use Rattle.std.specs.Option.{option_map}
 use Rattle.disk_trait.specs.declared.disks.Span.{Span}
 use Rattle.lilo_model.specs.Disks as disks
 use Rattle.lilo_model.specs.Place.{Memory, memory_after}
 use Rattle.lilo_model.specs.Refusal as model
-use Rattle.lilo_model.specs.Verdict.{Verdict}
 use Rattle.boot_map.specs.declared.map_fault.MapFault.{MapFault}
 use Rattle.boot_map.specs.declared.map_fault.MapFault.TheVariants as maps
 use Rattle.mbr_table.specs.View.{span_view}
@@ -13,13 +13,15 @@ use Rattle.mbr_table.specs.declared.table_fault.TableFault.{TableFault}
 use Rattle.mbr_table.specs.declared.table_fault.TableFault.TheVariants as faults
 use Rattle.loader_core.specs.Reading.{Why, Unbuilt, Because}
 use Rattle.loader_core.specs.declared.outcome.Reason.TheVariants as reasons
-use Rattle.stream_trait.specs.Shows.{SinkState, Shows, ShowsOne, Prints, PrintsOne}
+use Rattle.stream_trait.specs.Fault.{Rose}
+use Rattle.stream_trait.specs.Shows.{SinkState, Shows, ShowsOne, Prints, PrintsOne, answer_of}
+use Rattle.stream_trait.specs.Sink.{TakesFront}
 use Rattle.loader_core.specs.View.{reason_view}
 use Rattle.lilo_run.specs.declared.refusal.Halt.{Halt}
 use Rattle.lilo_run.specs.declared.refusal.Halt.TheVariants.{Device, NotBuilt, NoPlace, NotOurs, Boot}
 use Rattle.lilo_run.specs.declared.refusal.PlaceFault.TheVariants as variants
 use Rattle.lilo_run.specs.Refusal.{place_fault_view}
-use Rattle.lilo_run.specs.Verdict.{Effect}
+use Rattle.lilo_run.specs.Verdict.{Effect, run_verdict}
 
 -- ---- a reader
 
@@ -82,20 +84,59 @@ abbrev pub Does : Effect → ℕ → Memory → Memory → SinkState → SinkSta
 Does effect status memory memory' old new =
     IsDone effect status memory memory' old new ⊎ (IsFailed 8 effect.failures status old new ⊎ IsFailed 13 effect.starved status old new)
 
+-- ---- a run
+
+-- A run ended at a part, with a status other than 0: the part's own, or 12 where that is 0 and its text wasn't shown.
+pub record EndsAt (part : Effect) (status : ℕ) (memory memory' : Memory) (old new : SinkState) : Type 0 where
+  pub own : ℕ
+  pub does : Does part own memory memory' old new
+  pub answer : status ≡ answer_of own new.failed
+  pub some : status ≢ 0
+  -- no part has 12 of its own
+  pub own_not_12 : own ≢ 12
+
+-- The parts run in order until one answers other than 0, and that status is the answer: each before it was done with 0,
+-- and its text was shown whole.
+abbrev pub Runs : List Effect → ℕ → Memory → Memory → SinkState → SinkState → Type 0
+Runs [] status memory memory' old new = (status ≡ 0) × (memory' ≡ memory) × (new ≡ old)
+Runs (part ∷ parts) status memory memory' old new =
+    EndsAt part status memory memory' old new
+    ⊎ ((mid : Memory) × (shown : SinkState) × IsDone part 0 memory mid old shown × (shown.failed ≡ false)
+    × Runs parts status mid memory' shown new)
+
 -- ---- the whole
 
--- the status is the verdict's, or 8 or 13, or in the place of 0 it is 12
-abbrev pub Answers : Verdict → ℕ → Type 0
-Answers verdict status =
-    (status ≡ verdict.status) ⊎ ((status ≡ 8) ⊎ ((status ≡ 13) ⊎ ((status ≡ 12) × (verdict.status ≡ 0))))
+-- the first of some parts would answer 0
+abbrev pub BeginsWith0 : List Effect → Type 0
+BeginsWith0 [] = ⊥
+BeginsWith0 (part ∷ parts) = part.verdict.status ≡ 0
 
--- the verdict's text goes with its status, or 12 in the place of 0, a text of a failure with 8, and one of want of
--- memory with 13
+-- the status is the verdict's, or 8 or 13, or where the first part would answer 0 it is 12
+abbrev pub Answers : List Effect → ℕ → Type 0
+Answers parts status =
+    (status ≡ (run_verdict parts).status) ⊎ ((status ≡ 8) ⊎ ((status ≡ 13) ⊎ ((status ≡ 12) × BeginsWith0 parts)))
+
+-- A part told its text, as far as the sink took it: the verdict's with its status, a text of a failure with 8, one of
+-- want of memory with 13, and with 12 in the place of 0 a front of the verdict's.
 abbrev pub Tells : Effect → ℕ → Option (List ℕ) → Option (List ℕ) → ℕ → ℕ → Type 0
-Tells effect status old new before now =
-    (((status ≡ effect.verdict.status) ⊎ ((status ≡ 12) × (effect.verdict.status ≡ 0))) × Prints old effect.verdict.text new before now)
-    ⊎ (((status ≡ 8) × PrintsOne old effect.failures new before now)
-    ⊎ ((status ≡ 13) × PrintsOne old effect.starved new before now))
+Tells part status old new before now =
+    ((status ≡ part.verdict.status) × Prints old part.verdict.text new before now)
+    ⊎ (((status ≡ 8) × PrintsOne old part.failures new before now)
+    ⊎ (((status ≡ 13) × PrintsOne old part.starved new before now)
+    ⊎ ((status ≡ 12) × (part.verdict.status ≡ 0) × Rose before now × TakesFront old part.verdict.text new)))
+
+-- what a sink has taken behind a text that it took whole
+abbrev pub taken_behind : Option (List ℕ) → List ℕ → Option (List ℕ)
+taken_behind old text = option_map (λ taken. taken ++ text) old
+
+-- Parts in order told their texts: those that answer 0 whole, and then the one that answers otherwise, at which the run
+-- ends. Memory has what they put there, where the status is 0 or 12.
+abbrev pub TellsRun : List Effect → ℕ → Memory → Memory → Option (List ℕ) → Option (List ℕ) → ℕ → ℕ → Type 0
+TellsRun [] status memory memory' old new before now = (status ≡ 0) × (memory' ≡ memory) × (new ≡ old)
+TellsRun (part ∷ parts) status memory memory' old new before now =
+    ((status ≢ 0) × Tells part status old new before now × (status ≡ 12 → memory' ≡ memory_after memory part.written))
+    ⊎ ((part.verdict.status ≡ 0)
+    × TellsRun parts status (memory_after memory part.written) memory' (taken_behind old part.verdict.text) new before now)
 
 -- whether a part that reads no configuration may end with this status
 abbrev pub is_plain_status : ℕ → Bool
@@ -105,10 +146,10 @@ is_plain_status status = list_any (λ known. known == status) (0 ∷ 3 ∷ 6 ∷
 abbrev pub is_part_status : ℕ → Bool
 is_part_status status = list_any (λ known. known == status) (0 ∷ 2 ∷ 3 ∷ 6 ∷ 7 ∷ 8 ∷ 13 ∷ 15 ∷ [])
 
--- whether a run may, but for the sink
+-- whether parts in order may
 abbrev pub is_run_status : ℕ → Bool
-is_run_status status = list_any (λ known. known == status) (0 ∷ 1 ∷ 2 ∷ 3 ∷ 6 ∷ 7 ∷ 8 ∷ 13 ∷ 15 ∷ [])
+is_run_status status = list_any (λ known. known == status) (0 ∷ 2 ∷ 3 ∷ 6 ∷ 7 ∷ 8 ∷ 12 ∷ 13 ∷ 15 ∷ [])
 
--- whether a run may end with this status
+-- whether words may
 abbrev pub is_status : ℕ → Bool
 is_status status = list_any (λ known. known == status) (0 ∷ 1 ∷ 2 ∷ 3 ∷ 6 ∷ 7 ∷ 8 ∷ 12 ∷ 13 ∷ 15 ∷ [])

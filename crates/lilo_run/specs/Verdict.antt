@@ -107,32 +107,24 @@ part_effect now machine memory part = command_effect now machine memory part.roo
 
 -- ---- a run
 
--- a command, and then others
-abbrev pub effect_behind : Effect → Effect → Effect
-effect_behind first rest = record {
-  verdict = verdict_behind first.verdict.text rest.verdict;
-  failures = first.failures ++ map (λ text. first.verdict.text ++ text) rest.failures;
-  starved = first.starved ++ map (λ text. first.verdict.text ++ text) rest.starved;
-  written = first.written ++ rest.written;
-}
+-- what the parts of a run do, in order; words that are none are as one part, which tells the usage
+abbrev pub words_effects : (Part → Effect) → List (List ℕ) → Result (List Part) (Option ℕ) → List Effect
+words_effects effect words (Ok parts) = map effect parts
+words_effects effect words (Err wrong) = plain_effect (record { status = 1; text = usage_text words }) [] ∷ []
 
--- the others come where the first answers 0
-unfoldable pub then_effect : Effect → Effect → Effect
-then_effect first rest = if first.verdict.status == 0 then effect_behind first rest else first
+-- what the parts of words do over disks that hold this image, with a memory of so many bytes
+unfoldable pub effects_of : Image → Machine → ℕ → List (List ℕ) → List Effect
+effects_of now machine memory words = words_effects (part_effect now machine memory) words (run_at words)
 
--- parts in order, by what each does
-abbrev pub run_effect : (Part → Effect) → List Part → Effect
-run_effect effect [] = plain_effect (verdict_of (Ok [])) []
-run_effect effect (part ∷ parts) = then_effect (effect part) (run_effect effect parts)
+-- Verdict: the texts of the parts that answer 0, and behind them the first other verdict
+abbrev pub run_verdict : List Effect → Verdict
+run_verdict [] = verdict_of (Ok [])
+run_verdict (part ∷ parts) =
+    if part.verdict.status == 0 then verdict_behind part.verdict.text (run_verdict parts) else part.verdict
 
--- words that are these parts, or none
-abbrev pub words_effect : (Part → Effect) → List (List ℕ) → Result (List Part) (Option ℕ) → Effect
-words_effect effect words (Ok parts) = run_effect effect parts
-words_effect effect words (Err wrong) = plain_effect (record { status = 1; text = usage_text words }) []
-
--- Verdict: what words do over disks that hold this image, with a memory of so many bytes
-unfoldable pub effect_of : Image → Machine → ℕ → List (List ℕ) → Effect
-effect_of now machine memory words = words_effect (part_effect now machine memory) words (run_at words)
+-- what they put into memory where all answer 0
+abbrev pub run_written : List Effect → List Written
+run_written parts = flat_map (λ part. part.written) parts
 
 -- ---- what is known of words, whatever disks hold
 

@@ -1,5 +1,5 @@
 // The top call: what the program `lilo` does with its words.
-ghost use Rattle.std.specs.Prelude.{◌≡◌, true, Bool, List, ◌≤◌, ◌⊎◌, ◌↔◌, ◌++◌, codes, false, length, IfSome, IfOk, IsOk, IsErr, IsTrue};
+ghost use Rattle.std.specs.Prelude.{◌≡◌, true, Bool, List, ◌≤◌, ◌⊎◌, ◌↔◌, ◌++◌, codes, false, length, map, IfSome, IfOk, IsOk, IsErr, IsTrue};
 ghost use Rattle.disk_trait.specs.Past.{Told, SameDisks};
 ghost use Rattle.disk_trait.specs.Cause.{Rose};
 ghost use Rattle.stream_trait.specs.Sink.{Takes};
@@ -12,9 +12,9 @@ ghost use Rattle.bios_model.specs.Machine.{machine_of};
 ghost use Rattle.bios_model.specs.Memory.{memory_of};
 ghost use Rattle.lilo_words.specs.Run.{run_behind, parts_behind};
 ghost use Rattle.stream_trait.specs.Shows.{Shows, state_of, HasFailed, Prints};
-ghost use Rattle.lilo_run.specs.Run.{Does, Answers, Tells, is_part_status, is_run_status, is_status};
+ghost use Rattle.lilo_run.specs.Run.{Runs, Answers, Tells, TellsRun, is_run_status, is_status};
 ghost use Rattle.lilo_model.specs.ConfVerdict.{place_at};
-ghost use Rattle.lilo_run.specs.Verdict.{part_effect, run_effect, plain_effect, effect_of, early_answer, early_parts, has_boot, has_conf};
+ghost use Rattle.lilo_run.specs.Verdict.{part_effect, plain_effect, boot_effect, effects_of, run_verdict, run_written, early_answer, early_parts, has_boot, has_conf};
 ghost use Rattle.lilo_run.specs.Laws.{IsBootRun, IsUnbuiltAt};
 
 use crate::part::carry_out;
@@ -26,7 +26,8 @@ use std::alloc::Global;
 use stream_trait::{Sink, Source, Words, answer};
 
 /// Carries out words, and answers the exit status. Words are parts with a `--then` between each two, which are carried
-/// out in order until one answers other than 0.
+/// out in order until one answers other than 0: that status is the answer. A part that would answer 0, but whose text
+/// can't be shown, answers 12, and so the run ends there.
 ///
 /// `-q DEVICE` prints the names behind the boot sector of a device, a line each, with ` *` after the default's. Without a
 /// device it is that of `boot=` in the configuration, or the volume's: the file `/etc/lilo.conf`, or that behind `-C`, on
@@ -45,13 +46,12 @@ use stream_trait::{Sink, Source, Words, answer};
 /// | 6 | `-q` finds a foreign boot sector, or one of another version | `lilo: not ours` |
 /// | 7 | the boot is refused, or the map is | `lilo: boot: REASON` |
 /// | 8 | a disk failed | `lilo: device` |
-/// | 12 | the sink failed, and the status would be 0 | |
+/// | 12 | the sink failed at a part that would answer 0 | |
 /// | 13 | there is no memory for a configuration | `lilo: memory` |
 /// | 15 | the part isn't built yet, or the boot isn't | `lilo: not built` |
 ///
-/// Once the sink failed nothing more is put, and the run goes on. No disk is written, and no key is taken. Memory is
-/// allocated for a configuration alone.
-#[tactic(auto, unfolding(crate::specs::Verdict::effect_of))]
+/// Once the sink failed nothing more is put, and the part that runs is the last. No disk is written, and no key is taken.
+/// Memory is allocated for a configuration alone.
 pub fn lilo<D: Disks, I: Source, O: Sink>(
     alloc: Global,
     words: &Words,
@@ -63,24 +63,25 @@ pub fn lilo<D: Disks, I: Source, O: Sink>(
 ) -> u8
     // Where the disks tell what they hold, the status is the verdict's, but for faults.
     ensures status { Told (D.past disks.old) (λ now. Answers
-        (effect_of now (machine_of (D.size_of disks.old) (D.geometry_of disks.old)) (length ram.old) words.now).verdict result) }
+        (effects_of now (machine_of (D.size_of disks.old) (D.geometry_of disks.old)) (length ram.old) words.now) result) }
     ensures device { result ≡ 8 → Rose (D.faults disks.old) (D.faults disks.new) }
     ensures sink { result ≡ 12 → Rose (O.faults out.old) (O.faults out.new) }
     ensures starved { result ≡ 13 → IfOk (run_at words.now) (λ parts. has_conf parts ≡ true) }
 
-    // The text goes with the status. Only a failed sink may have cut it short.
-    ensures text { Told (D.past disks.old) (λ now. Tells
-        (effect_of now (machine_of (D.size_of disks.old) (D.geometry_of disks.old)) (length ram.old) words.now) result
-        (O.taken out.old) (O.taken out.new) (O.faults out.old) (O.faults out.new)) }
+    // The text goes with the status. Only a failed sink may have cut it short, in the part at which the run ended.
+    ensures text { Told (D.past disks.old) (λ now. TellsRun
+        (effects_of now (machine_of (D.size_of disks.old) (D.geometry_of disks.old)) (length ram.old) words.now) result
+        (memory_of ram.old) (memory_of ram.new) (O.taken out.old) (O.taken out.new) (O.faults out.old) (O.faults out.new)) }
     ensures whole { result ≡ 0 → Told (D.past disks.old) (λ now. Takes (O.taken out.old)
-        (effect_of now (machine_of (D.size_of disks.old) (D.geometry_of disks.old)) (length ram.old) words.now).verdict.text (O.taken out.new)) }
+        (run_verdict (effects_of now (machine_of (D.size_of disks.old) (D.geometry_of disks.old)) (length ram.old) words.now)).text (O.taken out.new)) }
 
     // Outside what isn't built yet, a boot by itself has the model's verdict, for all keys.
     ensures boot { (device : Device) (dump : Bool) (keys : List Key) → IsBootRun words.now device dump
         → Told (D.past disks.old) (λ now. let machine = machine_of (D.size_of disks.old) (D.geometry_of disks.old) in
         (IsUnbuiltAt now machine (length ram.old) (place_at now machine device) → ⊥)
-        → Tells (plain_effect (boot_verdict now machine (place_at now machine device) dump keys (length ram.old)) (effect_of now machine (length ram.old) words.now).failures)
-        result (O.taken out.old) (O.taken out.new) (O.faults out.old) (O.faults out.new)) }
+        → Tells (plain_effect (boot_verdict now machine (place_at now machine device) dump keys (length ram.old))
+        (boot_effect now machine (length ram.old) dump (place_at now machine device)).failures) result
+        (O.taken out.old) (O.taken out.new) (O.faults out.old) (O.faults out.new)) }
 
     // Words that aren't in the grammar, whatever the disks tell.
     ensures usage { (result ≡ 1) ↔ IsErr (run_at words.now) }
@@ -92,7 +93,7 @@ pub fn lilo<D: Disks, I: Source, O: Sink>(
 
     // Memory has what the boots put there, and without a boot it stays.
     ensures memory { result ≡ 0 → Told (D.past disks.old) (λ now. memory_of ram.new ≡ memory_after (memory_of ram.old)
-        (effect_of now (machine_of (D.size_of disks.old) (D.geometry_of disks.old)) (length ram.old) words.now).written) }
+        (run_written (effects_of now (machine_of (D.size_of disks.old) (D.geometry_of disks.old)) (length ram.old) words.now))) }
     ensures no_boot { IfOk (run_at words.now) (λ parts. has_boot parts ≡ false → ram.new ≡ ram.old) }
     ensures no_run { IsErr (run_at words.now) → ram.new ≡ ram.old }
     ensures size { length ram.new ≡ length ram.old }
@@ -103,13 +104,11 @@ pub fn lilo<D: Disks, I: Source, O: Sink>(
 {
     let mut shown = Shown::new(out);
     let mut bios = Bios { disks, keys };
-    let status = run_words(alloc, words, &mut bios, ram, &mut shown);
-    let sink_failed = shown.failed();
-    answer(status, sink_failed)
+    run_words(alloc, words, &mut bios, ram, &mut shown)
 }
 
-/// Carries out words, and answers the status, whether or not the sink failed.
-#[tactic(auto, unfolding(crate::specs::Verdict::effect_of, crate::specs::Verdict::early_answer))]
+/// Carries out words, and answers the status.
+#[tactic(auto, unfolding(crate::specs::Verdict::effects_of, crate::specs::Verdict::early_answer))]
 fn run_words<D: Disks, I: Source, O: Sink>(
     alloc: Global,
     words: &Words,
@@ -118,17 +117,18 @@ fn run_words<D: Disks, I: Source, O: Sink>(
     out: &mut Shown<'_, O>,
 ) -> u8
     ensures does { Told (D.past bios.old.disks.now) (λ now. let machine = machine_of (D.size_of bios.old.disks.now) (D.geometry_of bios.old.disks.now) in
-        Does (effect_of now machine (length ram.old) words.now) result (memory_of ram.old) (memory_of ram.new)
+        Runs (effects_of now machine (length ram.old) words.now) result (memory_of ram.old) (memory_of ram.new)
         (state_of (O.taken out.old.out.now) (O.faults out.old.out.now) out.old.failed) (state_of (O.taken out.new.out.now) (O.faults out.new.out.now) out.new.failed)) }
     ensures usage { (result ≡ 1) ↔ IsErr (run_at words.now) }
     ensures usage_line { IsErr (run_at words.now) → Shows (state_of (O.taken out.old.out.now) (O.faults out.old.out.now) out.old.failed) (usage_text words.now)
         (state_of (O.taken out.new.out.now) (O.faults out.new.out.now) out.new.failed) }
     ensures early { IfSome (early_answer (D.size_of bios.old.disks.now) (run_at words.now)) (λ status. result ≡ status) }
-    ensures known { IsTrue (is_run_status result) }
+    ensures known { IsTrue (is_status result) }
     ensures starved { result ≡ 13 → IfOk (run_at words.now) (λ parts. has_conf parts ≡ true) }
     ensures device { result ≡ 8 → Rose (D.faults bios.old.disks.now) (D.faults bios.new.disks.now) }
     ensures later { D.faults bios.old.disks.now ≤ D.faults bios.new.disks.now }
     ensures sink { HasFailed (state_of (O.taken out.old.out.now) (O.faults out.old.out.now) out.old.failed) (state_of (O.taken out.new.out.now) (O.faults out.new.out.now) out.new.failed) }
+    ensures unshown { result ≡ 12 → out.new.failed ≡ true }
     ensures memory { length ram.new ≡ length ram.old }
     ensures no_boot { IfOk (run_at words.now) (λ parts. has_boot parts ≡ false → ram.new ≡ ram.old) }
     ensures no_run { IsErr (run_at words.now) → ram.new ≡ ram.old }
@@ -147,7 +147,7 @@ fn run_words<D: Disks, I: Source, O: Sink>(
     }
 }
 
-/// Carries out the parts of words in order, until one answers other than 0.
+/// Carries out the parts of words in order, until one answers other than 0. One whose text can't be shown does.
 fn run_parts<D: Disks, I: Source, O: Sink>(
     alloc: Global,
     words: &Words,
@@ -157,14 +157,15 @@ fn run_parts<D: Disks, I: Source, O: Sink>(
 ) -> u8
     requires { IsOk (run_behind words.now 0) }
     ensures does { Told (D.past bios.old.disks.now) (λ now. let machine = machine_of (D.size_of bios.old.disks.now) (D.geometry_of bios.old.disks.now) in
-        Does (run_effect (part_effect now machine (length ram.old)) (parts_behind words.now 0)) result (memory_of ram.old) (memory_of ram.new)
+        Runs (map (part_effect now machine (length ram.old)) (parts_behind words.now 0)) result (memory_of ram.old) (memory_of ram.new)
         (state_of (O.taken out.old.out.now) (O.faults out.old.out.now) out.old.failed) (state_of (O.taken out.new.out.now) (O.faults out.new.out.now) out.new.failed)) }
     ensures early { IfSome (early_parts (D.size_of bios.old.disks.now) (parts_behind words.now 0)) (λ status. result ≡ status) }
-    ensures known { IsTrue (is_part_status result) }
+    ensures known { IsTrue (is_run_status result) }
     ensures starved { result ≡ 13 → has_conf (parts_behind words.now 0) ≡ true }
     ensures device { result ≡ 8 → Rose (D.faults bios.old.disks.now) (D.faults bios.new.disks.now) }
     ensures later { D.faults bios.old.disks.now ≤ D.faults bios.new.disks.now }
     ensures sink { HasFailed (state_of (O.taken out.old.out.now) (O.faults out.old.out.now) out.old.failed) (state_of (O.taken out.new.out.now) (O.faults out.new.out.now) out.new.failed) }
+    ensures unshown { result ≡ 12 → out.new.failed ≡ true }
     ensures memory { length ram.new ≡ length ram.old }
     ensures no_boot { has_boot (parts_behind words.now 0) ≡ false → ram.new ≡ ram.old }
     ensures same { SameDisks D.past D.size_of D.count_of D.geometry_of bios.old.disks.now bios.new.disks.now }
@@ -176,12 +177,11 @@ fn run_parts<D: Disks, I: Source, O: Sink>(
     let mut next = Some(0);
     while let Some(from) = next {
         let read = part_at(words, from);
-        let status = carry_out(alloc, read.part, bios, ram, out);
-        let is_last = status != 0;
-        if is_last {
-            return status;
+        let own = carry_out(alloc, read.part, bios, ram, out);
+        match answer(own, out.failed()) {
+            0 => next = read.next,
+            status => return status,
         }
-        next = read.next;
     }
     0
 }

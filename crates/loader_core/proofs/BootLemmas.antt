@@ -6,6 +6,7 @@ use Rattle.std.specs.Prelude.{codes, not, bytes_eq, slice_get, IsErr, ◌||◌, 
 use Rattle.std.proofs.lemmas.Option.{slice_get-map}
 use Rattle.lilo_model.specs.Bytes.{part_of}
 use Rattle.lilo_model.specs.Place.{with_bytes, memory_after}
+use Rattle.lilo_model.specs.DefaultLine.{DefaultLine}
 use Rattle.lilo_model.specs.Prompt.{Key}
 use Rattle.lilo_model.specs.Reason as reasons
 use Rattle.lilo_model.specs.BootSector.{MapFault, boot_at, is_bootable}
@@ -301,29 +302,30 @@ refused_as Unbuilt boot ends = ends
 refused_as (Because reason) boot ends = ends
 
 ends_as :
-    (result : Result Started Halt) (report : Report) (boot : Boot) (keys : List Key) (m : Memory) (ram : List ℕ) → IsReported boot report keys
+    (result : Result Started Halt) (report : Report) (boot : Boot) (line : Option DefaultLine) (keys : List Key) (m : Memory) (ram : List ℕ) → IsReported boot report line keys
     → Starts result report.result m ram → EndsAs result boot m (memory_of ram)
-ends_as (Ok started) report boot keys m ram is starts =
+ends_as (Ok started) report boot line keys m ram is starts =
     let ends : EndsSo boot (Ok (record { outcome = started_view started; written = starts.written })) = subst (λ r. EndsSo boot r) starts.is is.ends in
     (ends.0, starts.placed ∙ ap (λ w. memory_after m w) (sym ends.1))
-ends_as (Err Device) report boot keys m ram is starts = tt
-ends_as (Err (Refused reason)) report boot keys m ram is starts =
+ends_as (Err Device) report boot line keys m ram is starts = tt
+ends_as (Err (Refused reason)) report boot line keys m ram is starts =
     refused_as (reason_view reason) boot (subst (λ r. EndsSo boot r) starts is.ends)
 
 shows_as :
-    (result : Result Started Halt) (report : Report) (boot : Boot) (keys : List Key) (a c : SinkState) → IsReported boot report keys
+    (result : Result Started Halt) (report : Report) (boot : Boot) (line : Option DefaultLine) (keys : List Key) (a c : SinkState) → IsReported boot report line keys
     → ShowsReport result report a c → ShowsAs result boot a c
-shows_as (Ok started) report boot keys a c is shows = subst (λ text. Shows a text c) (sym is.shown) shows
-shows_as (Err Device) report boot keys a c is shows = tt
-shows_as (Err (Refused reason)) report boot keys a c is shows = subst (λ text. Shows a text c) (sym is.shown) shows
+shows_as (Ok started) report boot line keys a c is shows = subst (λ text. Shows a text c) (sym is.shown) shows
+shows_as (Err Device) report boot line keys a c is shows = tt
+shows_as (Err (Refused reason)) report boot line keys a c is shows = subst (λ text. Shows a text c) (sym is.shown) shows
 
 -- what was reported is the model's boot, where the report is of one
 pub boots_so :
-    (outcome : Outcome) (report : Report) (boot : Boot) (keys : List Key) (m : Memory) (ram : List ℕ) (a c : SinkState) → IsReported boot report keys
-    → Reports report (result_of outcome) m ram a c → IsBoot outcome boot keys m (memory_of ram) a c
-boots_so outcome report boot keys m ram a c is reports = record {
-  ends = ends_as (result_of outcome) report boot keys m ram is reports.starts;
-  shows = shows_as (result_of outcome) report boot keys a c is reports.shows;
+    (outcome : Outcome) (report : Report) (boot : Boot) (line : Option DefaultLine) (keys : List Key) (m : Memory) (ram : List ℕ) (a c : SinkState) → IsReported boot report line keys
+    → Reports report (result_of outcome) m ram a c → IsBoot outcome boot line keys m (memory_of ram) a c
+boots_so outcome report boot line keys m ram a c is reports = record {
+  ends = ends_as (result_of outcome) report boot line keys m ram is reports.starts;
+  shows = shows_as (result_of outcome) report boot line keys a c is reports.shows;
+  line = is.line;
   left = is.left;
 }
 

@@ -14,7 +14,7 @@ use Rattle.lilo_model.specs.Prompt.{Key, Settings, ListedEntry, Decision}
 use Rattle.lilo_model.specs.LineWords.{words_of, meaning}
 use Rattle.lilo_model.specs.Choice.{Setup, Candidate, default_candidate, asked_of, asked_password, line_after_entry, course_of, choice}
 use Rattle.lilo_model.specs.Section.{Content}
-use Rattle.lilo_model.specs.Boot.{MapSectors, GoodMap, slot_bytes_at, optional_at, entry_has, extra_slot, entries_of, map_sectors, password_at, good_map, listed_entry, listed_entries, settings_of, decision_at}
+use Rattle.lilo_model.specs.Boot.{MapSectors, GoodMap, slot_bytes_at, optional_at, entry_has, extra_slot, entries_of, map_sectors, present_line, password_at, good_map, listed_entry, listed_entries, settings_of, decision_at}
 use Rattle.loader_core.specs.Today.{is_empty_line, changes_line, asks_password, default_of, needs_prompt}
 use Rattle.loader_core.proofs.EndLemmas.{plain_pick}
 
@@ -94,11 +94,11 @@ extras_by :
     (line : List ℕ) (table : Result (List Descriptor) maps.MapFault) (extras : Result (List (Option (List ℕ))) slots.AddressFault)
     (sectors : MapSectors)
     → (extras >>= λ found. Ok (record { line = line; table = table; extras = found })) ≡ Ok sectors
-    → (sectors.table ≡ table) × (extras ≡ Ok sectors.extras)
+    → (sectors.table ≡ table) × (extras ≡ Ok sectors.extras) × (line ≡ sectors.line)
 extras_by line table (Ok extras) sectors same =
     let read : MapSectors = record { line = line; table = table; extras = extras } in
     let whole = ok_value {F = slots.AddressFault} read sectors same in
-    (ap (λ sectors. sectors.table) (sym whole), ap (λ sectors. Ok sectors.extras) whole)
+    (ap (λ sectors. sectors.table) (sym whole), ap (λ sectors. Ok sectors.extras) whole, ap (λ sectors. sectors.line) whole)
 extras_by line table (Err fault) sectors same = absurd (let differs : ⊥ = cc in differs)
 
 table_by :
@@ -107,20 +107,21 @@ table_by :
     (extras : Result (List Descriptor) maps.MapFault → Result (List (Option (List ℕ))) slots.AddressFault)
     (sectors : MapSectors)
     → (line >>= λ line. table >>= λ table. extras (judge table) >>= λ found. Ok (record { line = line; table = judge table; extras = found })) ≡ Ok sectors
-    → extras sectors.table ≡ Ok sectors.extras
+    → (extras sectors.table ≡ Ok sectors.extras) × (line ≡ Ok sectors.line)
 table_by (Ok line) (Ok table) judge extras sectors same =
-    let (judged, read) = extras_by line (judge table) (extras (judge table)) sectors same in
-    rw judged read
+    let (judged, read, is) = extras_by line (judge table) (extras (judge table)) sectors same in
+    (rw judged read, ap Ok is)
 table_by (Ok line) (Err fault) judge extras sectors same = absurd (let differs : ⊥ = cc in differs)
 table_by (Err fault) table judge extras sectors same = absurd (let differs : ⊥ = cc in differs)
 
--- the extra sectors of a map are read by its table
-sectors_extras :
+-- the extra sectors of a map are read by its table, and its line's sector by that slot
+sectors_read :
     (image : Image) (machine : Machine) (boot : BootSector) (sectors : MapSectors)
     → map_sectors image machine boot ≡ Ok sectors
-    → each (map (λ entry. optional_at image machine (extra_slot password_flag entry)) (entries_of sectors.table)) ≡ Ok sectors.extras
+    → (each (map (λ entry. optional_at image machine (extra_slot password_flag entry)) (entries_of sectors.table)) ≡ Ok sectors.extras)
+    × (slot_bytes_at image machine boot.line ≡ Ok sectors.line)
 unfolding map_sectors
-sectors_extras image machine boot sectors same =
+sectors_read image machine boot sectors same =
     table_by (slot_bytes_at image machine boot.line) (each (map (slot_bytes_at image machine) boot.table))
     (λ table. table_at boot.names table)
     (λ table. each (map (λ entry. optional_at image machine (extra_slot password_flag entry)) (entries_of table)))
@@ -128,6 +129,7 @@ sectors_extras image machine boot sectors same =
 
 -- a good map by its sectors
 record IsGoodFrom (sectors : MapSectors) (good : GoodMap) : Type 0 where
+  pub line : line_at sectors.line ≡ Ok good.line
   pub table : sectors.table ≡ Ok good.entries
   pub passwords : each (map password_at sectors.extras) ≡ Ok good.passwords
 
@@ -135,11 +137,11 @@ good_by :
     (line : Result DefaultLine maps.MapFault) (entries : Result (List Descriptor) maps.MapFault)
     (passwords : Result (List (Option (List ℕ))) maps.MapFault) (good : GoodMap)
     → (line >>= λ line. entries >>= λ entries. passwords >>= λ passwords. Ok (record { line = line; entries = entries; passwords = passwords })) ≡ Ok good
-    → (entries ≡ Ok good.entries) × (passwords ≡ Ok good.passwords)
+    → (line ≡ Ok good.line) × (entries ≡ Ok good.entries) × (passwords ≡ Ok good.passwords)
 good_by (Ok line) (Ok entries) (Ok passwords) good same =
     let read : GoodMap = record { line = line; entries = entries; passwords = passwords } in
     let whole = ok_value {F = maps.MapFault} read good same in
-    (ap (λ good. Ok good.entries) whole, ap (λ good. Ok good.passwords) whole)
+    (ap (λ good. Ok good.line) whole, ap (λ good. Ok good.entries) whole, ap (λ good. Ok good.passwords) whole)
 good_by (Ok line) (Ok entries) (Err fault) good same = absurd (let differs : ⊥ = cc in differs)
 good_by (Ok line) (Err fault) passwords good same = absurd (let differs : ⊥ = cc in differs)
 good_by (Err fault) entries passwords good same = absurd (let differs : ⊥ = cc in differs)
@@ -147,8 +149,19 @@ good_by (Err fault) entries passwords good same = absurd (let differs : ⊥ = cc
 good_from : (sectors : MapSectors) (good : GoodMap) → good_map sectors ≡ Ok good → IsGoodFrom sectors good
 unfolding good_map
 good_from sectors good same =
-    let (table, passwords) = good_by (line_at sectors.line) sectors.table (each (map password_at sectors.extras)) good same in
-    record { table = table; passwords = passwords }
+    let (line, table, passwords) = good_by (line_at sectors.line) sectors.table (each (map password_at sectors.extras)) good same in
+    record { line = line; table = table; passwords = passwords }
+
+-- the line of a good map is the one that stands on the disks
+pub line_stands :
+    (image : Image) (machine : Machine) (boot : BootSector) (sectors : MapSectors) (good : GoodMap)
+    → map_sectors image machine boot ≡ Ok sectors → good_map sectors ≡ Ok good
+    → present_line image machine boot ≡ Some good.line
+unfolding present_line
+line_stands image machine boot sectors good found judged =
+    let read = (sectors_read image machine boot sectors found).1 in
+    let from = good_from sectors good judged in
+    rw (read, from.line) refl
 
 -- where no entry asks for a password, a good map has none
 pub without_passwords :
@@ -158,7 +171,7 @@ pub without_passwords :
     → good.passwords ≡ map (λ entry. None) good.entries
 without_passwords image machine boot sectors good found judged none =
     let from = good_from sectors good judged in
-    let read = rw from.table at (sectors_extras image machine boot sectors found) in
+    let read = rw from.table at (sectors_read image machine boot sectors found).0 in
     let extras = ok_value _ _ (sym (no_extras image machine good.entries none) ∙ read) in
     let read2 = rw (sym extras) at from.passwords in
     sym (ok_value _ _ (sym (no_passwords good.entries) ∙ read2))

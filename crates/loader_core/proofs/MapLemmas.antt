@@ -1,9 +1,8 @@
 -- The steps of reading a map.
-use Rattle.std.proofs.Common.{◌≡◌, ◌∙◌, ℕ, Bool, true, false, not, ◌&&◌, ◌||◌, if◌then◌else◌, refl, sym, ap, List, [], ◌∷◌, ◌++◌, map, append_assoc, Option, None, Some, is_some, Result, Ok, Err}
+use Rattle.std.proofs.Common.{◌≡◌, ◌∙◌, ℕ, Bool, true, false, not, ◌&&◌, ◌||◌, if◌then◌else◌, refl, sym, ap, List, [], ◌∷◌, ◌++◌, map, append_assoc, Option, is_some, Result, Ok, Err}
 use Rattle.std.specs.Prelude.{IsErr, ◌==◌}
 use Rattle.std.specs.List.{list_any}
 use Rattle.std.proofs.lemmas.List.{append-nil, map-append}
-use Rattle.disk_trait.specs.Past.{Past, now_of, Told}
 use Rattle.lilo_model.specs.Checks.{◌>>=◌, seen, each}
 use Rattle.lilo_model.specs.Disks.{Image, Machine, DiskSector, bytes_at}
 use Rattle.lilo_model.specs.Slots as slots

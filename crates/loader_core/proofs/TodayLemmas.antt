@@ -13,14 +13,14 @@ use Rattle.lilo_model.specs.Table.{Descriptor}
 use Rattle.lilo_model.specs.LineSector.{is_same_line}
 use Rattle.lilo_model.specs.Boot.{Boot, Ending, MapSectors, GoodMap, refused_boot, foreign_boot, present_line, map_sectors, good_map, message_of, message_check, middle_of, image_with_line, entry_ending, ended_boot, chosen_boot, picked_entry, decided_boot, opening_at, prompted_boot, end_of, map_boot, boot_by, whole_boot}
 use Rattle.loader_core.specs.Reading.{Why, Unbuilt, Because}
-use Rattle.loader_core.specs.Today.{Report, report_behind, or_device, line_today, entry_today, entry_report, middle_report, texts_report, choice_report, entry_or_idle, default_of, needs_prompt, chosen_today, good_report, judged_report, sectors_report, map_report, foreign_report, report_by, boot_today, end_text}
+use Rattle.loader_core.specs.Today.{Report, line_behind, standing_line, report_behind, or_device, line_today, entry_today, entry_report, middle_report, texts_report, choice_report, entry_or_idle, default_of, needs_prompt, chosen_today, good_report, judged_report, sectors_report, map_report, foreign_report, report_by, boot_today, end_text}
 use Rattle.loader_core.specs.Laws.{IsReported, TodayLaw}
 use Rattle.loader_core.proofs.EndLemmas.{SameResult, plain_pick, entry_same}
-use Rattle.loader_core.proofs.ChoiceLemmas.{IsPlain, plain_from, without_passwords, quiet_decision, plain_decision}
+use Rattle.loader_core.proofs.ChoiceLemmas.{IsPlain, plain_from, without_passwords, line_stands, quiet_decision, plain_decision}
 
--- a boot is a report's, unless that is of what isn't built
-abbrev Reports : Boot → Report → List Key → Type 0
-Reports boot report keys = (report.result ≡ Err Unbuilt → ⊥) → IsReported boot report keys
+-- a boot is a report's, and leaves this default line, unless the report is of what isn't built
+abbrev Reports : Boot → Report → Option DefaultLine → List Key → Type 0
+Reports boot report line keys = (report.result ≡ Err Unbuilt → ⊥) → IsReported boot report line keys
 
 -- ---- an entry
 
@@ -41,12 +41,12 @@ end_report name result =
 
 end_reports :
     (name : List ℕ) (keys : List Key) (today : Result Ending Why) (model : Result Ending Reason) → SameResult today model
-    → Reports (ended_boot (loading_text name) Empty keys model) (end_report name today) keys
+    → Reports (ended_boot (loading_text name) Empty keys model) (end_report name today) (Some Empty) keys
 end_reports name keys (Ok ending) model same built =
     let all : (name ++ codes "\n") ++ [] ≡ name ++ codes "\n" = append-nil (name ++ codes "\n") in
-    rw (same, all) (record { ends = (refl, refl); shown = refl; left = refl })
+    rw (same, all) (record { ends = (refl, refl); shown = refl; line = refl; left = refl })
 end_reports name keys (Err (Because reason)) model same built =
-    rw same (record { ends = refl; shown = refl; left = refl })
+    rw same (record { ends = refl; shown = refl; line = refl; left = refl })
 end_reports name keys (Err Unbuilt) model same built = absurd (built refl)
 
 -- an empty line is not written where it stands
@@ -61,10 +61,11 @@ middle_reports :
     (chosen_boot image machine boot Empty entry (plain_pick place) (quiet_decision place keys) memory middle)
     (report_behind (codes "L") (or_device (codes " 80\n") (report_behind (codes "IL") (report_behind (codes "O\n")
     (or_device (codes "Error 80\n") (middle_report image machine entry memory middle))))))
+    (Some Empty)
     keys
 unfolding chosen_boot entry_report
 middle_reports image machine boot entry place memory keys (Err reason) built =
-    record { ends = refl; shown = refl; left = refl }
+    record { ends = refl; shown = refl; line = refl; left = refl }
 middle_reports image machine boot entry place memory keys (Ok middle) built =
     rw (line_stays image machine boot)
     (end_reports entry.name keys (entry_today image machine entry (line_today entry middle) memory)
@@ -82,10 +83,11 @@ chosen_reports :
     (picked_entry entries (Some (plain_pick boot.default_entry))))
     (report_behind (codes "L") (or_device (codes " 80\n") (report_behind (codes "IL") (report_behind (codes "O\n")
     (choice_report image machine memory (entry_or_idle entry))))))
+    (Some Empty)
     keys
 unfolding texts_report
 chosen_reports image machine boot entries memory keys None is built =
-    rw is (record { ends = refl; shown = refl; left = refl })
+    rw is (record { ends = refl; shown = refl; line = refl; left = refl })
 chosen_reports image machine boot entries memory keys (Some entry) is built =
     rw is (middle_reports image machine boot entry boot.default_entry memory keys (middle_of image machine entry) built)
 
@@ -112,6 +114,7 @@ plain_reports :
     → Reports (judged_boot image machine boot keys memory (Ok good))
     (report_behind (codes "L") (or_device (codes " 80\n") (report_behind (codes "IL") (report_behind (codes "O\n")
     (choice_report image machine memory (entry_or_idle (default_of boot good)))))))
+    (Some good.line)
     keys
 unfolding prompted_boot
 plain_reports image machine boot keys memory good plain passwords built =
@@ -127,6 +130,7 @@ good_reports :
     → (prompts : Bool) → needs_prompt boot good ≡ prompts
     → Reports (judged_boot image machine boot keys memory (Ok good))
     (report_behind (codes "L") (or_device (codes " 80\n") (report_behind (codes "IL") (good_report image machine boot memory good))))
+    (Some good.line)
     keys
 unfolding good_report chosen_today
 good_reports image machine boot keys memory sectors good found judged true prompts =
@@ -144,25 +148,27 @@ judged_reports :
     → map_sectors image machine boot ≡ Ok sectors → good_map sectors ≡ found
     → Reports (judged_boot image machine boot keys memory found)
     (report_behind (codes "L") (or_device (codes " 80\n") (report_behind (codes "IL") (judged_report image machine boot memory found))))
+    (present_line image machine boot)
     keys
 judged_reports image machine boot keys memory sectors (Err fault) read judged built =
-    record { ends = refl; shown = refl; left = refl }
+    record { ends = refl; shown = refl; line = refl; left = refl }
 judged_reports image machine boot keys memory sectors (Ok good) read judged built =
-    good_reports image machine boot keys memory sectors good read judged (needs_prompt boot good) refl built
+    rw (line_stands image machine boot sectors good read judged)
+    (good_reports image machine boot keys memory sectors good read judged (needs_prompt boot good) refl built)
 
 map_reports_by :
     (image : Image) (machine : Machine) (boot : BootSector) (keys : List Key) (memory : ℕ)
     (found : Result MapSectors slots.AddressFault) → map_sectors image machine boot ≡ found
-    → Reports (map_boot image machine boot keys memory) (map_report image machine boot memory) keys
+    → Reports (map_boot image machine boot keys memory) (map_report image machine boot memory) (present_line image machine boot) keys
 unfolding map_boot map_report sectors_report
 map_reports_by image machine boot keys memory (Err fault) read =
-    rw read (λ built. record { ends = refl; shown = refl; left = refl })
+    rw read (λ built. record { ends = refl; shown = refl; line = refl; left = refl })
 map_reports_by image machine boot keys memory (Ok sectors) read =
     rw read (judged_reports image machine boot keys memory sectors (good_map sectors) read refl)
 
 map_reports :
     (image : Image) (machine : Machine) (boot : BootSector) (keys : List Key) (memory : ℕ)
-    → Reports (map_boot image machine boot keys memory) (map_report image machine boot memory) keys
+    → Reports (map_boot image machine boot keys memory) (map_report image machine boot memory) (present_line image machine boot) keys
 map_reports image machine boot keys memory =
     map_reports_by image machine boot keys memory (map_sectors image machine boot) refl
 
@@ -170,32 +176,33 @@ map_reports image machine boot keys memory =
 
 foreign_reports_by :
     (bytes : List ℕ) (keys : List Key) (bootable : Bool) → is_bootable bytes ≡ bootable
-    → IsReported (foreign_boot bytes keys) (foreign_report bytes) keys
+    → IsReported (foreign_boot bytes keys) (foreign_report bytes) None keys
 unfolding foreign_boot foreign_report
-foreign_reports_by bytes keys true is = rw is (record { ends = (refl, refl); shown = refl; left = refl })
-foreign_reports_by bytes keys false is = rw is (record { ends = refl; shown = refl; left = refl })
+foreign_reports_by bytes keys true is = rw is (record { ends = (refl, refl); shown = refl; line = refl; left = refl })
+foreign_reports_by bytes keys false is = rw is (record { ends = refl; shown = refl; line = refl; left = refl })
 
-foreign_reports : (bytes : List ℕ) (keys : List Key) → IsReported (foreign_boot bytes keys) (foreign_report bytes) keys
+foreign_reports : (bytes : List ℕ) (keys : List Key) → IsReported (foreign_boot bytes keys) (foreign_report bytes) None keys
 foreign_reports bytes keys = foreign_reports_by bytes keys (is_bootable bytes) refl
 
 device_reports :
-    (boot : Boot) (report : Report) (keys : List Key) → IsReported boot report keys
-    → IsReported boot (or_device [] report) keys
-device_reports boot report keys told = record { ends = told.ends; shown = told.shown; left = told.left }
+    (boot : Boot) (report : Report) (line : Option DefaultLine) (keys : List Key) → IsReported boot report line keys
+    → IsReported boot (or_device [] report) line keys
+device_reports boot report line keys told =
+    record { ends = told.ends; shown = told.shown; line = told.line; left = told.left }
 
 found_reports :
     (image : Image) (machine : Machine) (bytes : List ℕ) (keys : List Key) (memory : ℕ) (found : Result BootSector maps.MapFault)
-    → Reports (boot_by image machine bytes keys memory found) (or_device [] (report_by image machine bytes memory found)) keys
+    → Reports (boot_by image machine bytes keys memory found) (or_device [] (report_by image machine bytes memory found)) (line_behind image machine found) keys
 found_reports image machine bytes keys memory (Ok boot) built =
-    device_reports _ _ keys (map_reports image machine boot keys memory built)
+    device_reports _ _ _ keys (map_reports image machine boot keys memory built)
 found_reports image machine bytes keys memory (Err (maps.BadTable entry)) built =
-    record { ends = refl; shown = refl; left = refl }
-found_reports image machine bytes keys memory (Err maps.NotOurs) built = device_reports _ _ keys (foreign_reports bytes keys)
-found_reports image machine bytes keys memory (Err (maps.BadVersion version)) built = device_reports _ _ keys (foreign_reports bytes keys)
-found_reports image machine bytes keys memory (Err maps.BadLine) built = device_reports _ _ keys (foreign_reports bytes keys)
+    record { ends = refl; shown = refl; line = refl; left = refl }
+found_reports image machine bytes keys memory (Err maps.NotOurs) built = device_reports _ _ _ keys (foreign_reports bytes keys)
+found_reports image machine bytes keys memory (Err (maps.BadVersion version)) built = device_reports _ _ _ keys (foreign_reports bytes keys)
+found_reports image machine bytes keys memory (Err maps.BadLine) built = device_reports _ _ _ keys (foreign_reports bytes keys)
 
 -- outside what isn't built, today's boot is the model's
 pub today_law : TodayLaw
-unfolding whole_boot boot_today
+unfolding whole_boot boot_today standing_line
 today_law image machine span keys memory built =
     found_reports image machine (image span.disk span.start) keys memory (boot_at (image span.disk span.start)) built

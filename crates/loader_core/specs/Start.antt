@@ -1,8 +1,8 @@
 -- How a boot's end stands to today's report of it.
-use Rattle.std.specs.Prelude.{◌≡◌, ◌⊎◌, ◌≤◌, ℕ, codes, Bool, true, false, List, [], ◌∷◌, Result, Ok, Err}
+use Rattle.std.specs.Prelude.{◌≡◌, ℕ, codes, Bool, true, false, List, [], ◌∷◌, Option, Result, Ok, Err}
 use Rattle.disk_trait.specs.declared.disks.Span.{Span}
-use Rattle.stream_trait.specs.Fault.{Rose}
 use Rattle.lilo_model.specs.Disks as disks
+use Rattle.lilo_model.specs.DefaultLine.{DefaultLine}
 use Rattle.lilo_model.specs.Prompt.{Key}
 use Rattle.lilo_model.specs.Place.{Memory, Written, memory_after}
 use Rattle.lilo_model.specs.Boot as boots
@@ -94,10 +94,11 @@ ShowsAs (Ok started) boot old new = Shows old boot.shown new
 ShowsAs (Err Device) boot old new = Unit {0}
 ShowsAs (Err (Refused reason)) boot old new = Shows old boot.shown new
 
--- what was done is this boot of the model, which takes no key
-pub record IsBoot (outcome : Outcome) (boot : boots.Boot) (keys : List Key) (memory memory' : Memory) (old new : SinkState) : Type 0 where
+-- what was done is this boot of the model, which leaves this default line and takes no key
+pub record IsBoot (outcome : Outcome) (boot : boots.Boot) (standing : Option DefaultLine) (keys : List Key) (memory memory' : Memory) (old new : SinkState) : Type 0 where
   pub ends : EndsAs (result_of outcome) boot memory memory'
   pub shows : ShowsAs (result_of outcome) boot old new
+  pub line : boot.line ≡ standing
   pub left : boot.left ≡ keys
 
 -- ---- the texts of failures

@@ -15,7 +15,7 @@ use Rattle.lilo_model.specs.Place.{command_line, first_two, written_by}
 use Rattle.lilo_model.specs.Reason as reasons
 use Rattle.lilo_model.specs.Reason.{Reason, NotBootable, BadTable, NotFound, Idle, map_reason}
 use Rattle.lilo_model.specs.Slots as slots
-use Rattle.lilo_model.specs.Boot.{Loaded, Handed, Ending, MapSectors, GoodMap, boot_address, table_address, error_text, entry_has, map_sectors, good_map, middle_of, initrd_size}
+use Rattle.lilo_model.specs.Boot.{Loaded, Handed, Ending, MapSectors, GoodMap, boot_address, table_address, error_text, entry_has, present_line, map_sectors, good_map, middle_of, initrd_size}
 use Rattle.loader_core.specs.Reading.{Why, Unbuilt, Because, FileRest, file_today}
 
 -- ---- an entry
@@ -226,6 +226,15 @@ unfoldable pub boot_today : Image → Machine → Span → ℕ → Report
 boot_today image machine span memory =
     or_device []
     (report_by image machine (image span.disk span.start) memory (boot_at (image span.disk span.start)))
+
+-- the default line that stands on the disks, by what a sector says as a boot sector
+abbrev pub line_behind : Image → Machine → Result BootSector maps.MapFault → Option DefaultLine
+line_behind image machine (Ok boot) = present_line image machine boot
+line_behind image machine (Err fault) = None
+
+-- the default line that stands on the disks; today a boot leaves it
+unfoldable pub standing_line : Image → Machine → Span → Option DefaultLine
+standing_line image machine span = line_behind image machine (boot_at (image span.disk span.start))
 
 -- a boot needs a part that isn't built yet
 abbrev pub IsUnbuilt : Image → Machine → Span → ℕ → Type 0

@@ -10,7 +10,7 @@ ghost use Rattle.bios_model.specs.Machine.{machine_of};
 ghost use Rattle.bios_model.specs.Memory.{memory_of};
 ghost use Rattle.boot_map.specs.View.{boot_view, descriptor_view, map_fault_view};
 ghost use Rattle.boot_map.specs.Ranges.{IsNamed, IsOneSector, HasSectors, FitsFlags};
-ghost use Rattle.loader_core.specs.Today.{IsUnbuilt, boot_today, report_by, map_report, sectors_report, good_report, texts_report, entry_report, foreign_report, line_today};
+ghost use Rattle.loader_core.specs.Today.{IsUnbuilt, boot_today, standing_line, report_by, map_report, sectors_report, good_report, texts_report, entry_report, foreign_report, line_today};
 ghost use Rattle.loader_core.specs.Map.{StandsFor, IsTable, IsGood};
 ghost use Rattle.stream_trait.specs.Shows.{state_of, HasFailed};
 ghost use Rattle.loader_core.specs.Start.{LiesInside, Starts, Reports, result_of, span_view, IsBoot, halt_text, map_text};
@@ -46,13 +46,13 @@ pub fn boot<D: Disks, I: Source, O: Sink>(
 ) -> Outcome
     requires { device.start < D.size_of bios.old.disks.now device.disk }
 
-    // It is today's boot, and outside what isn't built yet the model's, for all keys.
+    // It is today's boot, and outside what isn't built yet the model's, for all keys; the default line is left as it stands.
     ensures today { Told (D.past bios.old.disks.now) (λ now. let machine = machine_of (D.size_of bios.old.disks.now) (D.geometry_of bios.old.disks.now) in
         Reports (boot_today now machine (span_view device) (length ram.old)) (result_of result) (memory_of ram.old) ram.new
         (state_of (O.taken out.old.out.now) (O.faults out.old.out.now) out.old.failed) (state_of (O.taken out.new.out.now) (O.faults out.new.out.now) out.new.failed)) }
     ensures boot { Told (D.past bios.old.disks.now) (λ now. let machine = machine_of (D.size_of bios.old.disks.now) (D.geometry_of bios.old.disks.now) in
         (keys : List Key) → (IsUnbuilt now machine (span_view device) (length ram.old) → ⊥)
-        → IsBoot result (whole_boot now machine (span_view device) keys (length ram.old)) keys (memory_of ram.old) (memory_of ram.new)
+        → IsBoot result (whole_boot now machine (span_view device) keys (length ram.old)) (standing_line now machine (span_view device)) keys (memory_of ram.old) (memory_of ram.new)
         (state_of (O.taken out.old.out.now) (O.faults out.old.out.now) out.old.failed) (state_of (O.taken out.new.out.now) (O.faults out.new.out.now) out.new.failed)) }
     ensures unbuilt { Told (D.past bios.old.disks.now) (λ now. let machine = machine_of (D.size_of bios.old.disks.now) (D.geometry_of bios.old.disks.now) in
         result ≡ Outcome.Refused Reason.Unbuilt → IsUnbuilt now machine (span_view device) (length ram.old)) }

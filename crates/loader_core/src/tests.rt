@@ -23,6 +23,29 @@ fn layout(protected: u32, initrd: Option<Region>) -> Layout {
     }
 }
 
+// The same of a kernel with one sector more, 1541 bytes.
+fn long_layout() -> Layout {
+    Layout {
+        protected: region(0x10_0000, 517),
+        ..layout(0x10_0000, None)
+    }
+}
+
+// The kernel's third sector.
+fn hello() -> [u8; 512] {
+    let mut bytes = [0; 512];
+    bytes[..5].copy_from_slice(b"HELLO");
+    bytes
+}
+
+// A sector's bytes and six more.
+fn joined(sector: &[u8; 512], rest: &[u8; 6]) -> [u8; 518] {
+    let mut bytes = [0; 518];
+    bytes[..512].copy_from_slice(sector);
+    bytes[512..].copy_from_slice(rest);
+    bytes
+}
+
 fn expect_end(rt: &impl Abort, booted: &Booted, outcome: Outcome, shown: &[u8]) {
     assert_eq!(rt; booted.outcome, outcome, "after {shown:?}");
     assert_eq!(rt; booted.sink.bytes(), shown, "at {outcome:?}");
@@ -85,6 +108,38 @@ fn a_plain_boot(rt: HostRuntime) -> Result<(), Fail> {
             b"\x02\x81\0\0\0\0\0\0\0\0\0\0\0\0\0\0\0\0\0\0\0\x96\0\0\0\x98\x09\0",
         );
         expect_line(&rt, &booted);
+    }
+    Ok(())
+}
+
+// A file's hole is the zero sector of the map: at a kernel's start there is no header then, in its middle and at its end
+// there are zeros. The slots of a section may be of different modes.
+#[test]
+fn holes_and_slots_of_all_modes(rt: HostRuntime) -> Result<(), Fail> {
+    for (section, outcome, shown, protected) in [
+        (
+            b"\x03\x80\x01\0\x62\0\0\0\x03\x80\x01\0\x53\0\0\0\x03\x80\x01\0\x54\0\0\0".as_slice(),
+            Outcome::Refused(Reason::Header(SetupFault::NoBootFlag)),
+            FAILED,
+            [0xEE; 518],
+        ),
+        (
+            b"\x01\x80\x01\0\x14\0\x01\0\x02\x80\x01\0\x53\0\0\0\x03\x80\x01\0\x62\0\0\0\x03\x80\x01\0\x54\0\0\0".as_slice(),
+            Outcome::Loaded(long_layout()),
+            LOADING,
+            joined(&[0; 512], b"HELLO\xEE"),
+        ),
+        (
+            b"\x01\x80\x01\0\x14\0\x01\0\x02\x80\x01\0\x53\0\0\0\x03\x80\x01\0\x54\0\0\0\x03\x80\x01\0\x62\0\0\0".as_slice(),
+            Outcome::Loaded(long_layout()),
+            LOADING,
+            joined(&hello(), b"\0\0\0\0\0\xEE"),
+        ),
+    ] {
+        let edits = [(95, 20, b"\x05\x06".as_slice()), (100, 0, section)];
+        let booted = boot_case(rt.alloc(), &changed(&edits))?;
+        expect_end(&rt, &booted, outcome, shown);
+        expect_bytes(&rt, &booted, 0x10_0000, &protected);
     }
     Ok(())
 }

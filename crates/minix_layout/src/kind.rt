@@ -7,9 +7,13 @@ ghost use Rattle.minix_layout.specs.View.{kind_view};
 /// The version of a volume's format, and the length of its names: 14 or 30 bytes.
 #[derive(Clone, Copy, Debug, PartialEq, Eq)]
 pub enum FsKind {
+    /// Version 1 with names of 14 bytes.
     V1Short,
+    /// Version 1 with names of 30 bytes.
     V1Long,
+    /// Version 2 with names of 14 bytes.
     V2Short,
+    /// Version 2 with names of 30 bytes.
     V2Long,
 }
 

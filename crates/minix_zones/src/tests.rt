@@ -272,3 +272,48 @@ fn written_sector_is_read_again(rt: HostRuntime) -> Result<(), Fail> {
     assert!(rt; sector == [5; 512]);
     Ok(())
 }
+
+// The superblock is read by call 0, so call 1 is the write and call 2 the flush; in the last row none fails.
+#[test]
+fn write_and_sync_tell_a_fault(rt: HostRuntime) -> Result<(), Fail> {
+    let rows = [
+        (1, Err(ZoneFault::Device), Ok(()), 1),
+        (2, Ok(()), Err(ZoneFault::Device), 1),
+        (3, Ok(()), Ok(()), 2),
+    ];
+    for (call, write, sync, events) in rows {
+        let mut disks = disks_with(rt.alloc(), 0x2478, &[Failing { call, made: false }])?;
+        let mut volume = attach(&rt, &mut disks)?;
+        let count = volume.span().count;
+        assert!(rt; 79 < count);
+        assert_eq!(rt; volume.write_sector(79, &[5; 512]), write, "{call}");
+        assert_eq!(rt; volume.sync(), sync, "{call}");
+        assert_eq!(rt; disks.events(), events, "{call}");
+    }
+    Ok(())
+}
+
+// Until a sync a stop may leave the bytes that were there before a write.
+#[test]
+fn a_stop_leaves_out_a_write_alone(rt: HostRuntime) -> Result<(), Fail> {
+    let rows: [(bool, u32, &[bool], u8); 2] = [(false, 1, &[false], 3), (true, 2, &[], 5)];
+    for (synced, events, keep, byte) in rows {
+        let mut disks = disks_with(rt.alloc(), 0x2478, &[])?;
+        put(&mut disks, 79, &[3; 512]);
+        let mut volume = attach(&rt, &mut disks)?;
+        let count = volume.span().count;
+        assert!(rt; 79 < count);
+        assert_eq!(rt; volume.write_sector(79, &[5; 512]), Ok(()));
+        if synced {
+            assert_eq!(rt; volume.sync(), Ok(()));
+        }
+        assert!(rt; events == disks.events());
+        let unflushed = disks.unflushed(events);
+        assert!(rt; keep.len() == unflushed as usize);
+        let mut left = disks.left(rt.alloc(), events, keep, 0, &[])?;
+        let mut sector: Sector = [0; 512];
+        assert_eq!(rt; left.read(0, 87, &mut sector), Ok(()));
+        assert!(rt; sector == [byte; 512]);
+    }
+    Ok(())
+}

@@ -33,8 +33,11 @@ impl<'d, D: Disks> Volume<'d, D> {
     ghost use Rattle.minix_zones.specs.View.{span_view, Gives};
     ghost use Rattle.minix_zones.specs.Volume.{volume_view, past_of, faults_of, sizes_of, count_of, geometries_of, SameVolume, KeepsVolume, attached, disks_in};
 
-    /// Reads the superblock of the volume that stands in a span of a disk, and takes the disks. A refusal
-    /// hands them back.
+    /// Reads the superblock of the volume that stands in a span of a disk, and takes the disks.
+    ///
+    /// # Errors
+    ///
+    /// `Layout` with the first check of the superblock that fails, or `Device`; either hands the disks back.
     #[tactic(auto, unfolding(lilo_model::specs::MinixParts::volume_at))]
     pub fn attach(disks: &'d mut D, span: Span) -> Result<Volume<'d, D>, (&'d mut D, ZoneFault)>
         requires on_disk { span.start + span.count ≤ D.size_of disks.old span.disk }
@@ -105,7 +108,11 @@ impl<'d, D: Disks> Volume<'d, D> {
         self.span
     }
 
-    /// Reads a sector, counted from the start of the volume.
+    /// Reads a sector, counted from the start of the volume. A refusal leaves `into` as it was.
+    ///
+    /// # Errors
+    ///
+    /// `Device` alone.
     pub fn read_sector(&mut self, sector: u64, into: &mut Sector) -> Result<(), ZoneFault>
         requires { sector < self.old.span.count }
         ensures bytes { OnOk result (Told (past_of self.old)
@@ -128,6 +135,10 @@ impl<'d, D: Disks> Volume<'d, D> {
     /// Writes a sector, counted from the start of the volume, as `disk_trait::write` does: until the next
     /// flush a stop may leave it written or not, and a write that failed was made or wasn't. The superblock's
     /// sector isn't written.
+    ///
+    /// # Errors
+    ///
+    /// `Device` alone.
     pub fn write_sector(&mut self, sector: u64, from: &Sector) -> Result<(), ZoneFault>
         requires inside { sector < self.old.span.count }
         requires no_super { sector ≢ super_sector }
@@ -167,6 +178,10 @@ impl<'d, D: Disks> Volume<'d, D> {
     }
 
     /// Makes all writes so far durable, as `disk_trait::flush` does. A flush that failed did nothing.
+    ///
+    /// # Errors
+    ///
+    /// `Device` alone.
     pub fn sync(&mut self) -> Result<(), ZoneFault>
         ensures told { IsTold (past_of self.old) → IsTold (past_of self.new) }
         ensures failed { OnErr result (past_of self.new ≡ past_of self.old) }
@@ -198,7 +213,11 @@ impl<'d, D: Disks> Volume<'d, D> {
         }
     }
 
-    /// Reads the bytes of a zone.
+    /// Reads the 1024 bytes of a zone. A refusal leaves `into` as it was.
+    ///
+    /// # Errors
+    ///
+    /// `Device` alone.
     #[tactic(auto, unfolding(lilo_model::specs::MinixParts::parts_of), using(crate::proofs::ZoneLemmas::zones_fit))]
     pub fn read_zone(&mut self, zone: u32, into: &mut [u8; 1024]) -> Result<(), ZoneFault>
         requires { zone < self.old.layout.zones }

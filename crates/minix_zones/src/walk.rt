@@ -48,7 +48,11 @@ impl Walk {
             end: reach(kind),
         }
     }
-    /// The next zone, or None at the end. After a refusal the walk has ended.
+    /// The next zone, or None at the end.
+    ///
+    /// # Errors
+    ///
+    /// `ZoneOutside` with a number that is neither 0 nor a data zone's, or `Device`. The walk has ended then.
     #[tactic(auto, unfolding(crate::specs::Walk::rest_of))]
     pub fn next<D: Disks>(&mut self, volume: &mut Volume<'_, D>) -> Result<Option<Visit>, ZoneFault>
         // What is met.

@@ -157,7 +157,11 @@ fn way_to(kind: FsKind, index: u32) -> Way
     }
 }
 
-/// What stands at an index of a file.
+/// What stands at an index of a file, counted in blocks of 1024 bytes from 0.
+///
+/// # Errors
+///
+/// `ZoneOutside` with the first number on the way that is neither 0 nor a data zone's, or `Device`.
 #[tactic(auto, unfolding(lilo_model::specs::MinixParts::zone_at))]
 pub fn zone_at<D: Disks>(
     volume: &mut Volume<'_, D>,
@@ -188,6 +192,10 @@ pub fn zone_at<D: Disks>(
 
 /// The bytes of the block with an index: those of its zone, or zeros for a hole. A refusal leaves `into` as it
 /// was.
+///
+/// # Errors
+///
+/// As `zone_at`.
 #[tactic(auto, unfolding(lilo_model::specs::MinixParts::block_at))]
 pub fn read_at<D: Disks>(
     volume: &mut Volume<'_, D>,

@@ -44,8 +44,11 @@ impl Default for Address {
 /// How a slot is to say where its sectors lie.
 #[derive(Clone, Copy, Debug, PartialEq, Eq)]
 pub enum Mode {
+    /// By cylinder, head and sector.
     Chs,
+    /// By number, and read by cylinder, head and sector.
     Linear,
+    /// By number, and read so.
     Lba32,
 }
 

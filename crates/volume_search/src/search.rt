@@ -35,6 +35,10 @@ pub struct Located {
 /// partition table in its sector 0 is searched as a whole alone; a table that is refused otherwise ends the search.
 ///
 /// Each candidate's sector 2 is read once, and a disk's tables once where they rise.
+///
+/// # Errors
+///
+/// There is no volume, or `root` has no room for one; `root` isn't found, or a table is refused; a disk failed.
 #[tactic(auto, unfolding(lilo_model::specs::VolumeSearch::volume_place))]
 pub fn find_volume<D: Disks>(disks: &mut D, root: Option<Device>) -> Result<Located, VolumeFault>
     // What is found.

@@ -404,7 +404,54 @@ fn boots_are_refused(rt: HostRuntime) -> Result<(), Fail> {
     Ok(())
 }
 
-const FAULTS: [Case<'static>; 7] = [
+// What is shown where a read of the boot fails: that of the boot sector, of the default line, of the three sectors of the
+// table, of the options, of the section, and of the three sectors of the kernel.
+const BROKEN: [&[u8]; 10] = [
+    b"lilo: device\n",
+    b"L 80\nlilo: device\n",
+    b"L 80\nlilo: device\n",
+    b"L 80\nlilo: device\n",
+    b"L 80\nlilo: device\n",
+    b"LILO\nError 80\nlilo: device\n",
+    b"LILO\nLoading linux\nError 80\nlilo: device\n",
+    b"LILO\nLoading linux\nError 80\nlilo: device\n",
+    b"LILO\nLoading linux\nError 80\nlilo: device\n",
+    b"LILO\nLoading linux\nError 80\nlilo: device\n",
+];
+
+#[test]
+fn each_read_of_a_boot_may_fail(rt: HostRuntime) -> Result<(), Fail> {
+    for (call, text) in BROKEN.iter().enumerate() {
+        let case = Case {
+            failing_calls: &[call as u64],
+            words: BOOT,
+            status: 8,
+            text,
+            ..WHOLE
+        };
+        let (status, as_wanted) = run(rt.alloc(), &case)?;
+        assert_eq!(rt; status, 8, "call {call}");
+        assert!(rt; as_wanted, "call {call}");
+    }
+    // There is no eleventh call.
+    let boot = Case {
+        words: BOOT,
+        ..WHOLE
+    };
+    let (_, text) = answer(rt.alloc(), &boot)?;
+    let (status, same) = answer(
+        rt.alloc(),
+        &Case {
+            failing_calls: &[10],
+            ..boot
+        },
+    )?;
+    assert_eq!(rt; status, 0);
+    assert!(rt; text.as_slice() == same.as_slice());
+    Ok(())
+}
+
+const FAULTS: [Case<'static>; 9] = [
     Case {
         failing_calls: &[0],
         words: QUERY,
@@ -435,7 +482,7 @@ const FAULTS: [Case<'static>; 7] = [
         text: b"",
         ..WHOLE
     },
-    // A line that can't be shown leaves its status, and a part behind one whose text failed runs.
+    // A line that can't be shown leaves its status, also in front of other parts.
     Case {
         failing_puts: &[0],
         at: 0,
@@ -446,8 +493,24 @@ const FAULTS: [Case<'static>; 7] = [
     },
     Case {
         failing_puts: &[0],
-        words: &["-q", "/dev/hda", "--then", "-q", "/dev/hdb"],
+        words: &["-q", "/dev/hdb", "--then", "-q", "/dev/hda"],
         status: 3,
+        text: b"",
+        ..WHOLE
+    },
+    // The run ends at a part whose text can't be shown: the disk behind it isn't looked for, and no fifth call is made.
+    Case {
+        failing_puts: &[0],
+        words: &["-q", "/dev/hda", "--then", "-q", "/dev/hdb"],
+        status: 12,
+        text: b"",
+        ..WHOLE
+    },
+    Case {
+        failing_calls: &[4],
+        failing_puts: &[0],
+        words: &["-q", "/dev/hda", "--then", "boot", "/dev/hda"],
+        status: 12,
         text: b"",
         ..WHOLE
     },

@@ -1,5 +1,5 @@
 -- The line is that of the refusal.
-use Rattle.std.proofs.Common.{◌≡◌, sym, ◌∙◌}
+use Rattle.std.proofs.Common.{sym, ◌∙◌}
 use Rattle.std.specs.Prelude.{◌++◌, codes}
 use Rattle.stream_trait.proofs.ShowsLemmas.{shows_join}
 use Rattle.lilo_run.proofs.ConfLemmas.{text_shown}

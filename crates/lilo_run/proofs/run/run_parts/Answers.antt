@@ -1,31 +1,32 @@
 -- A part answers 0 and the loop goes on, or it is the last.
-use Rattle.std.proofs.Common.{◌≡◌, [], ◌∷◌, ◌≢◌, refl, ◌∙◌, length, Some, sym, subst, arith, tests}
+use Rattle.std.proofs.Common.{◌≡◌, [], ◌∷◌, refl, ◌∙◌, length, sym, subst, arith, tests}
 use Rattle.std.specs.Prelude.{IfSome}
 use Rattle.disk_trait.specs.Past.{Told}
 use Rattle.bios_model.specs.Machine.{machine_of}
 use Rattle.bios_model.specs.Memory.{memory_of}
 use Rattle.lilo_words.specs.Run.{parts_behind, parts_of_next}
-use Rattle.lilo_words.specs.View.{command_view, part_view}
+use Rattle.lilo_words.specs.View.{part_view}
 use Rattle.mbr_table.proofs.ToldLemmas.{same_twice}
-use Rattle.stream_trait.specs.Shows.{state_of}
+use Rattle.stream_trait.specs.Shows.{state_of, answer_of}
 use Rattle.stream_trait.proofs.ShowsLemmas.{has_failed_twice}
 use Rattle.disk_trait.proofs.ToldLemmas.{told_map, told_both}
 use Rattle.lilo_run.specs.Run.{Does}
 use Rattle.lilo_run.specs.Verdict.{part_effect, early_status}
 use Rattle.lilo_run.proofs.ConfLemmas.{read_first, read_more}
-use Rattle.lilo_run.proofs.RunLemmas.{Begun, place_within, continues_more, continues_end, continues_last, begun_more, begun_last, stays_more, told_same}
+use Rattle.lilo_run.proofs.RunLemmas.{Begun, place_within, continues_more, continues_end, continues_last, own_status, begun_more, begun_last, stays_more, told_same}
 use Rattle.lilo_run.proofs.run.run_parts.Goals as goal
 
-pub returns-then-is_last-clause-does : goal.returns-then-is_last-clause-does
-returns-then-is_last-clause-does g c =
+pub returns-in_default-answer-clause-does : goal.returns-in_default-answer-clause-does
+returns-in_default-answer-clause-does g c =
     let words = c.args.words.now in
     let invariant = c.loop-next.invariant in
-    let run = c.carry_out-status in
+    let run = c.carry_out-own in
     let part = part_view words c.part_at-read.result.part in
     let old = state_of (g.O.Sink.taken c.loop-next.out.out.now) (g.O.Sink.faults c.loop-next.out.out.now) c.loop-next.out.failed in
     let new = state_of (g.O.Sink.taken run.new.out.out.now) (g.O.Sink.faults run.new.out.out.now) run.new.out.failed in
     let rest : parts_of_next words c.loop-next.next ≡ part ∷ parts_of_next words c.part_at-read.result.next =
     rw c.in-Some.is c.part_at-read.ensures.part in
+    let answer : c.answer.result ≡ answer_of run.result run.new.out.failed = rw c.failed.ensures at c.answer.ensures in
     let told = told_same g.D.Disks.past g.D.Disks.size_of g.D.Disks.count_of g.D.Disks.geometry_of c.args.bios.now.disks.now c.loop-next.bios.disks.now invariant.same
     (λ now size geometry. Does (part_effect now (machine_of size geometry) (length c.loop-next.ram) part) run.result (memory_of c.loop-next.ram) (memory_of run.new.ram) old new)
     (run.ensures.does words) in
@@ -34,41 +35,53 @@ returns-then-is_last-clause-does g c =
     Does (part_effect now (machine_of (g.D.Disks.size_of c.args.bios.now.disks.now) (g.D.Disks.geometry_of c.args.bios.now.disks.now)) size part) run.result (memory_of c.loop-next.ram) (memory_of run.new.ram) old new))
     invariant.memory told in
     told_both (g.D.Disks.past c.args.bios.now.disks.now) _ _ _
-    (λ now goes last. continues_last _ _ _ _ part run.result _ _ _ _ _ _ goes rest last (grind (arith, tests)))
+    (λ now goes last. continues_last _ _ _ _ part run.result c.answer.result _ _ _ _ _ new goes rest last run.ensures.known answer
+    (grind (arith, tests)))
     invariant.does done
 
-pub returns-then-is_last-clause-early : goal.returns-then-is_last-clause-early
-returns-then-is_last-clause-early g c =
+pub returns-in_default-answer-clause-early : goal.returns-in_default-answer-clause-early
+returns-in_default-answer-clause-early g c =
     let words = c.args.words.now in
     let part = part_view words c.part_at-read.result.part in
     let behind = parts_of_next words c.part_at-read.result.next in
     let begun = subst (λ next. Begun (g.D.Disks.size_of c.args.bios.now.disks.now) (parts_behind words 0) next) c.in-Some.is c.loop-next.invariant.begun in
-    begun_last _ (parts_behind words 0) behind part c.in-Some.from c.carry_out-status.result begun
+    rw (c.answer.ensures, c.failed.ensures)
+    (begun_last _ (parts_behind words 0) behind part c.in-Some.from c.carry_out-own.result c.carry_out-own.new.out.failed begun
     (λ zero. subst (λ n. parts_behind words n ≡ part ∷ behind) zero c.part_at-read.ensures.part)
-    (subst (λ size. IfSome (early_status size part.command) (λ status. c.carry_out-status.result ≡ status)) c.loop-next.invariant.same.same_size (c.carry_out-status.ensures.early words))
+    (subst (λ size. IfSome (early_status size part.command) (λ status. c.carry_out-own.result ≡ status)) c.loop-next.invariant.same.same_size (c.carry_out-own.ensures.early words)))
 
-pub returns-then-is_last-clause-no_boot : goal.returns-then-is_last-clause-no_boot
-returns-then-is_last-clause-no_boot g c =
+pub returns-in_default-answer-clause-no_boot : goal.returns-in_default-answer-clause-no_boot
+returns-in_default-answer-clause-no_boot g c =
     let words = c.args.words.now in
     let part = part_view words c.part_at-read.result.part in
     let behind = parts_of_next words c.part_at-read.result.next in
     let rest : parts_of_next words c.loop-next.next ≡ part ∷ behind = rw c.in-Some.is c.part_at-read.ensures.part in
-    λ none. (stays_more (parts_behind words 0) _ behind part c.args.ram.now c.loop-next.ram c.carry_out-status.new.ram c.loop-next.invariant.stays rest
-    (c.carry_out-status.ensures.quiet words) none).0
+    λ none. (stays_more (parts_behind words 0) _ behind part c.args.ram.now c.loop-next.ram c.carry_out-own.new.ram c.loop-next.invariant.stays rest
+    (c.carry_out-own.ensures.quiet words) none).0
 
-pub returns-then-is_last-clause-starved : goal.returns-then-is_last-clause-starved
-returns-then-is_last-clause-starved g c =
+pub returns-in_default-answer-clause-starved : goal.returns-in_default-answer-clause-starved
+returns-in_default-answer-clause-starved g c =
     let words = c.args.words.now in
     let part = part_view words c.part_at-read.result.part in
     let behind = parts_of_next words c.part_at-read.result.next in
     let rest : parts_of_next words c.loop-next.next ≡ part ∷ behind = rw c.in-Some.is c.part_at-read.ensures.part in
-    λ starved. read_first (parts_behind words 0) _ behind part c.loop-next.invariant.conf rest (c.carry_out-status.ensures.starved words starved)
+    λ starved.
+    let own : c.carry_out-own.result ≡ 13 =
+    own_status c.carry_out-own.result 13 c.failed.result (sym c.answer.ensures ∙ starved) (λ is. omega (arith, is)) in
+    read_first (parts_behind words 0) _ behind part c.loop-next.invariant.conf rest (c.carry_out-own.ensures.starved words own)
+
+pub returns-in_default-answer-clause-device : goal.returns-in_default-answer-clause-device
+returns-in_default-answer-clause-device g c =
+    λ failed.
+    let own : c.carry_out-own.result ≡ 8 =
+    own_status c.carry_out-own.result 8 c.failed.result (sym c.answer.ensures ∙ failed) (λ is. omega (arith, is)) in
+    λ below. let rose = c.carry_out-own.ensures.device own below in let later = c.loop-next.invariant.later in omega (arith, rose, later)
 
 pub loop-next-preserved : goal.loop-next-preserved
 loop-next-preserved g c =
     let words = c.args.words.now in
     let invariant = c.loop-next.invariant in
-    let run = c.carry_out-status in
+    let run = c.carry_out-own in
     let part = part_view words c.part_at-read.result.part in
     let behind = parts_of_next words c.part_at-read.result.next in
     let old = state_of (g.O.Sink.taken c.loop-next.out.out.now) (g.O.Sink.faults c.loop-next.out.out.now) c.loop-next.out.failed in
@@ -83,16 +96,16 @@ loop-next-preserved g c =
     invariant.memory told in
     let begun = subst (λ next. Begun (g.D.Disks.size_of c.args.bios.now.disks.now) (parts_behind words 0) next) c.in-Some.is invariant.begun in
     let early = subst (λ size. IfSome (early_status size part.command) (λ status. run.result ≡ status)) invariant.same.same_size (run.ensures.early words) in
-    let zero : run.result ≡ 0 = grind (arith, tests) in
+    let zero : answer_of run.result run.new.out.failed ≡ 0 = let answer = c.answer.ensures in let failed = c.failed.ensures in grind (arith, tests) in
     record {
       place = place_within c.part_at-read.result.next c.in-Some.from (length words) c.part_at-read.ensures.next;
       run = c.part_at-read.ensures.run;
       does =
           told_both (g.D.Disks.past c.args.bios.now.disks.now) _ _ _
-          (λ now goes last. continues_more _ _ _ behind part run.result _ _ _ _ old new goes rest last zero)
+          (λ now goes last. continues_more _ _ _ behind part run.result _ _ _ _ _ new goes rest last zero)
           invariant.does done;
       begun =
-          begun_more _ (parts_behind words 0) behind part c.in-Some.from run.result c.part_at-read.result.next begun
+          begun_more _ (parts_behind words 0) behind part c.in-Some.from run.result run.new.out.failed c.part_at-read.result.next begun
           (λ zero. subst (λ n. parts_behind words n ≡ part ∷ behind) zero c.part_at-read.ensures.part)
           early zero;
       later = omega (arith, invariant.later, run.ensures.later);

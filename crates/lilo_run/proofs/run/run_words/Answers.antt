@@ -1,10 +1,7 @@
 -- Words that are no run are told.
-use Rattle.std.proofs.Common.{◌≡◌, ◌++◌, sym, subst}
-use Rattle.std.specs.Prelude.{codes}
 use Rattle.lilo_words.specs.Wrong.{wrong_view}
-use Rattle.stream_trait.specs.Shows.{Shows, state_of}
 use Rattle.disk_trait.proofs.ToldLemmas.{told_all}
-use Rattle.lilo_run.proofs.RunLemmas.{usage_is, usage_does}
+use Rattle.lilo_run.proofs.RunLemmas.{usage_is, usage_runs}
 use Rattle.lilo_run.proofs.run.run_words.Goals as goal
 
 pub returns-in-Err-clause-usage_line : goal.returns-in-Err-clause-usage_line
@@ -14,5 +11,5 @@ returns-in-Err-clause-usage_line g c =
 pub returns-in-Err-clause-does : goal.returns-in-Err-clause-does
 returns-in-Err-clause-does g c =
     told_all (g.D.Disks.past c.args.bios.now.disks.now) _
-    (λ now. usage_does now _ _ c.args.words.now (wrong_view c.in-Err.wrong) _ _ _ c.in-Err.ensures.wrong
+    (λ now. usage_runs now _ _ c.args.words.now (wrong_view c.in-Err.wrong) _ _ _ c.in-Err.ensures.wrong
     (rw (usage_is c.args.words.now (wrong_view c.in-Err.wrong) c.in-Err.ensures.wrong, ← c.word.ensures) c.say_usage.ensures.shown))

@@ -1,4 +1,3 @@
-use Rattle.std.proofs.Common.{subst}
 use Rattle.std.specs.Prelude.{◌++◌, codes}
 use Rattle.stream_trait.proofs.ShowsLemmas.{shows_join}
 use Rattle.lilo_run.proofs.run.say_usage.Goals as goal

@@ -4,7 +4,7 @@ use Rattle.bios_model.specs.Memory.{memory_of}
 use Rattle.stream_trait.specs.Shows.{state_of}
 use Rattle.disk_trait.proofs.ToldLemmas.{told_map}
 use Rattle.lilo_model.specs.Boot.{whole_boot}
-use Rattle.loader_core.specs.Today.{boot_today}
+use Rattle.loader_core.specs.Today.{boot_today, standing_line}
 use Rattle.loader_core.specs.Start.{span_view}
 use Rattle.loader_core.proofs.BootLemmas.{boots_so}
 use Rattle.loader_core.proofs.TodayLemmas.{today_law}
@@ -17,6 +17,6 @@ returns-clause-boot g c =
     let size = length c.args.ram.now in
     told_map (g.D.Disks.past c.args.bios.now.disks.now) _ _
     (λ now report keys built.
-    boots_so c.outcome_of.result (boot_today now machine span size) (whole_boot now machine span keys size) keys (memory_of c.args.ram.now) c.boot_by.new.ram
+    boots_so c.outcome_of.result (boot_today now machine span size) (whole_boot now machine span keys size) (standing_line now machine span) keys (memory_of c.args.ram.now) c.boot_by.new.ram
     (state_of (g.O.Sink.taken c.args.out.now.out.now) (g.O.Sink.faults c.args.out.now.out.now) c.args.out.now.failed) (state_of (g.O.Sink.taken c.boot_by.new.out.out.now) (g.O.Sink.faults c.boot_by.new.out.out.now) c.boot_by.new.out.failed) (today_law now machine span keys size built) (rw c.outcome_of.ensures.end report))
     c.boot_by.ensures.report

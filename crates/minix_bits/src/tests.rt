@@ -1,0 +1,279 @@
+use crate::{
+    BitFault, NumberSet, clear_inode, clear_zone, find_free, find_inode, mark_inode, mark_zone,
+};
+use disk_trait::{Disks, Failing, Geometry, MemDisk, MemDisks, Span};
+use minix_zones::{Volume, ZoneFault};
+use sector_parts::{Sector, put_u16, put_u32};
+use std::alloc::{AllocError, Global};
+use std::process::Abort;
+use std::test::Fail;
+
+// A volume behind 8 other sectors: 16 inodes, the first data zone 5, one block for each bitmap. So the inodes'
+// bits stand in sectors 4 and 5 of the volume, and those of the zones in sectors 6 and 7.
+fn disks_with(
+    alloc: Global,
+    zones: u32,
+    marks: &[(u32, Sector)],
+    failing: &[Failing],
+) -> Result<MemDisks, AllocError> {
+    let Ok(geometry) = Geometry::new(16, 63) else {
+        return Err(AllocError);
+    };
+    if zones > 5000 {
+        return Err(AllocError);
+    }
+    let disk = MemDisk {
+        sectors: 8 + 2 * zones,
+        geometry,
+    };
+    let mut disks = MemDisks::new(alloc, &[disk], 4, failing)?;
+    put(&mut disks, 2, &superblock(zones));
+    for (sector, bytes) in marks {
+        put(&mut disks, *sector, bytes);
+    }
+    Ok(disks)
+}
+
+fn superblock(zones: u32) -> Sector {
+    let mut sector: Sector = [0; 512];
+    put_u16(&mut sector, 0, 16);
+    put_u16(&mut sector, 4, 1);
+    put_u16(&mut sector, 6, 1);
+    put_u16(&mut sector, 8, 5);
+    put_u16(&mut sector, 16, 0x2478);
+    put_u32(&mut sector, 20, zones);
+    sector
+}
+
+// Sets a sector of the volume.
+fn put(disks: &mut MemDisks, sector: u32, bytes: &Sector) {
+    let free = disks.events() == 0;
+    if free && sector < 80 && disks.size(0) > u64::from(8 + sector) {
+        disks.set(0, 8 + sector, bytes);
+    }
+}
+
+fn attach<'d>(
+    rt: &impl Abort,
+    disks: &'d mut MemDisks,
+    count: u64,
+) -> Result<Volume<'d, MemDisks>, ZoneFault> {
+    assert!(rt; 4 <= count && count < 20_000 && disks.size(0) == 8 + count);
+    let span = Span {
+        disk: 0,
+        start: 8,
+        count,
+    };
+    match Volume::attach(disks, span) {
+        Ok(volume) => Ok(volume),
+        Err((_, fault)) => Err(fault),
+    }
+}
+
+// Five bytes, and zeros behind them.
+fn bytes(first: [u8; 5]) -> Sector {
+    let mut sector: Sector = [0; 512];
+    for (i, byte) in first.iter().enumerate() {
+        sector[i] = *byte;
+    }
+    sector
+}
+
+fn set_with(
+    rt: &impl Abort,
+    alloc: Global,
+    below: u32,
+    numbers: &[u32],
+) -> Result<NumberSet, AllocError> {
+    let mut set = NumberSet::new(alloc, below)?;
+    for n in numbers {
+        assert!(rt; *n < set.below());
+        set.add(*n);
+    }
+    Ok(set)
+}
+
+#[derive(Debug, Drop, PartialEq)]
+enum Found {
+    Zones(Vec<u32>),
+    Fault(BitFault),
+}
+
+// What `find_free` answers on a volume of 40 zones.
+fn free_zones(
+    rt: &impl Abort,
+    alloc: Global,
+    map: Sector,
+    need: u32,
+    avoid: &[u32],
+) -> Result<Found, Fail> {
+    let mut disks = disks_with(alloc, 40, &[(6, map)], &[])?;
+    let mut volume = attach(rt, &mut disks, 80)?;
+    let avoid = set_with(rt, alloc, 40, avoid)?;
+    assert!(rt; volume.layout().zones == 40 && avoid.below() == 40);
+    match find_free(alloc, &mut volume, need, &avoid) {
+        Ok(list) => Ok(Found::Zones(Vec::from_slice(alloc, list.items())?)),
+        Err(fault) => Ok(Found::Fault(fault)),
+    }
+}
+
+// Zones 5, 6 and 8 are marked, and 12 to 19.
+#[test]
+fn lowest_free_zones(rt: HostRuntime) -> Result<(), Fail> {
+    let map = bytes([0b0001_0111, 0xFF, 0, 0, 0]);
+    let alloc = rt.alloc();
+    assert_eq!(rt;
+        free_zones(&rt, alloc, map, 3, &[7, 10])?,
+        Found::Zones(vec![in alloc; 9, 11, 20]?)
+    );
+    assert_eq!(rt;
+        free_zones(&rt, alloc, map, 0, &[])?,
+        Found::Zones(Vec::new(alloc))
+    );
+    Ok(())
+}
+
+// Zones 37 and 39 alone are free; no bit behind that of zone 39 counts.
+#[test]
+fn too_few_free_zones(rt: HostRuntime) -> Result<(), Fail> {
+    let map = bytes([0xFF, 0xFF, 0xFF, 0xFF, 0b0000_0101]);
+    let alloc = rt.alloc();
+    let short = Found::Fault(BitFault::NoSpace { need: 3, found: 2 });
+    assert_eq!(rt; free_zones(&rt, alloc, map, 3, &[])?, short);
+    assert_eq!(rt;
+        free_zones(&rt, alloc, map, 2, &[])?,
+        Found::Zones(vec![in alloc; 37, 39]?)
+    );
+    let none = Found::Fault(BitFault::NoSpace { need: 1, found: 0 });
+    assert_eq!(rt; free_zones(&rt, alloc, map, 1, &[39, 37])?, none);
+    Ok(())
+}
+
+// What `find_inode` answers.
+fn inode(
+    rt: &impl Abort,
+    alloc: Global,
+    map: Sector,
+    avoid: &[u32],
+) -> Result<Result<Option<u32>, BitFault>, Fail> {
+    let mut disks = disks_with(alloc, 40, &[(4, map)], &[])?;
+    let mut volume = attach(rt, &mut disks, 80)?;
+    let avoid = set_with(rt, alloc, 17, avoid)?;
+    assert!(rt; volume.layout().inodes == 16 && avoid.below() == 17);
+    Ok(find_inode(&mut volume, &avoid))
+}
+
+#[test]
+fn lowest_free_inode(rt: HostRuntime) -> Result<(), Fail> {
+    let alloc = rt.alloc();
+    let full = bytes([0xFE, 0xFF, 1, 0, 0]);
+    let last = bytes([0xFE, 0xBF, 0, 0, 0]);
+    assert_eq!(rt; inode(&rt, alloc, full, &[])?, Ok(None));
+    assert_eq!(rt; inode(&rt, alloc, last, &[])?, Ok(Some(14)));
+    assert_eq!(rt; inode(&rt, alloc, last, &[14])?, Ok(Some(16)));
+    assert_eq!(rt; inode(&rt, alloc, last, &[14, 16])?, Ok(None));
+    assert_eq!(rt; inode(&rt, alloc, [0; 512], &[])?, Ok(Some(1)));
+    Ok(())
+}
+
+fn sector<D: Disks>(
+    rt: &impl Abort,
+    volume: &mut Volume<'_, D>,
+    sector: u64,
+) -> Result<Sector, ZoneFault> {
+    assert!(rt; sector < volume.span().count);
+    let mut bytes: Sector = [0; 512];
+    volume.read_sector(sector, &mut bytes)?;
+    Ok(bytes)
+}
+
+// Zone 12 has bit 8 and zone 13 bit 9; inodes 3 and 5 have bits 3 and 5.
+#[test]
+fn mark_leaves_its_neighbours(rt: HostRuntime) -> Result<(), Fail> {
+    let map = bytes([0xA5, 0x5A, 0xC3, 0, 0]);
+    let mut disks = disks_with(rt.alloc(), 40, &[(4, map), (6, map)], &[])?;
+    let mut volume = attach(&rt, &mut disks, 80)?;
+    let layout = *volume.layout();
+    assert!(rt; layout.first == 5 && layout.zones == 40 && layout.inodes == 16);
+    assert_eq!(rt; mark_zone(&mut volume, 12), Ok(()));
+    assert!(rt; sector(&rt, &mut volume, 6)? == bytes([0xA5, 0x5B, 0xC3, 0, 0]));
+    assert!(rt; *volume.layout() == layout);
+    Ok(())
+}
+
+// Zone 13 has bit 9, which is set, and inode 5 bit 5.
+#[test]
+fn cleared_mark_leaves_its_neighbours(rt: HostRuntime) -> Result<(), Fail> {
+    let map = bytes([0xA5, 0x5A, 0xC3, 0, 0]);
+    let mut disks = disks_with(rt.alloc(), 40, &[(4, map), (6, map)], &[])?;
+    let mut volume = attach(&rt, &mut disks, 80)?;
+    assert!(rt; volume.layout().first == 5 && volume.layout().zones == 40);
+    assert_eq!(rt; clear_zone(&mut volume, 13), Ok(()));
+    assert!(rt; volume.layout().inodes == 16);
+    assert_eq!(rt; clear_inode(&mut volume, 5), Ok(()));
+    assert!(rt; sector(&rt, &mut volume, 6)? == bytes([0xA5, 0x58, 0xC3, 0, 0]));
+    assert!(rt; sector(&rt, &mut volume, 4)? == bytes([0x85, 0x5A, 0xC3, 0, 0]));
+    Ok(())
+}
+
+// Inode 3 has bit 3; it is marked twice. Zone 39 has bit 35, which isn't set.
+#[test]
+fn mark_that_stands_stays(rt: HostRuntime) -> Result<(), Fail> {
+    let map = bytes([0xA5, 0x5A, 0xC3, 0, 0]);
+    let mut disks = disks_with(rt.alloc(), 40, &[(4, map), (6, map)], &[])?;
+    let mut volume = attach(&rt, &mut disks, 80)?;
+    assert!(rt; volume.layout().inodes == 16);
+    assert_eq!(rt; mark_inode(&mut volume, 3), Ok(()));
+    assert!(rt; volume.layout().inodes == 16);
+    assert_eq!(rt; mark_inode(&mut volume, 3), Ok(()));
+    assert!(rt; volume.layout().first == 5 && volume.layout().zones == 40);
+    assert_eq!(rt; clear_zone(&mut volume, 39), Ok(()));
+    assert!(rt; sector(&rt, &mut volume, 4)? == bytes([0xAD, 0x5A, 0xC3, 0, 0]));
+    assert!(rt; sector(&rt, &mut volume, 6)? == map);
+    Ok(())
+}
+
+// The first sector of the zone bitmap is full: bit 4096, the first of the next one, is zone 4100.
+#[test]
+fn second_sector_of_a_bitmap(rt: HostRuntime) -> Result<(), Fail> {
+    let alloc = rt.alloc();
+    let mut disks = disks_with(alloc, 4200, &[(6, [0xFF; 512])], &[])?;
+    let mut volume = attach(&rt, &mut disks, 8400)?;
+    let avoid = set_with(&rt, alloc, 4200, &[4101])?;
+    assert!(rt; volume.layout().zones == 4200 && avoid.below() == 4200);
+    let list = find_free(alloc, &mut volume, 2, &avoid)?;
+    assert!(rt; list.items() == [4100, 4102].as_slice());
+    assert!(rt; volume.layout().first == 5 && volume.layout().zones == 4200);
+    assert_eq!(rt; mark_zone(&mut volume, 4100), Ok(()));
+    assert!(rt; sector(&rt, &mut volume, 6)? == [0xFF; 512]);
+    assert!(rt; sector(&rt, &mut volume, 7)? == bytes([1, 0, 0, 0, 0]));
+    Ok(())
+}
+
+// A volume's first call is the read of its superblock, so call 1 is the first of a bitmap.
+#[test]
+fn failed_calls(rt: HostRuntime) -> Result<(), Fail> {
+    let failing = [1, 2, 3, 5].map(|call| Failing { call, made: false });
+    let mut disks = disks_with(rt.alloc(), 40, &[], &failing)?;
+    let mut volume = attach(&rt, &mut disks, 80)?;
+    let avoid = NumberSet::new(rt.alloc(), 40)?;
+    assert!(rt; volume.layout().zones == 40 && avoid.below() == 40);
+    assert!(rt; find_free(rt.alloc(), &mut volume, 1, &avoid).is_err());
+    assert!(rt; volume.layout().inodes == 16);
+    assert_eq!(rt; find_inode(&mut volume, &avoid), Err(BitFault::Device));
+    assert!(rt; volume.layout().inodes == 16);
+    assert_eq!(rt; mark_inode(&mut volume, 7), Err(BitFault::Device));
+    assert!(rt; volume.layout().inodes == 16);
+    assert_eq!(rt; mark_inode(&mut volume, 7), Err(BitFault::Device));
+    assert!(rt; sector(&rt, &mut volume, 4)? == [0; 512]);
+    Ok(())
+}
+
+#[test]
+fn numbers_of_a_set(rt: HostRuntime) -> Result<(), Fail> {
+    let set = set_with(&rt, rt.alloc(), 20, &[19, 0, 7, 7])?;
+    assert!(rt; set.below() == 20);
+    assert!(rt; set.has(0) && set.has(7) && set.has(19));
+    assert!(rt; !set.has(1) && !set.has(6) && !set.has(8) && !set.has(18));
+    Ok(())
+}

@@ -1,0 +1,3 @@
+pub mod Survey
+pub mod Count
+pub mod Laws

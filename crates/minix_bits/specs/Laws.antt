@@ -12,7 +12,8 @@ pub record OneBit (old new : List ℕ) (at : ℕ) (value : Bool) : Type 0 where
   pub length_same : length new ≡ length old
 
 abbrev pub OneBitLaw : Type 0
-OneBitLaw = (bytes : List ℕ) (at : ℕ) (value : Bool) → at < 8 * length bytes → OneBit bytes (with_bit bytes at value) at value
+OneBitLaw =
+    (bytes : List ℕ) (at : ℕ) (value : Bool) → at < 8 * length bytes → OneBit bytes (with_bit bytes at value) at value
 
 -- an image with one bit of a sector of a volume set or cleared
 abbrev pub with_mark : Volume → Image → ℕ → ℕ → Bool → Image
@@ -22,7 +23,9 @@ with_mark volume image sector at value =
 -- of the parts of a volume one zone's mark alone is another
 pub record OneZoneMark (volume : Volume) (old new : Parts) (zone : ℕ) (value : Bool) : Type 0 where
   pub here : new.has_zone zone ≡ value
-  pub other_zones : (other : ℕ) → volume.layout.first ≤ other → other < volume.layout.zones → other ≢ zone → new.has_zone other ≡ old.has_zone other
+  pub other_zones :
+      (other : ℕ) → volume.layout.first ≤ other → other < volume.layout.zones → other ≢ zone
+      → new.has_zone other ≡ old.has_zone other
   pub inodes : (inode : ℕ) → inode ≤ volume.layout.inodes → new.has_inode inode ≡ old.has_inode inode
   pub nodes : (inode : ℕ) → new.node inode ≡ old.node inode
   pub bytes : (other : ℕ) → volume.layout.first ≤ other → new.zone other ≡ old.zone other
@@ -32,12 +35,18 @@ ZoneMarkLaw =
     (volume : Volume) (image : Image) (zone : ℕ) (value : Bool) → IsSuper volume.layout volume.span.count
     → volume.layout.first ≤ zone → zone < volume.layout.zones
     → length (sector_of volume image (zone_mark_sector volume.layout zone)) ≡ 512
-    → OneZoneMark volume (parts_of volume image) (parts_of volume (with_mark volume image (zone_mark_sector volume.layout zone) (zone_bit volume.layout zone % 4096) value)) zone value
+    → OneZoneMark
+    volume
+    (parts_of volume image)
+    (parts_of volume (with_mark volume image (zone_mark_sector volume.layout zone) (zone_bit volume.layout zone % 4096) value))
+    zone
+    value
 
 -- of the parts of a volume one inode's mark alone is another
 pub record OneInodeMark (volume : Volume) (old new : Parts) (inode : ℕ) (value : Bool) : Type 0 where
   pub here : new.has_inode inode ≡ value
-  pub other_inodes : (other : ℕ) → other ≤ volume.layout.inodes → other ≢ inode → new.has_inode other ≡ old.has_inode other
+  pub other_inodes :
+      (other : ℕ) → other ≤ volume.layout.inodes → other ≢ inode → new.has_inode other ≡ old.has_inode other
   pub zones : (zone : ℕ) → volume.layout.first ≤ zone → new.has_zone zone ≡ old.has_zone zone
   pub nodes : (other : ℕ) → new.node other ≡ old.node other
   pub bytes : (zone : ℕ) → volume.layout.first ≤ zone → new.zone zone ≡ old.zone zone
@@ -47,4 +56,9 @@ InodeMarkLaw =
     (volume : Volume) (image : Image) (inode : ℕ) (value : Bool) → IsSuper volume.layout volume.span.count
     → inode ≤ volume.layout.inodes
     → length (sector_of volume image (inode_mark_sector inode)) ≡ 512
-    → OneInodeMark volume (parts_of volume image) (parts_of volume (with_mark volume image (inode_mark_sector inode) (inode % 4096) value)) inode value
+    → OneInodeMark
+    volume
+    (parts_of volume image)
+    (parts_of volume (with_mark volume image (inode_mark_sector inode) (inode % 4096) value))
+    inode
+    value

@@ -1,5 +1,5 @@
 // Where the bits of zones and inodes stand.
-ghost use Rattle.std.specs.Prelude.{◌≡◌, ◌+◌, ◌-◌, ◌<◌, ◌≤◌, ◌*◌, ◌/◌};
+ghost use Rattle.std.specs.Prelude.{◌≡◌, ◌+◌, ◌<◌, ◌≤◌};
 ghost use Rattle.minix_layout.specs.View.{super_view};
 ghost use Rattle.minix_bits.specs.Bitmap.{IsBitmapIn, base_of, end_of, zone_bitmap, inode_bitmap};
 

@@ -1,12 +1,12 @@
 // The lowest free zones and inodes of a volume.
-ghost use Rattle.std.specs.Prelude.{◌≡◌, ◌+◌, ◌-◌, ◌<◌, ◌≤◌, ◌++◌, All, IfOk, IfErr, IfSome, OnOk, IsErrOf, Ok, Err, length, take};
+ghost use Rattle.std.specs.Prelude.{◌≡◌, ◌-◌, ◌<◌, ◌≤◌, ◌++◌, All, IfOk, IfErr, IfSome, OnOk, length, take};
 ghost use Rattle.disk_trait.specs.Cause.{Rose};
 ghost use Rattle.disk_trait.specs.Past.{Told};
 ghost use Rattle.lilo_model.specs.MinixParts.{parts_of, sector_of};
 ghost use Rattle.minix_layout.specs.View.{super_view};
 ghost use Rattle.minix_zones.specs.View.{IsDataZone};
 ghost use Rattle.minix_zones.specs.Volume.{volume_view, past_of, faults_of, SameVolume};
-ghost use Rattle.minix_bits.specs.Bitmap.{IsBitmapIn, IsNumberOf, base_of, end_of, sector_with};
+ghost use Rattle.minix_bits.specs.Bitmap.{IsBitmapIn, IsNumberOf, end_of, sector_with};
 ghost use Rattle.minix_bits.specs.Free.{is_free_on, free_from, IsLowest, lowest_zones, lowest_inode};
 ghost use Rattle.minix_bits.specs.Find.{Gives, HasBitCause, HasSectorCause};
 
@@ -111,7 +111,8 @@ fn take_in_sector<D: Disks>(
         ++ free_from (is_free_on (volume_view volume.old) now bitmap.now avoid.now.numbers) at
         (end_of bitmap.now at - at)))) }
     ensures few { OnOk result (length found.new.items ≤ need) }
-    ensures inside { All (IsNumberOf bitmap.now) found.old.items → OnOk result (All (IsNumberOf bitmap.now) found.new.items) }
+    ensures inside { All (IsNumberOf bitmap.now) found.old.items
+        → OnOk result (All (IsNumberOf bitmap.now) found.new.items) }
     ensures cause { IfErr result (HasSectorCause (faults_of volume.old) (faults_of volume.new)) }
     ensures later { faults_of volume.old ≤ faults_of volume.new }
     ensures same { SameVolume volume.old volume.new }
@@ -138,7 +139,8 @@ fn first_in_sector<D: Disks>(
     requires below { at < bitmap.now.end }
     requires numbers { bitmap.now.end ≤ avoid.now.below }
     ensures lowest { IfOk result (λ found. Told (past_of volume.old) (λ now.
-        IsLowest (is_free_on (volume_view volume.old) now bitmap.now avoid.now.numbers) at (end_of bitmap.now at) found)) }
+        IsLowest (is_free_on (volume_view volume.old) now bitmap.now avoid.now.numbers) at
+        (end_of bitmap.now at) found)) }
     ensures inside { IfOk result (λ found. IfSome found (λ n. (at ≤ n) × (n < bitmap.now.end))) }
     ensures device { IfErr result (λ fault. (fault ≡ BitFault.Device)
         × Rose (faults_of volume.old) (faults_of volume.new)) }

@@ -1,5 +1,5 @@
 // The marks of zones and inodes.
-ghost use Rattle.std.specs.Prelude.{◌≡◌, ◌≢◌, ◌⊎◌, ◌+◌, ◌-◌, ◌≤◌, ◌<◌, ◌%◌, ℕ, true, false, OnOk, IfErr};
+ghost use Rattle.std.specs.Prelude.{◌≡◌, ◌≢◌, ◌⊎◌, ◌≤◌, ◌<◌, true, false, OnOk, IfErr};
 ghost use Rattle.disk_trait.specs.Cause.{Rose};
 ghost use Rattle.disk_trait.specs.Past.{Told, with_sector};
 ghost use Rattle.disk_trait.specs.Moments.{IsTold, now, begun, MayLeave, LeftOrWritten, MayWrite, LeavesOnly, IsWhole, StaysWhole};
@@ -117,8 +117,8 @@ fn put_mark<D: Disks>(
     ensures begun { begun (past_of volume.new) ≡ begun (past_of volume.old) }
 
     // What a stop may leave after the call, and at any moment of it.
-    ensures left { MayWrite volume.old.span.disk (sector_on_disk volume.old sector) (remarked volume.old sector at value)
-        (past_of volume.old) (past_of volume.new) }
+    ensures left { MayWrite volume.old.span.disk (sector_on_disk volume.old sector)
+        (remarked volume.old sector at value) (past_of volume.old) (past_of volume.new) }
     ensures any_moment { LeavesOnly (past_of volume.old) (past_of volume.new)
         (LeftOrWritten (past_of volume.old) volume.old.span.disk (sector_on_disk volume.old sector)
         (remarked volume.old sector at value)) }

@@ -1,0 +1,9 @@
+//! Steps on a sound Minix volume, versions 1 and 2, of which a writer is made.
+//!
+//! A step touches nothing that had a name at the last flush. So whatever a stop leaves, at any moment of it,
+//! the volume is sound, with the same Names as then. No step but `settle` flushes.
+#![tactic(auto)]
+
+mod write;
+
+pub use write::write_beside;

@@ -1,2 +1,6 @@
+pub mod HarmlessLemmas
+pub mod InodeLemmas
+pub mod MarkSteps
 pub mod RegionLemmas
 pub mod StepLemmas
+pub mod ZoneLemmas

@@ -3,7 +3,9 @@ use Rattle.std.proofs.Common.{◌≡◌, ◌≢◌, ◌≤◌, ◌<◌, ◌+◌,
 use Rattle.std.proofs.lemmas.Bool.Decides.{nat_tests}
 use Rattle.lilo_model.specs.Checks.{◌>>=◌, require}
 use Rattle.lilo_model.specs.MinixLayout.{Super, IsSuper, LayoutFault, BadSize, Inodes, Zones, InodeMap, ZoneMap, FirstZone, super_checks, table_start, table_blocks, inode_place}
-use Rattle.minix_beside.proofs.Laid.{Laid, place-from, place-below}
+use Rattle.lilo_model.specs.MinixParts.{inode_mark_sector, zone_mark_sector}
+use Rattle.minix_beside.specs.Beside.{IsOfBitmaps}
+use Rattle.minix_beside.proofs.Laid.{Laid, mark-below, zone_mark-from, zone_mark-below, place-from, place-below}
 use Rattle.minix_bits.proofs.BitmapLemmas.{fits}
 
 passed : {F : Type 0} (test : Bool) (fault : F) (rest : Result (Unit {0}) F) → (require test fault >>= λ a. rest) ≡ Ok tt → rest ≡ Ok tt
@@ -47,3 +49,16 @@ module _ (super : Super) (sectors : ℕ) (is : IsSuper super sectors) where
   place_from number =
       let low = place-from super lies number in
       omega (arith, low)
+
+  pub mark_in : (number : ℕ) → number ≤ super.inodes → IsOfBitmaps super (inode_mark_sector number)
+  mark_in number there = let low = mark-below super lies number there in (omega arith, omega (arith, low))
+
+  pub zone_mark_in : (zone : ℕ) → zone < super.zones → IsOfBitmaps super (zone_mark_sector super zone)
+  zone_mark_in zone below = let from = zone_mark-from super lies zone in (omega (arith, from), zone_mark-below super lies zone below)
+
+  pub bitmap_there : (sector : ℕ) → IsOfBitmaps super sector → sector < 2 * super.zones
+  bitmap_there sector range = omega (arith, range.1, lies.table, lies.first)
+
+  -- data zones stand behind block 1
+  pub zone_behind : 2 ≤ super.first
+  zone_behind = omega (arith, lies.table)

@@ -1,20 +1,23 @@
 -- What a step leaves, and how steps go on.
-use Rattle.std.proofs.Common.{◌≡◌, ◌⊎◌, ◌↔◌, ◌<◌, ◌≤◌, ◌+◌, ◌*◌, ℕ, List, Option, Some, None, refl, sym, ◌∙◌, ap, subst, inl, inr, ⊎_elim, arith}
+use Rattle.std.proofs.Common.{◌≡◌, ◌⊎◌, ◌↔◌, ◌<◌, ◌≤◌, ◌+◌, ◌*◌, ℕ, List, Option, Some, None, Result, Ok, Err, OnOk, OnErr, refl, sym, ◌∙◌, ap, subst, inl, inr, ⊎_elim, arith}
 use Rattle.std.proofs.Math.Path.{subst₂}
 use Rattle.disk_trait.specs.declared.disks.Disks.{Ghosts}
 use Rattle.disk_trait.specs.Past.{Image, Past, with_sector}
 use Rattle.disk_trait.specs.Moments.{IsTold, now, begun, MayLeave, LeftSince, LeftOrWritten, MayWrite, LeavesOnly, IsWhole, StaysWhole, IsQuiet, IsWholeImage}
-use Rattle.disk_trait.proofs.MomentLemmas.{at_now, leaves_weaker, leaves_join}
+use Rattle.disk_trait.proofs.MomentLemmas.{at_now, leaves_none, leaves_same, leaves_weaker, leaves_join, ok_or_err, whole_same}
 use Rattle.lilo_model.specs.MinixParts as model
 use Rattle.lilo_model.specs.MinixNames.{IsSound}
-use Rattle.minix_beside.specs.Beside.{Harmless, Beside, SoundAsIn, RefersIn, NamedIn, IsUnused}
+use Rattle.minix_beside.specs.Beside.{Harmless, Beside, SoundAsIn, IsUnused, IsUnnamed}
 use Rattle.minix_beside.proofs.Beside.{beside_law, named_law, same_law, join_law, write_law}
 use Rattle.minix_layout.specs.View.{super_view}
 use Rattle.minix_layout.specs.declared.superblock.Super.{Super}
 use Rattle.disk_trait.specs.declared.disks.Span.{Span}
 use Rattle.minix_zones.specs.View.{span_view}
-use Rattle.minix_zones.specs.Volume.{volume_view, past_of, faults_of, sizes_of, count_of, geometries_of, KeepsVolume}
+use Rattle.minix_zones.specs.Volume.{volume_view, past_of, faults_of, sizes_of, count_of, geometries_of, KeepsVolume, SameVolume}
 use Rattle.minix_zones.specs.declared.volume.Volume.{Volume}
+use Rattle.minix_zones.specs.declared.zone_fault.ZoneFault.{ZoneFault}
+use Rattle.minix_bits.specs.declared.bit_fault.BitFault.{BitFault}
+use Rattle.minix_bits.specs.Mark.{Writes}
 use Rattle.minix_steps.specs.Steps.{Within, IsReady, IsUnusedZone, IsUnnamedInode, Steps}
 
 -- ---- where an image is left, the past is told
@@ -128,3 +131,145 @@ module _ {D : Type 0} {disks : Ghosts D} (old new : Volume D disks) (sector : �
       (λ c may.
       let P : Image → Type 0 = λ image. Beside (volume_view old) image c in
       subst P (sym begun_same) (beside_left c (left c may)))
+
+-- a call of minix_bits that writes harmless bytes is a step
+pub marks_step : {D : Type 0} {disks : Ghosts D} (old new : Volume D disks) (sector : ℕ) (bytes : List ℕ) (result : Result (Unit {0}) BitFault)
+    → IsReady old → sector < 2 * old.layout.zones
+    → (IsTold (past_of old) → Harmless (volume_view old) (begun (past_of old)) sector bytes)
+    → Writes old new (old.span.start + sector) bytes result → Steps old new
+marks_step old new sector bytes result ready inside harmless w =
+    write_step old new sector bytes ready inside harmless w.told w.begun w.left w.any_moment w.whole w.later w.size w.count w.geometry w.kept
+
+-- no call was made
+pub no_step : {D : Type 0} {disks : Ghosts D} (old new : Volume D disks) → IsReady old → SameVolume old new → faults_of old ≤ faults_of new → Steps old new
+no_step old new ready same later =
+    let past : past_of new ≡ past_of old = same.same_disks.same_past in
+    let B : Image → Type 0 = Beside (volume_view old) (begun (past_of old)) in
+    made_step old new ready
+    (let P : Option Past → Type 0 = λ p. IsTold p ↔ IsTold (past_of old) in subst P (sym past) (λ is. is, λ is. is))
+    (let P : Option Past → Type 0 = λ p. LeavesOnly (past_of old) p B in subst P (sym past) (leaves_none (past_of old) B ready.within))
+    (λ is. let P : Option Past → Type 0 = λ p. Beside (volume_view old) (begun (past_of old)) (begun p) in
+    subst P (sym past) (same_law (volume_view old) (begun (past_of old)) (ready.sound is)))
+    (let P : Option Past → Type 0 = λ p. (c : Image) → MayLeave p c → Beside (volume_view old) (begun p) c in subst P (sym past) ready.within)
+    (λ whole. let P : Option Past → Type 0 = λ p. StaysWhole (sizes_of old) (past_of old) p in
+    subst P (sym past) (whole_same (sizes_of old) (past_of old) (past_of old) (λ c left. left) (leaves_same (past_of old)) whole))
+    later
+    same.same_disks.same_size same.same_disks.same_count same.same_disks.same_geometry
+    (record { same_span = same.same_span; same_layout = same.same_layout; same_reference = same.same_reference })
+
+-- ---- what disks hold now is beside what they held at the last flush
+
+pub now_beside : {D : Type 0} {disks : Ghosts D} (volume : Volume D disks) → IsReady volume → IsTold (past_of volume)
+    → Beside (volume_view volume) (begun (past_of volume)) (now (past_of volume))
+now_beside volume ready told = ready.within (now (past_of volume)) (at_now (past_of volume) told)
+
+-- a flush is a step
+module _ {D : Type 0} {disks : Ghosts D} (old new : Volume D disks) (result : Result (Unit {0}) ZoneFault) (ready : IsReady old)
+    (told : IsTold (past_of old) → IsTold (past_of new))
+    (left : (c : Image) → MayLeave (past_of new) c → MayLeave (past_of old) c)
+    (run : LeavesOnly (past_of old) (past_of new) (MayLeave (past_of old)))
+    (now_kept : now (past_of new) ≡ now (past_of old))
+    (failed : OnErr result (past_of new ≡ past_of old))
+    (begun_now : OnOk result (begun (past_of new) ≡ now (past_of old)))
+    (quiet : OnOk result (IsQuiet (past_of new))) where
+  flushed_before : IsTold (past_of new) → IsTold (past_of old)
+  flushed_before is = left_told (past_of old) (now (past_of new)) (left (now (past_of new)) (at_now (past_of new) is))
+
+  -- what is held at the last flush is what the disks hold, or what was held before
+  begun_by : (begun (past_of new) ≡ now (past_of old)) ⊎ (past_of new ≡ past_of old) → IsTold (past_of old) → Beside (volume_view old) (begun (past_of old)) (begun (past_of new))
+  begun_by (inl is) before =
+      let P : Image → Type 0 = Beside (volume_view old) (begun (past_of old)) in
+      subst P (sym is) (now_beside old ready before)
+  begun_by (inr same) before =
+      let P : Option Past → Type 0 = λ p. Beside (volume_view old) (begun (past_of old)) (begun p) in
+      subst P (sym same) (same_law (volume_view old) (begun (past_of old)) (ready.sound before))
+
+  flushed_begun : IsTold (past_of old) → Beside (volume_view old) (begun (past_of old)) (begun (past_of new))
+  flushed_begun = begun_by (ok_or_err result (begun (past_of new) ≡ now (past_of old)) (past_of new ≡ past_of old) begun_now failed)
+
+  after_by : (begun (past_of new) ≡ now (past_of old)) ⊎ (past_of new ≡ past_of old) → IsQuiet (past_of new) ⊎ (past_of new ≡ past_of old)
+      → (c : Image) → MayLeave (past_of new) c → Beside (volume_view old) (begun (past_of new)) c
+  after_by (inr same) calm c may =
+      let P : Option Past → Type 0 = λ p. MayLeave p c → Beside (volume_view old) (begun p) c in
+      subst P (sym same) (ready.within c) may
+  after_by (inl is) (inr same) c may =
+      let P : Option Past → Type 0 = λ p. MayLeave p c → Beside (volume_view old) (begun p) c in
+      subst P (sym same) (ready.within c) may
+  after_by (inl is) (inl calm) c may =
+      let before : IsTold (past_of old) = left_told (past_of old) c (left c may) in
+      let held : c ≡ begun (past_of new) = calm c may ∙ (now_kept ∙ sym is) in
+      let P : Image → Type 0 = Beside (volume_view old) (begun (past_of new)) in
+      subst P (sym held) (same_law (volume_view old) (begun (past_of new))
+      (beside_law (volume_view old) (begun (past_of old)) (begun (past_of new)) (ready.sound before) (flushed_begun before)).sound)
+
+  pub flush_step : (IsWhole (sizes_of old) (past_of old) → StaysWhole (sizes_of old) (past_of old) (past_of new))
+      → faults_of old ≤ faults_of new → sizes_of new ≡ sizes_of old → count_of new ≡ count_of old
+      → geometries_of new ≡ geometries_of old → KeepsVolume old new → Steps old new
+  flush_step = made_step old new ready (flushed_before, told)
+      (leaves_weaker (past_of old) (past_of new) (MayLeave (past_of old)) (Beside (volume_view old) (begun (past_of old))) run ready.within)
+      flushed_begun
+      (after_by (ok_or_err result (begun (past_of new) ≡ now (past_of old)) (past_of new ≡ past_of old) begun_now failed)
+      (ok_or_err result (IsQuiet (past_of new)) (past_of new ≡ past_of old) quiet failed))
+
+  pub flush_sound : IsTold (past_of old) → SoundAsIn (volume_view old) (begun (past_of old)) (now (past_of new))
+  flush_sound before =
+      let P : Image → Type 0 = SoundAsIn (volume_view old) (begun (past_of old)) in
+      subst P (sym now_kept) (beside_law (volume_view old) (begun (past_of old)) (now (past_of old)) (ready.sound before) (now_beside old ready before))
+
+-- ---- steps in a row
+
+module _ {D : Type 0} {disks : Ghosts D} (old new : Volume D disks) (ready : IsReady old) (steps : Steps old new) where
+  -- what was beside the later flush was beside the earlier one
+  pub beside_before : IsTold (past_of old) → (c : Image) → Beside (volume_view new) (begun (past_of new)) c → Beside (volume_view old) (begun (past_of old)) c
+  beside_before told c beside =
+      let P : model.Volume → Type 0 = λ view. Beside view (begun (past_of new)) c in
+      join_law (volume_view old) (begun (past_of old)) (begun (past_of new)) c (ready.sound told) (steps.begun told) (subst P (same_view old new steps.kept) beside)
+
+  pub still_unused : (zone : ℕ) → IsUnusedZone old zone → IsUnusedZone new zone
+  still_unused zone unused = record {
+    unused = λ is.
+        let told : IsTold (past_of old) = steps.told.0 is in
+        let named = named_law (volume_view old) (begun (past_of old)) (begun (past_of new)) (ready.sound told) (steps.begun told) in
+        let P : model.Volume → Type 0 = λ view. IsUnused view (begun (past_of new)) zone in
+        subst P (sym (same_view old new steps.kept)) (λ number at refers. unused.unused told number at ((named.refers number at zone).0 refers));
+  }
+
+  pub still_unnamed : (number : ℕ) → IsUnnamedInode old number → IsUnnamedInode new number
+  still_unnamed number unnamed = record {
+    unnamed = λ is.
+        let told : IsTold (past_of old) = steps.told.0 is in
+        let kept = named_law (volume_view old) (begun (past_of old)) (begun (past_of new)) (ready.sound told) (steps.begun told) in
+        let P : model.Volume → Type 0 = λ view. IsUnnamed view (begun (past_of new)) number in
+        subst P (sym (same_view old new steps.kept)) (λ named. unnamed.unnamed told ((kept.named number).0 named));
+  }
+
+whole_join : {D : Type 0} {disks : Ghosts D} (old mid new : Volume D disks) → Steps old mid → Steps mid new
+    → IsWhole (sizes_of old) (past_of old) → StaysWhole (sizes_of old) (past_of old) (past_of new)
+whole_join old mid new first next whole =
+    let one : StaysWhole (sizes_of old) (past_of old) (past_of mid) = first.whole whole in
+    let P : (ℕ → ℕ) → Type 0 = λ size_of. IsWhole size_of (past_of mid) → StaysWhole size_of (past_of mid) (past_of new) in
+    let two : StaysWhole (sizes_of old) (past_of mid) (past_of new) = subst P first.size next.whole one.after in
+    record { after = two.after; any_moment = leaves_join (past_of old) (past_of mid) (past_of new) (IsWholeImage (sizes_of old)) one.any_moment two.any_moment }
+
+pub steps_join : {D : Type 0} {disks : Ghosts D} (old mid new : Volume D disks) → IsReady old → Steps old mid → Steps mid new → Steps old new
+steps_join old mid new ready first next =
+    let B : Image → Type 0 = Beside (volume_view old) (begun (past_of old)) in
+    let M : Image → Type 0 = Beside (volume_view mid) (begun (past_of mid)) in
+    let view : volume_view mid ≡ volume_view old = same_view old mid first.kept in
+    made_step old new ready
+    (λ is. first.told.0 (next.told.0 is), λ is. next.told.1 (first.told.1 is))
+    (leaves_join (past_of old) (past_of mid) (past_of new) B first.any_moment
+    (leaves_told (past_of mid) (past_of new) M B next.any_moment (λ is. beside_before old mid ready first (first.told.0 (next.told.0 is)))))
+    (λ told. beside_before old mid ready first told (begun (past_of new)) (next.begun (first.told.1 told)))
+    (λ c may.
+    let P : model.Volume → Type 0 = λ v. Beside v (begun (past_of new)) c in
+    subst P (same_view mid new next.kept ∙ view) (next.ready.within c may))
+    (whole_join old mid new first next)
+    (omega (arith, first.later, next.later))
+    (next.size ∙ first.size) (next.count ∙ first.count) (next.geometry ∙ first.geometry)
+    (keeps_join old mid new first.kept next.kept)
+
+-- what holds holds after Ok
+pub on_ok_told : {T E : Type 0} (result : Result T E) (P : Type 0) → P → OnOk result P
+on_ok_told (Ok value) P holds = holds
+on_ok_told (Err fault) P holds = tt

@@ -4,7 +4,11 @@ use Rattle.disk_trait.specs.declared.disks.Disks.{Ghosts}
 use Rattle.disk_trait.specs.Cause.{Rose}
 use Rattle.disk_trait.specs.Moments.{IsTold, now, begun}
 use Rattle.disk_trait.specs.Past.{Image, with_sector}
+use Rattle.lilo_model.specs.Bytes.{part_of, with_part}
+use Rattle.lilo_model.specs.MinixLayout.{Inode, inode_bytes, inode_place, zone_sector}
 use Rattle.lilo_model.specs.MinixParts as model
+use Rattle.lilo_model.specs.MinixParts.{sector_of}
+use Rattle.minix_layout.specs.View.{kind_view}
 use Rattle.minix_zones.specs.Volume.{volume_view, past_of, faults_of}
 use Rattle.minix_zones.specs.declared.volume.Volume.{Volume}
 use Rattle.minix_zones.specs.declared.zone_fault.ZoneFault.{ZoneFault}
@@ -25,3 +29,18 @@ pub record WritesOne {D : Type 0} {disks : Ghosts D} (old new : Volume D disks) 
   pub made : IsTold (past_of old) → (now (past_of new) ≡ with_sector_of (volume_view old) (now (past_of old)) sector bytes) ⊎ (now (past_of new) ≡ now (past_of old))
   pub begun : begun (past_of new) ≡ begun (past_of old)
   pub device : HasStepCause old new result
+
+-- an image with other bytes in a zone of a volume
+abbrev pub with_zone : model.Volume → Image → ℕ → List ℕ → Image
+with_zone volume image zone bytes =
+    with_sector_of volume (with_sector_of volume image (zone_sector zone) (part_of bytes 0 512)) (zone_sector zone + 1) (part_of bytes 512 512)
+
+-- the bytes of the sector with an inode, with other bytes in place of that inode
+abbrev pub with_inode : model.Volume → Image → ℕ → List ℕ → List ℕ
+with_inode volume image number part =
+    with_part (sector_of volume image (inode_place volume.layout number).sector) (inode_place volume.layout number).at part
+
+-- the bytes of the sector with an inode now, with the bytes of another inode in its place
+abbrev pub inode_rewritten : {D : Type 0} {disks : Ghosts D} → Volume D disks → ℕ → Inode → List ℕ
+inode_rewritten volume number inode =
+    with_inode (volume_view volume) (now (past_of volume)) number (inode_bytes (kind_view volume.layout.kind) inode)

@@ -4,6 +4,14 @@
 //! the volume is sound, with the same Names as then. No step but `settle` flushes.
 #![tactic(auto)]
 
+mod flush;
+mod inode;
+mod mark;
 mod write;
+mod zone;
 
+pub use flush::settle;
+pub use inode::write_inode;
+pub use mark::{free_inode, free_zone, put_inode_mark, put_zone_mark};
 pub use write::write_beside;
+pub use zone::write_zone;

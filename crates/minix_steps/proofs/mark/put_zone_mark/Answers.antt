@@ -1,0 +1,10 @@
+use Rattle.minix_steps.proofs.MarkSteps.{zone_set_step}
+use Rattle.minix_steps.proofs.mark.put_zone_mark.Goals as goal
+
+pub returns-in-Ok-clause-steps : goal.returns-in-Ok-clause-steps
+returns-in-Ok-clause-steps g c =
+    zone_set_step c.args.volume.now c.mark_zone.new.volume c.mark_zone.result c.requires.ready c.args.zone c.requires.from c.requires.below c.mark_zone.ensures.writes
+
+pub returns-in-Err-clause-steps : goal.returns-in-Err-clause-steps
+returns-in-Err-clause-steps g c =
+    zone_set_step c.args.volume.now c.mark_zone.new.volume c.mark_zone.result c.requires.ready c.args.zone c.requires.from c.requires.below c.mark_zone.ensures.writes

@@ -6,12 +6,14 @@
 
 mod flush;
 mod inode;
+mod laws;
 mod mark;
 mod write;
 mod zone;
 
 pub use flush::settle;
 pub use inode::write_inode;
+pub use laws::{written_inode_is_kept, written_inode_is_one_inode, written_zone_is_one_zone};
 pub use mark::{free_inode, free_zone, put_inode_mark, put_zone_mark};
 pub use write::write_beside;
 pub use zone::write_zone;

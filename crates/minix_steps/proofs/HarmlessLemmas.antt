@@ -17,7 +17,7 @@ use Rattle.minix_steps.proofs.StepLemmas.{now_beside}
 
 module _ {D : Type 0} {disks : Ghosts D} (volume : Volume D disks) (ready : IsReady volume) where
   -- what the disks hold now
-  held : (sector : ℕ) → sector < 2 * volume.layout.zones → IsTold (past_of volume)
+  pub held : (sector : ℕ) → sector < 2 * volume.layout.zones → IsTold (past_of volume)
       → Harmless (volume_view volume) (begun (past_of volume)) sector (sector_of (volume_view volume) (now (past_of volume)) sector)
   held sector inside told = (now_beside volume ready told).inside sector inside
 

@@ -273,3 +273,7 @@ steps_join old mid new ready first next =
 pub on_ok_told : {T E : Type 0} (result : Result T E) (P : Type 0) → P → OnOk result P
 on_ok_told (Ok value) P holds = holds
 on_ok_told (Err fault) P holds = tt
+
+-- a step after a call that changed nothing
+pub after_step : {D : Type 0} {disks : Ghosts D} (old mid new : Volume D disks) → IsReady old → SameVolume old mid → faults_of old ≤ faults_of mid → Steps mid new → Steps old new
+after_step old mid new ready same later next = steps_join old mid new ready (no_step old mid ready same later) next

@@ -44,3 +44,7 @@ with_inode volume image number part =
 abbrev pub inode_rewritten : {D : Type 0} {disks : Ghosts D} → Volume D disks → ℕ → Inode → List ℕ
 inode_rewritten volume number inode =
     with_inode (volume_view volume) (now (past_of volume)) number (inode_bytes (kind_view volume.layout.kind) inode)
+
+-- the parts that a volume has now
+abbrev pub parts_now : {D : Type 0} {disks : Ghosts D} → Volume D disks → model.Parts
+parts_now volume = model.parts_of (volume_view volume) (now (past_of volume))

@@ -1,10 +1,13 @@
 // The bytes of an inode.
-ghost use Rattle.std.specs.Prelude.{◌≡◌, ◌+◌, ◌≤◌, ◌<◌, ◌^◌, length, All};
+ghost use Rattle.std.specs.Prelude.{◌≡◌, ◌+◌, ◌≤◌, ◌<◌, ◌^◌, length, All, OnOk};
+ghost use Rattle.disk_trait.specs.Moments.{IsTold};
 ghost use Rattle.lilo_model.specs.Bytes.{with_part};
 ghost use Rattle.lilo_model.specs.MinixLayout.{inode_size, inode_bytes, inode_place, most_links, number_size};
 ghost use Rattle.minix_layout.specs.View.{kind_view, super_view, inode_view};
+ghost use Rattle.minix_zones.specs.Volume.{volume_view, past_of};
+ghost use Rattle.minix_steps.specs.Laws.{OneInode};
 ghost use Rattle.minix_steps.specs.Steps.{IsReady, IsUnnamedInode, Steps};
-ghost use Rattle.minix_steps.specs.Written.{WritesOne, inode_rewritten};
+ghost use Rattle.minix_steps.specs.Written.{WritesOne, inode_rewritten, parts_now};
 
 use crate::write::write_beside;
 use disk_trait::Disks;
@@ -33,6 +36,9 @@ pub fn write_inode<D: Disks>(
     ensures steps { Steps volume.old volume.new }
     ensures writes { WritesOne volume.old volume.new (inode_place (super_view volume.old.layout) number).sector
         (inode_rewritten volume.old number (inode_view inode.now)) result }
+    ensures parts { IsTold (past_of volume.old) → OnOk result (OneInode (volume_view volume.old)
+        (parts_now volume.old) (parts_now volume.new) number
+        (inode_bytes (kind_view volume.old.layout.kind) (inode_view inode.now))) }
 {
     let kind = volume.layout().kind;
     let place = where_inode(volume.layout(), number);

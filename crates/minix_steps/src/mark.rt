@@ -1,10 +1,13 @@
 // The marks of zones and inodes.
-ghost use Rattle.std.specs.Prelude.{◌≤◌, ◌<◌, true, false};
+ghost use Rattle.std.specs.Prelude.{◌≤◌, ◌<◌, true, false, OnOk};
+ghost use Rattle.disk_trait.specs.Moments.{IsTold};
 ghost use Rattle.lilo_model.specs.MinixParts.{inode_mark_sector, zone_mark_sector};
+ghost use Rattle.minix_bits.specs.Laws.{OneZoneMark, OneInodeMark};
 ghost use Rattle.minix_bits.specs.Mark.{zone_remarked, inode_remarked};
 ghost use Rattle.minix_layout.specs.View.{super_view};
+ghost use Rattle.minix_zones.specs.Volume.{volume_view, past_of};
 ghost use Rattle.minix_steps.specs.Steps.{IsReady, IsUnusedZone, IsUnnamedInode, Steps};
-ghost use Rattle.minix_steps.specs.Written.{WritesOne};
+ghost use Rattle.minix_steps.specs.Written.{WritesOne, parts_now};
 
 use disk_trait::Disks;
 use minix_bits::{clear_inode, clear_zone, mark_inode, mark_zone};
@@ -22,6 +25,8 @@ pub fn put_zone_mark<D: Disks>(volume: &mut Volume<'_, D>, zone: u32) -> Result<
     ensures steps { Steps volume.old volume.new }
     ensures writes { WritesOne volume.old volume.new (zone_mark_sector (super_view volume.old.layout) zone)
         (zone_remarked volume.old zone true) result }
+    ensures parts { IsTold (past_of volume.old) → OnOk result (OneZoneMark (volume_view volume.old)
+        (parts_now volume.old) (parts_now volume.new) zone true) }
 {
     match mark_zone(volume, zone) {
         Ok(()) => Ok(()),
@@ -42,6 +47,8 @@ pub fn free_zone<D: Disks>(volume: &mut Volume<'_, D>, zone: u32) -> Result<(), 
     ensures steps { Steps volume.old volume.new }
     ensures writes { WritesOne volume.old volume.new (zone_mark_sector (super_view volume.old.layout) zone)
         (zone_remarked volume.old zone false) result }
+    ensures parts { IsTold (past_of volume.old) → OnOk result (OneZoneMark (volume_view volume.old)
+        (parts_now volume.old) (parts_now volume.new) zone false) }
 {
     match clear_zone(volume, zone) {
         Ok(()) => Ok(()),
@@ -61,6 +68,8 @@ pub fn put_inode_mark<D: Disks>(volume: &mut Volume<'_, D>, number: u32) -> Resu
     ensures steps { Steps volume.old volume.new }
     ensures writes { WritesOne volume.old volume.new (inode_mark_sector number)
         (inode_remarked volume.old number true) result }
+    ensures parts { IsTold (past_of volume.old) → OnOk result (OneInodeMark (volume_view volume.old)
+        (parts_now volume.old) (parts_now volume.new) number true) }
 {
     match mark_inode(volume, number) {
         Ok(()) => Ok(()),
@@ -82,6 +91,8 @@ pub fn free_inode<D: Disks>(volume: &mut Volume<'_, D>, number: u32) -> Result<(
     ensures steps { Steps volume.old volume.new }
     ensures writes { WritesOne volume.old volume.new (inode_mark_sector number)
         (inode_remarked volume.old number false) result }
+    ensures parts { IsTold (past_of volume.old) → OnOk result (OneInodeMark (volume_view volume.old)
+        (parts_now volume.old) (parts_now volume.new) number false) }
 {
     match clear_inode(volume, number) {
         Ok(()) => Ok(()),

@@ -5,8 +5,9 @@ ghost use Rattle.disk_trait.specs.Range.{SameOutside};
 ghost use Rattle.lilo_model.specs.Bytes.{part_of};
 ghost use Rattle.lilo_model.specs.MinixLayout.{zone_sector};
 ghost use Rattle.minix_zones.specs.Volume.{volume_view, past_of};
+ghost use Rattle.minix_steps.specs.Laws.{OneZone};
 ghost use Rattle.minix_steps.specs.Steps.{IsReady, IsUnusedZone, Steps};
-ghost use Rattle.minix_steps.specs.Written.{HasStepCause, with_zone};
+ghost use Rattle.minix_steps.specs.Written.{HasStepCause, with_zone, parts_now};
 
 use crate::write::write_beside;
 use disk_trait::Disks;
@@ -37,6 +38,8 @@ pub fn write_zone<D: Disks>(
     ensures others { IsTold (past_of volume.old)
         → SameOutside volume.old.span.disk (volume.old.span.start + zone_sector zone) 2
         (now (past_of volume.old)) (now (past_of volume.new)) }
+    ensures parts { IsTold (past_of volume.old) → OnOk result (OneZone (volume_view volume.old)
+        (parts_now volume.old) (parts_now volume.new) zone bytes.now) }
     ensures begun { begun (past_of volume.new) ≡ begun (past_of volume.old) }
 
     ensures device { HasStepCause volume.old volume.new result }

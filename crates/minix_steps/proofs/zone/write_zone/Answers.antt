@@ -1,5 +1,7 @@
-use Rattle.std.proofs.Common.{refl, arith}
+use Rattle.std.proofs.Common.{◌≡◌, length, rules, arith}
+use Rattle.disk_trait.proofs.MomentLemmas.{on_ok}
 use Rattle.lilo_model.specs.Bytes.{part_of}
+use Rattle.minix_steps.proofs.NowLemmas.{zone_now}
 use Rattle.minix_steps.proofs.StepLemmas.{steps_join}
 use Rattle.minix_steps.proofs.ZoneLemmas.{part_long, not_super, front_harmless, back_harmless}
 use Rattle.minix_steps.proofs.zone.write_zone.Goals as goal
@@ -23,3 +25,14 @@ write_beside-requires-2-clause-harmless g c =
 pub returns-clause-steps : goal.returns-clause-steps
 returns-clause-steps g c =
     steps_join c.args.volume.now c.write_beside.new.volume c.write_beside-2.new.volume c.requires.ready c.write_beside.ensures.steps c.write_beside-2.ensures.steps
+
+pub returns-clause-written : goal.returns-clause-written
+returns-clause-written g c = search rules
+
+pub returns-clause-parts : goal.returns-clause-parts
+returns-clause-parts g c told =
+    let old = c.args.volume.now in
+    let new = c.write_beside-2.new.volume in
+    let long : length c.args.bytes.now ≡ 1024 = omega arith in
+    on_ok c.write_beside-2.result _ _ (returns-clause-written g c told)
+    (zone_now old new (returns-clause-steps g c) c.args.zone c.args.bytes.now c.requires.from long)

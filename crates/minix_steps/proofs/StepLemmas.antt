@@ -95,7 +95,8 @@ module _ {D : Type 0} {disks : Ghosts D} (old new : Volume D disks) (ready : IsR
     any_moment = run;
     names = leaves_told (past_of old) (past_of new) (Beside (volume_view old) (begun (past_of old))) (SoundAsIn (volume_view old) (begun (past_of old))) run
         (λ is c beside. beside_law (volume_view old) (begun (past_of old)) c (ready.sound (told.0 is)) beside);
-    begun = begun_beside;
+    beside = begun_beside;
+    sound = λ is. beside_law (volume_view old) (begun (past_of old)) (begun (past_of new)) (ready.sound is) (begun_beside is);
     ready = now_ready;
     whole = whole;
     later = later;
@@ -223,13 +224,13 @@ module _ {D : Type 0} {disks : Ghosts D} (old new : Volume D disks) (ready : IsR
   pub beside_before : IsTold (past_of old) → (c : Image) → Beside (volume_view new) (begun (past_of new)) c → Beside (volume_view old) (begun (past_of old)) c
   beside_before told c beside =
       let P : model.Volume → Type 0 = λ view. Beside view (begun (past_of new)) c in
-      join_law (volume_view old) (begun (past_of old)) (begun (past_of new)) c (ready.sound told) (steps.begun told) (subst P (same_view old new steps.kept) beside)
+      join_law (volume_view old) (begun (past_of old)) (begun (past_of new)) c (ready.sound told) (steps.beside told) (subst P (same_view old new steps.kept) beside)
 
   pub still_unused : (zone : ℕ) → IsUnusedZone old zone → IsUnusedZone new zone
   still_unused zone unused = record {
     unused = λ is.
         let told : IsTold (past_of old) = steps.told.0 is in
-        let named = named_law (volume_view old) (begun (past_of old)) (begun (past_of new)) (ready.sound told) (steps.begun told) in
+        let named = named_law (volume_view old) (begun (past_of old)) (begun (past_of new)) (ready.sound told) (steps.beside told) in
         let P : model.Volume → Type 0 = λ view. IsUnused view (begun (past_of new)) zone in
         subst P (sym (same_view old new steps.kept)) (λ number at refers. unused.unused told number at ((named.refers number at zone).0 refers));
   }
@@ -238,7 +239,7 @@ module _ {D : Type 0} {disks : Ghosts D} (old new : Volume D disks) (ready : IsR
   still_unnamed number unnamed = record {
     unnamed = λ is.
         let told : IsTold (past_of old) = steps.told.0 is in
-        let kept = named_law (volume_view old) (begun (past_of old)) (begun (past_of new)) (ready.sound told) (steps.begun told) in
+        let kept = named_law (volume_view old) (begun (past_of old)) (begun (past_of new)) (ready.sound told) (steps.beside told) in
         let P : model.Volume → Type 0 = λ view. IsUnnamed view (begun (past_of new)) number in
         subst P (sym (same_view old new steps.kept)) (λ named. unnamed.unnamed told ((kept.named number).0 named));
   }
@@ -260,7 +261,7 @@ steps_join old mid new ready first next =
     (λ is. first.told.0 (next.told.0 is), λ is. next.told.1 (first.told.1 is))
     (leaves_join (past_of old) (past_of mid) (past_of new) B first.any_moment
     (leaves_told (past_of mid) (past_of new) M B next.any_moment (λ is. beside_before old mid ready first (first.told.0 (next.told.0 is)))))
-    (λ told. beside_before old mid ready first told (begun (past_of new)) (next.begun (first.told.1 told)))
+    (λ told. beside_before old mid ready first told (begun (past_of new)) (next.beside (first.told.1 told)))
     (λ c may.
     let P : model.Volume → Type 0 = λ v. Beside v (begun (past_of new)) c in
     subst P (same_view mid new next.kept ∙ view) (next.ready.within c may))

@@ -35,7 +35,8 @@ pub record Steps {D : Type 0} {disks : Ghosts D} (old new : Volume D disks) : Ty
   pub any_moment : LeavesOnly (past_of old) (past_of new) (Beside (volume_view old) (begun (past_of old)))
   pub names : LeavesOnly (past_of old) (past_of new) (SoundAsIn (volume_view old) (begun (past_of old)))
   -- so is what was held at the last flush after
-  pub begun : IsTold (past_of old) → Beside (volume_view old) (begun (past_of old)) (begun (past_of new))
+  pub beside : IsTold (past_of old) → Beside (volume_view old) (begun (past_of old)) (begun (past_of new))
+  pub sound : IsTold (past_of old) → SoundAsIn (volume_view old) (begun (past_of old)) (begun (past_of new))
   -- the next step may be taken
   pub ready : IsReady new
   pub whole : IsWhole (sizes_of old) (past_of old) → StaysWhole (sizes_of old) (past_of old) (past_of new)

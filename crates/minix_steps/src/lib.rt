@@ -8,6 +8,8 @@ mod flush;
 mod inode;
 mod laws;
 mod mark;
+#[cfg(test)]
+mod tests;
 mod write;
 mod zone;
 

@@ -185,11 +185,11 @@ module _ (volume : Volume) (image : Image) (number : ℕ) (part : List ℕ) (is 
   neighbour other low apart same =
       let there_at : ℕ = (inode_place volume.layout other).at in
       let held : sector_of volume (with_sector_of volume image sector bytes) (inode_place volume.layout other).sector ≡ bytes =
-          ap (sector_of volume (with_sector_of volume image sector bytes)) same ∙ at_sector volume image sector bytes in
+      ap (sector_of volume (with_sector_of volume image sector bytes)) same ∙ at_sector volume image sector bytes in
       let before : sector_of volume image (inode_place volume.layout other).sector ≡ sector_of volume image sector = ap (sector_of volume image) same in
       let stays = part-other (sector_of volume image sector) at part fits there_at (inode_size volume.layout.kind)
-          (omega (arith, place_offset volume.layout other, offset_fits volume.layout.kind other, long))
-          (stands (offsets_apart volume.layout.kind other number low some apart (place_row volume.layout other number same))) in
+      (omega (arith, place_offset volume.layout other, offset_fits volume.layout.kind other, long))
+      (stands (offsets_apart volume.layout.kind other number low some apart (place_row volume.layout other number same))) in
       let node : List ℕ → Inode = λ whole. inode_of volume.layout.kind (part_of whole there_at (inode_size volume.layout.kind)) in
       ap node held ∙ (ap (inode_of volume.layout.kind) stays ∙ ap node (sym before))
     where

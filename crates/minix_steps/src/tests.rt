@@ -170,3 +170,240 @@ fn table(inodes: [u8; 4]) -> Sector {
     }
     sector
 }
+
+// What steps do to zone 7 and inode 3, which nothing refers to or names.
+#[derive(Clone, Copy, Debug)]
+enum Step {
+    PutZoneMark,
+    PutInodeMark,
+    WriteZone,
+    WriteInode,
+    FreeZone,
+    FreeInode,
+    Settle,
+}
+
+const INODE: Inode = Inode {
+    mode: 0o100644,
+    links: 1,
+    uid: 2,
+    gid: 3,
+    size: 1024,
+    times: [4, 5, 6],
+    zones: [7, 0, 0, 0, 0, 0, 0, 0, 0, 0],
+};
+
+#[tactic(auto, unfolding(disk_trait::specs::Moments::IsTold, disk_trait::specs::Moments::MayLeave))]
+fn take(rt: &impl Abort, volume: &mut Volume<'_, Untold>, step: Step) -> Result<(), ZoneFault> {
+    let layout = *volume.layout();
+    assert!(rt; layout.first == 5 && layout.zones == 40 && layout.inodes == 16);
+    match step {
+        Step::PutZoneMark => put_zone_mark(volume, 7),
+        Step::PutInodeMark => put_inode_mark(volume, 3),
+        Step::WriteZone => write_zone(volume, 7, &[7; 1024]),
+        Step::WriteInode => {
+            assert!(rt; layout.kind == FsKind::V2Long);
+            write_inode(volume, 3, &INODE)
+        }
+        Step::FreeZone => free_zone(volume, 7),
+        Step::FreeInode => free_inode(volume, 3),
+        Step::Settle => settle(volume),
+    }
+}
+
+fn attach<'d>(rt: &impl Abort, disks: &'d mut Untold) -> Result<Volume<'d, Untold>, ZoneFault> {
+    assert!(rt; disks.size(0) == 88);
+    match Volume::attach(disks, SPAN) {
+        Ok(volume) => Ok(volume),
+        Err((_, fault)) => Err(fault),
+    }
+}
+
+fn sector<D: Disks>(
+    rt: &impl Abort,
+    volume: &mut Volume<'_, D>,
+    sector: u64,
+) -> Result<Sector, ZoneFault> {
+    assert!(rt; sector < volume.span().count);
+    let mut bytes: Sector = [0; 512];
+    volume.read_sector(sector, &mut bytes)?;
+    Ok(bytes)
+}
+
+// The bytes of `INODE` in version 2, and zeros behind them.
+fn inode_bytes() -> Sector {
+    let mut sector: Sector = [0; 512];
+    let first = [
+        0xA4, 0x81, 1, 0, 2, 0, 3, 0, 0, 4, 0, 0, 4, 0, 0, 0, 5, 0, 0, 0, 6, 0, 0, 0, 7,
+    ];
+    for (i, byte) in first.iter().enumerate() {
+        sector[i] = *byte;
+    }
+    sector
+}
+
+#[test]
+fn steps_write_their_own(rt: HostRuntime) -> Result<(), Fail> {
+    let mut disks = disks_with(rt.alloc(), &[])?;
+    let mut volume = attach(&rt, &mut disks)?;
+    for step in [
+        Step::PutZoneMark,
+        Step::PutInodeMark,
+        Step::WriteZone,
+        Step::WriteInode,
+        Step::Settle,
+    ] {
+        assert_eq!(rt; take(&rt, &mut volume, step), Ok(()));
+    }
+    assert!(rt; sector(&rt, &mut volume, 4)? == first_byte(0b0001_1111));
+    assert!(rt; sector(&rt, &mut volume, 6)? == first_byte(0b0000_1111));
+    assert!(rt; sector(&rt, &mut volume, 14)? == [7; 512]);
+    assert!(rt; sector(&rt, &mut volume, 15)? == [7; 512]);
+    let inodes = sector(&rt, &mut volume, 8)?;
+    assert_eq!(rt; part(&inodes, 128, 64), part(&inode_bytes(), 0, 64));
+    assert_eq!(rt; part(&inodes, 0, 128), part(&table([1, 2, 0, 4]), 0, 128));
+    assert_eq!(rt;
+        part(&inodes, 192, 320),
+        part(&table([1, 2, 0, 4]), 192, 320)
+    );
+    Ok(())
+}
+
+#[test]
+fn freed_marks_leave_their_neighbours(rt: HostRuntime) -> Result<(), Fail> {
+    let mut disks = disks_with(rt.alloc(), &[])?;
+    let mut volume = attach(&rt, &mut disks)?;
+    for step in [
+        Step::PutZoneMark,
+        Step::PutInodeMark,
+        Step::Settle,
+        Step::FreeZone,
+        Step::FreeInode,
+    ] {
+        assert_eq!(rt; take(&rt, &mut volume, step), Ok(()));
+    }
+    assert!(rt; sector(&rt, &mut volume, 4)? == first_byte(0b0001_0111));
+    assert!(rt; sector(&rt, &mut volume, 6)? == first_byte(0b0000_0111));
+    Ok(())
+}
+
+// The read of the superblock is call 0. Here fail the write of the mark, that of the zone's second half, the read of
+// the inode's sector, and the flush.
+#[test]
+fn failed_calls(rt: HostRuntime) -> Result<(), Fail> {
+    let failing = [2, 4, 5, 6].map(|call| Failing { call, made: false });
+    let mut disks = disks_with(rt.alloc(), &failing)?;
+    let mut volume = attach(&rt, &mut disks)?;
+    for step in [
+        Step::PutZoneMark,
+        Step::WriteZone,
+        Step::WriteInode,
+        Step::Settle,
+    ] {
+        assert_eq!(rt; take(&rt, &mut volume, step), Err(ZoneFault::Device));
+    }
+    assert!(rt; sector(&rt, &mut volume, 6)? == first_byte(0b0000_0111));
+    assert!(rt; sector(&rt, &mut volume, 14)? == [7; 512]);
+    assert!(rt; sector(&rt, &mut volume, 15)? == [0; 512]);
+    assert!(rt; sector(&rt, &mut volume, 8)? == table([1, 2, 0, 4]));
+    Ok(())
+}
+
+// A sector of the volume, zeros where it can't be read.
+fn read(image: &mut MemDisks, sector: u64) -> Sector {
+    let mut bytes: Sector = [0; 512];
+    if sector < 80 && disk_trait::read(image, 0, 8 + sector, &mut bytes).is_err() {
+        bytes = [0; 512];
+    }
+    bytes
+}
+
+// Whether inodes 1, 2 and 4 and zones 5 and 6 are what they were, and marked.
+fn is_as_before(image: &mut MemDisks) -> bool {
+    let inodes = read(image, 8);
+    let before = table([1, 2, 0, 4]);
+    let mut same = part(&inodes, 0, 128) == part(&before, 0, 128)
+        && part(&inodes, 192, 64) == part(&before, 192, 64)
+        && read(image, 2) == superblock()
+        && read(image, 4)[0] & 0b0001_0111 == 0b0001_0111
+        && read(image, 6)[0] & 0b0000_0111 == 0b0000_0111;
+    for sector in 10..14_u8 {
+        same = same && read(image, u64::from(sector)) == [sector / 2; 512];
+    }
+    same
+}
+
+// Says of each write whether it was made, by the bits of a number, the lowest first.
+fn choose(keep: &mut [bool], choice: u32) {
+    let mut rest = choice;
+    for kept in keep {
+        *kept = rest % 2 == 1;
+        rest /= 2;
+    }
+}
+
+// How many choices of at most five unflushed writes a stop after so many events leaves.
+fn choices(disks: &MemDisks, prefix: u32) -> u32 {
+    if prefix > disks.events() {
+        return 0;
+    }
+    match disks.unflushed(prefix) {
+        0 => 1,
+        1 => 2,
+        2 => 4,
+        3 => 8,
+        4 => 16,
+        5 => 32,
+        _ => 0,
+    }
+}
+
+// Whether a stop after so many events leaves what was there, with these of the unflushed writes made.
+fn leaves_as_before(
+    alloc: Global,
+    disks: &MemDisks,
+    prefix: u32,
+    choice: u32,
+) -> Result<bool, AllocError> {
+    if prefix > disks.events() {
+        return Ok(false);
+    }
+    let mut keep = vec![in alloc; false; disks.unflushed(prefix) as usize]?;
+    choose(keep.as_mut_slice(), choice);
+    let mut image = disks.left(alloc, prefix, keep.as_slice(), 0, &[])?;
+    Ok(is_as_before(&mut image))
+}
+
+// Seven writes and two flushes: five writes, a flush, two writes, a flush.
+#[test]
+fn a_stop_leaves_what_was_named(rt: HostRuntime) -> Result<(), Fail> {
+    let alloc = rt.alloc();
+    let mut untold = disks_with(alloc, &[])?;
+    let mut volume = attach(&rt, &mut untold)?;
+    for step in [
+        Step::PutZoneMark,
+        Step::PutInodeMark,
+        Step::WriteZone,
+        Step::WriteInode,
+        Step::Settle,
+        Step::FreeZone,
+        Step::FreeInode,
+        Step::Settle,
+    ] {
+        assert_eq!(rt; take(&rt, &mut volume, step), Ok(()));
+    }
+    let Untold { disks } = untold;
+    assert_eq!(rt; disks.events(), 9);
+    let mut images = 0_u32;
+    for prefix in 0..10 {
+        for choice in 0..choices(&disks, prefix) {
+            assert!(rt;
+                leaves_as_before(alloc, &disks, prefix, choice)?,
+                "choice {choice} after {prefix} events"
+            );
+            images = images.saturating_add(1);
+        }
+    }
+    assert_eq!(rt; images, 71);
+    Ok(())
+}

@@ -22,7 +22,7 @@ use Rattle.minix_steps.specs.Steps.{Within, IsReady, IsUnusedZone, IsUnnamedInod
 
 -- ---- where an image is left, the past is told
 
-left_told : (past : Option Past) (c : Image) → MayLeave past c → IsTold past
+pub left_told : (past : Option Past) (c : Image) → MayLeave past c → IsTold past
 unfolding MayLeave IsTold
 left_told None c left = left
 left_told (Some past) c left = tt

@@ -1,8 +1,8 @@
 -- What the bytes of each step touch.
-use Rattle.std.proofs.Common.{◌≡◌, ◌≤◌, ◌<◌, ◌+◌, ◌*◌, ◌%◌, ℕ, true, false, List, length, refl, sym, subst, arith, inl, inr}
+use Rattle.std.proofs.Common.{◌≡◌, ◌≤◌, ◌<◌, ◌*◌, ◌%◌, ℕ, true, false, List, length, arith}
 use Rattle.disk_trait.specs.declared.disks.Disks.{Ghosts}
 use Rattle.disk_trait.specs.Moments.{IsTold, now, begun}
-use Rattle.lilo_model.specs.MinixLayout.{IsSuper, inode_size, inode_place}
+use Rattle.lilo_model.specs.MinixLayout.{inode_size, inode_place}
 use Rattle.lilo_model.specs.MinixParts.{sector_of, inode_mark_sector, zone_bit, zone_mark_sector}
 use Rattle.minix_beside.specs.Beside.{Harmless, IsOfBitmaps, IsOfZone}
 use Rattle.minix_beside.proofs.Harmless.{unused_zone_law, unnamed_inode_law, set_bit_law, clear_inode_law, clear_zone_law}

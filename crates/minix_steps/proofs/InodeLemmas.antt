@@ -1,7 +1,6 @@
 -- The write of an inode into the bytes of its sector that were read.
-use Rattle.std.proofs.Common.{◌≡◌, ◌≢◌, ◌⊎◌, ◌≤◌, ◌<◌, ◌+◌, ◌*◌, ℕ, List, length, Option, Result, Ok, Err, OnOk, IfErr, refl, sym, ◌∙◌, ap, subst, inl, inr, ⊎_elim, arith}
+use Rattle.std.proofs.Common.{◌≡◌, ◌≢◌, ◌≤◌, ◌<◌, ◌*◌, ℕ, List, length, Option, Result, Ok, Err, OnOk, refl, sym, ◌∙◌, ap, subst, inl, inr, ⊎_elim, arith}
 use Rattle.disk_trait.specs.declared.disks.Disks.{Ghosts}
-use Rattle.disk_trait.specs.Cause.{Rose}
 use Rattle.disk_trait.specs.Past.{Image, Past, Told}
 use Rattle.disk_trait.specs.Moments.{IsTold, now, begun}
 use Rattle.disk_trait.proofs.MomentLemmas.{told_now}
@@ -15,8 +14,7 @@ use Rattle.minix_layout.specs.declared.superblock.Super.{Super}
 use Rattle.minix_zones.specs.Volume.{volume_view, past_of, faults_of, SameVolume}
 use Rattle.minix_zones.specs.declared.volume.Volume.{Volume}
 use Rattle.minix_zones.specs.declared.zone_fault.ZoneFault.{ZoneFault}
-use Rattle.minix_zones.specs.declared.zone_fault.ZoneFault.TheVariants as faults
-use Rattle.minix_steps.specs.Steps.{IsReady, IsUnnamedInode, Steps}
+use Rattle.minix_steps.specs.Steps.{IsReady, IsUnnamedInode}
 use Rattle.minix_steps.specs.Written.{WritesOne, HasStepCause, with_sector_of, with_inode}
 use Rattle.minix_steps.proofs.HarmlessLemmas.{inode_harmless, place_inside}
 use Rattle.minix_steps.proofs.RegionLemmas.{sector_there, place_from}

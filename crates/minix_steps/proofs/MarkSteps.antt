@@ -1,5 +1,5 @@
 -- The calls of minix_bits that set and clear marks are steps.
-use Rattle.std.proofs.Common.{◌≤◌, ◌<◌, ◌+◌, ℕ, true, false, Result}
+use Rattle.std.proofs.Common.{◌≤◌, ◌<◌, ℕ, true, false, Result}
 use Rattle.disk_trait.specs.declared.disks.Disks.{Ghosts}
 use Rattle.minix_bits.specs.declared.bit_fault.BitFault.{BitFault}
 use Rattle.minix_bits.specs.Mark.{Writes, zone_mark_on_disk, inode_mark_on_disk, zone_remarked, inode_remarked}

@@ -7,7 +7,7 @@ use Rattle.std.proofs.Math.Seq.{drop-append_seam, take-append_seam}
 use Rattle.disk_trait.proofs.MomentLemmas.{here, here_is, with_same, with_other}
 use Rattle.lilo_model.specs.Bytes.{part_of, with_part}
 use Rattle.lilo_model.specs.Disks.{Image}
-use Rattle.lilo_model.specs.MinixLayout.{Kind, V1Short, V1Long, V2Short, V2Long, Super, Inode, IsSuper, FitsInode, is_size, inode_of, inode_at, inode_bytes, inode_place, inode_size, kept_inode, zone_sector, BadSize, FileSize}
+use Rattle.lilo_model.specs.MinixLayout.{Kind, V1Short, V1Long, V2Short, V2Long, Super, Inode, IsSuper, is_size, inode_of, inode_at, inode_bytes, inode_place, inode_size, kept_inode, zone_sector}
 use Rattle.lilo_model.specs.MinixParts.{Volume, sector_of, bit, parts_of, inode_mark_sector, zone_bit, zone_mark_sector}
 use Rattle.minix_layout.proofs.Reading.{inode_law}
 use Rattle.minix_steps.specs.Laws.{OneZone, ZoneBytesLaw, OneInode, InodeBytesLaw, KeptInodeLaw}

@@ -1,10 +1,10 @@
 -- When steps may be taken.
-use Rattle.std.proofs.Common.{◌≡◌, ◌≤◌, ◌<◌, ◌%◌, ℕ, Bool, true, false, refl, sym, ◌∙◌, subst}
+use Rattle.std.proofs.Common.{◌≡◌, ◌≤◌, ◌<◌, ℕ, Bool, true, false, refl, sym, ◌∙◌, subst}
 use Rattle.disk_trait.specs.declared.disks.Disks.{Ghosts}
 use Rattle.disk_trait.specs.Past.{Image}
 use Rattle.disk_trait.specs.Moments.{IsTold, now, begun, IsQuiet}
 use Rattle.disk_trait.proofs.LawLemmas.{quiet_begun}
-use Rattle.lilo_model.specs.MinixParts.{parts_of, sector_of, bit, inode_mark_sector, zone_mark_sector, zone_bit}
+use Rattle.lilo_model.specs.MinixParts.{parts_of, inode_mark_sector, zone_mark_sector}
 use Rattle.lilo_model.specs.MinixNames.{IsSound}
 use Rattle.minix_beside.specs.Beside.{Beside}
 use Rattle.minix_beside.proofs.Beside.{same_law}

@@ -1,8 +1,8 @@
 -- Where zones, marks and inodes stand on a volume whose superblock passed its checks.
-use Rattle.std.proofs.Common.{◌≡◌, ◌≢◌, ◌≤◌, ◌<◌, ◌+◌, ◌*◌, ◌-◌, ◌/◌, ◌%◌, ℕ, Bool, true, false, nat_le, nat_lt, ◌&&◌, Result, Ok, refl, arith}
+use Rattle.std.proofs.Common.{◌≡◌, ◌≤◌, ◌<◌, ◌+◌, ◌*◌, ◌-◌, ℕ, Bool, true, false, nat_le, nat_lt, ◌&&◌, Result, Ok, refl, arith}
 use Rattle.std.proofs.lemmas.Bool.Decides.{nat_tests}
 use Rattle.lilo_model.specs.Checks.{◌>>=◌, require}
-use Rattle.lilo_model.specs.MinixLayout.{Super, IsSuper, LayoutFault, BadSize, Inodes, Zones, InodeMap, ZoneMap, FirstZone, super_checks, table_start, table_blocks, inode_place}
+use Rattle.lilo_model.specs.MinixLayout.{Super, IsSuper, BadSize, Inodes, Zones, InodeMap, ZoneMap, FirstZone, super_checks, table_start, table_blocks, inode_place}
 use Rattle.lilo_model.specs.MinixParts.{inode_mark_sector, zone_mark_sector}
 use Rattle.minix_beside.specs.Beside.{IsOfBitmaps}
 use Rattle.minix_beside.proofs.Laid.{Laid, mark-below, zone_mark-from, zone_mark-below, place-from, place-below}

@@ -1,8 +1,8 @@
 -- What a step leaves, and how steps go on.
-use Rattle.std.proofs.Common.{◌≡◌, ◌⊎◌, ◌↔◌, ◌<◌, ◌≤◌, ◌+◌, ◌*◌, ℕ, List, Option, Some, None, Result, Ok, Err, OnOk, OnErr, refl, sym, ◌∙◌, ap, subst, inl, inr, ⊎_elim, arith}
+use Rattle.std.proofs.Common.{◌≡◌, ◌⊎◌, ◌↔◌, ◌<◌, ◌≤◌, ◌+◌, ◌*◌, ℕ, List, Option, Some, None, Result, Ok, Err, OnOk, OnErr, refl, sym, ◌∙◌, subst, inl, inr, ⊎_elim, arith}
 use Rattle.std.proofs.Math.Path.{subst₂}
 use Rattle.disk_trait.specs.declared.disks.Disks.{Ghosts}
-use Rattle.disk_trait.specs.Past.{Image, Past, with_sector}
+use Rattle.disk_trait.specs.Past.{Image, Past}
 use Rattle.disk_trait.specs.Moments.{IsTold, now, begun, MayLeave, LeftSince, LeftOrWritten, MayWrite, LeavesOnly, IsWhole, StaysWhole, IsQuiet, IsWholeImage}
 use Rattle.disk_trait.proofs.MomentLemmas.{at_now, leaves_none, leaves_same, leaves_weaker, leaves_join, ok_or_err, whole_same}
 use Rattle.lilo_model.specs.MinixParts as model

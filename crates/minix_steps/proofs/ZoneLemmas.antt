@@ -1,5 +1,5 @@
 -- The two writes of a zone.
-use Rattle.std.proofs.Common.{◌≡◌, ◌≢◌, ◌≤◌, ◌<◌, ◌+◌, ◌*◌, ℕ, List, length, arith, inl, inr, ap, sym, subst, refl, length-drop, drop}
+use Rattle.std.proofs.Common.{◌≡◌, ◌≢◌, ◌≤◌, ◌<◌, ◌+◌, ℕ, List, length, arith, inl, inr, sym, subst, refl, length-drop, drop}
 use Rattle.std.proofs.lemmas.List.{length-take-le}
 use Rattle.disk_trait.specs.declared.disks.Disks.{Ghosts}
 use Rattle.disk_trait.specs.Moments.{IsTold, begun}

@@ -3,7 +3,7 @@ ghost use Rattle.std.specs.Prelude.{◌≡◌, ◌≤◌, ◌<◌, false};
 ghost use Rattle.disk_trait.specs.Moments.{IsTold, now, IsQuiet};
 ghost use Rattle.lilo_model.specs.MinixNames.{IsSound};
 ghost use Rattle.minix_zones.specs.Volume.{volume_view, past_of};
-ghost use Rattle.minix_steps.specs.Steps.{IsReady, IsUnusedZone, IsUnnamedInode};
+ghost use Rattle.minix_steps.specs.Steps.{IsReady, IsUnusedZone, IsUnnamedInode, Steps};
 ghost use Rattle.minix_steps.specs.Written.{parts_now};
 
 use disk_trait::Disks;
@@ -32,4 +32,28 @@ pub fn unmarked_is_unnamed<D: Disks>(volume: &Volume<'_, D>, number: u32)
     requires ready { IsReady volume.now }
     requires unmarked { IsTold (past_of volume.now) → (parts_now volume.now).has_inode number ≡ false }
     ensures { IsUnnamedInode volume.now number }
+{}
+
+/// Steps in a row are steps.
+pub fn steps_join<D: Disks>(old: &Volume<'_, D>, mid: &Volume<'_, D>, new: &Volume<'_, D>)
+    requires ready { IsReady old.now }
+    requires first { Steps old.now mid.now }
+    requires next { Steps mid.now new.now }
+    ensures { Steps old.now new.now }
+{}
+
+/// After steps a zone to which no named inode referred is such a zone still.
+pub fn unused_stays_unused<D: Disks>(old: &Volume<'_, D>, new: &Volume<'_, D>, zone: u32)
+    requires ready { IsReady old.now }
+    requires steps { Steps old.now new.now }
+    requires unused { IsUnusedZone old.now zone }
+    ensures { IsUnusedZone new.now zone }
+{}
+
+/// After steps an inode that was neither the root nor had a name is such an inode still.
+pub fn unnamed_stays_unnamed<D: Disks>(old: &Volume<'_, D>, new: &Volume<'_, D>, number: u32)
+    requires ready { IsReady old.now }
+    requires steps { Steps old.now new.now }
+    requires unnamed { IsUnnamedInode old.now number }
+    ensures { IsUnnamedInode new.now number }
 {}

@@ -1,8 +1,6 @@
-use Rattle.std.proofs.Common.{◌≡◌, length, ◌∙◌}
-use Rattle.lilo_model.specs.Bytes.{with_part}
-use Rattle.lilo_model.specs.MinixLayout.{inode_bytes, inode_place, inode_size}
-use Rattle.minix_layout.specs.View.{kind_view, super_view, inode_view}
-use Rattle.minix_steps.proofs.InodeLemmas.{inode_inside, inode_there, inode_no_super, inode_inside_mid, inode_harmless_mid, inode_writes}
+use Rattle.lilo_model.specs.MinixLayout.{inode_bytes}
+use Rattle.minix_layout.specs.View.{kind_view, inode_view}
+use Rattle.minix_steps.proofs.InodeLemmas.{inode_there, inode_no_super, inode_inside_mid, inode_harmless_mid, inode_writes}
 use Rattle.disk_trait.proofs.MomentLemmas.{on_ok}
 use Rattle.minix_steps.proofs.NowLemmas.{inode_now}
 use Rattle.minix_steps.proofs.StepLemmas.{no_step, after_step}

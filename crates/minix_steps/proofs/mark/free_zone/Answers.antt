@@ -1,4 +1,4 @@
-use Rattle.std.proofs.Common.{true, false}
+use Rattle.std.proofs.Common.{false}
 use Rattle.minix_steps.proofs.NowLemmas.{zone_mark_now}
 use Rattle.minix_steps.proofs.MarkSteps.{zone_clear_step}
 use Rattle.minix_steps.proofs.mark.free_zone.Goals as goal

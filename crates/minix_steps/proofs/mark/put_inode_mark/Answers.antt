@@ -1,4 +1,4 @@
-use Rattle.std.proofs.Common.{true, false}
+use Rattle.std.proofs.Common.{true}
 use Rattle.minix_steps.proofs.NowLemmas.{inode_mark_now}
 use Rattle.minix_steps.proofs.MarkSteps.{inode_set_step}
 use Rattle.minix_steps.proofs.mark.put_inode_mark.Goals as goal

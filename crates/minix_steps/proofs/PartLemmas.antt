@@ -1,5 +1,6 @@
 -- What one sector with other bytes changes of the parts of a volume.
-use Rattle.std.proofs.Common.{◌≡◌, ◌≢◌, ◌≤◌, ◌<◌, ◌+◌, ◌*◌, ◌-◌, ◌/◌, ◌%◌, ◌++◌, ◌⊎◌, ℕ, Bool, true, false, List, length, take, drop, Ok, refl, ap, ap₂, sym, ◌∙◌, subst, arith, ⊎_elim, inl, inr, length-drop}
+use Rattle.disk_trait.specs.Range.{IsOutside}
+use Rattle.std.proofs.Common.{lit<, ◌≡◌, ◌≢◌, ◌≤◌, ◌<◌, ◌+◌, ◌*◌, ◌-◌, ◌/◌, ◌%◌, ◌++◌, ◌⊎◌, ℕ, Bool, true, false, List, length, take, drop, Ok, refl, ap, ap₂, sym, ◌∙◌, subst, arith, ⊎_elim, inl, inr, length-drop}
 use Rattle.std.proofs.lemmas.Bool.{cases_eq, cases_lt}
 use Rattle.std.proofs.lemmas.Bool.Decides.{nat_tests}
 use Rattle.std.proofs.lemmas.List.{take-append-drop, take_all, length-take-le}
@@ -11,7 +12,7 @@ use Rattle.lilo_model.specs.MinixLayout.{Kind, V1Short, V1Long, V2Short, V2Long,
 use Rattle.lilo_model.specs.MinixParts.{Volume, sector_of, bit, parts_of, inode_mark_sector, zone_bit, zone_mark_sector}
 use Rattle.minix_layout.proofs.Reading.{inode_law}
 use Rattle.minix_steps.specs.Laws.{OneZone, ZoneBytesLaw, OneInode, InodeBytesLaw, KeptInodeLaw}
-use Rattle.minix_steps.specs.Written.{with_sector_of, with_zone, with_inode}
+use Rattle.minix_steps.specs.Written.{with_sector_of, with_zone, IsPartOfZone, with_inode}
 use Rattle.minix_steps.proofs.RegionLemmas.{mark_in, zone_mark_in, lies}
 use Rattle.minix_beside.proofs.Laid.{place-from, place-below}
 use Rattle.minix_beside.proofs.Replaced.{part-other}
@@ -110,6 +111,59 @@ module _ (volume : Volume) (image : Image) (zone : ℕ) (bytes : List ℕ) (is :
 
 pub zone_bytes_law : ZoneBytesLaw
 zone_bytes_law volume image zone bytes is from long = one_zone volume image zone bytes is from long
+
+-- ---- a part of a zone
+
+part_none : (volume : Volume) (image : Image) (zone : ℕ) (bytes : List ℕ) → IsPartOfZone volume image image zone bytes
+part_none volume image zone bytes = record { front = inr refl; back = inr refl; others = λ d s out. refl }
+
+-- neither sector of a zone is one outside it
+outside_zone : (disk start d s at : ℕ) → at < 2 → IsOutside disk start 2 d s → here disk (start + at) d s ≡ false
+outside_zone disk start d s at low (inl apart) = let differ : disk ≢ d = λ same. apart (sym same) in grind (arith, nat_tests)
+outside_zone disk start d s at low (inr (inl before)) = grind (arith, nat_tests)
+outside_zone disk start d s at low (inr (inr behind)) = grind (arith, nat_tests)
+
+module _ (volume : Volume) (image : Image) (zone : ℕ) (bytes : List ℕ) where
+  abbrev Part : Image → Type 0
+  Part new = IsPartOfZone volume image new zone bytes
+
+  apart_front : zone_sector zone ≢ zone_sector zone + 1
+  apart_front same = omega (arith, same)
+
+  apart_back : zone_sector zone + 1 ≢ zone_sector zone
+  apart_back same = omega (arith, same)
+
+  with_front : Part (with_sector_of volume image (zone_sector zone) (part_of bytes 0 512))
+  with_front = record {
+    front = inl (at_sector volume image (zone_sector zone) (part_of bytes 0 512));
+    back = inr (other_sector volume image (zone_sector zone) (part_of bytes 0 512) (zone_sector zone + 1) apart_back);
+    others = λ d s out.
+        let P : ℕ → Type 0 = λ n. here volume.span.disk n d s ≡ false in
+        let off : here volume.span.disk (volume.span.start + zone_sector zone) d s ≡ false =
+        subst P (omega arith) (outside_zone volume.span.disk (volume.span.start + zone_sector zone) d s 0 (lit< tt) out) in
+        with_other image volume.span.disk (volume.span.start + zone_sector zone) (part_of bytes 0 512) d s off;
+  }
+
+  with_back : (mid : Image) → Part mid → Part (with_sector_of volume mid (zone_sector zone + 1) (part_of bytes 512 512))
+  with_back mid part = record {
+    front =
+        let P : List ℕ → Type 0 = λ held. (held ≡ part_of bytes 0 512) ⊎ (held ≡ sector_of volume image (zone_sector zone)) in
+        subst P (sym (other_sector volume mid (zone_sector zone + 1) (part_of bytes 512 512) (zone_sector zone) apart_front)) part.front;
+    back = inl (at_sector volume mid (zone_sector zone + 1) (part_of bytes 512 512));
+    others = λ d s out.
+        let P : ℕ → Type 0 = λ n. here volume.span.disk n d s ≡ false in
+        let off : here volume.span.disk (volume.span.start + (zone_sector zone + 1)) d s ≡ false =
+        subst P (omega arith) (outside_zone volume.span.disk (volume.span.start + zone_sector zone) d s 1 (lit< tt) out) in
+        with_other mid volume.span.disk (volume.span.start + (zone_sector zone + 1)) (part_of bytes 512 512) d s off ∙ part.others d s out;
+  }
+
+  pub front_made : (mid : Image) → (mid ≡ with_sector_of volume image (zone_sector zone) (part_of bytes 0 512)) ⊎ (mid ≡ image) → Part mid
+  front_made mid (inl is) = subst Part (sym is) with_front
+  front_made mid (inr is) = subst Part (sym is) (part_none volume image zone bytes)
+
+  pub back_made : (mid new : Image) → Part mid → (new ≡ with_sector_of volume mid (zone_sector zone + 1) (part_of bytes 512 512)) ⊎ (new ≡ mid) → Part new
+  back_made mid new part (inl is) = subst Part (sym is) (with_back mid part)
+  back_made mid new part (inr is) = subst Part (sym is) part
 
 -- ---- an inode
 

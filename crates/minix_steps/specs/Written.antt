@@ -4,6 +4,7 @@ use Rattle.disk_trait.specs.declared.disks.Disks.{Ghosts}
 use Rattle.disk_trait.specs.Cause.{Rose}
 use Rattle.disk_trait.specs.Moments.{IsTold, now, begun}
 use Rattle.disk_trait.specs.Past.{Image, with_sector}
+use Rattle.disk_trait.specs.Range.{SameOutside}
 use Rattle.lilo_model.specs.Bytes.{part_of, with_part}
 use Rattle.lilo_model.specs.MinixLayout.{Inode, inode_bytes, inode_place, zone_sector}
 use Rattle.lilo_model.specs.MinixParts as model
@@ -34,6 +35,13 @@ pub record WritesOne {D : Type 0} {disks : Ghosts D} (old new : Volume D disks) 
 abbrev pub with_zone : model.Volume → Image → ℕ → List ℕ → Image
 with_zone volume image zone bytes =
     with_sector_of volume (with_sector_of volume image (zone_sector zone) (part_of bytes 0 512)) (zone_sector zone + 1) (part_of bytes 512 512)
+
+-- an image has the bytes of a zone in each of its two sectors, or what that sector had in another image, and all else
+-- as that one
+pub record IsPartOfZone (volume : model.Volume) (old new : Image) (zone : ℕ) (bytes : List ℕ) : Type 0 where
+  pub front : (sector_of volume new (zone_sector zone) ≡ part_of bytes 0 512) ⊎ (sector_of volume new (zone_sector zone) ≡ sector_of volume old (zone_sector zone))
+  pub back : (sector_of volume new (zone_sector zone + 1) ≡ part_of bytes 512 512) ⊎ (sector_of volume new (zone_sector zone + 1) ≡ sector_of volume old (zone_sector zone + 1))
+  pub others : SameOutside volume.span.disk (volume.span.start + zone_sector zone) 2 old new
 
 -- the bytes of the sector with an inode, with other bytes in place of that inode
 abbrev pub with_inode : model.Volume → Image → ℕ → List ℕ → List ℕ

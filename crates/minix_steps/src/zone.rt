@@ -1,13 +1,11 @@
 // The bytes of a zone.
 ghost use Rattle.std.specs.Prelude.{◌≡◌, ◌+◌, ◌≤◌, ◌<◌, OnOk};
 ghost use Rattle.disk_trait.specs.Moments.{IsTold, now, begun};
-ghost use Rattle.disk_trait.specs.Range.{SameOutside};
 ghost use Rattle.lilo_model.specs.Bytes.{part_of};
-ghost use Rattle.lilo_model.specs.MinixLayout.{zone_sector};
 ghost use Rattle.minix_zones.specs.Volume.{volume_view, past_of};
 ghost use Rattle.minix_steps.specs.Laws.{OneZone};
 ghost use Rattle.minix_steps.specs.Steps.{IsReady, IsUnusedZone, Steps};
-ghost use Rattle.minix_steps.specs.Written.{HasStepCause, with_zone, parts_now};
+ghost use Rattle.minix_steps.specs.Written.{HasStepCause, with_zone, IsPartOfZone, parts_now};
 
 use crate::write::write_beside;
 use disk_trait::Disks;
@@ -35,9 +33,8 @@ pub fn write_zone<D: Disks>(
     // What the disks hold now, and what they held at the last flush.
     ensures written { IsTold (past_of volume.old) → OnOk result (now (past_of volume.new)
         ≡ with_zone (volume_view volume.old) (now (past_of volume.old)) zone bytes.now) }
-    ensures others { IsTold (past_of volume.old)
-        → SameOutside volume.old.span.disk (volume.old.span.start + zone_sector zone) 2
-        (now (past_of volume.old)) (now (past_of volume.new)) }
+    ensures made { IsTold (past_of volume.old) → IsPartOfZone (volume_view volume.old)
+        (now (past_of volume.old)) (now (past_of volume.new)) zone bytes.now }
     ensures parts { IsTold (past_of volume.old) → OnOk result (OneZone (volume_view volume.old)
         (parts_now volume.old) (parts_now volume.new) zone bytes.now) }
     ensures begun { begun (past_of volume.new) ≡ begun (past_of volume.old) }

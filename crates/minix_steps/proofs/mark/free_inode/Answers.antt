@@ -1,0 +1,17 @@
+use Rattle.std.proofs.Common.{false}
+use Rattle.minix_steps.proofs.NowLemmas.{inode_mark_now}
+use Rattle.minix_steps.proofs.MarkSteps.{inode_clear_step}
+use Rattle.minix_steps.proofs.mark.free_inode.Goals as goal
+
+pub returns-in-Ok-clause-steps : goal.returns-in-Ok-clause-steps
+returns-in-Ok-clause-steps g c =
+    inode_clear_step c.args.volume.now c.clear_inode.new.volume c.clear_inode.result c.requires.ready c.args.number c.requires.some c.requires.there c.requires.unnamed c.clear_inode.ensures.writes
+
+pub returns-in-Err-clause-steps : goal.returns-in-Err-clause-steps
+returns-in-Err-clause-steps g c =
+    inode_clear_step c.args.volume.now c.clear_inode.new.volume c.clear_inode.result c.requires.ready c.args.number c.requires.some c.requires.there c.requires.unnamed c.clear_inode.ensures.writes
+
+pub returns-in-Ok-clause-parts : goal.returns-in-Ok-clause-parts
+returns-in-Ok-clause-parts g c told =
+    inode_mark_now c.args.volume.now c.clear_inode.new.volume (returns-in-Ok-clause-steps g c) c.requires.ready told c.args.number false c.requires.some c.requires.there
+    (c.in-Ok.ensures.writes.written told)

@@ -1,6 +1,7 @@
-"""What the test scripts share: the built program, images in a folder of their own, and the count."""
+"""What the test scripts share: the built program, other tools, images in a folder of their own, and the count."""
 
 import os
+import shutil
 import subprocess
 import sys
 import tempfile
@@ -22,6 +23,22 @@ def built(name):
         print('0 passed, 1 failed')
         sys.exit(1)
     return program
+
+
+def tool(name, package):
+    """The path of another tool, installed from Debian's package where it isn't here and that can be done, or None."""
+    path = os.environ.get('PATH', '') + ':/usr/sbin:/sbin'
+    if not shutil.which(name, path=path) and shutil.which('apt-get') and os.geteuid() == 0:
+        install = ['apt-get', 'install', '-y', '-q', package]
+        for command in (install, ['apt-get', 'update', '-q'], install):
+            try:
+                done = subprocess.run(command, stdin=subprocess.DEVNULL, stdout=subprocess.DEVNULL,
+                                      stderr=subprocess.DEVNULL, timeout=300)
+            except subprocess.TimeoutExpired:
+                break
+            if command == install and done.returncode == 0:
+                break
+    return shutil.which(name, path=path)
 
 
 class Harness:

@@ -4,206 +4,206 @@ use Rattle.lilo_model.specs.Bytes.{number16, number32, is_zero}
 use Rattle.lilo_model.specs.MinixEntries.{entry_of, entry_at, find_entry, entries_at, is_dots}
 use Rattle.lilo_model.specs.MinixFind.{components, child, find_path, file_block, file_at, find, NotFound, NotDirectory, TooManyLinks, BadEntry, PathTooLong, Zone}
 use Rattle.lilo_model.specs.MinixLayout.{kind_of, super_of, super_checks, super_in, super_at, v1_inode, v2_inode, inode_of, inode_at, inode_place, BadSize, FileSize}
-use Rattle.lilo_model.specs.MinixParts.{bit, parts_of, number_in, follow, pointer_by, inside, follow_at, zone_at, block_at, content_at, Layout, ZoneOutside}
+use Rattle.lilo_model.specs.MinixParts.{bit, with_bit, parts_of, number_in, follow, pointer_by, inside, follow_at, zone_at, block_at, content_at, Layout, ZoneOutside}
 use Rattle.model_cases.specs.Sparse.{disks_of, patch_at, hex}
 use Rattle.model_cases.specs.MinixFixtures.{minix_v1_short, volume_v1_short, minix_v1_long, volume_v1_long}
 
 -- an entry of an inode that is not there in version 1 with short names
 pub minix_find_an_entry_of_an_inode_that_is_not_there_in_version_1_with_short_names : find volume_v1_short.layout (parts_of volume_v1_short (disks_of (minix_v1_short ++ (patch_at 0 10 32 (hex 2 0x2100) ∷ [])))) (codes "/boot") ≡ Err (BadEntry 1)
-unfolding number16 number32 is_zero kind_of super_of super_checks super_in super_at v1_inode v2_inode inode_of inode_at inode_place bit parts_of number_in follow pointer_by inside follow_at zone_at block_at content_at entry_of entry_at find_entry entries_at is_dots components child find_path file_block file_at
+unfolding number16 number32 is_zero kind_of super_of super_checks super_in super_at v1_inode v2_inode inode_of inode_at inode_place bit with_bit parts_of number_in follow pointer_by inside follow_at zone_at block_at content_at entry_of entry_at find_entry entries_at is_dots components child find_path file_block file_at
 minix_find_an_entry_of_an_inode_that_is_not_there_in_version_1_with_short_names = refl
 
 -- an entry of the last inode in version 1 with short names
 pub minix_find_an_entry_of_the_last_inode_in_version_1_with_short_names : find volume_v1_short.layout (parts_of volume_v1_short (disks_of (minix_v1_short ++ (patch_at 0 10 32 (hex 2 0x2000) ∷ [])))) (codes "/boot") ≡ Ok 32
-unfolding number16 number32 is_zero kind_of super_of super_checks super_in super_at v1_inode v2_inode inode_of inode_at inode_place bit parts_of number_in follow pointer_by inside follow_at zone_at block_at content_at entry_of entry_at find_entry entries_at is_dots components child find_path file_block file_at
+unfolding number16 number32 is_zero kind_of super_of super_checks super_in super_at v1_inode v2_inode inode_of inode_at inode_place bit with_bit parts_of number_in follow pointer_by inside follow_at zone_at block_at content_at entry_of entry_at find_entry entries_at is_dots components child find_path file_block file_at
 minix_find_an_entry_of_the_last_inode_in_version_1_with_short_names = refl
 
 -- an entry with the number 0 in version 1 with short names
 pub minix_find_an_entry_with_the_number_0_in_version_1_with_short_names : find volume_v1_short.layout (parts_of volume_v1_short (disks_of (minix_v1_short ++ (patch_at 0 10 32 (hex 2 0x0000) ∷ [])))) (codes "/boot") ≡ Err (NotFound 0)
-unfolding number16 number32 is_zero kind_of super_of super_checks super_in super_at v1_inode v2_inode inode_of inode_at inode_place bit parts_of number_in follow pointer_by inside follow_at zone_at block_at content_at entry_of entry_at find_entry entries_at is_dots components child find_path file_block file_at
+unfolding number16 number32 is_zero kind_of super_of super_checks super_in super_at v1_inode v2_inode inode_of inode_at inode_place bit with_bit parts_of number_in follow pointer_by inside follow_at zone_at block_at content_at entry_of entry_at find_entry entries_at is_dots components child find_path file_block file_at
 minix_find_an_entry_with_the_number_0_in_version_1_with_short_names = refl
 
 -- the first of two entries of one name in version 1 with short names
 pub minix_find_the_first_of_two_entries_of_one_name_in_version_1_with_short_names : find volume_v1_short.layout (parts_of volume_v1_short (disks_of (minix_v1_short ++ (patch_at 0 10 48 (hex 16 0x0400626f6f7400000000000000000000) ∷ [])))) (codes "/boot") ≡ Ok 2
-unfolding number16 number32 is_zero kind_of super_of super_checks super_in super_at v1_inode v2_inode inode_of inode_at inode_place bit parts_of number_in follow pointer_by inside follow_at zone_at block_at content_at entry_of entry_at find_entry entries_at is_dots components child find_path file_block file_at
+unfolding number16 number32 is_zero kind_of super_of super_checks super_in super_at v1_inode v2_inode inode_of inode_at inode_place bit with_bit parts_of number_in follow pointer_by inside follow_at zone_at block_at content_at entry_of entry_at find_entry entries_at is_dots components child find_path file_block file_at
 minix_find_the_first_of_two_entries_of_one_name_in_version_1_with_short_names = refl
 
 -- a size beyond version 1 in version 1 with short names
 pub minix_find_a_size_beyond_version_1_in_version_1_with_short_names : find volume_v1_short.layout (parts_of volume_v1_short (disks_of (minix_v1_short ++ (patch_at 0 8 100 (hex 4 0x011c0810) ∷ [])))) (codes "/boot/boot.b") ≡ Err (Zone (Layout (BadSize FileSize)))
-unfolding number16 number32 is_zero kind_of super_of super_checks super_in super_at v1_inode v2_inode inode_of inode_at inode_place bit parts_of number_in follow pointer_by inside follow_at zone_at block_at content_at entry_of entry_at find_entry entries_at is_dots components child find_path file_block file_at
+unfolding number16 number32 is_zero kind_of super_of super_checks super_in super_at v1_inode v2_inode inode_of inode_at inode_place bit with_bit parts_of number_in follow pointer_by inside follow_at zone_at block_at content_at entry_of entry_at find_entry entries_at is_dots components child find_path file_block file_at
 minix_find_a_size_beyond_version_1_in_version_1_with_short_names = refl
 
 -- a root with a size beyond version 1 in version 1 with short names
 pub minix_find_a_root_with_a_size_beyond_version_1_in_version_1_with_short_names : find volume_v1_short.layout (parts_of volume_v1_short (disks_of (minix_v1_short ++ (patch_at 0 8 4 (hex 4 0x011c0810) ∷ [])))) (codes "/") ≡ Err (Zone (Layout (BadSize FileSize)))
-unfolding number16 number32 is_zero kind_of super_of super_checks super_in super_at v1_inode v2_inode inode_of inode_at inode_place bit parts_of number_in follow pointer_by inside follow_at zone_at block_at content_at entry_of entry_at find_entry entries_at is_dots components child find_path file_block file_at
+unfolding number16 number32 is_zero kind_of super_of super_checks super_in super_at v1_inode v2_inode inode_of inode_at inode_place bit with_bit parts_of number_in follow pointer_by inside follow_at zone_at block_at content_at entry_of entry_at find_entry entries_at is_dots components child find_path file_block file_at
 minix_find_a_root_with_a_size_beyond_version_1_in_version_1_with_short_names = refl
 
 -- a link with a size beyond version 1, not followed in version 1 with short names
 pub minix_find_a_link_with_a_size_beyond_version_1_not_followed_in_version_1_with_short_names : find volume_v1_short.layout (parts_of volume_v1_short (disks_of (minix_v1_short ++ (patch_at 0 8 228 (hex 4 0x011c0810) ∷ [])))) (codes "/lr/x") ≡ Err (Zone (Layout (BadSize FileSize)))
-unfolding number16 number32 is_zero kind_of super_of super_checks super_in super_at v1_inode v2_inode inode_of inode_at inode_place bit parts_of number_in follow pointer_by inside follow_at zone_at block_at content_at entry_of entry_at find_entry entries_at is_dots components child find_path file_block file_at
+unfolding number16 number32 is_zero kind_of super_of super_checks super_in super_at v1_inode v2_inode inode_of inode_at inode_place bit with_bit parts_of number_in follow pointer_by inside follow_at zone_at block_at content_at entry_of entry_at find_entry entries_at is_dots components child find_path file_block file_at
 minix_find_a_link_with_a_size_beyond_version_1_not_followed_in_version_1_with_short_names = refl
 
 -- the path / in version 1 with long names
 pub minix_find_the_path_in_version_1_with_long_names : find volume_v1_long.layout (parts_of volume_v1_long (disks_of minix_v1_long)) (codes "/") ≡ Ok 1
-unfolding number16 number32 is_zero kind_of super_of super_checks super_in super_at v1_inode v2_inode inode_of inode_at inode_place bit parts_of number_in follow pointer_by inside follow_at zone_at block_at content_at entry_of entry_at find_entry entries_at is_dots components child find_path file_block file_at
+unfolding number16 number32 is_zero kind_of super_of super_checks super_in super_at v1_inode v2_inode inode_of inode_at inode_place bit with_bit parts_of number_in follow pointer_by inside follow_at zone_at block_at content_at entry_of entry_at find_entry entries_at is_dots components child find_path file_block file_at
 minix_find_the_path_in_version_1_with_long_names = refl
 
 -- the path /boot in version 1 with long names
 pub minix_find_the_path_boot_in_version_1_with_long_names : find volume_v1_long.layout (parts_of volume_v1_long (disks_of minix_v1_long)) (codes "/boot") ≡ Ok 2
-unfolding number16 number32 is_zero kind_of super_of super_checks super_in super_at v1_inode v2_inode inode_of inode_at inode_place bit parts_of number_in follow pointer_by inside follow_at zone_at block_at content_at entry_of entry_at find_entry entries_at is_dots components child find_path file_block file_at
+unfolding number16 number32 is_zero kind_of super_of super_checks super_in super_at v1_inode v2_inode inode_of inode_at inode_place bit with_bit parts_of number_in follow pointer_by inside follow_at zone_at block_at content_at entry_of entry_at find_entry entries_at is_dots components child find_path file_block file_at
 minix_find_the_path_boot_in_version_1_with_long_names = refl
 
 -- the path /boot/boot.b in version 1 with long names
 pub minix_find_the_path_boot_boot_b_in_version_1_with_long_names : find volume_v1_long.layout (parts_of volume_v1_long (disks_of minix_v1_long)) (codes "/boot/boot.b") ≡ Ok 4
-unfolding number16 number32 is_zero kind_of super_of super_checks super_in super_at v1_inode v2_inode inode_of inode_at inode_place bit parts_of number_in follow pointer_by inside follow_at zone_at block_at content_at entry_of entry_at find_entry entries_at is_dots components child find_path file_block file_at
+unfolding number16 number32 is_zero kind_of super_of super_checks super_in super_at v1_inode v2_inode inode_of inode_at inode_place bit with_bit parts_of number_in follow pointer_by inside follow_at zone_at block_at content_at entry_of entry_at find_entry entries_at is_dots components child find_path file_block file_at
 minix_find_the_path_boot_boot_b_in_version_1_with_long_names = refl
 
 -- the path /boot/old/k in version 1 with long names
 pub minix_find_the_path_boot_old_k_in_version_1_with_long_names : find volume_v1_long.layout (parts_of volume_v1_long (disks_of minix_v1_long)) (codes "/boot/old/k") ≡ Ok 5
-unfolding number16 number32 is_zero kind_of super_of super_checks super_in super_at v1_inode v2_inode inode_of inode_at inode_place bit parts_of number_in follow pointer_by inside follow_at zone_at block_at content_at entry_of entry_at find_entry entries_at is_dots components child find_path file_block file_at
+unfolding number16 number32 is_zero kind_of super_of super_checks super_in super_at v1_inode v2_inode inode_of inode_at inode_place bit with_bit parts_of number_in follow pointer_by inside follow_at zone_at block_at content_at entry_of entry_at find_entry entries_at is_dots components child find_path file_block file_at
 minix_find_the_path_boot_old_k_in_version_1_with_long_names = refl
 
 -- the path //boot///old// in version 1 with long names
 pub minix_find_the_path_boot_old_in_version_1_with_long_names : find volume_v1_long.layout (parts_of volume_v1_long (disks_of minix_v1_long)) (codes "//boot///old//") ≡ Ok 3
-unfolding number16 number32 is_zero kind_of super_of super_checks super_in super_at v1_inode v2_inode inode_of inode_at inode_place bit parts_of number_in follow pointer_by inside follow_at zone_at block_at content_at entry_of entry_at find_entry entries_at is_dots components child find_path file_block file_at
+unfolding number16 number32 is_zero kind_of super_of super_checks super_in super_at v1_inode v2_inode inode_of inode_at inode_place bit with_bit parts_of number_in follow pointer_by inside follow_at zone_at block_at content_at entry_of entry_at find_entry entries_at is_dots components child find_path file_block file_at
 minix_find_the_path_boot_old_in_version_1_with_long_names = refl
 
 -- the path /boot/../boot/./boot.b in version 1 with long names
 pub minix_find_the_path_boot_boot_boot_b_in_version_1_with_long_names : find volume_v1_long.layout (parts_of volume_v1_long (disks_of minix_v1_long)) (codes "/boot/../boot/./boot.b") ≡ Ok 4
-unfolding number16 number32 is_zero kind_of super_of super_checks super_in super_at v1_inode v2_inode inode_of inode_at inode_place bit parts_of number_in follow pointer_by inside follow_at zone_at block_at content_at entry_of entry_at find_entry entries_at is_dots components child find_path file_block file_at
+unfolding number16 number32 is_zero kind_of super_of super_checks super_in super_at v1_inode v2_inode inode_of inode_at inode_place bit with_bit parts_of number_in follow pointer_by inside follow_at zone_at block_at content_at entry_of entry_at find_entry entries_at is_dots components child find_path file_block file_at
 minix_find_the_path_boot_boot_boot_b_in_version_1_with_long_names = refl
 
 -- the path /.. in version 1 with long names
 pub minix_find_the_path_in_version_1_with_long_names_2 : find volume_v1_long.layout (parts_of volume_v1_long (disks_of minix_v1_long)) (codes "/..") ≡ Ok 1
-unfolding number16 number32 is_zero kind_of super_of super_checks super_in super_at v1_inode v2_inode inode_of inode_at inode_place bit parts_of number_in follow pointer_by inside follow_at zone_at block_at content_at entry_of entry_at find_entry entries_at is_dots components child find_path file_block file_at
+unfolding number16 number32 is_zero kind_of super_of super_checks super_in super_at v1_inode v2_inode inode_of inode_at inode_place bit with_bit parts_of number_in follow pointer_by inside follow_at zone_at block_at content_at entry_of entry_at find_entry entries_at is_dots components child find_path file_block file_at
 minix_find_the_path_in_version_1_with_long_names_2 = refl
 
 -- the path /../hole in version 1 with long names
 pub minix_find_the_path_hole_in_version_1_with_long_names : find volume_v1_long.layout (parts_of volume_v1_long (disks_of minix_v1_long)) (codes "/../hole") ≡ Ok 6
-unfolding number16 number32 is_zero kind_of super_of super_checks super_in super_at v1_inode v2_inode inode_of inode_at inode_place bit parts_of number_in follow pointer_by inside follow_at zone_at block_at content_at entry_of entry_at find_entry entries_at is_dots components child find_path file_block file_at
+unfolding number16 number32 is_zero kind_of super_of super_checks super_in super_at v1_inode v2_inode inode_of inode_at inode_place bit with_bit parts_of number_in follow pointer_by inside follow_at zone_at block_at content_at entry_of entry_at find_entry entries_at is_dots components child find_path file_block file_at
 minix_find_the_path_hole_in_version_1_with_long_names = refl
 
 -- the path /la in version 1 with long names
 pub minix_find_the_path_la_in_version_1_with_long_names : find volume_v1_long.layout (parts_of volume_v1_long (disks_of minix_v1_long)) (codes "/la") ≡ Ok 4
-unfolding number16 number32 is_zero kind_of super_of super_checks super_in super_at v1_inode v2_inode inode_of inode_at inode_place bit parts_of number_in follow pointer_by inside follow_at zone_at block_at content_at entry_of entry_at find_entry entries_at is_dots components child find_path file_block file_at
+unfolding number16 number32 is_zero kind_of super_of super_checks super_in super_at v1_inode v2_inode inode_of inode_at inode_place bit with_bit parts_of number_in follow pointer_by inside follow_at zone_at block_at content_at entry_of entry_at find_entry entries_at is_dots components child find_path file_block file_at
 minix_find_the_path_la_in_version_1_with_long_names = refl
 
 -- the path /lr in version 1 with long names
 pub minix_find_the_path_lr_in_version_1_with_long_names : find volume_v1_long.layout (parts_of volume_v1_long (disks_of minix_v1_long)) (codes "/lr") ≡ Ok 2
-unfolding number16 number32 is_zero kind_of super_of super_checks super_in super_at v1_inode v2_inode inode_of inode_at inode_place bit parts_of number_in follow pointer_by inside follow_at zone_at block_at content_at entry_of entry_at find_entry entries_at is_dots components child find_path file_block file_at
+unfolding number16 number32 is_zero kind_of super_of super_checks super_in super_at v1_inode v2_inode inode_of inode_at inode_place bit with_bit parts_of number_in follow pointer_by inside follow_at zone_at block_at content_at entry_of entry_at find_entry entries_at is_dots components child find_path file_block file_at
 minix_find_the_path_lr_in_version_1_with_long_names = refl
 
 -- the path /lr/boot.b in version 1 with long names
 pub minix_find_the_path_lr_boot_b_in_version_1_with_long_names : find volume_v1_long.layout (parts_of volume_v1_long (disks_of minix_v1_long)) (codes "/lr/boot.b") ≡ Ok 4
-unfolding number16 number32 is_zero kind_of super_of super_checks super_in super_at v1_inode v2_inode inode_of inode_at inode_place bit parts_of number_in follow pointer_by inside follow_at zone_at block_at content_at entry_of entry_at find_entry entries_at is_dots components child find_path file_block file_at
+unfolding number16 number32 is_zero kind_of super_of super_checks super_in super_at v1_inode v2_inode inode_of inode_at inode_place bit with_bit parts_of number_in follow pointer_by inside follow_at zone_at block_at content_at entry_of entry_at find_entry entries_at is_dots components child find_path file_block file_at
 minix_find_the_path_lr_boot_b_in_version_1_with_long_names = refl
 
 -- the path /lr/up in version 1 with long names
 pub minix_find_the_path_lr_up_in_version_1_with_long_names : find volume_v1_long.layout (parts_of volume_v1_long (disks_of minix_v1_long)) (codes "/lr/up") ≡ Ok 6
-unfolding number16 number32 is_zero kind_of super_of super_checks super_in super_at v1_inode v2_inode inode_of inode_at inode_place bit parts_of number_in follow pointer_by inside follow_at zone_at block_at content_at entry_of entry_at find_entry entries_at is_dots components child find_path file_block file_at
+unfolding number16 number32 is_zero kind_of super_of super_checks super_in super_at v1_inode v2_inode inode_of inode_at inode_place bit with_bit parts_of number_in follow pointer_by inside follow_at zone_at block_at content_at entry_of entry_at find_entry entries_at is_dots components child find_path file_block file_at
 minix_find_the_path_lr_up_in_version_1_with_long_names = refl
 
 -- the path /boot/up in version 1 with long names
 pub minix_find_the_path_boot_up_in_version_1_with_long_names : find volume_v1_long.layout (parts_of volume_v1_long (disks_of minix_v1_long)) (codes "/boot/up") ≡ Ok 6
-unfolding number16 number32 is_zero kind_of super_of super_checks super_in super_at v1_inode v2_inode inode_of inode_at inode_place bit parts_of number_in follow pointer_by inside follow_at zone_at block_at content_at entry_of entry_at find_entry entries_at is_dots components child find_path file_block file_at
+unfolding number16 number32 is_zero kind_of super_of super_checks super_in super_at v1_inode v2_inode inode_of inode_at inode_place bit with_bit parts_of number_in follow pointer_by inside follow_at zone_at block_at content_at entry_of entry_at find_entry entries_at is_dots components child find_path file_block file_at
 minix_find_the_path_boot_up_in_version_1_with_long_names = refl
 
 -- the path /boot/old/c1 in version 1 with long names
 pub minix_find_the_path_boot_old_c1_in_version_1_with_long_names : find volume_v1_long.layout (parts_of volume_v1_long (disks_of minix_v1_long)) (codes "/boot/old/c1") ≡ Ok 6
-unfolding number16 number32 is_zero kind_of super_of super_checks super_in super_at v1_inode v2_inode inode_of inode_at inode_place bit parts_of number_in follow pointer_by inside follow_at zone_at block_at content_at entry_of entry_at find_entry entries_at is_dots components child find_path file_block file_at
+unfolding number16 number32 is_zero kind_of super_of super_checks super_in super_at v1_inode v2_inode inode_of inode_at inode_place bit with_bit parts_of number_in follow pointer_by inside follow_at zone_at block_at content_at entry_of entry_at find_entry entries_at is_dots components child find_path file_block file_at
 minix_find_the_path_boot_old_c1_in_version_1_with_long_names = refl
 
 -- the path /boot/old/c2 in version 1 with long names
 pub minix_find_the_path_boot_old_c2_in_version_1_with_long_names : find volume_v1_long.layout (parts_of volume_v1_long (disks_of minix_v1_long)) (codes "/boot/old/c2") ≡ Ok 6
-unfolding number16 number32 is_zero kind_of super_of super_checks super_in super_at v1_inode v2_inode inode_of inode_at inode_place bit parts_of number_in follow pointer_by inside follow_at zone_at block_at content_at entry_of entry_at find_entry entries_at is_dots components child find_path file_block file_at
+unfolding number16 number32 is_zero kind_of super_of super_checks super_in super_at v1_inode v2_inode inode_of inode_at inode_place bit with_bit parts_of number_in follow pointer_by inside follow_at zone_at block_at content_at entry_of entry_at find_entry entries_at is_dots components child find_path file_block file_at
 minix_find_the_path_boot_old_c2_in_version_1_with_long_names = refl
 
 -- the path /boot/old/self in version 1 with long names
 pub minix_find_the_path_boot_old_self_in_version_1_with_long_names : find volume_v1_long.layout (parts_of volume_v1_long (disks_of minix_v1_long)) (codes "/boot/old/self") ≡ Err TooManyLinks
-unfolding number16 number32 is_zero kind_of super_of super_checks super_in super_at v1_inode v2_inode inode_of inode_at inode_place bit parts_of number_in follow pointer_by inside follow_at zone_at block_at content_at entry_of entry_at find_entry entries_at is_dots components child find_path file_block file_at
+unfolding number16 number32 is_zero kind_of super_of super_checks super_in super_at v1_inode v2_inode inode_of inode_at inode_place bit with_bit parts_of number_in follow pointer_by inside follow_at zone_at block_at content_at entry_of entry_at find_entry entries_at is_dots components child find_path file_block file_at
 minix_find_the_path_boot_old_self_in_version_1_with_long_names = refl
 
 -- the path /none in version 1 with long names
 pub minix_find_the_path_none_in_version_1_with_long_names : find volume_v1_long.layout (parts_of volume_v1_long (disks_of minix_v1_long)) (codes "/none") ≡ Err (NotFound 0)
-unfolding number16 number32 is_zero kind_of super_of super_checks super_in super_at v1_inode v2_inode inode_of inode_at inode_place bit parts_of number_in follow pointer_by inside follow_at zone_at block_at content_at entry_of entry_at find_entry entries_at is_dots components child find_path file_block file_at
+unfolding number16 number32 is_zero kind_of super_of super_checks super_in super_at v1_inode v2_inode inode_of inode_at inode_place bit with_bit parts_of number_in follow pointer_by inside follow_at zone_at block_at content_at entry_of entry_at find_entry entries_at is_dots components child find_path file_block file_at
 minix_find_the_path_none_in_version_1_with_long_names = refl
 
 -- the path /boot/none in version 1 with long names
 pub minix_find_the_path_boot_none_in_version_1_with_long_names : find volume_v1_long.layout (parts_of volume_v1_long (disks_of minix_v1_long)) (codes "/boot/none") ≡ Err (NotFound 1)
-unfolding number16 number32 is_zero kind_of super_of super_checks super_in super_at v1_inode v2_inode inode_of inode_at inode_place bit parts_of number_in follow pointer_by inside follow_at zone_at block_at content_at entry_of entry_at find_entry entries_at is_dots components child find_path file_block file_at
+unfolding number16 number32 is_zero kind_of super_of super_checks super_in super_at v1_inode v2_inode inode_of inode_at inode_place bit with_bit parts_of number_in follow pointer_by inside follow_at zone_at block_at content_at entry_of entry_at find_entry entries_at is_dots components child find_path file_block file_at
 minix_find_the_path_boot_none_in_version_1_with_long_names = refl
 
 -- the path /lr/none in version 1 with long names
 pub minix_find_the_path_lr_none_in_version_1_with_long_names : find volume_v1_long.layout (parts_of volume_v1_long (disks_of minix_v1_long)) (codes "/lr/none") ≡ Err (NotFound 1)
-unfolding number16 number32 is_zero kind_of super_of super_checks super_in super_at v1_inode v2_inode inode_of inode_at inode_place bit parts_of number_in follow pointer_by inside follow_at zone_at block_at content_at entry_of entry_at find_entry entries_at is_dots components child find_path file_block file_at
+unfolding number16 number32 is_zero kind_of super_of super_checks super_in super_at v1_inode v2_inode inode_of inode_at inode_place bit with_bit parts_of number_in follow pointer_by inside follow_at zone_at block_at content_at entry_of entry_at find_entry entries_at is_dots components child find_path file_block file_at
 minix_find_the_path_lr_none_in_version_1_with_long_names = refl
 
 -- the path /boot/boot.b/x in version 1 with long names
 pub minix_find_the_path_boot_boot_b_x_in_version_1_with_long_names : find volume_v1_long.layout (parts_of volume_v1_long (disks_of minix_v1_long)) (codes "/boot/boot.b/x") ≡ Err (NotDirectory 2)
-unfolding number16 number32 is_zero kind_of super_of super_checks super_in super_at v1_inode v2_inode inode_of inode_at inode_place bit parts_of number_in follow pointer_by inside follow_at zone_at block_at content_at entry_of entry_at find_entry entries_at is_dots components child find_path file_block file_at
+unfolding number16 number32 is_zero kind_of super_of super_checks super_in super_at v1_inode v2_inode inode_of inode_at inode_place bit with_bit parts_of number_in follow pointer_by inside follow_at zone_at block_at content_at entry_of entry_at find_entry entries_at is_dots components child find_path file_block file_at
 minix_find_the_path_boot_boot_b_x_in_version_1_with_long_names = refl
 
 -- the path /la/x in version 1 with long names
 pub minix_find_the_path_la_x_in_version_1_with_long_names : find volume_v1_long.layout (parts_of volume_v1_long (disks_of minix_v1_long)) (codes "/la/x") ≡ Err (NotDirectory 2)
-unfolding number16 number32 is_zero kind_of super_of super_checks super_in super_at v1_inode v2_inode inode_of inode_at inode_place bit parts_of number_in follow pointer_by inside follow_at zone_at block_at content_at entry_of entry_at find_entry entries_at is_dots components child find_path file_block file_at
+unfolding number16 number32 is_zero kind_of super_of super_checks super_in super_at v1_inode v2_inode inode_of inode_at inode_place bit with_bit parts_of number_in follow pointer_by inside follow_at zone_at block_at content_at entry_of entry_at find_entry entries_at is_dots components child find_path file_block file_at
 minix_find_the_path_la_x_in_version_1_with_long_names = refl
 
 -- the path /hole/.. in version 1 with long names
 pub minix_find_the_path_hole_in_version_1_with_long_names_2 : find volume_v1_long.layout (parts_of volume_v1_long (disks_of minix_v1_long)) (codes "/hole/..") ≡ Err (NotDirectory 1)
-unfolding number16 number32 is_zero kind_of super_of super_checks super_in super_at v1_inode v2_inode inode_of inode_at inode_place bit parts_of number_in follow pointer_by inside follow_at zone_at block_at content_at entry_of entry_at find_entry entries_at is_dots components child find_path file_block file_at
+unfolding number16 number32 is_zero kind_of super_of super_checks super_in super_at v1_inode v2_inode inode_of inode_at inode_place bit with_bit parts_of number_in follow pointer_by inside follow_at zone_at block_at content_at entry_of entry_at find_entry entries_at is_dots components child find_path file_block file_at
 minix_find_the_path_hole_in_version_1_with_long_names_2 = refl
 
 -- the path boot in version 1 with long names
 pub minix_find_the_path_boot_in_version_1_with_long_names_2 : find volume_v1_long.layout (parts_of volume_v1_long (disks_of minix_v1_long)) (codes "boot") ≡ Err (NotFound 0)
-unfolding number16 number32 is_zero kind_of super_of super_checks super_in super_at v1_inode v2_inode inode_of inode_at inode_place bit parts_of number_in follow pointer_by inside follow_at zone_at block_at content_at entry_of entry_at find_entry entries_at is_dots components child find_path file_block file_at
+unfolding number16 number32 is_zero kind_of super_of super_checks super_in super_at v1_inode v2_inode inode_of inode_at inode_place bit with_bit parts_of number_in follow pointer_by inside follow_at zone_at block_at content_at entry_of entry_at find_entry entries_at is_dots components child find_path file_block file_at
 minix_find_the_path_boot_in_version_1_with_long_names_2 = refl
 
 -- the path of no byte in version 1 with long names
 pub minix_find_the_path_of_no_byte_in_version_1_with_long_names : find volume_v1_long.layout (parts_of volume_v1_long (disks_of minix_v1_long)) [] ≡ Err (NotFound 0)
-unfolding number16 number32 is_zero kind_of super_of super_checks super_in super_at v1_inode v2_inode inode_of inode_at inode_place bit parts_of number_in follow pointer_by inside follow_at zone_at block_at content_at entry_of entry_at find_entry entries_at is_dots components child find_path file_block file_at
+unfolding number16 number32 is_zero kind_of super_of super_checks super_in super_at v1_inode v2_inode inode_of inode_at inode_place bit with_bit parts_of number_in follow pointer_by inside follow_at zone_at block_at content_at entry_of entry_at find_entry entries_at is_dots components child find_path file_block file_at
 minix_find_the_path_of_no_byte_in_version_1_with_long_names = refl
 
 -- the path /boot/old/../../far in version 1 with long names
 pub minix_find_the_path_boot_old_far_in_version_1_with_long_names : find volume_v1_long.layout (parts_of volume_v1_long (disks_of minix_v1_long)) (codes "/boot/old/../../far") ≡ Ok 13
-unfolding number16 number32 is_zero kind_of super_of super_checks super_in super_at v1_inode v2_inode inode_of inode_at inode_place bit parts_of number_in follow pointer_by inside follow_at zone_at block_at content_at entry_of entry_at find_entry entries_at is_dots components child find_path file_block file_at
+unfolding number16 number32 is_zero kind_of super_of super_checks super_in super_at v1_inode v2_inode inode_of inode_at inode_place bit with_bit parts_of number_in follow pointer_by inside follow_at zone_at block_at content_at entry_of entry_at find_entry entries_at is_dots components child find_path file_block file_at
 minix_find_the_path_boot_old_far_in_version_1_with_long_names = refl
 
 -- the path /boot/old/c2/x in version 1 with long names
 pub minix_find_the_path_boot_old_c2_x_in_version_1_with_long_names : find volume_v1_long.layout (parts_of volume_v1_long (disks_of minix_v1_long)) (codes "/boot/old/c2/x") ≡ Err (NotDirectory 2)
-unfolding number16 number32 is_zero kind_of super_of super_checks super_in super_at v1_inode v2_inode inode_of inode_at inode_place bit parts_of number_in follow pointer_by inside follow_at zone_at block_at content_at entry_of entry_at find_entry entries_at is_dots components child find_path file_block file_at
+unfolding number16 number32 is_zero kind_of super_of super_checks super_in super_at v1_inode v2_inode inode_of inode_at inode_place bit with_bit parts_of number_in follow pointer_by inside follow_at zone_at block_at content_at entry_of entry_at find_entry entries_at is_dots components child find_path file_block file_at
 minix_find_the_path_boot_old_c2_x_in_version_1_with_long_names = refl
 
 -- the path /lr/ in version 1 with long names
 pub minix_find_the_path_lr_in_version_1_with_long_names_2 : find volume_v1_long.layout (parts_of volume_v1_long (disks_of minix_v1_long)) (codes "/lr/") ≡ Ok 2
-unfolding number16 number32 is_zero kind_of super_of super_checks super_in super_at v1_inode v2_inode inode_of inode_at inode_place bit parts_of number_in follow pointer_by inside follow_at zone_at block_at content_at entry_of entry_at find_entry entries_at is_dots components child find_path file_block file_at
+unfolding number16 number32 is_zero kind_of super_of super_checks super_in super_at v1_inode v2_inode inode_of inode_at inode_place bit with_bit parts_of number_in follow pointer_by inside follow_at zone_at block_at content_at entry_of entry_at find_entry entries_at is_dots components child find_path file_block file_at
 minix_find_the_path_lr_in_version_1_with_long_names_2 = refl
 
 -- the path /lr/. in version 1 with long names
 pub minix_find_the_path_lr_in_version_1_with_long_names_3 : find volume_v1_long.layout (parts_of volume_v1_long (disks_of minix_v1_long)) (codes "/lr/.") ≡ Ok 2
-unfolding number16 number32 is_zero kind_of super_of super_checks super_in super_at v1_inode v2_inode inode_of inode_at inode_place bit parts_of number_in follow pointer_by inside follow_at zone_at block_at content_at entry_of entry_at find_entry entries_at is_dots components child find_path file_block file_at
+unfolding number16 number32 is_zero kind_of super_of super_checks super_in super_at v1_inode v2_inode inode_of inode_at inode_place bit with_bit parts_of number_in follow pointer_by inside follow_at zone_at block_at content_at entry_of entry_at find_entry entries_at is_dots components child find_path file_block file_at
 minix_find_the_path_lr_in_version_1_with_long_names_3 = refl
 
 -- a directory whose zone is outside in version 1 with long names
 pub minix_find_a_directory_whose_zone_is_outside_in_version_1_with_long_names : find volume_v1_long.layout (parts_of volume_v1_long (disks_of (minix_v1_long ++ (patch_at 0 8 46 (hex 2 0x60ea) ∷ [])))) (codes "/boot/boot.b") ≡ Err (Zone (ZoneOutside 60000))
-unfolding number16 number32 is_zero kind_of super_of super_checks super_in super_at v1_inode v2_inode inode_of inode_at inode_place bit parts_of number_in follow pointer_by inside follow_at zone_at block_at content_at entry_of entry_at find_entry entries_at is_dots components child find_path file_block file_at
+unfolding number16 number32 is_zero kind_of super_of super_checks super_in super_at v1_inode v2_inode inode_of inode_at inode_place bit with_bit parts_of number_in follow pointer_by inside follow_at zone_at block_at content_at entry_of entry_at find_entry entries_at is_dots components child find_path file_block file_at
 minix_find_a_directory_whose_zone_is_outside_in_version_1_with_long_names = refl
 
 -- a root whose zone is outside in version 1 with long names
 pub minix_find_a_root_whose_zone_is_outside_in_version_1_with_long_names : find volume_v1_long.layout (parts_of volume_v1_long (disks_of (minix_v1_long ++ (patch_at 0 8 14 (hex 2 0x0100) ∷ [])))) (codes "/boot") ≡ Err (Zone (ZoneOutside 1))
-unfolding number16 number32 is_zero kind_of super_of super_checks super_in super_at v1_inode v2_inode inode_of inode_at inode_place bit parts_of number_in follow pointer_by inside follow_at zone_at block_at content_at entry_of entry_at find_entry entries_at is_dots components child find_path file_block file_at
+unfolding number16 number32 is_zero kind_of super_of super_checks super_in super_at v1_inode v2_inode inode_of inode_at inode_place bit with_bit parts_of number_in follow pointer_by inside follow_at zone_at block_at content_at entry_of entry_at find_entry entries_at is_dots components child find_path file_block file_at
 minix_find_a_root_whose_zone_is_outside_in_version_1_with_long_names = refl
 
 -- a path of slashes on a root whose zone is outside in version 1 with long names
 pub minix_find_a_path_of_slashes_on_a_root_whose_zone_is_outside_in_version_1_with_long_names : find volume_v1_long.layout (parts_of volume_v1_long (disks_of (minix_v1_long ++ (patch_at 0 8 14 (hex 2 0x0100) ∷ [])))) (codes "//") ≡ Ok 1
-unfolding number16 number32 is_zero kind_of super_of super_checks super_in super_at v1_inode v2_inode inode_of inode_at inode_place bit parts_of number_in follow pointer_by inside follow_at zone_at block_at content_at entry_of entry_at find_entry entries_at is_dots components child find_path file_block file_at
+unfolding number16 number32 is_zero kind_of super_of super_checks super_in super_at v1_inode v2_inode inode_of inode_at inode_place bit with_bit parts_of number_in follow pointer_by inside follow_at zone_at block_at content_at entry_of entry_at find_entry entries_at is_dots components child find_path file_block file_at
 minix_find_a_path_of_slashes_on_a_root_whose_zone_is_outside_in_version_1_with_long_names = refl
 
 -- a link whose zone is outside in version 1 with long names
 pub minix_find_a_link_whose_zone_is_outside_in_version_1_with_long_names : find volume_v1_long.layout (parts_of volume_v1_long (disks_of (minix_v1_long ++ (patch_at 0 8 238 (hex 2 0x60ea) ∷ [])))) (codes "/lr") ≡ Err (Zone (ZoneOutside 60000))
-unfolding number16 number32 is_zero kind_of super_of super_checks super_in super_at v1_inode v2_inode inode_of inode_at inode_place bit parts_of number_in follow pointer_by inside follow_at zone_at block_at content_at entry_of entry_at find_entry entries_at is_dots components child find_path file_block file_at
+unfolding number16 number32 is_zero kind_of super_of super_checks super_in super_at v1_inode v2_inode inode_of inode_at inode_place bit with_bit parts_of number_in follow pointer_by inside follow_at zone_at block_at content_at entry_of entry_at find_entry entries_at is_dots components child find_path file_block file_at
 minix_find_a_link_whose_zone_is_outside_in_version_1_with_long_names = refl
 
 -- a long link whose zone is outside in version 1 with long names
 pub minix_find_a_long_link_whose_zone_is_outside_in_version_1_with_long_names : find volume_v1_long.layout (parts_of volume_v1_long (disks_of (minix_v1_long ++ (patch_at 0 8 238 (hex 2 0x60ea) ∷ patch_at 0 8 228 (hex 4 0x01040000) ∷ [])))) (codes "/lr") ≡ Err PathTooLong
-unfolding number16 number32 is_zero kind_of super_of super_checks super_in super_at v1_inode v2_inode inode_of inode_at inode_place bit parts_of number_in follow pointer_by inside follow_at zone_at block_at content_at entry_of entry_at find_entry entries_at is_dots components child find_path file_block file_at
+unfolding number16 number32 is_zero kind_of super_of super_checks super_in super_at v1_inode v2_inode inode_of inode_at inode_place bit with_bit parts_of number_in follow pointer_by inside follow_at zone_at block_at content_at entry_of entry_at find_entry entries_at is_dots components child find_path file_block file_at
 minix_find_a_long_link_whose_zone_is_outside_in_version_1_with_long_names = refl

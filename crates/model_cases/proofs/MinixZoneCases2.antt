@@ -2,46 +2,46 @@
 use Rattle.std.proofs.Common.{◌≡◌, ◌∷◌, ◌++◌, [], Ok, Err, refl}
 use Rattle.lilo_model.specs.Bytes.{number16, number32, is_zero}
 use Rattle.lilo_model.specs.MinixLayout.{kind_of, super_of, super_checks, super_in, super_at, v1_inode, v2_inode, inode_of, inode_at, inode_place}
-use Rattle.lilo_model.specs.MinixParts.{bit, parts_of, number_in, follow, pointer_by, inside, follow_at, zone_at, block_at, content_at, ZoneOutside}
+use Rattle.lilo_model.specs.MinixParts.{bit, with_bit, parts_of, number_in, follow, pointer_by, inside, follow_at, zone_at, block_at, content_at, ZoneOutside}
 use Rattle.model_cases.specs.Sparse.{disks_of, patch_at, hex}
 use Rattle.model_cases.specs.MinixFixtures.{minix_v2_long, volume_v2_long}
 
 -- block 262 of /far in version 2 with long names
 pub minix_zone_block_262_of_far_in_version_2_with_long_names : zone_at volume_v2_long.layout (parts_of volume_v2_long (disks_of minix_v2_long)) ((parts_of volume_v2_long (disks_of minix_v2_long)).node 13) 262 ≡ Ok 0
-unfolding number16 number32 is_zero kind_of super_of super_checks super_in super_at v1_inode v2_inode inode_of inode_at inode_place bit parts_of number_in follow pointer_by inside follow_at zone_at block_at content_at
+unfolding number16 number32 is_zero kind_of super_of super_checks super_in super_at v1_inode v2_inode inode_of inode_at inode_place bit with_bit parts_of number_in follow pointer_by inside follow_at zone_at block_at content_at
 minix_zone_block_262_of_far_in_version_2_with_long_names = refl
 
 -- block 263 of /far in version 2 with long names
 pub minix_zone_block_263_of_far_in_version_2_with_long_names : zone_at volume_v2_long.layout (parts_of volume_v2_long (disks_of minix_v2_long)) ((parts_of volume_v2_long (disks_of minix_v2_long)).node 13) 263 ≡ Ok 0
-unfolding number16 number32 is_zero kind_of super_of super_checks super_in super_at v1_inode v2_inode inode_of inode_at inode_place bit parts_of number_in follow pointer_by inside follow_at zone_at block_at content_at
+unfolding number16 number32 is_zero kind_of super_of super_checks super_in super_at v1_inode v2_inode inode_of inode_at inode_place bit with_bit parts_of number_in follow pointer_by inside follow_at zone_at block_at content_at
 minix_zone_block_263_of_far_in_version_2_with_long_names = refl
 
 -- block 264 of /far in version 2 with long names
 pub minix_zone_block_264_of_far_in_version_2_with_long_names : zone_at volume_v2_long.layout (parts_of volume_v2_long (disks_of minix_v2_long)) ((parts_of volume_v2_long (disks_of minix_v2_long)).node 13) 264 ≡ Ok 0
-unfolding number16 number32 is_zero kind_of super_of super_checks super_in super_at v1_inode v2_inode inode_of inode_at inode_place bit parts_of number_in follow pointer_by inside follow_at zone_at block_at content_at
+unfolding number16 number32 is_zero kind_of super_of super_checks super_in super_at v1_inode v2_inode inode_of inode_at inode_place bit with_bit parts_of number_in follow pointer_by inside follow_at zone_at block_at content_at
 minix_zone_block_264_of_far_in_version_2_with_long_names = refl
 
 -- block 65798 of /far in version 2 with long names
 pub minix_zone_block_65798_of_far_in_version_2_with_long_names : zone_at volume_v2_long.layout (parts_of volume_v2_long (disks_of minix_v2_long)) ((parts_of volume_v2_long (disks_of minix_v2_long)).node 13) 65798 ≡ Ok 0
-unfolding number16 number32 is_zero kind_of super_of super_checks super_in super_at v1_inode v2_inode inode_of inode_at inode_place bit parts_of number_in follow pointer_by inside follow_at zone_at block_at content_at
+unfolding number16 number32 is_zero kind_of super_of super_checks super_in super_at v1_inode v2_inode inode_of inode_at inode_place bit with_bit parts_of number_in follow pointer_by inside follow_at zone_at block_at content_at
 minix_zone_block_65798_of_far_in_version_2_with_long_names = refl
 
 -- block 65799 of /far in version 2 with long names
 pub minix_zone_block_65799_of_far_in_version_2_with_long_names : zone_at volume_v2_long.layout (parts_of volume_v2_long (disks_of minix_v2_long)) ((parts_of volume_v2_long (disks_of minix_v2_long)).node 13) 65799 ≡ Ok 0
-unfolding number16 number32 is_zero kind_of super_of super_checks super_in super_at v1_inode v2_inode inode_of inode_at inode_place bit parts_of number_in follow pointer_by inside follow_at zone_at block_at content_at
+unfolding number16 number32 is_zero kind_of super_of super_checks super_in super_at v1_inode v2_inode inode_of inode_at inode_place bit with_bit parts_of number_in follow pointer_by inside follow_at zone_at block_at content_at
 minix_zone_block_65799_of_far_in_version_2_with_long_names = refl
 
 -- block 16843014 of /far in version 2 with long names
 pub minix_zone_block_16843014_of_far_in_version_2_with_long_names : zone_at volume_v2_long.layout (parts_of volume_v2_long (disks_of minix_v2_long)) ((parts_of volume_v2_long (disks_of minix_v2_long)).node 13) 16843014 ≡ Ok 0
-unfolding number16 number32 is_zero kind_of super_of super_checks super_in super_at v1_inode v2_inode inode_of inode_at inode_place bit parts_of number_in follow pointer_by inside follow_at zone_at block_at content_at
+unfolding number16 number32 is_zero kind_of super_of super_checks super_in super_at v1_inode v2_inode inode_of inode_at inode_place bit with_bit parts_of number_in follow pointer_by inside follow_at zone_at block_at content_at
 minix_zone_block_16843014_of_far_in_version_2_with_long_names = refl
 
 -- an indirect zone outside in version 2 with long names
 pub minix_zone_an_indirect_zone_outside_in_version_2_with_long_names : zone_at volume_v2_long.layout (parts_of volume_v2_long (disks_of (minix_v2_long ++ (patch_at 0 12 308 (hex 4 0x60ea0000) ∷ [])))) ((parts_of volume_v2_long (disks_of (minix_v2_long ++ (patch_at 0 12 308 (hex 4 0x60ea0000) ∷ [])))).node 13) 7 ≡ Err (ZoneOutside 60000)
-unfolding number16 number32 is_zero kind_of super_of super_checks super_in super_at v1_inode v2_inode inode_of inode_at inode_place bit parts_of number_in follow pointer_by inside follow_at zone_at block_at content_at
+unfolding number16 number32 is_zero kind_of super_of super_checks super_in super_at v1_inode v2_inode inode_of inode_at inode_place bit with_bit parts_of number_in follow pointer_by inside follow_at zone_at block_at content_at
 minix_zone_an_indirect_zone_outside_in_version_2_with_long_names = refl
 
 -- a triple or double zone outside in version 2 with long names
 pub minix_zone_a_triple_or_double_zone_outside_in_version_2_with_long_names : zone_at volume_v2_long.layout (parts_of volume_v2_long (disks_of (minix_v2_long ++ (patch_at 0 12 312 (hex 4 0x03000000) ∷ [])))) ((parts_of volume_v2_long (disks_of (minix_v2_long ++ (patch_at 0 12 312 (hex 4 0x03000000) ∷ [])))).node 13) 263 ≡ Err (ZoneOutside 3)
-unfolding number16 number32 is_zero kind_of super_of super_checks super_in super_at v1_inode v2_inode inode_of inode_at inode_place bit parts_of number_in follow pointer_by inside follow_at zone_at block_at content_at
+unfolding number16 number32 is_zero kind_of super_of super_checks super_in super_at v1_inode v2_inode inode_of inode_at inode_place bit with_bit parts_of number_in follow pointer_by inside follow_at zone_at block_at content_at
 minix_zone_a_triple_or_double_zone_outside_in_version_2_with_long_names = refl

@@ -5,9 +5,9 @@ use Rattle.lilo_model.specs.MinixLayout.{Super, Inode, is_size}
 use Rattle.lilo_model.specs.MinixParts.{Parts, Pointer, IsPointer, is_directory, is_file, is_link, has_zones, number_in, number_below, follow, block_pointer, zone_bytes, blocks_for}
 use Rattle.lilo_model.specs.MinixEntries.{Entry, entry_with, entry_in, entries_per_block, places, here_name, above_name}
 use Rattle.lilo_model.specs.MinixNames.{pointer, zone_number, block, blocks, content, entry, lookup, then_lookup, reached, thing, names, Named, Refers, HasEntry, HasSomeEntry, AllLead, AreDistinct, Sound, File, Link}
+use Rattle.minix_laws.proofs.Inside.{is_pointer-block}
 use Rattle.minix_beside.specs.Keeps.{Keeps}
 use Rattle.minix_beside.specs.Laws.{KeepsLaw}
-use Rattle.minix_beside.proofs.Pointers.{is_pointer-block}
 
 -- ---- kinds of files that have zones
 

@@ -1,4 +1,3 @@
-pub mod Pointers
 pub mod Keeps
 pub mod Laid
 pub mod Beside

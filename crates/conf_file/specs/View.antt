@@ -9,7 +9,7 @@ use Rattle.mbr_table.specs.declared.table_fault.TableFault.TheVariants as tables
 use Rattle.minix_tree.specs.declared.tree_fault.TreeFault.{TreeFault}
 use Rattle.minix_tree.specs.declared.tree_fault.TreeFault.TheVariants as trees
 use Rattle.minix_zones.specs.declared.zone_fault.ZoneFault.TheVariants as zones
-use Rattle.volume_search.specs.View.{Tells}
+use Rattle.minix_search.specs.View.{Tells}
 use Rattle.conf_file.specs.declared.conf_file.ConfFile.{ConfFile}
 use Rattle.conf_file.specs.declared.file_fault.FileFault.{FileFault}
 use Rattle.conf_file.specs.declared.file_fault.FileFault.TheVariants as faults

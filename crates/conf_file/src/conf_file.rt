@@ -9,17 +9,17 @@ ghost use Rattle.lilo_model.specs.MinixParts.{parts_of};
 ghost use Rattle.mbr_table.specs.View.{device_view, span_view, machine_of};
 ghost use Rattle.minix_layout.specs.View.{super_view};
 ghost use Rattle.minix_zones.specs.Volume.{volume_view, past_of, faults_of, SameVolume};
-ghost use Rattle.volume_search.specs.View.{HasRoom};
+ghost use Rattle.minix_search.specs.View.{HasRoom};
 ghost use Rattle.conf_file.specs.View.{Gives, GivesText, HasCause, IsTreeFault};
 
 use crate::file_fault::FileFault;
 use conf_text::Text;
 use disk_trait::{Disks, Span};
 use mbr_table::Device;
+use minix_search::{VolumeFault, find_volume};
 use minix_tree::{TreeFault, read_file};
 use minix_zones::{Volume, ZoneFault};
 use std::alloc::Global;
-use volume_search::{VolumeFault, find_volume};
 
 /// The file of a configuration.
 #[derive(Drop)]

@@ -10,7 +10,7 @@ use Rattle.mbr_table.specs.View.{device_view}
 use Rattle.mbr_table.specs.declared.device.Device.{Device}
 use Rattle.mbr_table.specs.declared.table_fault.TableFault.{TableFault}
 use Rattle.mbr_table.specs.declared.table_fault.TableFault.TheVariants as tables
-use Rattle.volume_search.specs.View.{told_fault}
+use Rattle.minix_search.specs.View.{told_fault}
 use Rattle.lilo_run.specs.declared.conf.ConfHalt.{ConfHalt}
 use Rattle.lilo_run.specs.declared.conf.ConfHalt.TheVariants.{File, Text}
 use Rattle.lilo_model.specs.Refusal as model

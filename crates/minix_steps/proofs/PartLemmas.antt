@@ -14,8 +14,8 @@ use Rattle.minix_layout.proofs.Reading.{inode_law}
 use Rattle.minix_steps.specs.Laws.{OneZone, ZoneBytesLaw, OneInode, InodeBytesLaw, KeptInodeLaw}
 use Rattle.minix_steps.specs.Written.{with_sector_of, with_zone, IsPartOfZone, with_inode}
 use Rattle.minix_steps.proofs.RegionLemmas.{mark_in, zone_mark_in, lies}
-use Rattle.minix_beside.proofs.Laid.{place-from, place-below}
-use Rattle.minix_beside.proofs.Replaced.{part-other}
+use Rattle.minix_beside_laws.proofs.Laid.{place-from, place-below}
+use Rattle.minix_beside_laws.proofs.Replaced.{part-other}
 
 module _ (volume : Volume) (image : Image) (sector : ℕ) (bytes : List ℕ) where
   abbrev written : Image

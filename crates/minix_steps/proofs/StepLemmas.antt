@@ -7,8 +7,8 @@ use Rattle.disk_trait.specs.Moments.{IsTold, now, begun, MayLeave, LeftSince, Le
 use Rattle.disk_trait.proofs.MomentLemmas.{at_now, leaves_none, leaves_same, leaves_weaker, leaves_join, ok_or_err, whole_same}
 use Rattle.lilo_model.specs.MinixParts as model
 use Rattle.lilo_model.specs.MinixNames.{IsSound}
-use Rattle.minix_beside.specs.Beside.{Harmless, Beside, SoundAsIn, IsUnused, IsUnnamed}
-use Rattle.minix_beside.proofs.Beside.{beside_law, named_law, same_law, join_law, write_law}
+use Rattle.minix_beside_laws.specs.Beside.{Harmless, Beside, SoundAsIn, IsUnused, IsUnnamed}
+use Rattle.minix_beside_laws.proofs.Beside.{beside_law, named_law, same_law, join_law, write_law}
 use Rattle.minix_layout.specs.View.{super_view}
 use Rattle.minix_layout.specs.declared.superblock.Super.{Super}
 use Rattle.disk_trait.specs.declared.disks.Span.{Span}

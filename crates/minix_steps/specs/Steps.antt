@@ -6,7 +6,7 @@ use Rattle.disk_trait.specs.Past.{Image, Past}
 use Rattle.disk_trait.specs.Moments.{IsTold, begun, MayLeave, LeavesOnly, IsWhole, StaysWhole}
 use Rattle.lilo_model.specs.MinixParts as model
 use Rattle.lilo_model.specs.MinixNames.{IsSound}
-use Rattle.minix_beside.specs.Beside.{IsUnnamed, IsUnused, Beside, SoundAsIn}
+use Rattle.minix_beside_laws.specs.Beside.{IsUnnamed, IsUnused, Beside, SoundAsIn}
 use Rattle.minix_zones.specs.Volume.{volume_view, past_of, faults_of, sizes_of, count_of, geometries_of, KeepsVolume}
 use Rattle.minix_zones.specs.declared.volume.Volume.{Volume}
 

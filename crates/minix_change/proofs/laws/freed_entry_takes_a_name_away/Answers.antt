@@ -1,5 +1,0 @@
-use Rattle.minix_change.proofs.Names.{remove_law}
-use Rattle.minix_change.proofs.laws.freed_entry_takes_a_name_away.Goals as goal
-
-pub returns : goal.returns
-returns c = remove_law

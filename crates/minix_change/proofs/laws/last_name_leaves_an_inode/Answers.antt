@@ -1,5 +1,0 @@
-use Rattle.minix_change.proofs.Names.{remove_last_law}
-use Rattle.minix_change.proofs.laws.last_name_leaves_an_inode.Goals as goal
-
-pub returns : goal.returns
-returns c = remove_last_law

@@ -1,5 +1,0 @@
-use Rattle.minix_change.proofs.Still.{new_file_law}
-use Rattle.minix_change.proofs.laws.new_file_may_stand.Goals as goal
-
-pub returns : goal.returns
-returns c = new_file_law

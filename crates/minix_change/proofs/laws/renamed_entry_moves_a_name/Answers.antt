@@ -1,5 +1,0 @@
-use Rattle.minix_change.proofs.Names.{rename_law}
-use Rattle.minix_change.proofs.laws.renamed_entry_moves_a_name.Goals as goal
-
-pub returns : goal.returns
-returns c = rename_law

@@ -1,0 +1,5 @@
+use Rattle.minix_entry_laws.proofs.Still.{new_file_law}
+use Rattle.minix_entry_laws.proofs.laws.new_file_may_stand.Goals as goal
+
+pub returns : goal.returns
+returns c = new_file_law

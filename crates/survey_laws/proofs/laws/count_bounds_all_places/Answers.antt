@@ -1,5 +1,0 @@
-use Rattle.survey_laws.proofs.Count.{links_law}
-use Rattle.survey_laws.proofs.laws.count_bounds_all_places.Goals as goal
-
-pub returns : goal.returns
-returns c = links_law

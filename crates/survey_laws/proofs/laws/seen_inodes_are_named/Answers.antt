@@ -1,5 +1,0 @@
-use Rattle.survey_laws.proofs.Seen.{seen_law}
-use Rattle.survey_laws.proofs.laws.seen_inodes_are_named.Goals as goal
-
-pub returns : goal.returns
-returns c = seen_law

@@ -11,3 +11,5 @@ pub mod Groups
 pub mod Disks
 pub mod Lawful
 pub mod Sample
+pub mod First
+pub mod Order

@@ -3,4 +3,4 @@
 
 mod laws;
 
-pub use laws::{a_config_is_lawful, every_config_is_lawful};
+pub use laws::{a_config_is_lawful, every_config_is_lawful, refusal_is_the_first_that_fails};

@@ -1,6 +1,6 @@
--- Apart: what a configuration names may be installed and mapped without one thing being another. One list of checks, in the
--- order of the options, of which the first that fails names its option. They speak of a sound volume. (A rule of this
--- project's own.)
+-- Apart: what a configuration names may be installed and mapped without one thing being another. One list of checks, in
+-- the order of the options, of which the first that fails names its option. They speak of a sound volume. (A rule of
+-- this project's own.)
 use Rattle.std.specs.Prelude.{◌≡◌, ℕ, ◌+◌, ◌==◌, nat_le, nat_lt, Bool, true, false, not, ◌&&◌, ◌||◌, List, [], ◌∷◌, ◌++◌, flat_map, is_none, option_to_list, Option, Some, None, Result, Ok, Err}
 use Rattle.std.specs.List.{list_any, list_all}
 use Rattle.lilo_model.specs.Checks.{◌>>=◌, require}
@@ -56,7 +56,8 @@ are_apart_paths paths others = list_all (λ path. not (list_any (same_path path)
 
 -- the names whose files must not be mapped: those that the installation replaces or takes away
 abbrev pub guarded_names : Names → Config → List (List (List ℕ))
-guarded_names names config = names_pair names config.map ++ flat_map (names_pair names) (option_to_list config.force_backup)
+guarded_names names config =
+    names_pair names config.map ++ flat_map (names_pair names) (option_to_list config.force_backup)
 
 -- ---- paths that are read or mapped
 
@@ -99,17 +100,27 @@ initrd_paths config = flat_map (λ section. option_to_list section.initrd) confi
 
 -- ---- the list of checks
 
+-- the backup's names are none of the map's
+abbrev pub has_apart_backup : Names → Config → Device → Bool
+has_apart_backup names config boot =
+    are_apart_paths (names_pair names config.map) (names_pair names (backup_path config boot))
+
+-- some paths lead to no guarded name
+abbrev pub has_apart_files : Image → Volume → Config → List (List ℕ) → Bool
+has_apart_files image volume config texts =
+    are_apart_files image volume (guarded_names (names_in volume image) config) texts
+
 -- the first option of a configuration that isn't apart, for the device that is to boot
 unfoldable pub apart_checks : Image → Machine → Volume → Config → Device → Result (Unit {0}) Opt
 apart_checks image machine volume config boot = do
   a ← require (is_apart_device image machine volume boot) options.Boot
   b ← require (list_all (is_apart_device image machine volume) (other_devices config)) options.OtherDevice
   c ← require (list_all (is_apart_device image machine volume) (table_devices config)) options.Table
-  d ← require (are_apart_paths (names_pair (names_in volume image) config.map) (names_pair (names_in volume image) (backup_path config boot))) (backup_option config)
-  e ← require (are_apart_files image volume (guarded_names (names_in volume image) config) (option_to_list config.install)) options.Install
-  f ← require (are_apart_files image volume (guarded_names (names_in volume image) config) (option_to_list config.message)) options.Message
-  g ← require (are_apart_files image volume (guarded_names (names_in volume image) config) (kernel_paths config)) options.Image
-  require (are_apart_files image volume (guarded_names (names_in volume image) config) (initrd_paths config)) options.Initrd
+  d ← require (has_apart_backup (names_in volume image) config boot) (backup_option config)
+  e ← require (has_apart_files image volume config (option_to_list config.install)) options.Install
+  f ← require (has_apart_files image volume config (option_to_list config.message)) options.Message
+  g ← require (has_apart_files image volume config (kernel_paths config)) options.Image
+  require (has_apart_files image volume config (initrd_paths config)) options.Initrd
 
 -- Apart: none of them fails
 abbrev pub Apart : Image → Machine → Volume → Config → Device → Type 0

@@ -25,7 +25,8 @@ pub record IsPlain (volume : Volume) (image : Image) (sector : ℕ) : Type 0 whe
 -- a place is on another disk, outside a volume, or plain
 abbrev pub IsClearPlace : Volume → Image → DiskSector → Type 0
 IsClearPlace volume image place =
-    (sector : ℕ) → place ≡ record { disk = volume.span.disk; sector = volume.span.start + sector } → sector < 2 * volume.layout.zones → IsPlain volume image sector
+    (sector : ℕ) → place ≡ record { disk = volume.span.disk; sector = volume.span.start + sector }
+    → sector < 2 * volume.layout.zones → IsPlain volume image sector
 
 -- Clear: each of the Mapped sectors is
 abbrev pub Clear : Volume → Image → Machine → Span → Type 0

@@ -1,5 +1,5 @@
--- Lays: the file that holds the map, and the boot sector, are what was planned, and each section lists the sectors of its
--- file (these formats are this project's own).
+-- Lays: the file that holds the map, and the boot sector, are what was planned, and each section lists the sectors of
+-- its file (these formats are this project's own).
 use Rattle.std.specs.Prelude.{◌≡◌, ◌<◌, ◌⊎◌, ℕ, zero, suc, ◌+◌, ◌*◌, ◌/◌, ◌%◌, Bool, true, false, List, [], ◌∷◌, ◌++◌, length, map, take, drop, slice_index_or, replicate, All, Option, Some, None, Result, Ok, Err}
 use Rattle.lilo_model.specs.Bytes.{part_of, filled_bytes}
 use Rattle.lilo_model.specs.Checks.{◌>>=◌, each}
@@ -44,7 +44,8 @@ slots_from image follow (Err fault) = []
 -- the slots along a chain of at most so many section sectors
 abbrev pub chain_slots : Image → Machine → ℕ → Slot → List Slot
 chain_slots image machine zero first = []
-chain_slots image machine (suc more) first = slots_from image (chain_slots image machine more) (place_at machine first 0)
+chain_slots image machine (suc more) first =
+    slots_from image (chain_slots image machine more) (place_at machine first 0)
 
 -- no two neighbours could be one
 abbrev pub AreApart : Machine → List Slot → Type 0
@@ -69,7 +70,8 @@ pub record LaysFile (image : Image) (machine : Machine) (config : Config) (zero_
 abbrev pub LaysOptional : Image → Machine → Config → DiskSector → Option MappedFile → Option Slot → ℕ → ℕ → Type 0
 LaysOptional image machine config zero_place None slot size chain = slot ≡ None
 LaysOptional image machine config zero_place (Some file) None size chain = ⊥
-LaysOptional image machine config zero_place (Some file) (Some slot) size chain = LaysFile image machine config zero_place file slot size chain
+LaysOptional image machine config zero_place (Some file) (Some slot) size chain =
+    LaysFile image machine config zero_place file slot size chain
 
 -- an entry lays what is mapped for its section
 pub record LaysEntry (image : Image) (machine : Machine) (config : Config) (zero_place : DiskSector) (mapped : MappedSection) (entry : Descriptor) : Type 0 where
@@ -82,13 +84,15 @@ LaysNames image machine config zero_place mapped [] [] = Unit {0}
 LaysNames image machine config zero_place mapped [] (entry ∷ entries) = ⊥
 LaysNames image machine config zero_place mapped (name ∷ names) [] = ⊥
 LaysNames image machine config zero_place mapped (name ∷ names) (entry ∷ entries) =
-    (entry.name ≡ name) × LaysEntry image machine config zero_place mapped entry × LaysNames image machine config zero_place mapped names entries
+    (entry.name ≡ name) × LaysEntry image machine config zero_place mapped entry
+    × LaysNames image machine config zero_place mapped names entries
 
 -- so for each section in order
 abbrev pub LaysSections : Image → Machine → Config → DiskSector → List MappedSection → List Descriptor → Type 0
 LaysSections image machine config zero_place [] entries = entries ≡ []
 LaysSections image machine config zero_place (mapped ∷ others) entries =
-    LaysNames image machine config zero_place mapped (names_of_section mapped.section) (take (length (names_of_section mapped.section)) entries)
+    LaysNames image machine config zero_place mapped (names_of_section mapped.section)
+    (take (length (names_of_section mapped.section)) entries)
     × LaysSections image machine config zero_place others (drop (length (names_of_section mapped.section)) entries)
 
 -- ---- the map
@@ -101,17 +105,19 @@ AreAt image (place ∷ places) (bytes ∷ sectors) = (bytes_at image place ≡ b
 
 -- a place is the one at an index among some
 abbrev pub IsPlaceAt : List DiskSector → ℕ → Result DiskSector AddressFault → Type 0
-IsPlaceAt places index place = (found : DiskSector) × (slice_index_or (map Some places) index None ≡ Some found) × (place ≡ Ok found)
+IsPlaceAt places index place =
+    (found : DiskSector) × (slice_index_or (map Some places) index None ≡ Some found) × (place ≡ Ok found)
 
 -- the sector after the last of an odd number of sectors of a file, in the second half of its last zone
 abbrev pub tail_place : Volume → Image → ℕ → ℕ → DiskSector
 tail_place volume image number sectors = record {
   disk = volume.span.disk;
-  sector = volume.span.start + (zone_sector (zone_number volume.layout (parts_of volume image) number (sectors / 2)) + 1);
+  sector =
+      volume.span.start + (zone_sector (zone_number volume.layout (parts_of volume image) number (sectors / 2)) + 1);
 }
 
--- Lays: what was planned is the map of an image, in the file at the path of `map` or at that with `~`; the boot sector has
--- what the one before had where a partition table is
+-- Lays: what was planned is the map of an image, in the file at the path of `map` or at that with `~`; the boot sector
+-- has what the one before had where a partition table is
 pub record Lays (image : Image) (machine : Machine) (volume : Volume) (span : Span) (plan : Plan) (path : List (List ℕ)) (present : List ℕ) : Type 0 where
   pub boot : BootSector
   pub says : boot_at (image span.disk span.start) ≡ Ok boot

@@ -29,10 +29,14 @@ abbrev pub shot_line : List ℕ → DefaultLine
 shot_line [] = Empty
 shot_line (byte ∷ text) = Once (byte ∷ text)
 
--- the length of a line is judged before what a boot sector of this format says, and after whether it is one
+-- a text isn't too long for a line; a length past 32 bits is reported as the greatest number of them
+abbrev pub length_check : List ℕ → Result (Unit {0}) ShotFault
+length_check text = require (nat_le (length text) line_capacity) (LineTooLong (min (length text) 0xFFFFFFFF))
+
+-- the length of a line is judged after whether a boot sector is of this format, and before its fields
 abbrev pub judged_boot : List ℕ → Result BootSector MapFault → Result BootSector ShotFault
-judged_boot text (Ok boot) = require (nat_le (length text) line_capacity) (LineTooLong (min (length text) 0xFFFFFFFF)) >>= λ a. Ok boot
-judged_boot text (Err (maps.BadTable entry)) = require (nat_le (length text) line_capacity) (LineTooLong (min (length text) 0xFFFFFFFF)) >>= λ a. Err (BadTable entry)
+judged_boot text (Ok boot) = length_check text >>= λ a. Ok boot
+judged_boot text (Err (maps.BadTable entry)) = length_check text >>= λ a. Err (BadTable entry)
 judged_boot text (Err maps.NotOurs) = Err NotOurs
 judged_boot text (Err (maps.BadVersion version)) = Err NotOurs
 judged_boot text (Err maps.BadLine) = Err NotOurs

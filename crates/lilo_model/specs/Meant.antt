@@ -1,6 +1,6 @@
--- Meant: what a boot does as a configuration and its files say, in words that mention no sector. A configuration makes a
--- menu, and a menu a boot. (This project's own; texts and options follow LILO's manners, a kernel in memory the Linux/x86
--- boot protocol, and where another system's boot sector is put the IBM PC.)
+-- Meant: what a boot does as a configuration and its files say, in words that mention no sector. A configuration makes
+-- a menu, and a menu a boot. (This project's own; texts and options follow LILO's manners, a kernel in memory the
+-- Linux/x86 boot protocol, and where another system's boot sector is put the IBM PC.)
 use Rattle.std.specs.Prelude.{ℕ, zero, suc, ◌/◌, ◌%◌, ◌==◌, true, if◌then◌else◌, List, [], ◌∷◌, ◌++◌, map, flat_map, position, slice_get, codes, Option, Some, None, option_map, option_and_then, unwrap_or, bytes_eq, Result, Ok, Err}
 use Rattle.std.specs.Result.{result_ok}
 use Rattle.std.specs.Option.{option_or}
@@ -43,7 +43,8 @@ pub record Menu : Type 0 where
 abbrev pub system_written : List ℕ → Option (List ℕ) → List Written
 system_written sector None = record { address = boot_address; bytes = sector } ∷ []
 system_written sector (Some table) =
-    record { address = table_address; bytes = part_of table 446 64 } ∷ (record { address = boot_address; bytes = sector } ∷ [])
+    record { address = table_address; bytes = part_of table 446 64 }
+    ∷ (record { address = boot_address; bytes = sector } ∷ [])
 
 -- how a choice ends: the outcome, what is shown after `Loading`, and what is placed
 pub record Start : Type 0 where
@@ -59,7 +60,8 @@ kernel_start (Err fault) = record { outcome = Refused (reasons.Header fault); sh
 -- what a choice of an entry starts in a memory of some bytes
 unfoldable pub started : Target → List ℕ → Picked → ℕ → Start
 started (Kernel bytes initrd middle video) name picked memory =
-    kernel_start (place bytes initrd (command_line picked.automatic name middle picked.words) (option_or picked.vga video) memory)
+    kernel_start
+    (place bytes initrd (command_line picked.automatic name middle picked.words) (option_or picked.vga video) memory)
 started (System sector table) name picked memory =
     record { outcome = Handed; shown = []; written = system_written sector table }
 
@@ -147,7 +149,8 @@ root_text (Some number) = codes " root=" ++ hex_digits 4 number
 -- the middle of a section's command line: the literal text alone, or else mount, root and append
 abbrev pub middle_by : ConfSection → Option (List ℕ) → List ℕ
 middle_by section (Some literal) = spaced_words literal
-middle_by section None = mount_text section.mount ++ root_text section.root ++ spaced_words (unwrap_or section.append [])
+middle_by section None =
+    mount_text section.mount ++ root_text section.root ++ spaced_words (unwrap_or section.append [])
 
 unfoldable pub middle_text : ConfSection → List ℕ
 middle_text section = middle_by section section.literal
@@ -184,6 +187,7 @@ abbrev pub entries_by : ConfSection → Option Target → List MenuEntry
 entries_by section None = []
 entries_by section (Some target) = map (menu_entry section target) (names_of_section section)
 
+-- the entries of a configuration, in its order
 unfoldable pub menu_entries : Config → Names → (Device → List ℕ) → List MenuEntry
 menu_entries config names devices =
     flat_map (λ section. entries_by section (target_of section names devices)) config.sections
@@ -193,6 +197,10 @@ abbrev pub default_place : Option (List ℕ) → List (List ℕ) → ℕ
 default_place None names = 0
 default_place (Some name) names = unwrap_or (position (λ other. bytes_eq other name) names) 0
 
+-- the names of entries
+abbrev pub entry_names : List MenuEntry → List (List ℕ)
+entry_names entries = map (λ entry. entry.listed.name) entries
+
 -- the menu
 unfoldable pub menu_of : Config → Names → (Device → List ℕ) → Menu
 menu_of config names devices = record {
@@ -200,7 +208,7 @@ menu_of config names devices = record {
     prompt = config.prompt;
     delay = config.delay;
     timeout = config.timeout;
-    default_entry = default_place config.default_name (map (λ entry. entry.listed.name) (menu_entries config names devices));
+    default_entry = default_place config.default_name (entry_names (menu_entries config names devices));
     capacity = line_capacity;
   };
   message = filled_file names config.message;

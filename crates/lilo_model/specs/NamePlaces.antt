@@ -21,7 +21,10 @@ pub record NameSplit : Type 0 where
 abbrev pub split_at_last : List ℕ → List Component → Option NameSplit
 split_at_last text [] = None
 split_at_last text (component ∷ []) =
-    Some (record { before = take (length text - length component.name - length component.rest) text; name = component.name })
+    Some (record {
+      before = take (length text - length component.name - length component.rest) text;
+      name = component.name;
+    })
 split_at_last text (component ∷ (next ∷ others)) = split_at_last text (next ∷ others)
 
 -- a name in the directory that the text before it leads to
@@ -70,7 +73,8 @@ with_name at thing names path = if same_path at path then thing else names path
 -- the path of a device's backup where the configuration names none: `/boot/boot.` and the device's number in four
 -- hexadecimal digits
 unfoldable pub default_backup : Device → List ℕ
-default_backup device = codes "/boot/boot." ++ hex_byte (device_number device / 256) ++ hex_byte (device_number device % 256)
+default_backup device =
+    codes "/boot/boot." ++ hex_byte (device_number device / 256) ++ hex_byte (device_number device % 256)
 
 -- the path of the backup of a device that is to boot
 unfoldable pub backup_path : Config → Device → List ℕ

@@ -1,6 +1,6 @@
--- The map that an installation plans: its sectors and its boot sector, as a function of what is mapped and of the places
--- where the sectors are to lie. Each part takes its places off the front of a list, so that no index is reckoned. (These
--- formats are this project's own.)
+-- The map that an installation plans: its sectors and its boot sector, as a function of what is mapped and of the
+-- places where the sectors are to lie. Each part takes its places from the head of a list, so that no index is
+-- reckoned. (These formats are this project's own.)
 use Rattle.std.specs.Prelude.{ℕ, zero, suc, ◌+◌, ◌*◌, ◌/◌, Bool, ◌||◌, if◌then◌else◌, List, [], ◌∷◌, ◌++◌, map, flat_map, length, take, drop, sum, slice_index_or, replicate, Option, Some, None, is_some, option_map, unwrap_or}
 use Rattle.std.specs.List.{range_with_len}
 use Rattle.std.specs.Result.{result_ok}
@@ -10,7 +10,7 @@ use Rattle.lilo_model.specs.Conf.{Config, ConfSection}
 use Rattle.lilo_model.specs.Slots.{Slot, Mode, Lba32, slot_make, could_be_one}
 use Rattle.lilo_model.specs.Section.{section_bytes}
 use Rattle.lilo_model.specs.Table.{Descriptor, descriptor_bytes, other_flag, password_flag, restricted_flag, lock_flag, fallback_flag, video_flag, initrd_flag, table_flag}
-use Rattle.lilo_model.specs.Options.{options_bytes, extra_bytes}
+use Rattle.lilo_model.specs.Options.{Extra, options_bytes, extra_bytes}
 use Rattle.lilo_model.specs.LineSector.{line_bytes}
 use Rattle.lilo_model.specs.DefaultLine.{Empty}
 use Rattle.lilo_model.specs.BootSector.{BootSector, merged_sector}
@@ -59,6 +59,7 @@ joined_slots machine slot (next ∷ others) =
     then joined_slots machine (record slot { count = slot.count + next.count }) others
     else slot ∷ joined_slots machine next others
 
+-- the same of a list
 abbrev pub compact_slots : Machine → List Slot → List Slot
 compact_slots machine [] = []
 compact_slots machine (slot ∷ others) = joined_slots machine slot others
@@ -134,6 +135,7 @@ file_sectors config machine zero_place file places =
     (file_slots config machine zero_place file)
     (drop 1 places)
 
+-- the same of a file that may be absent
 abbrev pub optional_sectors : Config → Machine → DiskSector → Option MappedFile → List DiskSector → List (List ℕ)
 optional_sectors config machine zero_place None places = []
 optional_sectors config machine zero_place (Some file) places = file_sectors config machine zero_place file places
@@ -144,11 +146,15 @@ optional_sectors config machine zero_place (Some file) places = file_sectors con
 abbrev pub needs_extra : ConfSection → Bool
 needs_extra section = is_some section.password || is_some section.fallback
 
+-- its texts
+abbrev pub extra_of : ConfSection → Extra
+extra_of section = record { fallback = unwrap_or section.fallback []; password = unwrap_or section.password [] }
+
 -- the extra sector, where there is one
 abbrev pub extra_sectors : ConfSection → List (List ℕ)
 extra_sectors section =
     if needs_extra section
-    then extra_bytes (record { fallback = unwrap_or section.fallback []; password = unwrap_or section.password [] }) ∷ []
+    then extra_bytes (extra_of section) ∷ []
     else []
 
 -- the places of the main file's section sectors, and of all after them
@@ -211,12 +217,14 @@ descriptor_for config machine mapped places name = record {
 
 -- ---- all sections
 
+-- the sectors of sections, one after the other
 abbrev pub sections_sectors : Config → Machine → DiskSector → List MappedSection → List DiskSector → List (List ℕ)
 sections_sectors config machine zero_place [] places = []
 sections_sectors config machine zero_place (mapped ∷ others) places =
     section_sectors_at config machine zero_place mapped places
     ++ sections_sectors config machine zero_place others (places_after config machine mapped places)
 
+-- their descriptors
 abbrev pub sections_entries : Config → Machine → List MappedSection → List DiskSector → List Descriptor
 sections_entries config machine [] places = []
 sections_entries config machine (mapped ∷ others) places =
@@ -225,10 +233,11 @@ sections_entries config machine (mapped ∷ others) places =
 
 -- ---- the map
 
--- the index of the zero sector, and of the first sector after it
-abbrev pub zero_sector_index : ℕ
-zero_sector_index = 4
+-- the place of the zero sector
+abbrev pub zero_sector_place : List DiskSector → DiskSector
+zero_sector_place places = place_of_sector places 4
 
+-- the places after it: first those of the message
 abbrev pub message_places : List DiskSector → List DiskSector
 message_places places = drop 5 places
 
@@ -238,28 +247,35 @@ sections_places plan machine places = drop (optional_chain plan.config machine p
 
 -- the entries of the table
 unfoldable pub plan_entries : Plan → Machine → List DiskSector → List Descriptor
-plan_entries plan machine places = sections_entries plan.config machine plan.sections (sections_places plan machine places)
+plan_entries plan machine places =
+    sections_entries plan.config machine plan.sections (sections_places plan machine places)
 
 -- the three sectors of a table
 unfoldable pub sectors_of_table : List Descriptor → List (List ℕ)
 sectors_of_table entries =
-    map (λ index. part_of (filled_bytes 1536 (flat_map descriptor_bytes entries)) (512 * index) 512) (range_with_len 0 3)
+    map
+    (λ index. part_of (filled_bytes 1536 (flat_map descriptor_bytes entries)) (512 * index) 512)
+    (range_with_len 0 3)
 
 -- the sectors of the map after the table
 unfoldable pub sectors_after : Plan → Machine → List DiskSector → List (List ℕ)
 sectors_after plan machine places =
-    optional_sectors plan.config machine (place_of_sector places zero_sector_index) plan.message (message_places places)
-    ++ sections_sectors plan.config machine (place_of_sector places zero_sector_index) plan.sections (sections_places plan machine places)
+    optional_sectors plan.config machine (zero_sector_place places) plan.message (message_places places)
+    ++ sections_sectors plan.config machine (zero_sector_place places) plan.sections (sections_places plan machine places)
 
 -- the sectors of the map, in order, for its places
 unfoldable pub plan_sectors : Plan → Machine → List DiskSector → List (List ℕ)
 plan_sectors plan machine places =
-    line_bytes Empty ∷ (sectors_of_table (plan_entries plan machine places) ++ (replicate 512 0 ∷ sectors_after plan machine places))
+    line_bytes Empty
+    ∷ (sectors_of_table (plan_entries plan machine places) ++ (replicate 512 0 ∷ sectors_after plan machine places))
 
 -- how many sectors a section takes
 abbrev pub section_size : Config → Machine → MappedSection → ℕ
 section_size config machine mapped =
-    1 + length (extra_sectors mapped.section) + chain_for config machine mapped.main + optional_chain config machine mapped.initrd
+    1
+    + length (extra_sectors mapped.section)
+    + chain_for config machine mapped.main
+    + optional_chain config machine mapped.initrd
 
 -- how many sectors the map has
 unfoldable pub map_size : Plan → Machine → ℕ
@@ -285,7 +301,7 @@ plan_boot plan machine places =
       message_length = unwrap_or (option_map (λ file. file.size) plan.message) 0;
       message_chain = optional_chain plan.config machine plan.message;
       line = to (place_of_sector places 0);
-      zero_sector = to (place_of_sector places zero_sector_index);
+      zero_sector = to (zero_sector_place places);
       message = option_map (λ file. to (place_of_sector (message_places places) 0)) plan.message;
       table = map (λ index. to (place_of_sector places index)) (range_with_len 1 3);
     }

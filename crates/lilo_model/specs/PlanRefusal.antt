@@ -1,9 +1,9 @@
--- Why no map is planned: one list of checks in order, of which the first refusal decides. They speak of a sound volume and
--- of a configuration that may be carried out. (The rules are this project's own; a kernel's header: Linux/x86 boot
+-- Why no map is planned: one list of checks in order, of which the first refusal decides. They speak of a sound volume
+-- and of a configuration that may be carried out. (The rules are this project's own; a kernel's header: Linux/x86 boot
 -- protocol; a boot sector's signature: IBM PC.)
 use Rattle.std.specs.Prelude.{ℕ, ◌==◌, nat_le, Bool, true, not, ◌&&◌, if◌then◌else◌, List, [], ◌∷◌, ◌++◌, codes, decimal, is_some, unwrap_or, Option, Some, None, Result, Ok, Err}
 use Rattle.lilo_model.specs.Checks.{◌>>=◌, require, with_fault}
-use Rattle.lilo_model.specs.Disks.{Image, Machine, Span, DiskSector, bytes_at}
+use Rattle.lilo_model.specs.Disks.{Image, Geometry, Machine, Span, DiskSector, bytes_at}
 use Rattle.lilo_model.specs.Devices.{Device}
 use Rattle.lilo_model.specs.Partitions.{TableFault, device_fault, span_of}
 use Rattle.lilo_model.specs.Refusal.{device_text}
@@ -95,7 +95,8 @@ section_check image machine volume section None =
 
 -- a default is a name of a section that isn't omitted
 abbrev pub default_check : Plan → Result (Unit {0}) PlanFault
-default_check plan = if_there (λ name. require (has_name name (plan_names plan)) (Missing name)) plan.config.default_name
+default_check plan =
+    if_there (λ name. require (has_name name (plan_names plan)) (Missing name)) plan.config.default_name
 
 -- a section is left
 abbrev pub left_check : List MappedSection → Result (Unit {0}) PlanFault
@@ -119,10 +120,14 @@ is_stated_right None have = true
 is_stated_right (Some stated) have = stated == have
 
 -- what is stated of a disk is so
+abbrev pub geometry_check : DiskSection → Geometry → Result (Unit {0}) PlanFault
+geometry_check disk geometry = do
+  a ← require (is_stated_right disk.sectors geometry.sectors) (GeometryDiffers options.Sectors geometry.sectors)
+  require (is_stated_right disk.heads geometry.heads) (GeometryDiffers options.Heads geometry.heads)
+
+-- the same by the disk's geometry
 abbrev pub disk_check : Machine → DiskSection → Result (Unit {0}) PlanFault
-disk_check machine disk = do
-  a ← require (is_stated_right disk.sectors (machine.geometry_of disk.device.disk).sectors) (GeometryDiffers options.Sectors (machine.geometry_of disk.device.disk).sectors)
-  require (is_stated_right disk.heads (machine.geometry_of disk.device.disk).heads) (GeometryDiffers options.Heads (machine.geometry_of disk.device.disk).heads)
+disk_check machine disk = geometry_check disk (machine.geometry_of disk.device.disk)
 
 -- the most bytes of a message
 abbrev pub message_limit : ℕ
@@ -140,12 +145,16 @@ system_check image boot path (Some place ∷ places) = do
   a ← require (not ((place.disk == boot.disk) && (place.sector == boot.start))) (OtherIsBoot path)
   require (is_bootable (bytes_at image place)) (NoSignature path)
 
--- a kernel's header, initrd and command line by itself, for each name of its section
+-- a kernel with its initrd takes the command line of an automatic choice of a name
+abbrev pub name_check : ConfSection → List ℕ → Option (List ℕ) → List ℕ → Result (Unit {0}) PlanFault
+name_check section kernel initrd name =
+    with_fault (Header section.path) (kernel_fit kernel initrd (command_line true name (middle_text section) []))
+
+-- so for each name of its section
 abbrev pub kernel_check : Names → ConfSection → Result (Unit {0}) PlanFault
 kernel_check names section =
     each_passes
-    (λ name. with_fault (Header section.path)
-    (kernel_fit (unwrap_or (file_of names section.path) []) (filled_file names section.initrd) (command_line true name (middle_text section) [])))
+    (name_check section (unwrap_or (file_of names section.path) []) (filled_file names section.initrd))
     (names_of_section section)
 
 -- what a section maps
@@ -167,7 +176,8 @@ held_checks image machine volume boot plan = do
 -- the slot of one sector, or why there is none; a hole needs none
 abbrev pub place_check : Config → Machine → Opt → DiskSector → Result (Unit {0}) PlanFault
 place_check config machine option place =
-    with_fault (Address option) (slot_make config.mode (machine.geometry_of place.disk) place.disk place.sector 1) >>= λ slot. Ok tt
+    with_fault (Address option) (slot_make config.mode (machine.geometry_of place.disk) place.disk place.sector 1)
+    >>= λ slot. Ok tt
 
 -- the most slots of a file: as many as 65,535 section sectors have
 abbrev pub slots_limit : ℕ
@@ -186,10 +196,17 @@ system_places_check config machine (place ∷ places) = do
   a ← if_there (place_check config machine options.OtherDevice) place
   each_passes (if_there (place_check config machine options.Table)) places
 
+-- those of a section's main file, or of its devices
+abbrev pub main_address_check : Config → Machine → MappedSection → Result (Unit {0}) PlanFault
+main_address_check config machine mapped =
+    if is_some mapped.section.other
+    then system_places_check config machine mapped.main.places
+    else mapped_file_check config machine options.Image mapped.main
+
 -- those of a section
 abbrev pub mapped_address_check : Config → Machine → MappedSection → Result (Unit {0}) PlanFault
 mapped_address_check config machine mapped = do
-  a ← if is_some mapped.section.other then system_places_check config machine mapped.main.places else mapped_file_check config machine options.Image mapped.main
+  a ← main_address_check config machine mapped
   if_there (mapped_file_check config machine options.Initrd) mapped.initrd
 
 -- the message, and each section

@@ -1,5 +1,5 @@
--- What a configuration maps, on a sound volume where nothing that it names is refused (this project's own; zones: Minix file
--- system).
+-- What a configuration maps, on a sound volume where nothing that it names is refused (this project's own; zones: Minix
+-- file system).
 use Rattle.std.specs.Prelude.{ℕ, ◌+◌, ◌*◌, ◌/◌, ◌%◌, ◌==◌, if◌then◌else◌, List, [], ◌∷◌, map, take, flat_map, Option, Some, None, option_map, option_and_then, unwrap_or}
 use Rattle.std.specs.List.{range_with_len}
 use Rattle.std.specs.Result.{result_ok}
@@ -46,7 +46,9 @@ mapped_inode volume parts number =
 -- the inode of the regular file that a path leads to
 unfoldable pub file_inode : Volume → Parts → List ℕ → Option ℕ
 file_inode volume parts path =
-    option_and_then (λ number. if is_file (parts.node number) then Some number else None) (result_ok (find volume.layout parts path))
+    option_and_then
+    (λ number. if is_file (parts.node number) then Some number else None)
+    (result_ok (find volume.layout parts path))
 
 -- a file that isn't empty
 abbrev pub some_file : MappedFile → Option MappedFile
@@ -60,8 +62,10 @@ optional_file volume parts path =
 -- the first sector of another system, and that of the table's device
 abbrev pub system_places : Image → Machine → Device → Option Device → List (Option DiskSector)
 system_places image machine device None = first_sector image machine device ∷ []
-system_places image machine device (Some table) = first_sector image machine device ∷ (first_sector image machine table ∷ [])
+system_places image machine device (Some table) =
+    first_sector image machine device ∷ (first_sector image machine table ∷ [])
 
+-- the bytes of them
 abbrev pub system_size : Option Device → ℕ
 system_size None = 512
 system_size (Some table) = 1024
@@ -70,8 +74,13 @@ system_size (Some table) = 1024
 abbrev pub kernel_section : Volume → Parts → ConfSection → Option ℕ → List MappedSection
 kernel_section volume parts section None = []
 kernel_section volume parts section (Some number) =
-    record { section = section; main = mapped_inode volume parts number; initrd = optional_file volume parts section.initrd } ∷ []
+    record {
+      section = section;
+      main = mapped_inode volume parts number;
+      initrd = optional_file volume parts section.initrd;
+    } ∷ []
 
+-- a section, by the device of another system
 abbrev pub mapped_by : Image → Machine → Volume → ConfSection → Option Device → List MappedSection
 mapped_by image machine volume section (Some device) =
     record {

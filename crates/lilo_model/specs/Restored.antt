@@ -1,5 +1,5 @@
--- What `-u` writes: the boot sector that was there before the first installation (this project's own; the partition table
--- in it: IBM PC).
+-- What `-u` writes: the boot sector that was there before the first installation (this project's own; the partition
+-- table in it: IBM PC).
 use Rattle.std.specs.Prelude.{ℕ, List}
 use Rattle.lilo_model.specs.Bytes.{part_of, with_part}
 

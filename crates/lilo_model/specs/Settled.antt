@@ -1,4 +1,5 @@
--- The file that holds the present map, and Names once what an earlier installation left is settled (this project's own).
+-- The file that holds the present map, and Names once what an earlier installation left is settled (this project's
+-- own).
 use Rattle.std.specs.Prelude.{◌≡◌, ℕ, ◌+◌, Bool, true, false, ◌⊎◌, if◌then◌else◌, List, All, is_some, Option, Some, None, Result, Ok, Err}
 use Rattle.lilo_model.specs.Checks.{◌>>=◌, with_fault}
 use Rattle.lilo_model.specs.Conf.{Config}
@@ -97,7 +98,9 @@ pub record OwnNames : Type 0 where
 abbrev pub backup_name : Names → Config → Device → Bool → Result (Option (List (List ℕ))) PathRefusal
 backup_name names config device false = Ok None
 backup_name names config device true =
-    with_fault (refused_path (backup_path config device)) (replaceable_name names (is_some config.force_backup) (backup_path config device))
+    with_fault
+    (refused_path (backup_path config device))
+    (replaceable_name names (is_some config.force_backup) (backup_path config device))
     >>= λ path. Ok (Some path)
 
 -- these names, by whether the boot sector is of another system, or the first that is refused
@@ -123,8 +126,8 @@ abbrev pub without_stale : Option (List (List ℕ)) → Names → Names
 without_stale None names = names
 without_stale (Some backup) names = without_name (with_tilde backup) names
 
--- Names as settling makes them: where it finishes a rename, what is at `map~` is at `map`; then `map~` is away, and so is
--- the stale copy of a backup
+-- Names as settling makes them: where it finishes a rename, what is at `map~` is at `map`; then `map~` is away, and so
+-- is the stale copy of a backup
 abbrev pub settled : Bool → List (List ℕ) → Option (List (List ℕ)) → Names → Names
 settled finishes path stale names =
     without_stale stale

@@ -29,6 +29,7 @@ pub mod MinixFindNames
 pub mod MinixLayout
 pub mod MinixNames
 pub mod MinixParts
+pub mod MinixSurvey
 pub mod MinixWalk
 pub mod Options
 pub mod Partitions

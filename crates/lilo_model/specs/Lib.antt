@@ -34,6 +34,7 @@ pub mod MinixFindNames
 pub mod MinixLayout
 pub mod MinixNames
 pub mod MinixParts
+pub mod MinixSurvey
 pub mod MinixWalk
 pub mod NamePlaces
 pub mod Options

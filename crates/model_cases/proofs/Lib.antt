@@ -55,6 +55,9 @@ mod SectorsOfCases3
 mod SlotAtCases1
 mod SlotBytesCases1
 mod SlotMakeCases1
+mod SurveyCases1
+mod SurveyCases2
+mod SurveyCases3
 mod TableCases1
 mod TableCases2
 mod TextsCases1

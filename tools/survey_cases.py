@@ -1,0 +1,135 @@
+#!/usr/bin/env python3
+"""Writes the cases of surveys of Minix volumes, from survey_cases.json beside it, as theorems that the check
+computes: crates/model_cases/proofs/SurveyCases*.antt. With --check it writes nothing, and fails where a file
+isn't as it would be written.
+
+A volume is given by its superblock, its inodes from 1 on (mode, links, size, zones), the pieces of its zones that
+aren't zeros (offset and hexadecimal bytes), and the marks that are set. The answer is the first refusal, or the zones
+that have an owner (zone, inode, whether it has numbers of zones) and the number of names of each inode. Every case
+stands in the data; those that say "checked" are written.
+"""
+
+import json
+import pathlib
+import re
+import sys
+
+from case_files import write_or_check
+from model_cases import CRATE, SPECS, listed, text, words_in
+
+DATA = pathlib.Path(__file__).resolve().parent / 'survey_cases.json'
+A_FILE = 40             # cases a file
+FILES = ['Bytes', 'MinixLayout', 'MinixParts', 'MinixEntries', 'MinixNames', 'MinixSurvey']
+CLOSED = {'with_counts', 'super_bytes', 'v1_inode_bytes', 'v2_inode_bytes', 'inode_bytes', 'kept_inode', 'volume_at',
+          'IsSound', 'entries_in', 'survey'}
+FAULTS = {
+    'MinixSurvey': ['Crossed', 'Unmarked', 'UnmarkedInode', 'BadLink', 'FewLinks', 'TooDeep', 'Tree'],
+    'MinixFind': ['NotDirectory', 'Zone'],
+    'MinixParts': ['Layout', 'ZoneOutside'],
+    'MinixLayout': ['BadSize', 'FileSize', 'V1Short', 'V1Long', 'V2Short', 'V2Long'],
+}
+
+
+def numbers(items):
+    return listed([str(item) for item in items])
+
+
+def fault(item):
+    """A refusal, which may have another inside."""
+    if isinstance(item, list):
+        parts = [fault(part) for part in item]
+        return parts[0] if len(parts) == 1 else '(%s)' % ' '.join(parts)
+    return str(item)
+
+
+def node(item):
+    mode, links, size, zones = item
+    return 'node %d %d %d %s' % (mode, links, size, numbers(zones))
+
+
+def zone(item):
+    number, pieces = item
+    return 'zone_with %d (file 1024 %s)' % (number, listed(['piece %d %s' % (at, text(data)) for at, data in pieces]))
+
+
+def volume(case):
+    layout = 'super_with %s %d %d %d %d %d' % tuple(case[key] for key in ('kind', 'inodes', 'zones', 'imap', 'zmap', 'first'))
+    return 'volume_by (%s) %s %s %s %s' % (layout, listed([node(item) for item in case['nodes']]), listed([zone(item) for item in case['bytes']]),
+                                           numbers(case['imarks']), numbers(case['zmarks']))
+
+
+def answer(gives):
+    if gives[0] == 'Err':
+        return 'Err %s' % fault(gives[1])
+    owned = ['owned %d %d %s' % (at, inode, str(indirect).lower()) for at, inode, indirect in sorted(gives[1]['zones'])]
+    return 'Ok (found %s %s)' % (listed(owned), numbers(gives[1]['names']))
+
+
+def unfolded():
+    """The definitions that a case unfolds, by their file."""
+    found = {}
+    for name in FILES:
+        words = re.findall(r'^unfoldable pub (\w+)', (SPECS / (name + '.antt')).read_text(), re.M)
+        found[name] = [word for word in words if word not in CLOSED]
+    return found
+
+
+def cases_text(named_cases):
+    taken = unfolded()
+    unfolding = ' '.join(word for words in taken.values() for word in words)
+    pairs = [('survey_found (%s)' % volume(case), answer(case['gives'])) for _, case in named_cases]
+    words = words_in([side for pair in pairs for side in pair])
+    lines = ['-- Cases of surveys of Minix volumes, written by tools/survey_cases.py.']
+    plain = [word for word in ('Ok', 'Err', 'true', 'false', 'codes', 'replicate') if word in words]
+    lines.append('use Rattle.std.proofs.Common.{%s}' % ', '.join(['◌≡◌', '[]', '◌∷◌'] + plain + ['refl']))
+    for name, names in FAULTS.items():
+        taken.setdefault(name, []).extend(word for word in names if word in words)
+    for name in sorted(taken):
+        if taken[name]:
+            lines.append('use Rattle.lilo_model.specs.%s.{%s}' % (name, ', '.join(dict.fromkeys(taken[name]))))
+    lines.append('use Rattle.model_cases.specs.Sparse.{%s}' % ', '.join(word for word in ('file', 'piece', 'hex') if word in words))
+    used = [word for word in ('super_with', 'volume_by', 'node', 'zone_with', 'survey_found', 'found', 'owned') if word in words]
+    lines.append('use Rattle.model_cases.specs.Surveys.{%s}' % ', '.join(used))
+    for (name, case), (left, right) in zip(named_cases, pairs):
+        lines += ['', '-- ' + case['shows'], 'pub %s : %s ≡ %s' % (name, left, right), 'unfolding ' + unfolding, '%s = refl' % name]
+    return '\n'.join(lines) + '\n'
+
+
+def theorem_names(cases):
+    """A name for each case, by what it shows."""
+    names, seen = [], {}
+    for case in cases:
+        shows = case['shows'].lower().replace('..', 'dotdot').replace('. ', 'dot ')
+        name = 'minix_survey_' + re.sub(r'[^a-z0-9]+', '_', shows).strip('_')
+        seen[name] = seen.get(name, 0) + 1
+        names.append(name if seen[name] == 1 else '%s_%d' % (name, seen[name]))
+    return names
+
+
+def library_text(files):
+    """The list of modules, with those that others wrote."""
+    lines = (CRATE / 'proofs' / 'Lib.antt').read_text().split('\n')
+    others = [line for line in lines if line and not re.match('mod SurveyCases', line)]
+    ours = ['mod ' + path.stem for path in files if path.parent.name == 'proofs']
+    return '\n'.join(sorted(others + ours)) + '\n'
+
+
+def all_files():
+    cases = [case for case in json.loads(DATA.read_text())['cases'] if case['checked']]
+    named_cases = list(zip(theorem_names(cases), cases))
+    files = {}
+    for part in range(-(-len(cases) // A_FILE)):
+        some = named_cases[part * A_FILE:(part + 1) * A_FILE]
+        files[CRATE / 'proofs' / ('SurveyCases%d.antt' % (part + 1))] = cases_text(some)
+    files[CRATE / 'proofs' / 'Lib.antt'] = library_text(files)
+    return files
+
+
+def main(arguments):
+    files = all_files()
+    old = [path for path in (CRATE / 'proofs').glob('SurveyCases*.antt') if path not in files]
+    return write_or_check('survey_cases.py', files, old, arguments)
+
+
+if __name__ == '__main__':
+    sys.exit(main(sys.argv[1:]))

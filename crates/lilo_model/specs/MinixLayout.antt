@@ -129,13 +129,18 @@ super_of kind bytes = record {
   state = number16 bytes 18;
 }
 
+-- whether the zone bitmap has a bit for each data zone and the reserved one; a first data zone past the zones
+-- is left to its own check
+abbrev pub zone_map_holds : Super → Bool
+zone_map_holds super = nat_lt super.zones super.first || nat_lt (super.zones - super.first) (8192 * super.zmap)
+
 -- the checks of the fields for a volume of some sectors, in order
 unfoldable pub super_checks : Super → ℕ → Result (Unit {0}) LayoutFault
 super_checks super sectors = do
   a ← require (nat_le 1 super.inodes) (BadSize Inodes)
   b ← require (nat_le 1 super.zones && nat_le (2 * super.zones) sectors) (BadSize Zones)
   c ← require (nat_lt super.inodes (8192 * super.imap)) (BadSize InodeMap)
-  d ← require (nat_lt (super.zones - super.first) (8192 * super.zmap)) (BadSize ZoneMap)
+  d ← require (zone_map_holds super) (BadSize ZoneMap)
   require (nat_le (table_start super + table_blocks super) super.first && nat_lt super.first super.zones) (BadSize FirstZone)
 
 -- the fields of a kind, where the zone size is that of a block and the checks pass

@@ -1,6 +1,6 @@
 -- What a boot puts into memory: the command line, and a kernel with its fields replaced, its initrd and
 -- that line (Linux/x86 boot protocol; the line's text follows LILO's manners).
-use Rattle.std.specs.Prelude.{ℕ, ◌+◌, ◌-◌, ◌≤◌, nat_le, nat_lt, ◌&&◌, Bool, if◌then◌else◌, List, [], ◌∷◌, ◌++◌, length, take, drop, slice_index, codes, Option, Some, None, option_map, Result, Ok, IsOk}
+use Rattle.std.specs.Prelude.{ℕ, ◌+◌, ◌-◌, nat_le, nat_lt, ◌&&◌, Bool, if◌then◌else◌, List, [], ◌∷◌, ◌++◌, length, take, drop, slice_index, codes, Option, Some, None, option_map, Result, Ok, IsOk}
 use Rattle.lilo_model.specs.Bytes.{filled_bytes}
 use Rattle.lilo_model.specs.Checks.{◌>>=◌}
 use Rattle.lilo_model.specs.Header.{Header, Region, Layout, SetupFault, header_at, fit_checks, plan_memory, patch}
@@ -22,11 +22,6 @@ command_line automatic name middle words =
 -- the byte at each address
 abbrev pub Memory : Type 0
 Memory = ℕ → ℕ
-
--- a size of memory that a machine can have: from 1,048,576 bytes to 1,073,741,824
-pub record IsMemorySize (size : ℕ) : Type 0 where
-  pub least : 1048576 ≤ size
-  pub most : size ≤ 1073741824
 
 -- bytes that are put into memory at an address
 pub record Written : Type 0 where

@@ -1,6 +1,6 @@
 -- What the prompt is given and what it answers. Its rules are this project's own; the texts, as
 -- `boot: `, and the keys that edit a line follow LILO's manners.
-use Rattle.std.specs.Prelude.{◌≡◌, ℕ, ◌<◌, List, ◌++◌, Bool, Option, All, ⊤}
+use Rattle.std.specs.Prelude.{◌≡◌, ℕ, List, ◌++◌, Bool, Option}
 use Rattle.lilo_model.specs.DefaultLine.{DefaultLine}
 
 -- a key; a list of keys is followed by endless silence
@@ -9,15 +9,6 @@ pub data Key : Type 0 where
   Byte : ℕ → Key
   -- a tenth of a second without a byte
   Tick : Key
-
--- the key is a tick, or a number that a byte can have
-abbrev pub IsTypeable : Key → Type 0
-IsTypeable (Byte byte) = byte < 256
-IsTypeable Tick = ⊤
-
--- each of the keys is
-abbrev pub AreTypeable : List Key → Type 0
-AreTypeable keys = All IsTypeable keys
 
 -- the keys that are left are the last of all of them, behind those that are taken
 pub record AreLastKeys (keys left : List Key) : Type 0 where

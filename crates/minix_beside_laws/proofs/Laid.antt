@@ -2,9 +2,10 @@
 -- inodes and of zones, the table of inodes, and the data zones, one behind the other.
 use Rattle.std.proofs.Common.{◌≡◌, ℕ, ◌+◌, ◌-◌, ◌*◌, ◌/◌, ◌<◌, ◌≤◌, ◌==◌, ◌&&◌, Bool, true, false, nat_le, nat_lt, List, Option, Some, None, Result, Ok, Err, refl, subst, arith}
 use Rattle.std.proofs.lemmas.Bool.{leb-true, ltb-true}
+use Rattle.std.proofs.lemmas.Bool.Decides.{nat_tests}
 use Rattle.lilo_model.specs.Bytes.{number16}
 use Rattle.lilo_model.specs.Checks.{◌>>=◌, require}
-use Rattle.lilo_model.specs.MinixLayout.{Kind, V1Short, V1Long, V2Short, V2Long, Super, LayoutFault, BadSize, ZoneSize, Inodes, Zones, InodeMap, ZoneMap, FirstZone, inode_size, table_start, table_blocks, kind_of, super_of, super_checks, super_in, super_at, inode_place}
+use Rattle.lilo_model.specs.MinixLayout.{Kind, V1Short, V1Long, V2Short, V2Long, Super, LayoutFault, BadSize, ZoneSize, Inodes, Zones, InodeMap, ZoneMap, FirstZone, inode_size, table_start, table_blocks, kind_of, super_of, super_checks, zone_map_holds, super_in, super_at, inode_place}
 use Rattle.lilo_model.specs.MinixParts.{inode_mark_sector, zone_mark_sector}
 
 -- what the checks say
@@ -29,19 +30,24 @@ five-true true true false d e fa fb fc fd fe passes = cc
 five-true true false c d e fa fb fc fd fe passes = cc
 five-true false b c d e fa fb fc fd fe passes = cc
 
+-- the bitmap has bits enough where the first data zone lies before the end
+zone_map-enough : (super : Super) → zone_map_holds super ≡ true → super.first < super.zones → super.zones - super.first < 8192 * super.zmap
+zone_map-enough super holds first = grind (arith, nat_tests)
+
 laid-checks : (super : Super) (sectors : ℕ) → super_checks super sectors ≡ Ok tt → Laid super
 unfolding super_checks
 laid-checks super sectors passes =
     let all = five-true
     (nat_le 1 super.inodes) (nat_le 1 super.zones && nat_le (2 * super.zones) sectors) (nat_lt super.inodes (8192 * super.imap))
-    (nat_lt (super.zones - super.first) (8192 * super.zmap)) (nat_le (table_start super + table_blocks super) super.first && nat_lt super.first super.zones)
+    (zone_map_holds super) (nat_le (table_start super + table_blocks super) super.first && nat_lt super.first super.zones)
     (BadSize Inodes) (BadSize Zones) (BadSize InodeMap) (BadSize ZoneMap) (BadSize FirstZone) passes in
     let last = both-true (nat_le (table_start super + table_blocks super) super.first) (nat_lt super.first super.zones) all.2 in
+    let first = ltb-true super.first super.zones last.1 in
     record {
       imap = ltb-true super.inodes (8192 * super.imap) all.0;
-      zmap = ltb-true (super.zones - super.first) (8192 * super.zmap) all.1;
+      zmap = zone_map-enough super all.1 first;
       table = leb-true (table_start super + table_blocks super) super.first last.0;
-      first = ltb-true super.first super.zones last.1;
+      first = first;
     }
 
 -- the fields that passed the checks are those that were read

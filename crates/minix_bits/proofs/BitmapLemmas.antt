@@ -2,7 +2,7 @@
 use Rattle.std.proofs.Common.{◌≡◌, ◌≤◌, ◌<◌, ◌+◌, ◌*◌, ◌-◌, ◌/◌, ℕ, Bool, true, false, nat_le, nat_lt, ◌&&◌, Result, Ok, refl, arith}
 use Rattle.std.proofs.lemmas.Bool.Decides.{nat_tests}
 use Rattle.lilo_model.specs.Checks.{◌>>=◌, require}
-use Rattle.lilo_model.specs.MinixLayout.{Super, IsSuper, super_checks, table_start, table_blocks, BadSize, Inodes, Zones, InodeMap, ZoneMap, FirstZone}
+use Rattle.lilo_model.specs.MinixLayout.{Super, IsSuper, super_checks, zone_map_holds, table_start, table_blocks, BadSize, Inodes, Zones, InodeMap, ZoneMap, FirstZone}
 use Rattle.minix_bits.specs.declared.bitmap.Bitmap.{Bitmap}
 use Rattle.minix_bits.specs.Bitmap.{IsBitmapIn, zone_bitmap, inode_bitmap}
 
@@ -30,11 +30,11 @@ fits super sectors passes =
     let one = passed (nat_le 1 super.inodes) (BadSize Inodes) _ passes in
     let two = passed (nat_le 1 super.zones && nat_le (2 * super.zones) sectors) (BadSize Zones) _ one.1 in
     let three = passed (nat_lt super.inodes (8192 * super.imap)) (BadSize InodeMap) _ two.1 in
-    let four = passed (nat_lt (super.zones - super.first) (8192 * super.zmap)) (BadSize ZoneMap) _ three.1 in
+    let four = passed (zone_map_holds super) (BadSize ZoneMap) _ three.1 in
     let five = last_passed (nat_le (table_start super + table_blocks super) super.first && nat_lt super.first super.zones) (BadSize FirstZone) four.1 in
     let zones : nat_le 1 super.zones && nat_le (2 * super.zones) sectors ≡ true = two.0 in
     let imap : nat_lt super.inodes (8192 * super.imap) ≡ true = three.0 in
-    let zmap : nat_lt (super.zones - super.first) (8192 * super.zmap) ≡ true = four.0 in
+    let zmap : zone_map_holds super ≡ true = four.0 in
     let first : nat_le (table_start super + table_blocks super) super.first && nat_lt super.first super.zones ≡ true = five in
     let behind : table_start super + table_blocks super ≤ super.first = grind (arith, nat_tests) in
     record {

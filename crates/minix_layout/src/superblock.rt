@@ -98,7 +98,7 @@ impl Super {
             Err(LayoutFault::BadSize(SizeField::Zones))
         } else if BLOCK_BITS * self.imap <= self.inodes {
             Err(LayoutFault::BadSize(SizeField::InodeMap))
-        } else if BLOCK_BITS * self.zmap <= self.zones.saturating_sub(self.first) {
+        } else if self.first <= self.zones && BLOCK_BITS * self.zmap <= self.zones - self.first {
             Err(LayoutFault::BadSize(SizeField::ZoneMap))
         } else if self.first < self.table_end() || self.zones <= self.first {
             Err(LayoutFault::BadSize(SizeField::FirstZone))

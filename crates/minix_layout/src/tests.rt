@@ -66,14 +66,20 @@ fn first_broken_field_is_told(rt: HostRuntime) {
     assert_eq!(rt; Super::read(&sector, 63), Err(LayoutFault::BadMagic));
 }
 
-// A first data zone behind the zones passes the check of the zone bitmap.
+// A first data zone behind the zones passes the check of the zone bitmap, even where that has no blocks.
 #[test]
 fn first_zone_behind_the_zones(rt: HostRuntime) {
     let mut sector = superblock();
+    put_u16(&mut sector, 6, 0);
     put_u16(&mut sector, 8, 33);
     assert_eq!(rt;
         Super::read(&sector, 64),
         Err(LayoutFault::BadSize(SizeField::FirstZone))
+    );
+    put_u16(&mut sector, 8, 32);
+    assert_eq!(rt;
+        Super::read(&sector, 64),
+        Err(LayoutFault::BadSize(SizeField::ZoneMap))
     );
 }
 

@@ -2,7 +2,7 @@
 use Rattle.std.proofs.Common.{◌≡◌, ◌≤◌, ◌<◌, ◌+◌, ◌*◌, ◌-◌, ℕ, Bool, true, false, nat_le, nat_lt, ◌&&◌, Result, Ok, refl, arith}
 use Rattle.std.proofs.lemmas.Bool.Decides.{nat_tests}
 use Rattle.lilo_model.specs.Checks.{◌>>=◌, require}
-use Rattle.lilo_model.specs.MinixLayout.{Super, IsSuper, BadSize, Inodes, Zones, InodeMap, ZoneMap, FirstZone, super_checks, table_start, table_blocks, inode_place}
+use Rattle.lilo_model.specs.MinixLayout.{Super, IsSuper, BadSize, Inodes, Zones, InodeMap, ZoneMap, FirstZone, super_checks, zone_map_holds, table_start, table_blocks, inode_place}
 use Rattle.lilo_model.specs.MinixParts.{inode_mark_sector, zone_mark_sector}
 use Rattle.minix_beside_laws.specs.Beside.{IsOfBitmaps}
 use Rattle.minix_beside_laws.proofs.Laid.{Laid, mark-below, zone_mark-from, zone_mark-below, place-from, place-below}
@@ -23,7 +23,7 @@ table_before super sectors passes =
     let one = passed (nat_le 1 super.inodes) (BadSize Inodes) _ passes in
     let two = passed (nat_le 1 super.zones && nat_le (2 * super.zones) sectors) (BadSize Zones) _ one in
     let three = passed (nat_lt super.inodes (8192 * super.imap)) (BadSize InodeMap) _ two in
-    let four = passed (nat_lt (super.zones - super.first) (8192 * super.zmap)) (BadSize ZoneMap) _ three in
+    let four = passed (zone_map_holds super) (BadSize ZoneMap) _ three in
     let five = passed_last (nat_le (table_start super + table_blocks super) super.first && nat_lt super.first super.zones) (BadSize FirstZone) four in
     grind (arith, nat_tests)
 

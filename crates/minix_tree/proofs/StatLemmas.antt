@@ -4,7 +4,7 @@ use Rattle.std.proofs.lemmas.Bool.Decides.{nat_tests}
 use Rattle.disk_trait.specs.Past.{Past, Told, now_of}
 use Rattle.lilo_model.specs.Bytes.{part_of}
 use Rattle.lilo_model.specs.Checks.{◌>>=◌, require}
-use Rattle.lilo_model.specs.MinixLayout.{Kind, V1Short, V1Long, V2Short, V2Long, Super, Inode, Place, LayoutFault, BadSize, Inodes, Zones, InodeMap, ZoneMap, FirstZone, FileSize, IsSuper, super_checks, table_start, table_blocks, inode_size, is_v1, is_size, inode_of, inode_at, inode_place, reach}
+use Rattle.lilo_model.specs.MinixLayout.{Kind, V1Short, V1Long, V2Short, V2Long, Super, Inode, Place, LayoutFault, BadSize, Inodes, Zones, InodeMap, ZoneMap, FirstZone, FileSize, IsSuper, super_checks, zone_map_holds, table_start, table_blocks, inode_size, is_v1, is_size, inode_of, inode_at, inode_place, reach}
 use Rattle.lilo_model.specs.MinixParts.{Volume, Layout, parts_of, sector_of, blocks_for}
 use Rattle.lilo_model.specs.MinixFind.{TreeFault, Zone, readable}
 
@@ -26,13 +26,13 @@ table_fits : (super : Super) (sectors : ℕ) → super_checks super sectors ≡ 
 unfolding super_checks
 table_fits super sectors passes =
     let last = require (nat_le (table_start super + table_blocks super) super.first && nat_lt super.first super.zones) (BadSize FirstZone) in
-    let fourth = require (nat_lt (super.zones - super.first) (8192 * super.zmap)) (BadSize ZoneMap) >>= λ e. last in
+    let fourth = require (zone_map_holds super) (BadSize ZoneMap) >>= λ e. last in
     let third = require (nat_lt super.inodes (8192 * super.imap)) (BadSize InodeMap) >>= λ d. fourth in
     let second = require (nat_le 1 super.zones && nat_le (2 * super.zones) sectors) (BadSize Zones) >>= λ c. third in
     let one = passed (nat_le 1 super.inodes) (BadSize Inodes) second passes in
     let two = passed (nat_le 1 super.zones && nat_le (2 * super.zones) sectors) (BadSize Zones) third one.1 in
     let three = passed (nat_lt super.inodes (8192 * super.imap)) (BadSize InodeMap) fourth two.1 in
-    let four = passed (nat_lt (super.zones - super.first) (8192 * super.zmap)) (BadSize ZoneMap) last three.1 in
+    let four = passed (zone_map_holds super) (BadSize ZoneMap) last three.1 in
     let five = passed_last (nat_le (table_start super + table_blocks super) super.first && nat_lt super.first super.zones) (BadSize FirstZone) four.1 in
     let two_is : (nat_le 1 super.zones && nat_le (2 * super.zones) sectors) ≡ true = two.0 in
     grind (arith, nat_tests)
@@ -60,7 +60,7 @@ has_root super sectors whole =
     let one = passed (nat_le 1 super.inodes) (BadSize Inodes)
     (require (nat_le 1 super.zones && nat_le (2 * super.zones) sectors) (BadSize Zones)
     >>= λ b. require (nat_lt super.inodes (8192 * super.imap)) (BadSize InodeMap)
-    >>= λ c. require (nat_lt (super.zones - super.first) (8192 * super.zmap)) (BadSize ZoneMap)
+    >>= λ c. require (zone_map_holds super) (BadSize ZoneMap)
     >>= λ d. require (nat_le (table_start super + table_blocks super) super.first && nat_lt super.first super.zones) (BadSize FirstZone)) whole.passes in
     let is : nat_le 1 super.inodes ≡ true = one.0 in
     grind (arith, nat_tests)

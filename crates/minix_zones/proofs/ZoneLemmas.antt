@@ -1,7 +1,7 @@
 -- What the checks of a superblock say of zones.
 use Rattle.std.proofs.Common.{◌≡◌, ◌≤◌, ◌<◌, ◌+◌, ◌*◌, ◌-◌, ◌/◌, ◌%◌, ℕ, zero, suc, List, ap, Bool, true, false, nat_le, nat_lt, ◌&&◌, Result, Ok, refl, arith}
 use Rattle.lilo_model.specs.Checks.{◌>>=◌, require}
-use Rattle.lilo_model.specs.MinixLayout.{Super, super_checks, table_start, table_blocks, BadSize, Inodes, Zones, InodeMap, ZoneMap, FirstZone}
+use Rattle.lilo_model.specs.MinixLayout.{Super, super_checks, zone_map_holds, table_start, table_blocks, BadSize, Inodes, Zones, InodeMap, ZoneMap, FirstZone}
 use Rattle.lilo_model.specs.MinixParts.{follow_at, trail_of, inside, number_below}
 use Rattle.std.proofs.lemmas.Bool.Decides.{nat_tests}
 
@@ -17,7 +17,7 @@ pub zones_fit : (super : Super) (sectors : ℕ) → super_checks super sectors �
 unfolding super_checks
 zones_fit super sectors passes =
     let both = second-passed (nat_le 1 super.inodes) (nat_le 1 super.zones && nat_le (2 * super.zones) sectors) (BadSize Inodes) (BadSize Zones)
-    (require (nat_lt super.inodes (8192 * super.imap)) (BadSize InodeMap) >>= λ c. require (nat_lt (super.zones - super.first) (8192 * super.zmap)) (BadSize ZoneMap) >>= λ d. require (nat_le (table_start super + table_blocks super) super.first && nat_lt super.first super.zones) (BadSize FirstZone)) passes in
+    (require (nat_lt super.inodes (8192 * super.imap)) (BadSize InodeMap) >>= λ c. require (zone_map_holds super) (BadSize ZoneMap) >>= λ d. require (nat_le (table_start super + table_blocks super) super.first && nat_lt super.first super.zones) (BadSize FirstZone)) passes in
     grind (arith, nat_tests)
 
 -- the last step of the way to a block

@@ -4,6 +4,26 @@ use Rattle.lilo_model.specs.Bytes.{number16, number32, is_zero}
 use Rattle.lilo_model.specs.MinixLayout.{kind_of, super_of, super_checks, super_in, super_at, v1_inode, v2_inode, inode_of, inode_at, inode_place, BadMagic, ZoneSize, BadSize, Inodes, Zones, InodeMap, ZoneMap, FirstZone, V1Long, V2Short, V2Long}
 use Rattle.model_cases.specs.Sparse.{file, piece, hex}
 
+-- a first zone inside the table in version 1 with long names
+pub minix_super_a_first_zone_inside_the_table_in_version_1_with_long_names : super_at (file 512 (piece 0 (hex 24 0x200028000100010004000000001c08108f13010000000000) ∷ [])) 80 ≡ Err (BadSize FirstZone)
+unfolding number16 number32 is_zero kind_of super_of super_checks super_in super_at v1_inode v2_inode inode_of inode_at inode_place
+minix_super_a_first_zone_inside_the_table_in_version_1_with_long_names = refl
+
+-- a first zone behind the table in version 1 with long names
+pub minix_super_a_first_zone_behind_the_table_in_version_1_with_long_names : super_at (file 512 (piece 0 (hex 24 0x200028000100010006000000001c08108f13010000000000) ∷ [])) 80 ≡ Ok (record { kind = V1Long; inodes = 32; zones = 40; imap = 1; zmap = 1; first = 6; max_size = 268966912; state = 1 })
+unfolding number16 number32 is_zero kind_of super_of super_checks super_in super_at v1_inode v2_inode inode_of inode_at inode_place
+minix_super_a_first_zone_behind_the_table_in_version_1_with_long_names = refl
+
+-- a first zone behind the zones in version 1 with long names
+pub minix_super_a_first_zone_behind_the_zones_in_version_1_with_long_names : super_at (file 512 (piece 0 (hex 24 0x200028000100010029000000001c08108f13010000000000) ∷ [])) 80 ≡ Err (BadSize FirstZone)
+unfolding number16 number32 is_zero kind_of super_of super_checks super_in super_at v1_inode v2_inode inode_of inode_at inode_place
+minix_super_a_first_zone_behind_the_zones_in_version_1_with_long_names = refl
+
+-- a first zone that is the last in version 1 with long names
+pub minix_super_a_first_zone_that_is_the_last_in_version_1_with_long_names : super_at (file 512 (piece 0 (hex 24 0x200028000100010027000000001c08108f13010000000000) ∷ [])) 80 ≡ Ok (record { kind = V1Long; inodes = 32; zones = 40; imap = 1; zmap = 1; first = 39; max_size = 268966912; state = 1 })
+unfolding number16 number32 is_zero kind_of super_of super_checks super_in super_at v1_inode v2_inode inode_of inode_at inode_place
+minix_super_a_first_zone_that_is_the_last_in_version_1_with_long_names = refl
+
 -- a first zone at the end in version 1 with long names
 pub minix_super_a_first_zone_at_the_end_in_version_1_with_long_names : super_at (file 512 (piece 0 (hex 24 0x200028000100010028000000001c08108f13010000000000) ∷ [])) 80 ≡ Err (BadSize FirstZone)
 unfolding number16 number32 is_zero kind_of super_of super_checks super_in super_at v1_inode v2_inode inode_of inode_at inode_place
@@ -83,6 +103,16 @@ minix_super_no_inode_bitmap_in_version_2_with_short_names = refl
 pub minix_super_no_zone_bitmap_in_version_2_with_short_names : super_at (file 512 (piece 0 (hex 24 0x200000000100000006000000ffffff7f6824010028000000) ∷ [])) 80 ≡ Err (BadSize ZoneMap)
 unfolding number16 number32 is_zero kind_of super_of super_checks super_in super_at v1_inode v2_inode inode_of inode_at inode_place
 minix_super_no_zone_bitmap_in_version_2_with_short_names = refl
+
+-- no zone bitmap, and a first zone at the end in version 2 with short names
+pub minix_super_no_zone_bitmap_and_a_first_zone_at_the_end_in_version_2_with_short_names : super_at (file 512 (piece 0 (hex 24 0x200000000100000028000000ffffff7f6824010028000000) ∷ [])) 80 ≡ Err (BadSize ZoneMap)
+unfolding number16 number32 is_zero kind_of super_of super_checks super_in super_at v1_inode v2_inode inode_of inode_at inode_place
+minix_super_no_zone_bitmap_and_a_first_zone_at_the_end_in_version_2_with_short_names = refl
+
+-- no zone bitmap, and a first zone behind the zones in version 2 with short names
+pub minix_super_no_zone_bitmap_and_a_first_zone_behind_the_zones_in_version_2_with_short_names : super_at (file 512 (piece 0 (hex 24 0x200000000100000029000000ffffff7f6824010028000000) ∷ [])) 80 ≡ Err (BadSize FirstZone)
+unfolding number16 number32 is_zero kind_of super_of super_checks super_in super_at v1_inode v2_inode inode_of inode_at inode_place
+minix_super_no_zone_bitmap_and_a_first_zone_behind_the_zones_in_version_2_with_short_names = refl
 
 -- inodes that need a second block of marks in version 2 with short names
 pub minix_super_inodes_that_need_a_second_block_of_marks_in_version_2_with_short_names : super_at (file 512 (piece 0 (hex 24 0x002000000100010006000000ffffff7f6824010028000000) ∷ [])) 80 ≡ Err (BadSize InodeMap)
@@ -173,33 +203,3 @@ minix_super_no_zone_in_version_2_with_long_names = refl
 pub minix_super_another_magic_number_in_version_2_with_long_names : super_at (file 512 (piece 0 (hex 24 0x200000000100010006000000ffffff7f5a4d010028000000) ∷ [])) 80 ≡ Err BadMagic
 unfolding number16 number32 is_zero kind_of super_of super_checks super_in super_at v1_inode v2_inode inode_of inode_at inode_place
 minix_super_another_magic_number_in_version_2_with_long_names = refl
-
--- larger zones in version 2 with long names
-pub minix_super_larger_zones_in_version_2_with_long_names : super_at (file 512 (piece 0 (hex 24 0x200000000100010006000100ffffff7f7824010028000000) ∷ [])) 80 ≡ Err ZoneSize
-unfolding number16 number32 is_zero kind_of super_of super_checks super_in super_at v1_inode v2_inode inode_of inode_at inode_place
-minix_super_larger_zones_in_version_2_with_long_names = refl
-
--- a magic number before a zone size in version 2 with long names
-pub minix_super_a_magic_number_before_a_zone_size_in_version_2_with_long_names : super_at (file 512 (piece 0 (hex 24 0x200000000100010006000100ffffff7f5a4d010028000000) ∷ [])) 80 ≡ Err BadMagic
-unfolding number16 number32 is_zero kind_of super_of super_checks super_in super_at v1_inode v2_inode inode_of inode_at inode_place
-minix_super_a_magic_number_before_a_zone_size_in_version_2_with_long_names = refl
-
--- no inode bitmap in version 2 with long names
-pub minix_super_no_inode_bitmap_in_version_2_with_long_names : super_at (file 512 (piece 0 (hex 24 0x200000000000010006000000ffffff7f7824010028000000) ∷ [])) 80 ≡ Err (BadSize InodeMap)
-unfolding number16 number32 is_zero kind_of super_of super_checks super_in super_at v1_inode v2_inode inode_of inode_at inode_place
-minix_super_no_inode_bitmap_in_version_2_with_long_names = refl
-
--- no zone bitmap in version 2 with long names
-pub minix_super_no_zone_bitmap_in_version_2_with_long_names : super_at (file 512 (piece 0 (hex 24 0x200000000100000006000000ffffff7f7824010028000000) ∷ [])) 80 ≡ Err (BadSize ZoneMap)
-unfolding number16 number32 is_zero kind_of super_of super_checks super_in super_at v1_inode v2_inode inode_of inode_at inode_place
-minix_super_no_zone_bitmap_in_version_2_with_long_names = refl
-
--- inodes that need a second block of marks in version 2 with long names
-pub minix_super_inodes_that_need_a_second_block_of_marks_in_version_2_with_long_names : super_at (file 512 (piece 0 (hex 24 0x002000000100010006000000ffffff7f7824010028000000) ∷ [])) 80 ≡ Err (BadSize InodeMap)
-unfolding number16 number32 is_zero kind_of super_of super_checks super_in super_at v1_inode v2_inode inode_of inode_at inode_place
-minix_super_inodes_that_need_a_second_block_of_marks_in_version_2_with_long_names = refl
-
--- inodes that fill one block of marks in version 2 with long names
-pub minix_super_inodes_that_fill_one_block_of_marks_in_version_2_with_long_names : super_at (file 512 (piece 0 (hex 24 0xff1f00000100010006000000ffffff7f7824010028000000) ∷ [])) 80 ≡ Err (BadSize FirstZone)
-unfolding number16 number32 is_zero kind_of super_of super_checks super_in super_at v1_inode v2_inode inode_of inode_at inode_place
-minix_super_inodes_that_fill_one_block_of_marks_in_version_2_with_long_names = refl

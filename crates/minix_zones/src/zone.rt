@@ -6,6 +6,7 @@ ghost use Rattle.lilo_model.specs.MinixParts.{parts_of, number_in, number_below,
 ghost use Rattle.lilo_model.specs.MinixWalk.{branch_of, begins, stop_pointer};
 ghost use Rattle.minix_layout.specs.View.{kind_view, super_view, inode_view};
 ghost use Rattle.minix_zones.specs.View.{Gives, HasZoneCause, zone_number, IsZoneAt, IsInside};
+ghost use Rattle.minix_layout.specs.declared.superblock.Super.{Super as SuperOf};
 ghost use Rattle.minix_zones.specs.Volume.{volume_view, past_of, faults_of, SameVolume};
 
 use crate::volume::Volume;
@@ -43,7 +44,7 @@ pub(crate) fn numbers_in_zone(kind: FsKind) -> u32
 
 /// The number at an index of an indirect zone's bytes.
 #[tactic(auto, unfolding(lilo_model::specs::MinixParts::number_in))]
-fn number_in(kind: FsKind, bytes: &[u8; 1024], index: u32) -> u32
+pub(crate) fn number_in(kind: FsKind, bytes: &[u8; 1024], index: u32) -> u32
     requires { index < numbers_in_zone (kind_view kind) }
     ensures { result ≡ number_in (kind_view kind) bytes.now index }
 {
@@ -58,7 +59,7 @@ fn number_in(kind: FsKind, bytes: &[u8; 1024], index: u32) -> u32
 
 /// A number that may be followed: 0, or that of a data zone.
 #[tactic(auto, unfolding(lilo_model::specs::MinixParts::inside))]
-fn inside(layout: &Super, zone: u32) -> Result<u32, ZoneFault>
+pub(crate) fn inside(layout: &Super, zone: u32) -> Result<u32, ZoneFault>
     ensures found { Gives (λ found. found) result (inside (super_view layout.now) zone) }
     ensures inside { IfOk result (IsInside layout.now) }
     ensures refused { IfErr result (λ fault. fault ≡ ZoneFault.ZoneOutside zone) }
@@ -124,21 +125,22 @@ fn follow<D: Disks>(
 /// Where the way to a block begins: at one of an inode's ten numbers. It leads through `depth` levels of
 /// indirect zones, to a block that is counted from the first one found by that number.
 #[derive(Clone, Copy)]
-struct Way {
-    top: usize,
-    depth: u32,
-    index: u32,
+pub(crate) struct Way {
+    pub(crate) top: usize,
+    pub(crate) depth: u32,
+    pub(crate) index: u32,
 }
 
 /// The way to the block with an index.
 #[tactic(auto, unfolding(lilo_model::specs::MinixParts::pointer_by, lilo_model::specs::MinixWalk::branch_of))]
-fn way_to(kind: FsKind, index: u32) -> Way
+pub(crate) fn way_to(kind: FsKind, index: u32) -> Way
     ensures branch { branch_of (numbers_in_zone (kind_view kind)) index
         ≡ record { top = result.top; first = index - result.index; depth = result.depth } }
     ensures within { result.index ≤ index }
     ensures way { pointer_with (numbers_in_zone (kind_view kind)) result.top result.depth result.index
         ≡ block_pointer (kind_view kind) index }
     ensures ten { result.top < 10 }
+    ensures deep { result.depth ≤ 3 }
 {
     let per = numbers_in_zone(kind);
     let (top, depth, first) = if index < 7 {
@@ -183,11 +185,18 @@ pub fn zone_at<D: Disks>(
 {
     let way = way_to(volume.layout().kind, index);
     let zone = follow(volume, inode.zones[way.top], way.depth, way.index)?;
-    Ok(if zone == 0 {
-        ZoneAt::Hole
-    } else {
-        ZoneAt::Zone(zone)
-    })
+    Ok(zone_or_hole(zone))
+}
+
+/// What a number that may be followed stands for.
+pub(crate) fn zone_or_hole(zone: u32) -> ZoneAt
+    ensures number { zone_number result ≡ zone }
+    ensures data { (layout : SuperOf) → IsInside layout zone → IsZoneAt layout result }
+{
+    match zone {
+        0 => ZoneAt::Hole,
+        _ => ZoneAt::Zone(zone),
+    }
 }
 
 /// The bytes of the block with an index: those of its zone, or zeros for a hole. A refusal leaves `into` as it
@@ -226,7 +235,7 @@ pub fn read_at<D: Disks>(
 }
 
 /// Writes the bytes of a hole.
-fn put_hole(into: &mut [u8; 1024])
+pub(crate) fn put_hole(into: &mut [u8; 1024])
     ensures { into.new ≡ replicate 1024 0 }
 {
     *into = [0; 1024];

@@ -1,5 +1,5 @@
 // The indirect zones on the way to a block.
-ghost use Rattle.std.specs.Prelude.{◌≡◌, ◌<◌, ◌≤◌, OnOk, OnErr, IfOk, IfErr};
+ghost use Rattle.std.specs.Prelude.{◌≡◌, ◌<◌, ◌≤◌, slice_index, OnOk, OnErr, IfOk, IfErr};
 ghost use Rattle.disk_trait.specs.Cause.{Rose};
 ghost use Rattle.disk_trait.specs.Past.{Told};
 ghost use Rattle.lilo_model.specs.MinixLayout.{numbers_in_zone, reach};
@@ -115,6 +115,12 @@ impl HeldZones {
         ensures data { IfOk result (IsZoneAt volume.old.layout) }
         ensures held { AreHeld volume.new self.new }
 
+        // A number of the inode's own is judged without reading.
+        ensures direct { index < 7 → Gives zone_number result
+            (inside (super_view volume.old.layout) (slice_index inode.now.zones index)) }
+        ensures outside { index < 7 →
+            IfErr result (λ fault. fault ≡ ZoneFault.ZoneOutside (slice_index inode.now.zones index)) }
+
         // When it is refused.
         ensures cause { IfErr result (HasZoneCause (faults_of volume.old) (faults_of volume.new)) }
         ensures later { faults_of volume.old ≤ faults_of volume.new }
@@ -177,6 +183,8 @@ impl HeldZones {
         ensures number { Told (past_of volume.old) (λ now. Gives (λ found. found) result
             (follow_at (super_view volume.old.layout) (parts_of (volume_view volume.old) now).zone zone
             (trail_of (numbers_in_zone (kind_view volume.old.layout.kind)) depth index))) }
+        ensures itself { depth ≡ 0 → Gives (λ found. found) result (inside (super_view volume.old.layout) zone) }
+        ensures outside { depth ≡ 0 → IfErr result (λ fault. fault ≡ ZoneFault.ZoneOutside zone) }
         ensures inside { IfOk result (IsInside volume.old.layout) }
         ensures held { AreHeld volume.new self.new }
         ensures cause { IfErr result (HasZoneCause (faults_of volume.old) (faults_of volume.new)) }

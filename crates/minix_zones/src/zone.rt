@@ -1,5 +1,5 @@
 // The zone that stands at an index of a file.
-ghost use Rattle.std.specs.Prelude.{◌≡◌, ◌+◌, ◌*◌, ◌-◌, ◌^◌, ◌<◌, ◌≤◌, replicate, IfOk, IfErr, OnErr};
+ghost use Rattle.std.specs.Prelude.{◌≡◌, ◌+◌, ◌*◌, ◌-◌, ◌^◌, ◌<◌, ◌≤◌, replicate, slice_index, IfOk, IfErr, OnErr};
 ghost use Rattle.disk_trait.specs.Past.{Told};
 ghost use Rattle.lilo_model.specs.MinixLayout.{numbers_in_zone, reach};
 ghost use Rattle.lilo_model.specs.MinixParts.{parts_of, number_in, number_below, follow_at, trail_of, inside, pointer_with, block_pointer, zone_at, block_at, at_pointer};
@@ -109,6 +109,8 @@ fn follow<D: Disks>(
     ensures number { Told (past_of volume.old) (λ now. Gives (λ found. found) result
         (follow_at (super_view volume.old.layout) (parts_of (volume_view volume.old) now).zone zone
         (trail_of (numbers_in_zone (kind_view volume.old.layout.kind)) depth index))) }
+    ensures itself { depth ≡ 0 → Gives (λ found. found) result (inside (super_view volume.old.layout) zone) }
+    ensures outside { depth ≡ 0 → IfErr result (λ fault. fault ≡ ZoneFault.ZoneOutside zone) }
     ensures inside { IfOk result (IsInside volume.old.layout) }
     ensures cause { IfErr result (HasZoneCause (faults_of volume.old) (faults_of volume.new)) }
     ensures later { faults_of volume.old ≤ faults_of volume.new }
@@ -141,6 +143,7 @@ pub(crate) fn way_to(kind: FsKind, index: u32) -> Way
         ≡ block_pointer (kind_view kind) index }
     ensures ten { result.top < 10 }
     ensures deep { result.depth ≤ 3 }
+    ensures direct { index < 7 → (result.depth ≡ 0) × (result.top ≡ index) }
 {
     let per = numbers_in_zone(kind);
     let (top, depth, first) = if index < 7 {
@@ -177,6 +180,12 @@ pub fn zone_at<D: Disks>(
         (zone_at (super_view volume.old.layout) (parts_of (volume_view volume.old) now)
         (inode_view inode.now) index)) }
     ensures data { IfOk result (IsZoneAt volume.old.layout) }
+
+    // A number of the inode's own is judged without reading.
+    ensures direct { index < 7 → Gives zone_number result
+        (inside (super_view volume.old.layout) (slice_index inode.now.zones index)) }
+    ensures outside { index < 7 →
+        IfErr result (λ fault. fault ≡ ZoneFault.ZoneOutside (slice_index inode.now.zones index)) }
 
     // When it is refused.
     ensures cause { IfErr result (HasZoneCause (faults_of volume.old) (faults_of volume.new)) }

@@ -7,7 +7,7 @@ use Rattle.lilo_model.specs.Verdict.{Verdict, verdict_behind}
 use Rattle.lilo_model.specs.LdiskVerdict.{checked, piece_verdict, printed}
 use Rattle.minix_zones.specs.declared.volume.Volume.{Volume}
 use Rattle.minix_zones.specs.Volume.{volume_view, past_of, SameVolume}
-use Rattle.minix_tree.proofs.SameLemmas.{told_back}
+use Rattle.minix_zones.proofs.SameLemmas.{told_back}
 use Rattle.ldisk_run.specs.Pieces.{Held, Adds}
 use Rattle.ldisk_run.specs.Run.{Halts, Does}
 use Rattle.ldisk_run.specs.declared.halt.Halt.{Halt}

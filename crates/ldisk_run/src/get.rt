@@ -7,6 +7,7 @@ ghost use Rattle.lilo_model.specs.LdiskVerdict.{piece_verdict, file_found, file_
 ghost use Rattle.lilo_model.specs.MinixLayout.{reach};
 ghost use Rattle.lilo_model.specs.MinixFind.{file_block};
 ghost use Rattle.minix_layout.specs.View.{kind_view, super_view, inode_view};
+ghost use Rattle.minix_zones.specs.Held.{AreHeld};
 ghost use Rattle.minix_zones.specs.Volume.{volume_view, past_of, faults_of, SameVolume};
 ghost use Rattle.minix_tree.specs.View.{IsStat};
 ghost use Rattle.ldisk_run.specs.Pieces.{sink_of, held_by};
@@ -15,8 +16,8 @@ ghost use Rattle.ldisk_run.specs.Run.{Gives, HasCause, Does};
 use crate::halt::{Halt, tree_halt};
 use crate::pieces::Pieces;
 use disk_trait::Disks;
-use minix_tree::{Stat, is_file, lookup, read_block};
-use minix_zones::Volume;
+use minix_tree::{Stat, is_file, lookup, read_block_through};
+use minix_zones::{HeldZones, Volume};
 use stream_trait::Sink;
 
 /// Prints the file at a path.
@@ -72,24 +73,28 @@ fn put_file<D: Disks, O: Sink>(
     ensures sink { HasFailed (sink_of O.taken O.faults out.old) (sink_of O.taken O.faults out.new) }
     ensures same_reference { out.new.out.out.ghost_name ≡ out.old.out.out.ghost_name }
 {
+    let mut held = HeldZones::of(volume);
     let blocks = stat.node.size.div_ceil(1024);
     for index in 0..blocks {
-        put_block(volume, stat, index, out)?;
+        put_block(&mut held, volume, stat, index, out)?;
     }
     Ok(())
 }
 
 /// Prints a block of a file.
 fn put_block<D: Disks, O: Sink>(
+    held: &mut HeldZones,
     volume: &mut Volume<'_, D>,
     stat: &Stat,
     index: u32,
     out: &mut Pieces<'_, O>,
 ) -> Result<(), Halt>
-    requires { index < reach (kind_view volume.old.layout.kind) }
+    requires index { index < reach (kind_view volume.old.layout.kind) }
+    requires held { AreHeld volume.old held.old }
     ensures does { Told (past_of volume.old) (λ now. Does (piece_verdict
         (file_block (super_view volume.old.layout) (parts_of (volume_view volume.old) now) (inode_view stat.now.node) index)) result
         (held_by O.taken O.faults out.old) (held_by O.taken O.faults out.new)) }
+    ensures held { AreHeld volume.new held.new }
     ensures cause { IfErr result (HasCause (faults_of volume.old) (faults_of volume.new)) }
     ensures later { faults_of volume.old ≤ faults_of volume.new }
     ensures same { SameVolume volume.old volume.new }
@@ -97,7 +102,7 @@ fn put_block<D: Disks, O: Sink>(
     ensures same_reference { out.new.out.out.ghost_name ≡ out.old.out.out.ghost_name }
 {
     let mut block = [0; 1024];
-    match read_block(volume, stat, index, &mut block) {
+    match read_block_through(held, volume, stat, index, &mut block) {
         Ok(count) => {
             out.put(&block[..usize::from(count)]);
             Ok(())

@@ -7,6 +7,5 @@ pub mod LinkLemmas
 pub mod PathLemmas
 pub mod ReadLemmas
 pub mod RefuseLemmas
-pub mod SameLemmas
 pub mod StatLemmas
 pub mod WalkLemmas

@@ -1,13 +1,14 @@
 // The bytes of files.
-ghost use Rattle.std.specs.Prelude.{◌≡◌, ◌≤◌, ◌<◌, take, OnErr, IfOk, IfErr};
+ghost use Rattle.std.specs.Prelude.{◌≡◌, ◌≤◌, ◌<◌, take, false, Err, OnErr, IfOk, IfErr, IsErrOf};
 ghost use Rattle.disk_trait.specs.Past.{Told};
 ghost use Rattle.lilo_model.specs.Checks.{with_fault};
 ghost use Rattle.lilo_model.specs.MinixLayout.{reach};
-ghost use Rattle.lilo_model.specs.MinixParts.{parts_of, block_at, blocks_at, blocks_for, content_at};
+ghost use Rattle.lilo_model.specs.MinixParts.{parts_of, is_file, block_at, blocks_at, blocks_for, content_at};
 ghost use Rattle.lilo_model.specs.MinixFind.{Zone, file_block, file_at, bytes_in_block};
 ghost use Rattle.minix_layout.specs.View.{kind_view, super_view, inode_view};
+ghost use Rattle.minix_zones.specs.Held.{AreHeld};
 ghost use Rattle.minix_zones.specs.Volume.{volume_view, past_of, faults_of, SameVolume};
-ghost use Rattle.minix_tree.specs.File.{block_behind};
+ghost use Rattle.minix_tree.specs.File.{block_behind, LeadsToFile};
 ghost use Rattle.minix_tree.specs.View.{Gives, HasTreeCause, HasFileCause};
 
 use crate::find::lookup;
@@ -16,7 +17,7 @@ use crate::tree_fault::TreeFault;
 use conf_text::Text;
 use disk_trait::Disks;
 use minix_layout::Inode;
-use minix_zones::{Volume, read_at};
+use minix_zones::{HeldZones, Volume};
 use std::alloc::Global;
 
 /// The bytes of a block.
@@ -53,6 +54,42 @@ pub fn read_block<D: Disks>(
     ensures refused { OnErr result (into.new ≡ into.old) }
 
     // When it is refused.
+    ensures no_file { is_file (inode_view stat.now.node) ≡ false → result ≡ Err TreeFault.NotFile }
+    ensures not_file { IsErrOf result TreeFault.NotFile → is_file (inode_view stat.now.node) ≡ false }
+    ensures cause { IfErr result (HasTreeCause (faults_of volume.old) (faults_of volume.new)) }
+    ensures later { faults_of volume.old ≤ faults_of volume.new }
+    ensures same { SameVolume volume.old volume.new }
+{
+    let mut held = HeldZones::of(volume);
+    read_block_through(&mut held, volume, stat, index, into)
+}
+
+/// The same along indirect zones that are held: where blocks are read in order, each of these is read once.
+///
+/// # Errors
+///
+/// As `read_block`.
+pub fn read_block_through<D: Disks>(
+    held: &mut HeldZones,
+    volume: &mut Volume<'_, D>,
+    stat: &Stat,
+    index: u32,
+    into: &mut [u8; 1024],
+) -> Result<u16, TreeFault>
+    requires index { index < reach (kind_view volume.old.layout.kind) }
+    requires held { AreHeld volume.old held.old }
+
+    // What is read, and held.
+    ensures bytes { Told (past_of volume.old) (λ now. Gives (λ count. take count into.new) result
+        (file_block (super_view volume.old.layout) (parts_of (volume_view volume.old) now)
+        (inode_view stat.now.node) index)) }
+    ensures count { IfOk result (λ count. count ≡ bytes_in_block stat.now.node.size index) }
+    ensures refused { OnErr result (into.new ≡ into.old) }
+    ensures held { AreHeld volume.new held.new }
+
+    // When it is refused.
+    ensures no_file { is_file (inode_view stat.now.node) ≡ false → result ≡ Err TreeFault.NotFile }
+    ensures not_file { IsErrOf result TreeFault.NotFile → is_file (inode_view stat.now.node) ≡ false }
     ensures cause { IfErr result (HasTreeCause (faults_of volume.old) (faults_of volume.new)) }
     ensures later { faults_of volume.old ≤ faults_of volume.new }
     ensures same { SameVolume volume.old volume.new }
@@ -64,7 +101,7 @@ pub fn read_block<D: Disks>(
     if count == 0 {
         return Ok(0);
     }
-    match read_at(volume, &stat.node, index, into) {
+    match held.read_at(volume, &stat.node, index, into) {
         Ok(()) => Ok(count),
         Err(fault) => Err(TreeFault::Zone(fault)),
     }
@@ -85,6 +122,8 @@ pub fn read_file<D: Disks>(
         (file_at (super_view volume.old.layout) (parts_of (volume_view volume.old) now) path.now)) }
 
     // When it is refused.
+    ensures memory { IsErrOf result TreeFault.Memory → Told (past_of volume.old) (λ now.
+        LeadsToFile (super_view volume.old.layout) (parts_of (volume_view volume.old) now) path.now) }
     ensures cause { IfErr result (HasFileCause (faults_of volume.old) (faults_of volume.new)) }
     ensures later { faults_of volume.old ≤ faults_of volume.new }
     ensures same { SameVolume volume.old volume.new }
@@ -136,30 +175,34 @@ fn whole_blocks<D: Disks>(
     ensures later { faults_of volume.old ≤ faults_of volume.new }
     ensures same { SameVolume volume.old volume.new }
 {
+    let mut held = HeldZones::of(volume);
     let mut bytes = Vec::new(alloc);
     for index in 0..blocks_for(inode.size) {
-        push_block(volume, inode, index, &mut bytes)?;
+        push_block(&mut held, volume, inode, index, &mut bytes)?;
     }
     Ok(bytes)
 }
 
 /// Adds the bytes of a block.
 fn push_block<D: Disks>(
+    held: &mut HeldZones,
     volume: &mut Volume<'_, D>,
     inode: &Inode,
     index: u32,
     bytes: &mut Vec<u8>,
 ) -> Result<(), TreeFault>
-    requires { index < reach (kind_view volume.old.layout.kind) }
+    requires index { index < reach (kind_view volume.old.layout.kind) }
+    requires held { AreHeld volume.old held.old }
     ensures bytes { Told (past_of volume.old) (λ now. Gives (λ _. bytes.new.items) result
         (with_fault Zone (block_behind (super_view volume.old.layout) (parts_of (volume_view volume.old) now)
         (inode_view inode.now) index bytes.old.items))) }
+    ensures held { AreHeld volume.new held.new }
     ensures cause { IfErr result (HasFileCause (faults_of volume.old) (faults_of volume.new)) }
     ensures later { faults_of volume.old ≤ faults_of volume.new }
     ensures same { SameVolume volume.old volume.new }
 {
     let mut block = [0; 1024];
-    if let Err(fault) = read_at(volume, inode, index, &mut block) {
+    if let Err(fault) = held.read_at(volume, inode, index, &mut block) {
         return Err(TreeFault::Zone(fault));
     }
     match bytes.extend_from_slice(&block) {

@@ -1,5 +1,5 @@
 // What a path leads to.
-ghost use Rattle.std.specs.Prelude.{◌≡◌, ◌≤◌, ◌+◌, ◌++◌, length, take, IfOk, IfErr};
+ghost use Rattle.std.specs.Prelude.{◌≡◌, ◌≤◌, ◌<◌, ◌+◌, ◌++◌, true, false, length, take, Err, IfOk, IfErr};
 ghost use Rattle.disk_trait.specs.Past.{Told};
 ghost use Rattle.lilo_model.specs.Checks.{with_fault};
 ghost use Rattle.lilo_model.specs.MinixParts.{parts_of, content_at};
@@ -41,6 +41,8 @@ pub fn lookup<D: Disks>(volume: &mut Volume<'_, D>, path: &[u8]) -> Result<Stat,
     ensures fits { IfOk result (IsStat volume.old.layout) }
 
     // When it is refused.
+    ensures no_slash { begins_with_slash path.now ≡ false → result ≡ Err (TreeFault.NotFound 0) }
+    ensures too_long { begins_with_slash path.now ≡ true → 1024 < length path.now → result ≡ Err TreeFault.PathTooLong }
     ensures cause { IfErr result (HasTreeCause (faults_of volume.old) (faults_of volume.new)) }
     ensures later { faults_of volume.old ≤ faults_of volume.new }
     ensures same { SameVolume volume.old volume.new }
@@ -57,6 +59,8 @@ pub fn lookup_name<D: Disks>(volume: &mut Volume<'_, D>, path: &[u8]) -> Result<
     ensures fits { IfOk result (IsStat volume.old.layout) }
 
     // When it is refused.
+    ensures no_slash { begins_with_slash path.now ≡ false → result ≡ Err (TreeFault.NotFound 0) }
+    ensures too_long { begins_with_slash path.now ≡ true → 1024 < length path.now → result ≡ Err TreeFault.PathTooLong }
     ensures cause { IfErr result (HasTreeCause (faults_of volume.old) (faults_of volume.new)) }
     ensures later { faults_of volume.old ≤ faults_of volume.new }
     ensures same { SameVolume volume.old volume.new }
@@ -84,6 +88,8 @@ fn find_path<D: Disks>(
         (find_path (super_view volume.old.layout) (parts_of (volume_view volume.old) now) follows_last path.now)) }
     ensures node { IfOk result (IsNode volume.old) }
     ensures fits { IfOk result (IsStat volume.old.layout) }
+    ensures no_slash { begins_with_slash path.now ≡ false → result ≡ Err (TreeFault.NotFound 0) }
+    ensures too_long { begins_with_slash path.now ≡ true → 1024 < length path.now → result ≡ Err TreeFault.PathTooLong }
     ensures cause { IfErr result (HasTreeCause (faults_of volume.old) (faults_of volume.new)) }
     ensures later { faults_of volume.old ≤ faults_of volume.new }
     ensures same { SameVolume volume.old volume.new }

@@ -21,7 +21,7 @@ mod walk;
 
 pub use directory::{directory_blocks, read_entries};
 pub use entry::{DirEntry, Entries, entries_among, entries_in};
-pub use file::{read_block, read_file};
+pub use file::{read_block, read_block_through, read_file};
 pub use find::{lookup, lookup_name};
 pub use laws::directory_is_its_blocks;
 pub use stat::{Stat, is_directory, is_file, is_link, stat_of};

@@ -57,7 +57,7 @@ fn put_entry(sector: &mut Sector, place: usize, inode: u16, name: &[u8]) {
 // Sets a sector of the volume.
 fn put(disks: &mut MemDisks, sector: u32, bytes: &Sector) {
     let free = disks.events() == 0;
-    if free && sector < 80 && disks.size(0) > u64::from(8 + sector) {
+    if free && sector < 1000 && disks.size(0) > u64::from(8 + sector) {
         disks.set(0, 8 + sector, bytes);
     }
 }
@@ -368,5 +368,133 @@ fn each_sector_is_read_once(rt: HostRuntime) -> Result<(), Fail> {
     let mut disks = tree(rt.alloc(), &[failing])?;
     let mut volume = attach(&rt, &mut disks)?;
     assert_eq!(rt; number(lookup(&mut volume, b"/boot")), Ok(2));
+    Ok(())
+}
+
+// A volume of 500 zones, the first data zone 6, with the root in zone 6. The file 2 has 300,000 bytes: its block with an
+// index stands in the zone 20 + index, which begins with that index. Numbers of zones from 400 on are indirect ones.
+const LARGE: Span = Span {
+    disk: 0,
+    start: 8,
+    count: 1000,
+};
+
+const SIZE: u32 = 300_000;
+
+const BLOCKS: u32 = 293;
+
+fn put_large_super(disks: &mut MemDisks, magic: u16) {
+    let mut sector = superblock();
+    put_u16(&mut sector, 2, 500);
+    put_u16(&mut sector, 16, magic);
+    put_u32(&mut sector, 20, 500);
+    put(disks, 2, &sector);
+}
+
+// The root has one file.
+fn put_large_root(disks: &mut MemDisks) {
+    let mut root: Sector = [0; 512];
+    put_entry(&mut root, 0, 1, b".");
+    put_entry(&mut root, 1, 1, b"..");
+    put_entry(&mut root, 2, 2, b"large");
+    put(disks, 12, &root);
+}
+
+fn put_blocks(disks: &mut MemDisks) {
+    for index in 0..BLOCKS {
+        let mut sector: Sector = [0; 512];
+        put_u32(&mut sector, 0, index);
+        put(disks, 2 * (20 + index), &sector);
+    }
+}
+
+// Version 1: numbers of two bytes, 512 in an indirect zone, of which there is one.
+fn put_inodes_of_version_1(disks: &mut MemDisks) {
+    let mut inodes: Sector = [0; 512];
+    put_u16(&mut inodes, 0, DIRECTORY);
+    put_u32(&mut inodes, 4, 48);
+    put_u16(&mut inodes, 14, 6);
+    put_u16(&mut inodes, 32, FILE);
+    put_u32(&mut inodes, 36, SIZE);
+    for index in 0..7 {
+        put_u16(&mut inodes, 46 + 2 * index, index as u16 + 20);
+    }
+    put_u16(&mut inodes, 60, 400);
+    put(disks, 8, &inodes);
+    for half in 0..2 {
+        let mut numbers: Sector = [0; 512];
+        for place in 0..256 {
+            put_u16(&mut numbers, 2 * place, 27 + 256 * half + place as u16);
+        }
+        put(disks, 800 + u32::from(half), &numbers);
+    }
+}
+
+// Version 2: numbers of four bytes, 256 in an indirect zone; the blocks from 263 on are behind two of them.
+fn put_inodes_of_version_2(disks: &mut MemDisks) {
+    let mut inodes: Sector = [0; 512];
+    put_inode(&mut inodes, 1, DIRECTORY, 48, 6, 0);
+    put_inode(&mut inodes, 2, FILE, SIZE, 20, 21);
+    for index in 2..7 {
+        put_u32(&mut inodes, 88 + 4 * index, index as u32 + 20);
+    }
+    put_u32(&mut inodes, 116, 400);
+    put_u32(&mut inodes, 120, 401);
+    put(disks, 8, &inodes);
+    let mut first: Sector = [0; 512];
+    put_u32(&mut first, 0, 402);
+    put(disks, 802, &first);
+    for (sector, from) in [(800, 27), (801, 155), (804, 283)] {
+        let mut numbers: Sector = [0; 512];
+        for place in 0..128 {
+            put_u32(&mut numbers, 4 * place, from + place as u32);
+        }
+        put(disks, sector, &numbers);
+    }
+}
+
+fn large(alloc: Global, magic: u16, failing: &[Failing]) -> Result<MemDisks, AllocError> {
+    let Ok(geometry) = Geometry::new(16, 63) else {
+        return Err(AllocError);
+    };
+    let disk = MemDisk {
+        sectors: 1008,
+        geometry,
+    };
+    let mut disks = MemDisks::new(alloc, &[disk], 0, failing)?;
+    put_large_super(&mut disks, magic);
+    put_large_root(&mut disks);
+    put_blocks(&mut disks);
+    if magic == 0x137F {
+        put_inodes_of_version_1(&mut disks);
+    } else {
+        put_inodes_of_version_2(&mut disks);
+    }
+    Ok(disks)
+}
+
+// The superblock is read by call 0; on the way to the file stand the root's inode, the two halves of its zone and the
+// file's inode. Then each block has two reads, and each indirect zone two: one in version 1, three in version 2. The call
+// after these fails, which is the first of another reading.
+#[test]
+fn a_file_behind_indirect_zones(rt: HostRuntime) -> Result<(), Fail> {
+    for (magic, indirect) in [(0x137F, 1), (0x2468, 3)] {
+        let failing = Failing {
+            call: 5 + 2 * (u64::from(BLOCKS) + indirect),
+            made: false,
+        };
+        let mut disks = large(rt.alloc(), magic, &[failing])?;
+        assert!(rt; disks.size(0) == 1008);
+        let Ok(mut volume) = Volume::attach(&mut disks, LARGE) else {
+            return Err("no volume".into());
+        };
+        let file = read_file(rt.alloc(), &mut volume, b"/large")?;
+        assert_eq!(rt; file.bytes().len(), SIZE as usize);
+        for (index, block) in file.bytes().chunks(1024).enumerate() {
+            assert!(rt; block.starts_with(&(index as u32).to_le_bytes()), "{index}");
+        }
+        let again = read_file(rt.alloc(), &mut volume, b"/large");
+        assert!(rt; matches!(again, Err(TreeFault::Zone(ZoneFault::Device))));
+    }
     Ok(())
 }

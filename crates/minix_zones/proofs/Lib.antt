@@ -1,4 +1,5 @@
 pub mod BranchLemmas
+pub mod HeldLemmas
 pub mod HoleLemmas
 pub mod PointerLemmas
 pub mod PowerLemmas
@@ -7,5 +8,6 @@ mod StopCases
 pub mod StopLemmas
 pub mod TurnLemmas
 pub mod ReadLemmas
+pub mod SameLemmas
 pub mod WalkLemmas
 pub mod ZoneLemmas

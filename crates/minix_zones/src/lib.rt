@@ -5,6 +5,7 @@
 //! hole, whose bytes are zeros. No call takes memory.
 #![tactic(auto)]
 
+mod held;
 mod laws;
 #[cfg(test)]
 mod tests;
@@ -14,6 +15,7 @@ mod walk;
 mod zone;
 mod zone_fault;
 
+pub use held::HeldZones;
 pub use laws::{
     each_pointer_has_a_stop, each_stop_has_a_pointer, each_stop_is_come_to,
     indirect_zone_comes_first, no_two_stops_have_one_pointer, stops_come_in_order,

@@ -1,4 +1,6 @@
-use crate::{Visit, Volume, Walk, ZoneAt, ZoneFault, reach, read_at, zone_at};
+ghost use Rattle.minix_zones.specs.Held.{AreHeld};
+
+use crate::{HeldZones, Visit, Volume, Walk, ZoneAt, ZoneFault, reach, read_at, zone_at};
 use disk_trait::{Disks, Failing, Geometry, MemDisk, MemDisks, Span};
 use minix_layout::{FsKind, Inode, LayoutFault};
 use sector_parts::{Sector, put_u16, put_u32};
@@ -315,5 +317,68 @@ fn a_stop_leaves_out_a_write_alone(rt: HostRuntime) -> Result<(), Fail> {
         assert_eq!(rt; left.read(0, 87, &mut sector), Ok(()));
         assert!(rt; sector == [byte; 512]);
     }
+    Ok(())
+}
+
+// What stands at an index, looked up along zones that are held, and as zone_at answers it.
+fn both_at<D: Disks>(
+    rt: &impl Abort,
+    held: &mut HeldZones,
+    volume: &mut Volume<'_, D>,
+    inode: &Inode,
+    index: u32,
+) -> (Result<ZoneAt, ZoneFault>, Result<ZoneAt, ZoneFault>)
+    requires { AreHeld volume.old held.old }
+    ensures { AreHeld volume.new held.new }
+{
+    assert!(rt; index < reach(volume.layout().kind));
+    let plain = zone_at(volume, inode, index);
+    assert!(rt; index < reach(volume.layout().kind));
+    (held.zone_at(volume, inode, index), plain)
+}
+
+// Each block in order, and again from behind: what is held from another way isn't taken for a zone of this one.
+#[test]
+fn held_zones_answer_as_the_plain_call(rt: HostRuntime) -> Result<(), Fail> {
+    let mut disks = deep_disks(rt.alloc(), &[])?;
+    put_number(&mut disks, 12, 6, 40);
+    let mut volume = attach(&rt, &mut disks)?;
+    let mut held = HeldZones::of(&volume);
+    for index in (0..300).chain(770..790).chain(65_790..65_810) {
+        let (found, plain) = both_at(&rt, &mut held, &mut volume, &INODE, index);
+        assert!(rt; found == plain, "{index}");
+    }
+    for index in (0..20).rev() {
+        let (found, plain) = both_at(&rt, &mut held, &mut volume, &INODE, 65_799 - 775 * index);
+        assert!(rt; found == plain, "{index}");
+    }
+    Ok(())
+}
+
+// The superblock is read by call 0. Then 20 blocks behind two levels have a read of two halves for each of two indirect
+// zones, and no more: call 5 is the first of another file's.
+#[test]
+fn each_indirect_zone_is_read_once(rt: HostRuntime) -> Result<(), Fail> {
+    let failing = Failing {
+        call: 5,
+        made: false,
+    };
+    let mut disks = deep_disks(rt.alloc(), &[failing])?;
+    let mut volume = attach(&rt, &mut disks)?;
+    let mut held = HeldZones::of(&volume);
+    for index in 775..795 {
+        assert!(rt; index < reach(volume.layout().kind));
+        let zone = if index == 780 {
+            ZoneAt::Zone(13)
+        } else {
+            ZoneAt::Hole
+        };
+        assert_eq!(rt; held.zone_at(&mut volume, &INODE, index), Ok(zone));
+    }
+    assert!(rt; 7 < reach(volume.layout().kind));
+    assert_eq!(rt;
+        held.zone_at(&mut volume, &INODE, 7),
+        Err(ZoneFault::Device)
+    );
     Ok(())
 }

@@ -1,11 +1,12 @@
 // The zone that stands at an index of a file.
-ghost use Rattle.std.specs.Prelude.{◌≡◌, ◌+◌, ◌*◌, ◌-◌, ◌^◌, ◌<◌, ◌≤◌, replicate, IfOk, IfErr, OnErr};
+ghost use Rattle.std.specs.Prelude.{◌≡◌, ◌+◌, ◌*◌, ◌-◌, ◌^◌, ◌<◌, ◌≤◌, replicate, slice_index, IfOk, IfErr, OnErr};
 ghost use Rattle.disk_trait.specs.Past.{Told};
 ghost use Rattle.lilo_model.specs.MinixLayout.{numbers_in_zone, reach};
 ghost use Rattle.lilo_model.specs.MinixParts.{parts_of, number_in, number_below, follow_at, trail_of, inside, pointer_with, block_pointer, zone_at, block_at, at_pointer};
 ghost use Rattle.lilo_model.specs.MinixWalk.{branch_of, begins, stop_pointer};
 ghost use Rattle.minix_layout.specs.View.{kind_view, super_view, inode_view};
 ghost use Rattle.minix_zones.specs.View.{Gives, HasZoneCause, zone_number, IsZoneAt, IsInside};
+ghost use Rattle.minix_layout.specs.declared.superblock.Super.{Super as SuperOf};
 ghost use Rattle.minix_zones.specs.Volume.{volume_view, past_of, faults_of, SameVolume};
 
 use crate::volume::Volume;
@@ -43,7 +44,7 @@ pub(crate) fn numbers_in_zone(kind: FsKind) -> u32
 
 /// The number at an index of an indirect zone's bytes.
 #[tactic(auto, unfolding(lilo_model::specs::MinixParts::number_in))]
-fn number_in(kind: FsKind, bytes: &[u8; 1024], index: u32) -> u32
+pub(crate) fn number_in(kind: FsKind, bytes: &[u8; 1024], index: u32) -> u32
     requires { index < numbers_in_zone (kind_view kind) }
     ensures { result ≡ number_in (kind_view kind) bytes.now index }
 {
@@ -58,7 +59,7 @@ fn number_in(kind: FsKind, bytes: &[u8; 1024], index: u32) -> u32
 
 /// A number that may be followed: 0, or that of a data zone.
 #[tactic(auto, unfolding(lilo_model::specs::MinixParts::inside))]
-fn inside(layout: &Super, zone: u32) -> Result<u32, ZoneFault>
+pub(crate) fn inside(layout: &Super, zone: u32) -> Result<u32, ZoneFault>
     ensures found { Gives (λ found. found) result (inside (super_view layout.now) zone) }
     ensures inside { IfOk result (IsInside layout.now) }
     ensures refused { IfErr result (λ fault. fault ≡ ZoneFault.ZoneOutside zone) }
@@ -108,6 +109,8 @@ fn follow<D: Disks>(
     ensures number { Told (past_of volume.old) (λ now. Gives (λ found. found) result
         (follow_at (super_view volume.old.layout) (parts_of (volume_view volume.old) now).zone zone
         (trail_of (numbers_in_zone (kind_view volume.old.layout.kind)) depth index))) }
+    ensures itself { depth ≡ 0 → Gives (λ found. found) result (inside (super_view volume.old.layout) zone) }
+    ensures outside { depth ≡ 0 → IfErr result (λ fault. fault ≡ ZoneFault.ZoneOutside zone) }
     ensures inside { IfOk result (IsInside volume.old.layout) }
     ensures cause { IfErr result (HasZoneCause (faults_of volume.old) (faults_of volume.new)) }
     ensures later { faults_of volume.old ≤ faults_of volume.new }
@@ -124,21 +127,23 @@ fn follow<D: Disks>(
 /// Where the way to a block begins: at one of an inode's ten numbers. It leads through `depth` levels of
 /// indirect zones, to a block that is counted from the first one found by that number.
 #[derive(Clone, Copy)]
-struct Way {
-    top: usize,
-    depth: u32,
-    index: u32,
+pub(crate) struct Way {
+    pub(crate) top: usize,
+    pub(crate) depth: u32,
+    pub(crate) index: u32,
 }
 
 /// The way to the block with an index.
 #[tactic(auto, unfolding(lilo_model::specs::MinixParts::pointer_by, lilo_model::specs::MinixWalk::branch_of))]
-fn way_to(kind: FsKind, index: u32) -> Way
+pub(crate) fn way_to(kind: FsKind, index: u32) -> Way
     ensures branch { branch_of (numbers_in_zone (kind_view kind)) index
         ≡ record { top = result.top; first = index - result.index; depth = result.depth } }
     ensures within { result.index ≤ index }
     ensures way { pointer_with (numbers_in_zone (kind_view kind)) result.top result.depth result.index
         ≡ block_pointer (kind_view kind) index }
     ensures ten { result.top < 10 }
+    ensures deep { result.depth ≤ 3 }
+    ensures direct { index < 7 → (result.depth ≡ 0) × (result.top ≡ index) }
 {
     let per = numbers_in_zone(kind);
     let (top, depth, first) = if index < 7 {
@@ -176,6 +181,12 @@ pub fn zone_at<D: Disks>(
         (inode_view inode.now) index)) }
     ensures data { IfOk result (IsZoneAt volume.old.layout) }
 
+    // A number of the inode's own is judged without reading.
+    ensures direct { index < 7 → Gives zone_number result
+        (inside (super_view volume.old.layout) (slice_index inode.now.zones index)) }
+    ensures outside { index < 7 →
+        IfErr result (λ fault. fault ≡ ZoneFault.ZoneOutside (slice_index inode.now.zones index)) }
+
     // When it is refused.
     ensures cause { IfErr result (HasZoneCause (faults_of volume.old) (faults_of volume.new)) }
     ensures later { faults_of volume.old ≤ faults_of volume.new }
@@ -183,11 +194,18 @@ pub fn zone_at<D: Disks>(
 {
     let way = way_to(volume.layout().kind, index);
     let zone = follow(volume, inode.zones[way.top], way.depth, way.index)?;
-    Ok(if zone == 0 {
-        ZoneAt::Hole
-    } else {
-        ZoneAt::Zone(zone)
-    })
+    Ok(zone_or_hole(zone))
+}
+
+/// What a number that may be followed stands for.
+pub(crate) fn zone_or_hole(zone: u32) -> ZoneAt
+    ensures number { zone_number result ≡ zone }
+    ensures data { (layout : SuperOf) → IsInside layout zone → IsZoneAt layout result }
+{
+    match zone {
+        0 => ZoneAt::Hole,
+        _ => ZoneAt::Zone(zone),
+    }
 }
 
 /// The bytes of the block with an index: those of its zone, or zeros for a hole. A refusal leaves `into` as it
@@ -226,7 +244,7 @@ pub fn read_at<D: Disks>(
 }
 
 /// Writes the bytes of a hole.
-fn put_hole(into: &mut [u8; 1024])
+pub(crate) fn put_hole(into: &mut [u8; 1024])
     ensures { into.new ≡ replicate 1024 0 }
 {
     *into = [0; 1024];

@@ -22,6 +22,7 @@ unfolding printed
 loop-index-init g c = record {
   told = told_all _ (λ now. Added (printed (blocks c.args.stat.now.node (volume_view c.args.volume.now) now) 0) (held_by g.O.Sink.taken g.O.Sink.faults c.args.out.now) (held_by g.O.Sink.taken g.O.Sink.faults c.args.out.now)) (λ now. (refl, adds_nothing _));
   same = search rules;
+  held = search rules;
   later = search rules;
   failed = search rules;
   same_reference = search rules;
@@ -51,6 +52,7 @@ loop-index-preserved g c =
       told = told_behind c.args.volume.now c.loop-index.volume (λ v now. printed (blocks node v now) index) (λ v now. piece_verdict (blocks node v now index)) (λ v now. printed (blocks node v now) (index + 1)) (Ok tt) (held c.args.out.now) (held c.loop-index.out) (held c.put_block.new.out)
           (λ v now. piece_more (blocks node v now) index) c.loop-index.invariant.same c.loop-index.invariant.told c.in_ok-put_block.ensures.does;
       same = search rules;
+      held = search rules;
       later = search rules;
       failed = search rules;
       same_reference = search rules;

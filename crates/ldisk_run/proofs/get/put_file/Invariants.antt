@@ -6,6 +6,7 @@ use Rattle.lilo_model.specs.MinixParts.{parts_of}
 use Rattle.lilo_model.specs.MinixFind.{file_block}
 use Rattle.lilo_model.specs.LdiskVerdict.{printed}
 use Rattle.minix_layout.specs.View.{super_view, inode_view}
+use Rattle.minix_zones.specs.Held.{AreHeld}
 use Rattle.minix_zones.specs.Volume.{volume_view, past_of, faults_of, SameVolume}
 use Rattle.ldisk_run.specs.Pieces.{sink_of, held_by, Adds}
 use Rattle.ldisk_run.proofs.get.put_file.Given as goal
@@ -17,6 +18,7 @@ invariant-loop-index g l =
     record {
       told : Told (past_of l.fn.volume) (λ now. let so_far = printed (file_block (super_view l.fn.volume.layout) (parts_of (volume_view l.fn.volume) now) (inode_view l.stat.node)) l.index in (so_far.status ≡ 0) × Adds (held l.fn.out) so_far.text (held l.out));
       same : SameVolume l.fn.volume l.volume;
+      held : AreHeld l.volume l.held;
       later : faults_of l.fn.volume ≤ faults_of l.volume;
       failed : HasFailed (sink l.fn.out) (sink l.out);
       same_reference : l.out.out.out.ghost_name ≡ l.fn.out.out.out.ghost_name;

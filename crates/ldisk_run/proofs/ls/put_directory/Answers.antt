@@ -10,7 +10,7 @@ use Rattle.minix_layout.specs.View.{inode_view}
 use Rattle.minix_layout.specs.declared.inode.Inode.{Inode}
 use Rattle.minix_zones.specs.declared.volume.Volume.{Volume}
 use Rattle.minix_zones.specs.Volume.{volume_view, past_of, SameVolume}
-use Rattle.minix_tree.proofs.SameLemmas.{told_back}
+use Rattle.minix_zones.proofs.SameLemmas.{told_back}
 use Rattle.minix_tree.specs.Directory.{directory_blocks}
 use Rattle.ldisk_run.specs.Listing.{block_verdict}
 use Rattle.ldisk_run.specs.Pieces.{Held, held_by}

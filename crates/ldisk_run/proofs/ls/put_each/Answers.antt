@@ -7,7 +7,7 @@ use Rattle.lilo_model.specs.MinixParts.{parts_of}
 use Rattle.lilo_model.specs.LdiskVerdict.{silent, piece_verdict, entry_text}
 use Rattle.minix_zones.specs.declared.volume.Volume.{Volume}
 use Rattle.minix_zones.specs.Volume.{volume_view, past_of, SameVolume}
-use Rattle.minix_tree.proofs.SameLemmas.{told_back}
+use Rattle.minix_zones.proofs.SameLemmas.{told_back}
 use Rattle.minix_tree.specs.Directory.{without_place}
 use Rattle.minix_tree.specs.Placed.{entry_view}
 use Rattle.ldisk_run.specs.Listing.{lines_behind}

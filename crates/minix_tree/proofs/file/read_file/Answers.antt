@@ -6,7 +6,7 @@ use Rattle.lilo_model.specs.MinixFind.{Zone, file_at}
 use Rattle.minix_layout.specs.View.{inode_view}
 use Rattle.minix_zones.specs.Volume.{volume_view, past_of}
 use Rattle.minix_tree.specs.View.{Gives}
-use Rattle.minix_tree.proofs.SameLemmas.{told_back}
+use Rattle.minix_zones.proofs.SameLemmas.{told_back}
 use Rattle.minix_tree.proofs.WalkLemmas.{told_same}
 use Rattle.minix_tree.proofs.FileLemmas.{path_refused, no_file_there, file_there}
 use Rattle.minix_tree.proofs.file.read_file.Goals as goal

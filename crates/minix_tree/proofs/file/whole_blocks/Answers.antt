@@ -7,7 +7,7 @@ use Rattle.minix_layout.specs.View.{inode_view}
 use Rattle.minix_zones.specs.Volume.{volume_view, past_of}
 use Rattle.minix_tree.specs.File.{block_behind}
 use Rattle.minix_tree.specs.View.{Refuses}
-use Rattle.minix_tree.proofs.SameLemmas.{told_back}
+use Rattle.minix_zones.proofs.SameLemmas.{told_back}
 use Rattle.minix_tree.proofs.FileLemmas.{blocks_refused}
 use Rattle.minix_tree.proofs.file.whole_blocks.Goals as goal
 

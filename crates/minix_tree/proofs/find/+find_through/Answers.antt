@@ -6,7 +6,7 @@ use Rattle.minix_zones.specs.Volume.{volume_view, past_of}
 use Rattle.minix_tree.specs.declared.stat.Stat.{Stat}
 use Rattle.minix_tree.specs.LinkText.{next_view, link_text}
 use Rattle.minix_tree.specs.View.{Gives, Refuses}
-use Rattle.minix_tree.proofs.SameLemmas.{told_back}
+use Rattle.minix_zones.proofs.SameLemmas.{told_back}
 use Rattle.minix_tree.proofs.WalkLemmas.{told_same}
 use Rattle.minix_tree.proofs.PathLemmas.{from, through, walk_refused, walk_ends, text_refused, goes_on}
 use Rattle.minix_tree.proofs.find.+find_through.Goals as goal

@@ -5,7 +5,7 @@ use Rattle.lilo_model.specs.MinixFind.{find_path}
 use Rattle.minix_layout.specs.View.{super_view}
 use Rattle.minix_zones.specs.Volume.{volume_view, past_of}
 use Rattle.minix_tree.specs.View.{Gives}
-use Rattle.minix_tree.proofs.SameLemmas.{told_back}
+use Rattle.minix_zones.proofs.SameLemmas.{told_back}
 use Rattle.minix_tree.proofs.StatLemmas.{has_root}
 use Rattle.minix_tree.proofs.WalkLemmas.{told_same}
 use Rattle.minix_tree.proofs.PathLemmas.{through, no_slash, too_long, no_root, from_root}

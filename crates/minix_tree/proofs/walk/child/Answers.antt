@@ -5,7 +5,7 @@ use Rattle.lilo_model.specs.MinixFind.{child, readable}
 use Rattle.minix_layout.specs.View.{inode_view}
 use Rattle.minix_zones.specs.Volume.{volume_view, past_of}
 use Rattle.minix_tree.specs.View.{Gives}
-use Rattle.minix_tree.proofs.SameLemmas.{told_back}
+use Rattle.minix_zones.proofs.SameLemmas.{told_back}
 use Rattle.minix_tree.proofs.WalkLemmas.{no_directory, entry_refused, no_entry, bad_entry, good_entry, told_same}
 use Rattle.minix_tree.proofs.walk.child.Goals as goal
 

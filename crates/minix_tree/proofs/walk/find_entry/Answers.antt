@@ -8,7 +8,7 @@ use Rattle.minix_zones.specs.Volume.{volume_view, past_of}
 use Rattle.minix_tree.specs.Directory.{directory_blocks}
 use Rattle.minix_tree.specs.Found.{found_in}
 use Rattle.minix_tree.specs.View.{Refuses}
-use Rattle.minix_tree.proofs.SameLemmas.{told_back}
+use Rattle.minix_zones.proofs.SameLemmas.{told_back}
 use Rattle.minix_tree.proofs.FindLemmas.{none_here, some_here, refused_here, none_at_all}
 use Rattle.minix_tree.proofs.walk.find_entry.Goals as goal
 

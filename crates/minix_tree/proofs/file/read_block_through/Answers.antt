@@ -3,7 +3,7 @@ use Rattle.std.proofs.Common.{sym, ◌∙◌}
 use Rattle.minix_layout.specs.View.{inode_view}
 use Rattle.minix_zones.specs.Volume.{volume_view, past_of}
 use Rattle.minix_tree.proofs.ReadLemmas.{no_file, no_bytes, bytes_read, bytes_refused}
-use Rattle.minix_tree.proofs.file.read_block.Goals as goal
+use Rattle.minix_tree.proofs.file.read_block_through.Goals as goal
 
 pub returns-then-not-is_file-clause-bytes : goal.returns-then-not-is_file-clause-bytes
 returns-then-not-is_file-clause-bytes g c =

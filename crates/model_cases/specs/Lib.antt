@@ -1,4 +1,6 @@
 pub mod Cases
 pub mod Fixtures
 pub mod MinixFixtures
+pub mod PlanFixtures
 pub mod Sparse
+pub mod Volumes

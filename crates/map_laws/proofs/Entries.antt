@@ -159,11 +159,11 @@ module _ (image : Image) (machine : Machine) (config : Config) (line_place zero_
       → AreNamed machine to (initrd_places config machine mapped own) → AreAt image (initrd_places config machine mapped own) (optional_sectors config machine zero_place file (initrd_places config machine mapped own))
       → (initrd_size (entry_at_own own name) ≡ option_map length initrd) × (initrd_of image machine (entry_at_own own name) ≡ option_map whole initrd)
   unfolding descriptor_for
-  initrd-read own name None None is stands named stand = (rw ((flags-of mapped).initrd, is) refl, rw is refl)
-  initrd-read own name None (Some bytes) is stands named stand = absurd stands
-  initrd-read own name (Some file) None is stands named stand = absurd stands
-  initrd-read own name (Some file) (Some bytes) is stands named stand =
-      (rw ((flags-of mapped).initrd, is) (ap Some stands.size), rw is (ap Some (file-shown image machine config line_place zero_place file bytes (initrd_places config machine mapped own) stands named stand)))
+  initrd-read own name None None is lies named stand = (rw ((flags-of mapped).initrd, is) refl, rw is refl)
+  initrd-read own name None (Some bytes) is lies named stand = absurd lies
+  initrd-read own name (Some file) None is lies named stand = absurd lies
+  initrd-read own name (Some file) (Some bytes) is lies named stand =
+      (rw ((flags-of mapped).initrd, is) (ap Some lies.size), rw is (ap Some (file-shown image machine config line_place zero_place file bytes (initrd_places config machine mapped own) lies named stand)))
 
   kernel-read : (own : List DiskSector) (name : List ℕ) (bytes : List ℕ) (initrd : Option (List ℕ)) (middle : List ℕ) (video : Option ℕ) → TargetLies image machine config line_place zero_place mapped (Kernel bytes initrd middle video)
       → AreNamed machine to (main_places mapped.section own) → AreNamed machine to (initrd_places config machine mapped own)
@@ -171,15 +171,15 @@ module _ (image : Image) (machine : Machine) (config : Config) (line_place zero_
       → AreAt image (initrd_places config machine mapped own) (optional_sectors config machine zero_place mapped.initrd (initrd_places config machine mapped own))
       → ShowsKernel image machine (entry_at_own own name) bytes initrd video
   unfolding descriptor_for main_of
-  kernel-read own name bytes initrd middle video stands named named' stand stand' =
-      let both = initrd-read own name mapped.initrd initrd refl stands.4 named' stand' in
+  kernel-read own name bytes initrd middle video lies named named' stand stand' =
+      let both = initrd-read own name mapped.initrd initrd refl lies.4 named' stand' in
       record {
-        kernel = (flags-of mapped).other ∙ ap is_some stands.0;
-        size = stands.3.size;
-        main = file-shown image machine config line_place zero_place mapped.main bytes (main_places mapped.section own) stands.3 named stand;
+        kernel = (flags-of mapped).other ∙ ap is_some lies.0;
+        size = lies.3.size;
+        main = file-shown image machine config line_place zero_place mapped.main bytes (main_places mapped.section own) lies.3 named stand;
         initrd_size_is = both.0;
         initrd_is = both.1;
-        video_is = rw (flags-of mapped).video (by-video mapped.section.vga) ∙ stands.2;
+        video_is = rw (flags-of mapped).video (by-video mapped.section.vga) ∙ lies.2;
       }
     where
       by-video : (video : Option ℕ) → (if is_some video then Some (unwrap_or video 0) else None) ≡ video
@@ -191,13 +191,13 @@ module _ (image : Image) (machine : Machine) (config : Config) (line_place zero_
       → AreAt image (main_places mapped.section own) (file_sectors config machine zero_place mapped.main (main_places mapped.section own))
       → ShowsSystem image machine (entry_at_own own name) sector table
   unfolding descriptor_for main_of
-  system-read own name sector table stands named stand = record {
-    other = (flags-of mapped).other ∙ stands.0;
-    has_table = (flags-of mapped).table ∙ stands.1;
-    bytes = stands.3.bytes;
-    main = file-shown image machine config line_place zero_place mapped.main stands.3.bytes (main_places mapped.section own) stands.3.stands named stand;
-    front = stands.3.front;
-    back = stands.3.back;
+  system-read own name sector table lies named stand = record {
+    other = (flags-of mapped).other ∙ lies.0;
+    has_table = (flags-of mapped).table ∙ lies.1;
+    bytes = lies.3.bytes;
+    main = file-shown image machine config line_place zero_place mapped.main lies.3.bytes (main_places mapped.section own) lies.3.lies named stand;
+    front = lies.3.front;
+    back = lies.3.back;
   }
 
   target-read : (own : List DiskSector) (name : List ℕ) (target : Target) → TargetLies image machine config line_place zero_place mapped target
@@ -205,28 +205,28 @@ module _ (image : Image) (machine : Machine) (config : Config) (line_place zero_
       → AreAt image (main_places mapped.section own) (file_sectors config machine zero_place mapped.main (main_places mapped.section own))
       → AreAt image (initrd_places config machine mapped own) (optional_sectors config machine zero_place mapped.initrd (initrd_places config machine mapped own))
       → ShowsTarget image machine (entry_at_own own name) target
-  target-read own name (Kernel bytes initrd middle video) stands named named' stand stand' = kernel-read own name bytes initrd middle video stands named named' stand stand'
-  target-read own name (System sector table) stands named named' stand stand' = system-read own name sector table stands named stand
+  target-read own name (Kernel bytes initrd middle video) lies named named' stand stand' = kernel-read own name bytes initrd middle video lies named named' stand stand'
+  target-read own name (System sector table) lies named named' stand stand' = system-read own name sector table lies named stand
 
 -- ---- once the default line is written
 
 target-still : (image : Image) (line_place : DiskSector) (new : List ℕ) (machine : Machine) (config : Config) (zero_place : DiskSector) (mapped : MappedSection) (target : Target) → TargetLies image machine config line_place zero_place mapped target → TargetLies (with_sector image line_place new) machine config line_place zero_place mapped target
-target-still image line_place new machine config zero_place mapped (Kernel bytes initrd middle video) stands =
-    (stands.0, stands.1, stands.2, file-still image line_place new machine config zero_place mapped.main bytes stands.3, optional-still mapped.initrd initrd stands.4)
+target-still image line_place new machine config zero_place mapped (Kernel bytes initrd middle video) lies =
+    (lies.0, lies.1, lies.2, file-still image line_place new machine config zero_place mapped.main bytes lies.3, optional-still mapped.initrd initrd lies.4)
   where
     optional-still : (file : Option MappedFile) (initrd : Option (List ℕ)) → OptionalLies image machine config line_place zero_place file initrd → OptionalLies (with_sector image line_place new) machine config line_place zero_place file initrd
-    optional-still None None stands = tt
-    optional-still None (Some bytes) stands = absurd stands
-    optional-still (Some file) None stands = absurd stands
-    optional-still (Some file) (Some bytes) stands = file-still image line_place new machine config zero_place file bytes stands
-target-still image line_place new machine config zero_place mapped (System sector table) stands =
-    (stands.0, stands.1, stands.2, record { bytes = stands.3.bytes; stands = file-still image line_place new machine config zero_place mapped.main stands.3.bytes stands.3.stands; long = stands.3.long; front = stands.3.front; back = stands.3.back })
+    optional-still None None lies = tt
+    optional-still None (Some bytes) lies = absurd lies
+    optional-still (Some file) None lies = absurd lies
+    optional-still (Some file) (Some bytes) lies = file-still image line_place new machine config zero_place file bytes lies
+target-still image line_place new machine config zero_place mapped (System sector table) lies =
+    (lies.0, lies.1, lies.2, record { bytes = lies.3.bytes; lies = file-still image line_place new machine config zero_place mapped.main lies.3.bytes lies.3.lies; long = lies.3.long; front = lies.3.front; back = lies.3.back })
 
 -- ---- an entry
 
 target-middle : (image : Image) (machine : Machine) (config : Config) (line_place zero_place : DiskSector) (mapped : MappedSection) (target : Target) → TargetLies image machine config line_place zero_place mapped target → kept_middle mapped.section ≡ target_middle target
-target-middle image machine config line_place zero_place mapped (Kernel bytes initrd middle video) stands = ap (λ other. if is_some other then [] else middle_text mapped.section) stands.0 ∙ stands.1
-target-middle image machine config line_place zero_place mapped (System sector table) stands = ap (λ other. if other then [] else middle_text mapped.section) stands.0
+target-middle image machine config line_place zero_place mapped (Kernel bytes initrd middle video) lies = ap (λ other. if is_some other then [] else middle_text mapped.section) lies.0 ∙ lies.1
+target-middle image machine config line_place zero_place mapped (System sector table) lies = ap (λ other. if other then [] else middle_text mapped.section) lies.0
 
 kept-short : (section : ConfSection) → length (middle_text section) ≤ 255 → length (kept_middle section) ≤ 255
 kept-short section short = by (is_some section.other)
@@ -241,8 +241,8 @@ pub section-read : (image : Image) (machine : Machine) (config : Config) (line_p
     → AreNamed machine (slot_to config.mode machine) own → IsNone line_place own → AreAt image own (section_sectors_at config machine zero_place mapped own)
     → EntryShown image machine line_place (descriptor_for config machine mapped own name) (menu_entry mapped.section target name)
 unfolding section_sectors_at descriptor_for
-section-read image machine config line_place zero_place mapped target [] name lawful stands named none stand = absurd stand
-section-read image machine config line_place zero_place mapped target (first ∷ own) name lawful stands named none stand =
+section-read image machine config line_place zero_place mapped target [] name lawful lies named none stand = absurd stand
+section-read image machine config line_place zero_place mapped target (first ∷ own) name lawful lies named none stand =
     let to = slot_to config.mode machine in
     let all = first ∷ own in
     let extras = extra_sectors mapped.section in
@@ -261,9 +261,9 @@ section-read image machine config line_place zero_place mapped target (first ∷
     record {
       shows = record {
         name = refl;
-        middle = middle-read image machine config line_place zero_place mapped lawful all name extra (slot-read image machine to first (options_bytes (kept_middle mapped.section)) named.0 stand.0) (kept-short mapped.section lawful.middle) ∙ ap Ok (target-middle image machine config line_place zero_place mapped target stands);
-        now = target-read image machine config line_place zero_place mapped lawful all name target stands named_main named_ramdisk stand_main stand_ramdisk;
-        behind = λ line. target-read (with_sector image line_place (line_bytes line)) machine config line_place zero_place mapped lawful all name target (target-still image line_place (line_bytes line) machine config zero_place mapped target stands) named_main named_ramdisk
+        middle = middle-read image machine config line_place zero_place mapped lawful all name extra (slot-read image machine to first (options_bytes (kept_middle mapped.section)) named.0 stand.0) (kept-short mapped.section lawful.middle) ∙ ap Ok (target-middle image machine config line_place zero_place mapped target lies);
+        now = target-read image machine config line_place zero_place mapped lawful all name target lies named_main named_ramdisk stand_main stand_ramdisk;
+        behind = λ line. target-read (with_sector image line_place (line_bytes line)) machine config line_place zero_place mapped lawful all name target (target-still image line_place (line_bytes line) machine config zero_place mapped target lies) named_main named_ramdisk
             (stand-still image line_place (line_bytes line) main mains none_main stand_main) (stand-still image line_place (line_bytes line) ramdisk ramdisks none_ramdisk stand_ramdisk);
       };
       extra = option_map (λ text. extra_bytes (texts_of mapped.section)) mapped.section.password;

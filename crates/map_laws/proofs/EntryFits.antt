@@ -19,20 +19,20 @@ module _ (image : Image) (machine : Machine) (config : Config) (line_place zero_
   to = slot_to config.mode machine
 
   pub chain-some : (file : MappedFile) (bytes : List ℕ) → FileLies image machine config line_place zero_place file bytes → 1 ≤ chain_for config machine file
-  chain-some file bytes stands = let is = chain-is image machine config line_place zero_place file in let count = stands.count in let some = stands.some in let most = (slots-between machine config file (omega (arith, count, some))).0 in omega (arith, is, most)
+  chain-some file bytes lies = let is = chain-is image machine config line_place zero_place file in let count = lies.count in let some = lies.some in let most = (slots-between machine config file (omega (arith, count, some))).0 in omega (arith, is, most)
 
   chain-few : (file : MappedFile) (bytes : List ℕ) → FileLies image machine config line_place zero_place file bytes → chain_for config machine file < 2 ^ 16
-  chain-few file bytes stands = let is = chain-is image machine config line_place zero_place file in let slots = stands.slots in omega (arith, is, slots)
+  chain-few file bytes lies = let is = chain-is image machine config line_place zero_place file in let slots = lies.slots in omega (arith, is, slots)
 
   -- the first of the places of a file's sectors is named
   pub first-one : (file : MappedFile) (bytes : List ℕ) (own : List DiskSector) → FileLies image machine config line_place zero_place file bytes → AreNamed machine to own → AreAt image own (file_sectors config machine zero_place file own) → IsOneSlot (to (place_of_sector own 0))
   unfolding file_sectors
-  first-one file bytes [] stands named stand = by-chain (chain_for config machine file) (chain-some file bytes stands) stand
+  first-one file bytes [] lies named stand = by-chain (chain_for config machine file) (chain-some file bytes lies) stand
     where
       by-chain : (chain : ℕ) → 1 ≤ chain → AreAt image [] (chain_sectors to chain (Rattle.lilo_model.specs.Plan.file_slots config machine zero_place file) (drop 1 [])) → IsOneSlot (to (place_of_sector [] 0))
       by-chain zero some stand = absurd (omega (arith, some))
       by-chain (suc chain) some stand = absurd stand
-  first-one file bytes (place ∷ own) stands named stand = named.0.one
+  first-one file bytes (place ∷ own) lies named stand = named.0.one
 
   module _ (mapped : MappedSection) (lawful : IsFitSection mapped.section) (own : List DiskSector) (name : List ℕ) where
     abbrev entry : Descriptor
@@ -48,25 +48,25 @@ module _ (image : Image) (machine : Machine) (config : Config) (line_place zero_
       ramdisk : OptionalLies image machine config line_place zero_place mapped.initrd initrd
 
     differs : (target : Target) → TargetLies image machine config line_place zero_place mapped target → Differs
-    differs (Kernel bytes initrd middle video) stands = record {
-      system = ap (λ other. is_some other && (is_some mapped.section.vga || is_some mapped.initrd)) stands.0;
-      size = ap (λ other. if not (is_some other) then not (mapped.main.size == 0) else if is_some mapped.section.table then mapped.main.size == 1024 else mapped.main.size == 512) stands.0 ∙ some-size mapped.main.size (subst (λ n. 1 ≤ n) (sym stands.3.size) stands.3.some);
+    differs (Kernel bytes initrd middle video) lies = record {
+      system = ap (λ other. is_some other && (is_some mapped.section.vga || is_some mapped.initrd)) lies.0;
+      size = ap (λ other. if not (is_some other) then not (mapped.main.size == 0) else if is_some mapped.section.table then mapped.main.size == 1024 else mapped.main.size == 512) lies.0 ∙ some-size mapped.main.size (subst (λ n. 1 ≤ n) (sym lies.3.size) lies.3.some);
       bytes = bytes;
-      main = stands.3;
+      main = lies.3;
       initrd = initrd;
-      ramdisk = stands.4;
+      ramdisk = lies.4;
     }
       where
         some-size : (size : ℕ) → 1 ≤ size → not (size == 0) ≡ true
         some-size size some = let other : (size == 0) ≡ false = grind (arith, nat_tests) in rw other refl
-    differs (System sector table) stands = record {
-      system = ap (λ initrd. is_some mapped.section.other && (is_some mapped.section.vga || is_some initrd)) stands.2 ∙ no-video (is_some mapped.section.other) (is_some mapped.section.vga) lawful.system;
-      size = ap (λ other. if not other then not (mapped.main.size == 0) else if is_some mapped.section.table then mapped.main.size == 1024 else mapped.main.size == 512) stands.0
-          ∙ ap (λ has. if has then mapped.main.size == 1024 else mapped.main.size == 512) stands.1 ∙ by-table (is_some table) mapped.main.size (stands.3.stands.size ∙ stands.3.long);
-      bytes = stands.3.bytes;
-      main = stands.3.stands;
+    differs (System sector table) lies = record {
+      system = ap (λ initrd. is_some mapped.section.other && (is_some mapped.section.vga || is_some initrd)) lies.2 ∙ no-video (is_some mapped.section.other) (is_some mapped.section.vga) lawful.system;
+      size = ap (λ other. if not other then not (mapped.main.size == 0) else if is_some mapped.section.table then mapped.main.size == 1024 else mapped.main.size == 512) lies.0
+          ∙ ap (λ has. if has then mapped.main.size == 1024 else mapped.main.size == 512) lies.1 ∙ by-table (is_some table) mapped.main.size (lies.3.lies.size ∙ lies.3.long);
+      bytes = lies.3.bytes;
+      main = lies.3.lies;
       initrd = None;
-      ramdisk = subst (λ file. OptionalLies image machine config line_place zero_place file None) (sym stands.2) tt;
+      ramdisk = subst (λ file. OptionalLies image machine config line_place zero_place file None) (sym lies.2) tt;
     }
       where
         no-video : (other video : Bool) → (other && video) ≡ false → (other && (video || false)) ≡ false
@@ -109,10 +109,10 @@ module _ (image : Image) (machine : Machine) (config : Config) (line_place zero_
 
         by-initrd : (file : Option MappedFile) (initrd : Option (List ℕ)) → OptionalLies image machine config line_place zero_place file initrd
             → (if is_some (option_map (λ (file : MappedFile). to (place_of_sector (initrd_places config machine mapped own) 0)) file) then not (optional_chain config machine file == 0) else ((optional_chain config machine file == 0) && (unwrap_or (option_map (λ (file : MappedFile). file.size) file) 0 == 0))) ≡ true
-        by-initrd None None stands = refl
-        by-initrd None (Some bytes) stands = absurd stands
-        by-initrd (Some file) None stands = absurd stands
-        by-initrd (Some file) (Some bytes) stands = let some = chain-some file bytes stands in let other : (chain_for config machine file == 0) ≡ false = grind (arith, nat_tests) in rw other refl
+        by-initrd None None lies = refl
+        by-initrd None (Some bytes) lies = absurd lies
+        by-initrd (Some file) None lies = absurd lies
+        by-initrd (Some file) (Some bytes) lies = let some = chain-some file bytes lies in let other : (chain_for config machine file == 0) ≡ false = grind (arith, nat_tests) in rw other refl
 
 -- a section's entry, at its places
 pub entry-bytes-fit : (image : Image) (machine : Machine) (config : Config) (line_place zero_place : DiskSector) → (mapped : MappedSection) (target : Target) (own : List DiskSector) (name : List ℕ)
@@ -120,10 +120,10 @@ pub entry-bytes-fit : (image : Image) (machine : Machine) (config : Config) (lin
     → AreNamed machine (slot_to config.mode machine) own → AreAt image own (section_sectors_at config machine zero_place mapped own)
     → FitsEntry (descriptor_for config machine mapped own name)
 unfolding section_sectors_at descriptor_for
-entry-bytes-fit image machine config line_place zero_place mapped target [] name lawful stands is_name named stand = absurd stand
-entry-bytes-fit image machine config line_place zero_place mapped target (first ∷ own) name lawful stands is_name named stand =
+entry-bytes-fit image machine config line_place zero_place mapped target [] name lawful lies is_name named stand = absurd stand
+entry-bytes-fit image machine config line_place zero_place mapped target (first ∷ own) name lawful lies is_name named stand =
     let all = first ∷ own in
-    let d = differs image machine config line_place zero_place mapped lawful all name target stands in
+    let d = differs image machine config line_place zero_place mapped lawful all name target lies in
     let extras = extra_sectors mapped.section in
     let main = main_places mapped.section all in
     let ramdisk = initrd_places config machine mapped all in
@@ -154,20 +154,20 @@ entry-bytes-fit image machine config line_place zero_place mapped target (first 
     vga-fits (Some mode) fits = fits
 
     size-fits : (file : Option MappedFile) (initrd : Option (List ℕ)) → OptionalLies image machine config line_place zero_place file initrd → unwrap_or (option_map (λ (file : MappedFile). file.size) file) 0 < 2 ^ 32
-    size-fits None initrd stands = omega arith
-    size-fits (Some file) None stands = absurd stands
-    size-fits (Some file) (Some bytes) stands = subst (λ n. n < 2 ^ 32) (sym stands.size) stands.few
+    size-fits None initrd lies = omega arith
+    size-fits (Some file) None lies = absurd lies
+    size-fits (Some file) (Some bytes) lies = subst (λ n. n < 2 ^ 32) (sym lies.size) lies.few
 
     ramdisk-chain : (file : Option MappedFile) (initrd : Option (List ℕ)) → OptionalLies image machine config line_place zero_place file initrd → optional_chain config machine file < 2 ^ 16
-    ramdisk-chain None initrd stands = omega arith
-    ramdisk-chain (Some file) None stands = absurd stands
-    ramdisk-chain (Some file) (Some bytes) stands = chain-few image machine config line_place zero_place file bytes stands
+    ramdisk-chain None initrd lies = omega arith
+    ramdisk-chain (Some file) None lies = absurd lies
+    ramdisk-chain (Some file) (Some bytes) lies = chain-few image machine config line_place zero_place file bytes lies
 
     ramdisk-one : (file : Option MappedFile) (initrd : Option (List ℕ)) → OptionalLies image machine config line_place zero_place file initrd → (places : List DiskSector) → AreNamed machine (slot_to config.mode machine) places → AreAt image places (optional_sectors config machine zero_place file places)
         → FitsOptional (option_map (λ (file : MappedFile). slot_to config.mode machine (place_of_sector places 0)) file)
-    ramdisk-one None initrd stands places named stand = tt
-    ramdisk-one (Some file) None stands places named stand = absurd stands
-    ramdisk-one (Some file) (Some bytes) stands places named stand = first-one image machine config line_place zero_place file bytes places stands named stand
+    ramdisk-one None initrd lies places named stand = tt
+    ramdisk-one (Some file) None lies places named stand = absurd lies
+    ramdisk-one (Some file) (Some bytes) lies places named stand = first-one image machine config line_place zero_place file bytes places lies named stand
 
     extra-one : (has : Bool) (own : List DiskSector) → AreNamed machine (slot_to config.mode machine) own → AreAt image own (if has then Rattle.lilo_model.specs.Options.extra_bytes (record { fallback = unwrap_or mapped.section.fallback []; password = unwrap_or mapped.section.password [] }) ∷ [] else [])
         → FitsOptional (if has then Some (slot_to config.mode machine (place_of_sector (first ∷ own) 1)) else None)

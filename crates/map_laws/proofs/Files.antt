@@ -117,8 +117,8 @@ module _ (image : Image) (machine : Machine) (config : Config) (line_place zero_
       → AreNamed machine (slot_to config.mode machine) own → AreAt image own (file_sectors config machine zero_place file own)
       → file_content image machine (slot_to config.mode machine (place_of_sector own 0)) file.size (chain_for config machine file) ≡ whole bytes
   unfolding file_sectors
-  file-shown file bytes own stands named stand =
-      let some : 1 ≤ length file.places = rw stands.count (omega (arith, stands.some)) in
+  file-shown file bytes own lies named stand =
+      let some : 1 ≤ length file.places = rw lies.count (omega (arith, lies.some)) in
       by-chain (chain_for config machine file) (chain-is file) (slots-between machine config file some).0 own named stand
     where
       by-chain : (chain : ℕ) → chain ≡ section_sectors (slots_for config machine file) → 1 ≤ slots_for config machine file → (own : List DiskSector) → AreNamed machine (slot_to config.mode machine) own
@@ -129,15 +129,15 @@ module _ (image : Image) (machine : Machine) (config : Config) (line_place zero_
       by-chain (suc more) is some (here ∷ behind) named stand =
           let to = slot_to config.mode machine in
           let places = filled_places zero_place file.places in
-          let j = slots-joined machine config zero_place file stands.named in
+          let j = slots-joined machine config zero_place file lies.named in
           let size : length j.groups ≡ length (file_slots config machine zero_place file) = sym (length-groups-of j.groups) ∙ ap length j.slots_are in
           let most = slots-few machine config zero_place file in
           let few : length j.groups ≤ 63 * (more + 1) = omega (arith, size, most, is) in
           let listed = section_again image machine to more j.groups here behind j.good few named (subst (λ slots. AreAt image (here ∷ behind) (chain_sectors to (suc more) slots behind)) (sym j.slots_are) stand) in
-          let count : length (places_in j.groups) ≡ sectors_for (length bytes) = ap length j.places_are ∙ length-places zero_place file.places ∙ stands.count in
+          let count : length (places_in j.groups) ≡ sectors_for (length bytes) = ap length j.places_are ∙ length-places zero_place file.places ∙ lies.count in
           let listed' : Lists places (section image machine (to here) (sectors_for (length bytes)) (suc more)) = subst (λ n. Lists places (section image machine (to here) n (suc more))) count (subst (λ places. Lists places (section image machine (to here) (length (places_in j.groups)) (suc more))) j.places_are listed) in
-          ap (λ n. file_content image machine (to here) n (suc more)) stands.size
-          ∙ content_again image machine (to here) (suc more) places bytes listed' stands.stands
+          ap (λ n. file_content image machine (to here) n (suc more)) lies.size
+          ∙ content_again image machine (to here) (suc more) places bytes listed' lies.lies
 
 -- ---- the same once a sector is written that is none of them
 
@@ -170,13 +170,13 @@ module _ (image : Image) (line_place : DiskSector) (new : List ℕ) where
   stand-still (place ∷ places) (bytes ∷ sectors) none stand = (other-sector place none.0 ∙ stand.0, stand-still places sectors none.1 stand.1)
 
   pub file-still : (machine : Machine) (config : Config) (zero_place : DiskSector) (file : MappedFile) (bytes : List ℕ) → FileLies image machine config line_place zero_place file bytes → FileLies (with_sector image line_place new) machine config line_place zero_place file bytes
-  file-still machine config zero_place file bytes stands = record {
-    size = stands.size;
-    some = stands.some;
-    few = stands.few;
-    slots = stands.slots;
-    count = stands.count;
-    named = stands.named;
-    apart = stands.apart;
-    stands = ap (λ sectors. take (length bytes) (concat sectors)) (other-sectors (filled_places zero_place file.places) stands.apart) ∙ stands.stands;
+  file-still machine config zero_place file bytes lies = record {
+    size = lies.size;
+    some = lies.some;
+    few = lies.few;
+    slots = lies.slots;
+    count = lies.count;
+    named = lies.named;
+    apart = lies.apart;
+    lies = ap (λ sectors. take (length bytes) (concat sectors)) (other-sectors (filled_places zero_place file.places) lies.apart) ∙ lies.lies;
   }

@@ -17,4 +17,6 @@ pub mod Whole
 pub mod Named
 pub mod MeantFiles
 pub mod MeantMenu
+pub mod Lawful
 pub mod Planned
+pub mod Stays

@@ -105,5 +105,5 @@ module _ (volume : Volume) (image : Image) (sound : IsSound volume image) where
       count = length-file_places ∙ ap sectors_for (sym length-content);
       named = are;
       apart = apart;
-      stands = ap (λ n. take n (concat (map (bytes_at image) (filled_places zero_place (inode_places volume parts number))))) length-content ∙ file-sectors volume image number zero_place zeros sector-long;
+      lies = ap (λ n. take n (concat (map (bytes_at image) (filled_places zero_place (inode_places volume parts number))))) length-content ∙ file-sectors volume image number zero_place zeros sector-long;
     }

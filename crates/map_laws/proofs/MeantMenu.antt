@@ -46,13 +46,13 @@ module _ (image : Image) (machine : Machine) (volume : Volume) (sound : IsSound 
 -- the names of the entries are those of the sections
 names-of-menu : (image : Image) (machine : Machine) (config : Config) (line_place zero_place : DiskSector) (sections : List MappedSection) (targets : List Target) → TargetsLie image machine config line_place zero_place sections targets
     → map (λ (entry : MenuEntry). entry.listed.name) (entries_for sections targets) ≡ flat_map (λ (mapped : MappedSection). names_of_section mapped.section) sections
-names-of-menu image machine config line_place zero_place [] [] stands = refl
-names-of-menu image machine config line_place zero_place [] (target ∷ targets) stands = absurd stands
-names-of-menu image machine config line_place zero_place (mapped ∷ sections) [] stands = absurd stands
-names-of-menu image machine config line_place zero_place (mapped ∷ sections) (target ∷ targets) stands =
+names-of-menu image machine config line_place zero_place [] [] lies = refl
+names-of-menu image machine config line_place zero_place [] (target ∷ targets) lies = absurd lies
+names-of-menu image machine config line_place zero_place (mapped ∷ sections) [] lies = absurd lies
+names-of-menu image machine config line_place zero_place (mapped ∷ sections) (target ∷ targets) lies =
     map-append (λ (entry : MenuEntry). entry.listed.name) (map (menu_entry mapped.section target) (names_of_section mapped.section)) (entries_for sections targets)
     ∙ ap (λ names. names ++ map (λ (entry : MenuEntry). entry.listed.name) (entries_for sections targets)) (own (names_of_section mapped.section))
-    ∙ ap (λ others. names_of_section mapped.section ++ others) (names-of-menu image machine config line_place zero_place sections targets stands.2)
+    ∙ ap (λ others. names_of_section mapped.section ++ others) (names-of-menu image machine config line_place zero_place sections targets lies.2)
   where
     own : (names : List (List ℕ)) → map (λ (entry : MenuEntry). entry.listed.name) (map (menu_entry mapped.section target) names) ≡ names
     own [] = refl
@@ -68,7 +68,7 @@ pub menu-settings : (image c : Image) (machine : Machine) (volume : Volume) (sou
     → TargetsLie c machine config line_place zero_place (planned image machine volume config time).sections (targets_for (names_in volume image) devices config.sections)
     → (menu_of config (names_in volume image) devices).settings ≡ record { prompt = config.prompt; delay = config.delay; timeout = config.timeout; default_entry = default_place config.default_name (plan_names (planned image machine volume config time)); capacity = 255 }
 unfolding menu_of plan_names planned menu_entries
-menu-settings image c machine volume sound config time devices line_place zero_place stands =
+menu-settings image c machine volume sound config time devices line_place zero_place lies =
     ap (λ names. record { prompt = config.prompt; delay = config.delay; timeout = config.timeout; default_entry = default_place config.default_name names; capacity = 255 })
     (ap (map (λ (entry : MenuEntry). entry.listed.name)) (sym (entries-are image machine volume sound devices config.sections))
-    ∙ names-of-menu c machine config line_place zero_place (flat_map (mapped_section image machine volume) config.sections) (targets_for (names_in volume image) devices config.sections) stands)
+    ∙ names-of-menu c machine config line_place zero_place (flat_map (mapped_section image machine volume) config.sections) (targets_for (names_in volume image) devices config.sections) lies)

@@ -179,8 +179,8 @@ module _ (image : Image) (machine : Machine) (to : DiskSector → Slot) (chain :
       → AreGroups machine groups → length groups ≤ 63 → IsNamed machine to here → bytes_at image here ≡ section_bytes (slots_in groups) link
       → StepsList back (follow (link_of number (slot_at (optional_bytes link))))
       → StepsList (places_in groups ++ back) (sector_steps image machine number follow (place_at machine (to here) 0))
-  sector-lists number groups here link back follow are few named stands lists =
-      rw (named.names, stands, sector-read machine groups (number * 64) link are few, link-read number groups link few)
+  sector-lists number groups here link back follow are few named lies lists =
+      rw (named.names, lies, sector-read machine groups (number * 64) link are few, link-read number groups link few)
       (lists-reads (places_in groups ++ back) here (map Names (places_in groups) ++ follow (link_of number (slot_at (optional_bytes link))))
       (lists-behind (places_in groups) back (follow (link_of number (slot_at (optional_bytes link)))) lists))
 

@@ -87,16 +87,16 @@ module _ (image : Image) (machine : Machine) (config : Config) (line_place zero_
   one-section : (mapped : MappedSection) (target : Target) (own : List DiskSector) (names : List (List ℕ)) → IsFitSection mapped.section → TargetLies image machine config line_place zero_place mapped target
       → AreNamed machine to own → IsNone line_place own → AreAt image own (section_sectors_at config machine zero_place mapped own)
       → AllShown image machine line_place (map (descriptor_for config machine mapped own) names) (map (menu_entry mapped.section target) names)
-  one-section mapped target own [] lawful stands named none stand = tt
-  one-section mapped target own (name ∷ names) lawful stands named none stand =
-      (section-read image machine config line_place zero_place mapped target own name lawful stands named none stand, one-section mapped target own names lawful stands named none stand)
+  one-section mapped target own [] lawful lies named none stand = tt
+  one-section mapped target own (name ∷ names) lawful lies named none stand =
+      (section-read image machine config line_place zero_place mapped target own name lawful lies named none stand, one-section mapped target own names lawful lies named none stand)
 
   one-fits : (mapped : MappedSection) (target : Target) (own : List DiskSector) (names others : List (List ℕ)) → IsFitSection mapped.section → TargetLies image machine config line_place zero_place mapped target → AreNames (names ++ others)
       → AreNamed machine to own → AreAt image own (section_sectors_at config machine zero_place mapped own) → (entries : List Descriptor) → (AreNames others → FitEntries entries)
       → FitEntries (map (descriptor_for config machine mapped own) names ++ entries)
-  one-fits mapped target own [] others lawful stands are named stand entries fit = fit are
-  one-fits mapped target own (name ∷ names) others lawful stands are named stand entries fit =
-      (entry-bytes-fit image machine config line_place zero_place mapped target own name lawful stands are.0 named stand, one-fits mapped target own names others lawful stands are.2 named stand entries fit)
+  one-fits mapped target own [] others lawful lies are named stand entries fit = fit are
+  one-fits mapped target own (name ∷ names) others lawful lies are named stand entries fit =
+      (entry-bytes-fit image machine config line_place zero_place mapped target own name lawful lies are.0 named stand, one-fits mapped target own names others lawful lies are.2 named stand entries fit)
 
   -- the sectors of the sections after one lie after it
   section-behind : (mapped : MappedSection) (own : List DiskSector) (others : List (List ℕ)) → AreAt image own (section_sectors_at config machine zero_place mapped own ++ others) → AreAt image (places_after config machine mapped own) others
@@ -124,27 +124,27 @@ module _ (image : Image) (machine : Machine) (config : Config) (line_place zero_
   pub sections-shown : (sections : List MappedSection) (targets : List Target) (own : List DiskSector) → TargetsLie image machine config line_place zero_place sections targets
       → AreNamed machine to own → IsNone line_place own → AreAt image own (sections_sectors config machine zero_place sections own)
       → AllShown image machine line_place (sections_entries config machine sections own) (entries_for sections targets)
-  sections-shown [] [] own stands named none stand = tt
-  sections-shown [] (target ∷ targets) own stands named none stand = absurd stands
-  sections-shown (mapped ∷ sections) [] own stands named none stand = absurd stands
-  sections-shown (mapped ∷ sections) (target ∷ targets) own stands named none stand =
+  sections-shown [] [] own lies named none stand = tt
+  sections-shown [] (target ∷ targets) own lies named none stand = absurd lies
+  sections-shown (mapped ∷ sections) [] own lies named none stand = absurd lies
+  sections-shown (mapped ∷ sections) (target ∷ targets) own lies named none stand =
       let behind = places_after config machine mapped own in
       let others = sections_sectors config machine zero_place sections behind in
       shown-join image machine line_place (map (descriptor_for config machine mapped own) (names_of_section mapped.section)) (map (menu_entry mapped.section target) (names_of_section mapped.section)) (sections_entries config machine sections behind) (entries_for sections targets)
-      (one-section mapped target own (names_of_section mapped.section) stands.0 stands.1 named none (stand-front image own (section_sectors_at config machine zero_place mapped own) others stand))
-      (sections-shown sections targets behind stands.2 (named-behind mapped own named) (none-behind mapped own none) (section-behind mapped own others stand))
+      (one-section mapped target own (names_of_section mapped.section) lies.0 lies.1 named none (stand-front image own (section_sectors_at config machine zero_place mapped own) others stand))
+      (sections-shown sections targets behind lies.2 (named-behind mapped own named) (none-behind mapped own none) (section-behind mapped own others stand))
 
   pub sections-fit : (sections : List MappedSection) (targets : List Target) (own : List DiskSector) → TargetsLie image machine config line_place zero_place sections targets → AreNames (flat_map (λ (mapped : MappedSection). names_of_section mapped.section) sections)
       → AreNamed machine to own → AreAt image own (sections_sectors config machine zero_place sections own)
       → FitEntries (sections_entries config machine sections own)
-  sections-fit [] [] own stands are named stand = tt
-  sections-fit [] (target ∷ targets) own stands are named stand = absurd stands
-  sections-fit (mapped ∷ sections) [] own stands are named stand = absurd stands
-  sections-fit (mapped ∷ sections) (target ∷ targets) own stands are named stand =
+  sections-fit [] [] own lies are named stand = tt
+  sections-fit [] (target ∷ targets) own lies are named stand = absurd lies
+  sections-fit (mapped ∷ sections) [] own lies are named stand = absurd lies
+  sections-fit (mapped ∷ sections) (target ∷ targets) own lies are named stand =
       let behind = places_after config machine mapped own in
       let others = sections_sectors config machine zero_place sections behind in
-      one-fits mapped target own (names_of_section mapped.section) (flat_map (λ (mapped : MappedSection). names_of_section mapped.section) sections) stands.0 stands.1 are named (stand-front image own (section_sectors_at config machine zero_place mapped own) others stand) (sections_entries config machine sections behind)
-      (λ are'. sections-fit sections targets behind stands.2 are' (named-behind mapped own named) (section-behind mapped own others stand))
+      one-fits mapped target own (names_of_section mapped.section) (flat_map (λ (mapped : MappedSection). names_of_section mapped.section) sections) lies.0 lies.1 are named (stand-front image own (section_sectors_at config machine zero_place mapped own) others stand) (sections_entries config machine sections behind)
+      (λ are'. sections-fit sections targets behind lies.2 are' (named-behind mapped own named) (section-behind mapped own others stand))
 
 -- ---- names
 
@@ -196,7 +196,7 @@ module _ (image : Image) (machine : Machine) (span : Span) (plan : Plan) (menu :
 
   all-stand : AreAt image (p1 ∷ (p2 ∷ (p3 ∷ (p4 ∷ rest)))) (sectors_of_table entries ++ (replicate 512 0 ∷ (message_sectors ++ other_sectors)))
   unfolding plan_sectors plan_entries sectors_after
-  all-stand = s.stands
+  all-stand = s.lies
 
   table-stands : (bytes_at image p1 ∷ (bytes_at image p2 ∷ (bytes_at image p3 ∷ []))) ≡ sectors_of_table entries
   unfolding sectors_of_table
@@ -225,7 +225,7 @@ module _ (image : Image) (machine : Machine) (span : Span) (plan : Plan) (menu :
   behind-none = none-drop p0 (optional_chain config machine plan.message) rest rest-none
 
   shown : AllShown image machine p0 entries (entries_for plan.sections targets)
-  shown = sections-shown image machine config p0 p4 plan.sections targets behind s.targets_stand behind-named behind-none sections-stand
+  shown = sections-shown image machine config p0 p4 plan.sections targets behind s.targets_lie behind-named behind-none sections-stand
 
   names-are : map (λ (entry : Descriptor). entry.name) entries ≡ plan_names plan
   unfolding plan_names
@@ -236,7 +236,7 @@ module _ (image : Image) (machine : Machine) (span : Span) (plan : Plan) (menu :
 
   fit : FitEntries entries
   unfolding plan_names
-  fit = sections-fit image machine config p0 p4 plan.sections targets behind s.targets_stand s.names behind-named sections-stand
+  fit = sections-fit image machine config p0 p4 plan.sections targets behind s.targets_lie s.names behind-named sections-stand
 
   table-read : table_at (length (plan_names plan)) (sectors_of_table entries) ≡ Ok entries
   table-read =
@@ -250,15 +250,15 @@ module _ (image : Image) (machine : Machine) (span : Span) (plan : Plan) (menu :
 
   message-fits : (file : Option MappedFile) (bytes : Option (List ℕ)) → OptionalLies image machine config p0 p4 file bytes → IfSome bytes (λ bytes. length bytes ≤ 65535) → AreAt image rest (optional_sectors config machine p4 file rest)
       → FitsMessage (option_map (λ (file : MappedFile). goes (place_of_sector rest 0)) file) (unwrap_or (option_map (λ (file : MappedFile). file.size) file) 0) (optional_chain config machine file)
-  message-fits None bytes stands few stand = (refl, refl)
-  message-fits (Some file) None stands few stand = absurd stands
-  message-fits (Some file) (Some bytes) stands few stand =
-      let size = stands.size in
-      let some = stands.some in
-      let count = stands.count in
+  message-fits None bytes lies few stand = (refl, refl)
+  message-fits (Some file) None lies few stand = absurd lies
+  message-fits (Some file) (Some bytes) lies few stand =
+      let size = lies.size in
+      let some = lies.some in
+      let count = lies.count in
       let chain = chain-is image machine config p0 p4 file in
       let most = (slots-between machine config file (omega (arith, count, some))).1 in
-      (first-one image machine config p0 p4 file bytes rest stands rest-named stand, omega (arith, size, some), omega (arith, size, few), chain-some image machine config p0 p4 file bytes stands, omega (arith, chain, count, few, most))
+      (first-one image machine config p0 p4 file bytes rest lies rest-named stand, omega (arith, size, some), omega (arith, size, few), chain-some image machine config p0 p4 file bytes lies, omega (arith, chain, count, few, most))
 
   boot-fits : FitsBoot said
   unfolding plan_boot
@@ -318,10 +318,10 @@ module _ (image : Image) (machine : Machine) (span : Span) (plan : Plan) (menu :
     where
       by-message : (file : Option MappedFile) (bytes : Option (List ℕ)) → OptionalLies image machine config p0 p4 file bytes → AreAt image rest (optional_sectors config machine p4 file rest)
           → option_map (λ slot. file_content image machine slot (unwrap_or (option_map (λ (file : MappedFile). file.size) file) 0) (optional_chain config machine file)) (option_map (λ (file : MappedFile). goes (place_of_sector rest 0)) file) ≡ option_map whole bytes
-      by-message None None stands stand = refl
-      by-message None (Some bytes) stands stand = absurd stands
-      by-message (Some file) None stands stand = absurd stands
-      by-message (Some file) (Some bytes) stands stand = ap Some (file-shown image machine config p0 p4 file bytes rest stands rest-named stand)
+      by-message None None lies stand = refl
+      by-message None (Some bytes) lies stand = absurd lies
+      by-message (Some file) None lies stand = absurd lies
+      by-message (Some file) (Some bytes) lies stand = ap Some (file-shown image machine config p0 p4 file bytes rest lies rest-named stand)
 
   settings-read : settings_of said ≡ menu.settings
   unfolding settings_of plan_boot

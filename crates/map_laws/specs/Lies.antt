@@ -7,7 +7,7 @@ use Rattle.lilo_model.specs.Conf.{Config, ConfSection}
 use Rattle.lilo_model.specs.Slots.{Slot, place_at}
 use Rattle.lilo_model.specs.Section.{sectors_for}
 use Rattle.lilo_model.specs.Table.{is_printable}
-use Rattle.lilo_model.specs.LineSector.{line_at}
+use Rattle.lilo_model.specs.LineSector.{line_at, line_capacity}
 use Rattle.lilo_model.specs.DefaultLine.{DefaultLine}
 use Rattle.lilo_model.specs.Prompt.{Key}
 use Rattle.lilo_model.specs.Boot.{whole_boot}
@@ -45,7 +45,7 @@ pub record FileLies (image : Image) (machine : Machine) (config : Config) (line_
   pub count : length file.places ≡ sectors_for (length bytes)
   pub named : AreNamed machine (slot_to config.mode machine) (filled_places zero_place file.places)
   pub apart : IsNone line_place (filled_places zero_place file.places)
-  pub stands : take (length bytes) (concat (map (bytes_at image) (filled_places zero_place file.places))) ≡ bytes
+  pub lies : take (length bytes) (concat (map (bytes_at image) (filled_places zero_place file.places))) ≡ bytes
 
 abbrev pub OptionalLies : Image → Machine → Config → DiskSector → DiskSector → Option MappedFile → Option (List ℕ) → Type 0
 OptionalLies image machine config line_place zero_place None None = Unit {0}
@@ -67,7 +67,7 @@ pub record IsFitSection (section : ConfSection) : Type 0 where
 -- the sectors of another system lie: its own, and of the table's the table
 pub record SystemLies (image : Image) (machine : Machine) (config : Config) (line_place zero_place : DiskSector) (file : MappedFile) (sector : List ℕ) (table : Option (List ℕ)) : Type 0 where
   pub bytes : List ℕ
-  pub stands : FileLies image machine config line_place zero_place file bytes
+  pub lies : FileLies image machine config line_place zero_place file bytes
   pub long : length bytes ≡ (if is_some table then 1024 else 512)
   pub front : part_of bytes 0 512 ≡ sector
   pub back : IfSome table (λ table. part_of bytes 958 64 ≡ part_of table 446 64)
@@ -115,7 +115,7 @@ pub record MapLies (image : Image) (machine : Machine) (span : Span) (plan : Pla
   pub present_long : length (part_of present 440 70) ≡ 70
   pub code_long : length plan.code ≤ 512
   pub line_is : line_at (bytes_at image p0) ≡ Ok line
-  pub stands : AreAt image (p1 ∷ (p2 ∷ (p3 ∷ (p4 ∷ rest)))) (drop 1 (plan_sectors plan machine (p0 ∷ (p1 ∷ (p2 ∷ (p3 ∷ (p4 ∷ rest)))))))
+  pub lies : AreAt image (p1 ∷ (p2 ∷ (p3 ∷ (p4 ∷ rest)))) (drop 1 (plan_sectors plan machine (p0 ∷ (p1 ∷ (p2 ∷ (p3 ∷ (p4 ∷ rest)))))))
   pub named : AreNamed machine (slot_to plan.config.mode machine) (p0 ∷ (p1 ∷ (p2 ∷ (p3 ∷ (p4 ∷ rest)))))
   pub apart : IsNone p0 (p1 ∷ (p2 ∷ (p3 ∷ (p4 ∷ rest))))
   pub time : plan.time < 2 ^ 32
@@ -127,9 +127,9 @@ pub record MapLies (image : Image) (machine : Machine) (span : Span) (plan : Pla
   pub default : default_place plan.config.default_name (plan_names plan) < length (plan_names plan)
   pub message_few : IfSome menu.message (λ bytes. length bytes ≤ 65535)
   pub message : OptionalLies image machine plan.config p0 p4 plan.message menu.message
-  pub targets_stand : TargetsLie image machine plan.config p0 p4 plan.sections targets
+  pub targets_lie : TargetsLie image machine plan.config p0 p4 plan.sections targets
   pub entries : menu.entries ≡ entries_for plan.sections targets
-  pub prompt_is : menu.settings ≡ record { prompt = plan.config.prompt; delay = plan.config.delay; timeout = plan.config.timeout; default_entry = default_place plan.config.default_name (plan_names plan); capacity = 255 }
+  pub prompt_is : menu.settings ≡ record { prompt = plan.config.prompt; delay = plan.config.delay; timeout = plan.config.timeout; default_entry = default_place plan.config.default_name (plan_names plan); capacity = line_capacity }
 
 -- it boots as the menu says
 abbrev pub MapLaw : Type 0

@@ -1,5 +1,6 @@
 // What a boot of a planned map does.
 ghost use Rattle.map_laws.specs.Lies.{MapLaw};
+ghost use Rattle.map_laws.specs.MapStays.{MapStaysLaw};
 ghost use Rattle.map_laws.specs.PlannedLies.{PlannedLaw};
 ghost use Rattle.map_laws.specs.Shows.{ShowsLaw};
 
@@ -17,4 +18,9 @@ pub fn planned_map_boots_as_its_menu()
 /// What a configuration plans on a sound volume boots as the configuration and its files mean.
 pub fn planned_map_boots_as_meant()
     ensures { PlannedLaw }
+{}
+
+/// A planned map still lies at its places where only other sectors, and the default line, are written.
+pub fn planned_map_stays()
+    ensures { MapStaysLaw }
 {}

@@ -3,4 +3,7 @@
 
 mod laws;
 
-pub use laws::{planned_map_boots_as_its_menu, planned_map_boots_as_meant, shown_menu_is_booted};
+pub use laws::{
+    planned_map_boots_as_its_menu, planned_map_boots_as_meant, planned_map_stays,
+    shown_menu_is_booted,
+};

@@ -1,5 +1,7 @@
 pub mod Cases
 pub mod Fixtures
 pub mod MinixFixtures
+pub mod PlanFixtures
 pub mod Sparse
 pub mod Surveys
+pub mod Volumes

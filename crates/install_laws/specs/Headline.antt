@@ -1,0 +1,51 @@
+-- What an installation's calls promise, and what follows of it.
+use Rattle.std.specs.Prelude.{◌≡◌, ◌⊎◌, ℕ, List, Option, Ok}
+use Rattle.disk_trait.specs.Past.{Past, with_sector}
+use Rattle.disk_trait.specs.Moments.{IsTold, now, MayLeave, LeavesOnly}
+use Rattle.lilo_model.specs.Disks.{Image, Machine, Span, DiskSector, bytes_at}
+use Rattle.lilo_model.specs.Slots.{place_at}
+use Rattle.lilo_model.specs.BootSector.{BootSector, boot_at}
+use Rattle.lilo_model.specs.LineSector.{line_at}
+use Rattle.lilo_model.specs.DefaultLine.{DefaultLine, Empty}
+use Rattle.lilo_model.specs.Prompt.{Key}
+use Rattle.lilo_model.specs.Boot.{Boot}
+use Rattle.lilo_model.specs.MinixParts.{Volume}
+use Rattle.lilo_model.specs.Clear.{Clear}
+use Rattle.install_laws.specs.Boots.{BootsAs, BootsAsMeant, BootsAsBeforeOrMeant, SparesMapped, IsWithOrWithout, HasBootOf}
+
+-- an image boots as is meant: by the line that lies, which is Empty, and with each other one in the line's sector
+pub record Means (machine : Machine) (span : Span) (place : DiskSector) (meant : DefaultLine → List Key → ℕ → Boot) (c : Image) : Type 0 where
+  -- its boot sector names this place as the default line's, and that line is Empty
+  pub boot : BootSector
+  pub says : boot_at (c span.disk span.start) ≡ Ok boot
+  pub named : place_at machine boot.line 0 ≡ Ok place
+  pub line_is : line_at (bytes_at c place) ≡ Ok Empty
+  pub empty : BootsAsMeant machine span (meant Empty) c
+  pub each_line : (bytes : List ℕ) (line : DefaultLine) → line_at bytes ≡ Ok line → BootsAsMeant machine span (meant line) (with_sector c place.disk place.sector bytes)
+
+pub record Installs (machine : Machine) (volume : Volume) (span : Span) (place : DiskSector) (meant : DefaultLine → List Key → ℕ → Boot) (bytes : List ℕ) (entry begun staged committed tidied : Option Past) : Type 0 where
+  pub told : IsTold begun × IsTold staged × IsTold committed
+  pub begin : Clear volume (now entry) machine span → SparesMapped machine span entry begun
+  pub begin_clear : Clear volume (now entry) machine span → Clear volume (now begun) machine span
+  pub begin_boot : LeavesOnly entry begun (HasBootOf span (now entry))
+  pub stage : Clear volume (now begun) machine span → SparesMapped machine span begun staged
+  pub stage_boot : LeavesOnly begun staged (HasBootOf span (now begun))
+  pub means : Means machine span place meant (with_sector (now staged) span.disk span.start bytes)
+  pub commit : LeavesOnly staged committed (IsWithOrWithout (now staged) span bytes)
+  pub committed_is : now committed ≡ with_sector (now staged) span.disk span.start bytes
+  pub tidy : LeavesOnly committed tidied (Means machine span place meant)
+
+pub record Headline (machine : Machine) (volume : Volume) (span : Span) (place : DiskSector) (meant : DefaultLine → List Key → ℕ → Boot) (entry staged committed tidied : Option Past) : Type 0 where
+  -- where the old map is Clear: at every moment before the commit as before, and at every moment as before or as meant
+  pub before_commit : Clear volume (now entry) machine span → LeavesOnly entry staged (BootsAs machine span (now entry))
+  pub any_moment : Clear volume (now entry) machine span → LeavesOnly entry tidied (BootsAsBeforeOrMeant machine span (now entry) (meant Empty))
+  -- always
+  pub boot_or_meant : LeavesOnly entry tidied (λ c. HasBootOf span (now entry) c ⊎ Means machine span place meant c)
+  pub from_commit : LeavesOnly committed tidied (Means machine span place meant)
+  pub after : (c : Image) → MayLeave tidied c → Means machine span place meant c
+
+abbrev pub HeadlineLaw : Type 0
+HeadlineLaw =
+    (machine : Machine) (volume : Volume) (span : Span) (place : DiskSector) (meant : DefaultLine → List Key → ℕ → Boot) (bytes : List ℕ) (entry begun staged committed tidied : Option Past)
+    → Installs machine volume span place meant bytes entry begun staged committed tidied
+    → Headline machine volume span place meant entry staged committed tidied

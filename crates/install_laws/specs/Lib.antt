@@ -1,0 +1,3 @@
+pub mod Boots
+pub mod Headline
+pub mod Writes

@@ -1,0 +1,19 @@
+// What follows of the promises of an installation's steps.
+ghost use Rattle.install_laws.specs.Headline.{HeadlineLaw};
+ghost use Rattle.install_laws.specs.Writes.{OutsideLaw, SparesLaw};
+
+/// At every moment of an installation whose steps promise what is stated, a stop leaves what boots as before or as is
+/// meant, the same of the two for all keys and any memory; and from the commit on only as is meant.
+pub fn stop_leaves_what_boots_as_before_or_as_meant()
+    ensures { HeadlineLaw }
+{}
+
+/// A run that writes only where a writer of files may spares the sectors of a Clear map that its chosen zones avoid.
+pub fn clear_map_is_spared()
+    ensures { SparesLaw }
+{}
+
+/// A write to a sector that isn't a volume's leaves it sound, with the same Names.
+pub fn write_outside_keeps_a_volume()
+    ensures { OutsideLaw }
+{}

@@ -1,0 +1,9 @@
+//! Laws of an installation and of what a stop leaves of it: public functions with empty bodies, which no code needs to
+//! call.
+#![tactic(auto)]
+
+mod laws;
+
+pub use laws::{
+    clear_map_is_spared, stop_leaves_what_boots_as_before_or_as_meant, write_outside_keeps_a_volume,
+};

@@ -1,0 +1,234 @@
+-- A section that is written is read as the sectors that its slots name.
+use Rattle.std.proofs.Common.{◌≡◌, ◌≤◌, ℕ, zero, suc, ◌+◌, ◌-◌, ◌*◌, List, [], ◌∷◌, ◌++◌, map, length, take, drop, replicate, Option, None, Some, Result, Ok, refl, sym, ap, subst, ◌∙◌, arith, append_assoc, append-nil, length-append}
+use Rattle.std.specs.List.{concat, range_with_len}
+use Rattle.std.proofs.Math.Seq.{drop-append_seam}
+use Rattle.std.proofs.lemmas.List.{map-append, drop-drop}
+use Rattle.lilo_model.specs.Bytes.{is_zero, part_of, filled_bytes}
+use Rattle.lilo_model.specs.Disks.{Image, Machine, DiskSector, bytes_at}
+use Rattle.lilo_model.specs.Slots.{Slot, slot_at, slot_bytes, optional_bytes, place_at}
+use Rattle.lilo_model.specs.Section.{SectionFault, Step, Reads, Names, Listing, slot_steps, slots_steps, slot_steps_then, slot_parts, link_of, link_at, link_steps, sector_steps, chain_steps, listing_of, section, section_bytes}
+use Rattle.sector_address.specs.Whole.{IsSlot}
+use Rattle.sector_address.proofs.BytesLemmas.{encode_law}
+use Rattle.lilo_model.specs.Plan.{chain_sectors}
+use Rattle.map_laws.proofs.Parts.{part-front, part-between, length-filled}
+use Rattle.map_laws.specs.Lies.{IsOneSlot, IsNamed, AreNamed}
+use Rattle.lilo_model.specs.Lays.{AreAt}
+use Rattle.map_laws.proofs.SlotAgain.{length-slot}
+
+-- a slot, and the sectors that it names
+pub record Group : Type 0 where
+  pub slot : Slot
+  pub places : List DiskSector
+
+abbrev pub slots_in : List Group → List Slot
+slots_in groups = map (λ group. group.slot) groups
+
+abbrev pub places_in : List Group → List DiskSector
+places_in [] = []
+places_in (group ∷ groups) = group.places ++ places_in groups
+
+pub record IsGroup (machine : Machine) (group : Group) : Type 0 where
+  pub whole : IsSlot group.slot
+  pub steps : slot_steps machine group.slot ≡ map Names group.places
+
+abbrev pub AreGroups : Machine → List Group → Type 0
+AreGroups machine [] = Unit {0}
+AreGroups machine (group ∷ groups) = IsGroup machine group × AreGroups machine groups
+
+-- ---- the parts of a section sector
+
+-- so many parts of eight bytes
+abbrev pub eights : ℕ → List ℕ → List (List ℕ)
+eights zero bytes = []
+eights (suc more) bytes = take 8 bytes ∷ eights more (drop 8 bytes)
+
+drop-eight : (bytes : List ℕ) (at : ℕ) → drop 8 (drop (8 * at) bytes) ≡ drop (8 * (at + 1)) bytes
+drop-eight bytes at = drop-drop 8 (8 * at) bytes ∙ ap (λ n. drop n bytes) (omega arith)
+
+pub parts-eights : (bytes : List ℕ) (at count : ℕ) → map (λ index. part_of bytes (8 * index) 8) (range_with_len at count) ≡ eights count (drop (8 * at) bytes)
+parts-eights bytes at zero = refl
+parts-eights bytes at (suc count) =
+    ap (λ parts. part_of bytes (8 * at) 8 ∷ parts) (parts-eights bytes (at + 1) count ∙ ap (eights count) (sym (drop-eight bytes at)))
+
+-- the bytes of a slot before others
+slot-front : (slot : Slot) (others : List ℕ) → take 8 (slot_bytes slot ++ others) ≡ slot_bytes slot
+slot-front slot others = part-front (slot_bytes slot) others 8 (length-slot slot)
+
+slot-behind : (slot : Slot) (others : List ℕ) → drop 8 (slot_bytes slot ++ others) ≡ others
+slot-behind slot others = subst (λ n. drop n (slot_bytes slot ++ others) ≡ others) (length-slot slot) (drop-append_seam (slot_bytes slot) others)
+
+-- the steps at slots and the zeros after them
+zeros-read : (machine : Machine) (place count zeros : ℕ) (tail : List ℕ) → 8 * count ≤ zeros → slots_steps machine place (eights count (replicate zeros 0 ++ tail)) ≡ []
+unfolding slot_at is_zero
+zeros-read machine place zero zeros tail fits = refl
+zeros-read machine place (suc count) (suc (suc (suc (suc (suc (suc (suc (suc zeros)))))))) tail fits = refl
+zeros-read machine place (suc count) _ tail fits = absurd (omega (arith, fits))
+
+pub slots-read : (machine : Machine) (groups : List Group) (place count zeros : ℕ) (tail : List ℕ) → AreGroups machine groups → length groups ≤ count → 8 * count ≤ 8 * length groups + zeros
+    → slots_steps machine place (eights count (concat (map slot_bytes (slots_in groups)) ++ (replicate zeros 0 ++ tail))) ≡ map Names (places_in groups)
+slots-read machine [] place count zeros tail are few fits = zeros-read machine place count zeros tail (omega (arith, fits))
+slots-read machine (group ∷ groups) place zero zeros tail are few fits = absurd (omega (arith, few))
+slots-read machine (group ∷ groups) place (suc count) zeros tail are few fits =
+    let others = concat (map slot_bytes (slots_in groups)) ++ (replicate zeros 0 ++ tail) in
+    let assoc = append_assoc (slot_bytes group.slot) (concat (map slot_bytes (slots_in groups))) (replicate zeros 0 ++ tail) in
+    ap (λ bytes. slots_steps machine place (take 8 bytes ∷ eights count (drop 8 bytes))) assoc
+    ∙ ap (λ bytes. slots_steps machine place (bytes ∷ eights count (drop 8 (slot_bytes group.slot ++ others)))) (slot-front group.slot others)
+    ∙ ap (λ bytes. slots_steps machine place (slot_bytes group.slot ∷ eights count bytes)) (slot-behind group.slot others)
+    ∙ ap (λ found. slot_steps_then machine place found (slots_steps machine (place + 1) (eights count others))) (encode_law group.slot are.0.whole)
+    ∙ ap (λ steps. steps ++ slots_steps machine (place + 1) (eights count others)) are.0.steps
+    ∙ ap (λ steps. map Names group.places ++ steps) (slots-read machine groups (place + 1) count zeros tail are.1 (omega (arith, few)) (omega (arith, fits)))
+    ∙ sym (map-append Names group.places (places_in groups))
+
+-- ---- a section sector
+
+length-slots : (groups : List Group) → length (concat (map slot_bytes (slots_in groups))) ≡ 8 * length groups
+length-slots [] = refl
+length-slots (group ∷ groups) =
+    length-append (slot_bytes group.slot) (concat (map slot_bytes (slots_in groups))) ∙ ap (λ n. n + length (concat (map slot_bytes (slots_in groups)))) (length-slot group.slot)
+    ∙ ap (λ n. 8 + n) (length-slots groups) ∙ omega arith
+
+-- the steps at the slots of a section sector
+pub sector-read : (machine : Machine) (groups : List Group) (place : ℕ) (link : Option Slot) → AreGroups machine groups → length groups ≤ 63
+    → slots_steps machine place (slot_parts (section_bytes (slots_in groups) link)) ≡ map Names (places_in groups)
+unfolding section_bytes
+sector-read machine groups place link are few =
+    let bytes = concat (map slot_bytes (slots_in groups)) in
+    let long : length bytes ≡ 8 * length groups = length-slots groups in
+    ap (slots_steps machine place) (parts-eights (section_bytes (slots_in groups) link) 0 63)
+    ∙ ap (λ bytes. slots_steps machine place (eights 63 bytes)) (append_assoc bytes (replicate (504 - length bytes) 0) (optional_bytes link))
+    ∙ slots-read machine groups place 63 (504 - length bytes) (optional_bytes link) are few (omega (arith, long, few))
+
+-- and at its link
+pub link-read : (number : ℕ) (groups : List Group) (link : Option Slot) → length groups ≤ 63 → link_at number (section_bytes (slots_in groups) link) ≡ link_of number (slot_at (optional_bytes link))
+unfolding link_at section_bytes
+link-read number groups link few =
+    let bytes = concat (map slot_bytes (slots_in groups)) in
+    let long : length bytes ≡ 8 * length groups = length-slots groups in
+    let size : length (filled_bytes 504 bytes) ≡ 504 = length-filled 504 bytes (omega (arith, long, few)) in
+    ap (λ part. link_of number (slot_at part)) (link-part (filled_bytes 504 bytes) size link)
+  where
+    link-long : (link : Option Slot) → length (optional_bytes link) ≡ 8
+    link-long None = refl
+    link-long (Some slot) = length-slot slot
+
+    link-part : (bytes : List ℕ) → length bytes ≡ 504 → (link : Option Slot) → part_of (bytes ++ optional_bytes link) 504 8 ≡ optional_bytes link
+    link-part bytes size link =
+        ap (λ all. part_of (bytes ++ all) 504 8) (sym (append-nil (optional_bytes link)))
+        ∙ part-between bytes (optional_bytes link) [] 504 8 size (link-long link)
+
+-- ---- the listing
+
+-- a listing has these places, and no refusal
+pub record Lists (places : List DiskSector) (listing : Listing) : Type 0 where
+  pub all : listing.places ≡ places
+  pub good : listing.refusal ≡ None
+
+-- steps list places, however many lie before them
+abbrev pub StepsList : List DiskSector → List Step → Type 0
+StepsList places steps = (given : ℕ) → Lists places (listing_of given (length places) steps)
+
+lists-none : (steps : List Step) → StepsList [] steps
+lists-none steps given = record { all = refl; good = refl }
+
+lists-behind : (front back : List DiskSector) (steps : List Step) → StepsList back steps → StepsList (front ++ back) (map Names front ++ steps)
+lists-behind [] back steps lists given = lists given
+lists-behind (place ∷ front) back steps lists given =
+    let h = lists-behind front back steps lists (given + 1) in
+    record { all = ap (λ places. place ∷ places) h.all; good = h.good }
+
+lists-reads : (places : List DiskSector) (place : DiskSector) (steps : List Step) → StepsList places steps → StepsList places (Reads place ∷ steps)
+lists-reads [] place steps lists given = lists given
+lists-reads (first ∷ places) place steps lists given = record { all = (lists given).all; good = (lists given).good }
+
+-- ---- a chain
+
+are-front : (machine : Machine) (count : ℕ) (groups : List Group) → AreGroups machine groups → AreGroups machine (take count groups)
+are-front machine zero groups are = tt
+are-front machine (suc count) [] are = tt
+are-front machine (suc count) (group ∷ groups) are = (are.0, are-front machine count groups are.1)
+
+are-back : (machine : Machine) (count : ℕ) (groups : List Group) → AreGroups machine groups → AreGroups machine (drop count groups)
+are-back machine zero groups are = are
+are-back machine (suc count) [] are = tt
+are-back machine (suc count) (group ∷ groups) are = are-back machine count groups are.1
+
+places-cut : (count : ℕ) (groups : List Group) → places_in groups ≡ places_in (take count groups) ++ places_in (drop count groups)
+places-cut zero groups = refl
+places-cut (suc count) [] = refl
+places-cut (suc count) (group ∷ groups) =
+    ap (λ places. group.places ++ places) (places-cut count groups) ∙ sym (append_assoc group.places (places_in (take count groups)) (places_in (drop count groups)))
+
+slots-front : (count : ℕ) (groups : List Group) → take count (slots_in groups) ≡ slots_in (take count groups)
+slots-front zero groups = refl
+slots-front (suc count) [] = refl
+slots-front (suc count) (group ∷ groups) = ap (λ slots. group.slot ∷ slots) (slots-front count groups)
+
+slots-back : (count : ℕ) (groups : List Group) → drop count (slots_in groups) ≡ slots_in (drop count groups)
+slots-back zero groups = refl
+slots-back (suc count) [] = refl
+slots-back (suc count) (group ∷ groups) = slots-back count groups
+
+few-front : (count : ℕ) (groups : List Group) → length (take count groups) ≤ count
+few-front zero groups = omega arith
+few-front (suc count) [] = omega arith
+few-front (suc count) (group ∷ groups) = let h = few-front count groups in omega (arith, h)
+
+module _ (image : Image) (machine : Machine) (to : DiskSector → Slot) (chain : ℕ) where
+  -- the steps at a section sector list its slots' places, and then those after it
+  sector-lists : (number : ℕ) (groups : List Group) (here : DiskSector) (link : Option Slot) (back : List DiskSector) (follow : Result (Option Slot) SectionFault → List Step)
+      → AreGroups machine groups → length groups ≤ 63 → IsNamed machine to here → bytes_at image here ≡ section_bytes (slots_in groups) link
+      → StepsList back (follow (link_of number (slot_at (optional_bytes link))))
+      → StepsList (places_in groups ++ back) (sector_steps image machine number follow (place_at machine (to here) 0))
+  sector-lists number groups here link back follow are few named lies lists =
+      rw (named.names, lies, sector-read machine groups (number * 64) link are few, link-read number groups link few)
+      (lists-reads (places_in groups ++ back) here (map Names (places_in groups) ++ follow (link_of number (slot_at (optional_bytes link))))
+      (lists-behind (places_in groups) back (follow (link_of number (slot_at (optional_bytes link)))) lists))
+
+  link-of : (number : ℕ) (slot : Slot) → IsOneSlot slot → link_of number (slot_at (optional_bytes (Some slot))) ≡ Ok (Some slot)
+  link-of number slot one = rw (encode_law slot one.whole, one.one) refl
+
+  chain-lists : (more number : ℕ) (groups : List Group) (here : DiskSector) (behind : List DiskSector)
+      → AreGroups machine groups → length groups ≤ 63 * (more + 1) → AreNamed machine to (here ∷ behind)
+      → AreAt image (here ∷ behind) (chain_sectors to (suc more) (slots_in groups) behind)
+      → StepsList (places_in groups) (chain_steps image machine chain number (suc more) (to here))
+  unfolding slot_at is_zero
+  chain-lists zero number groups here behind are few named stand =
+      let front = take 63 groups in
+      subst (λ places. StepsList places (chain_steps image machine chain number 1 (to here))) (sym (places-cut 63 groups))
+      (sector-lists number front here None (places_in (drop 63 groups)) (link_steps (chain_steps image machine chain (number + 1) zero)) (are-front machine 63 groups are) (few-front 63 groups) named.0
+      (stand.0 ∙ ap (λ slots. section_bytes slots None) (slots-front 63 groups))
+      (none-behind (drop 63 groups) (drop-all 63 groups (omega (arith, few)))))
+    where
+      drop-all : (count : ℕ) (groups : List Group) → length groups ≤ count → drop count groups ≡ []
+      drop-all zero [] few = refl
+      drop-all zero (group ∷ groups) few = absurd (omega (arith, few))
+      drop-all (suc count) [] few = refl
+      drop-all (suc count) (group ∷ groups) few = drop-all count groups (omega (arith, few))
+
+      none-behind : (groups : List Group) → groups ≡ [] → StepsList (places_in groups) []
+      none-behind groups is = rw is (lists-none [])
+  chain-lists (suc more) number groups here [] are few named stand = absurd stand.1
+  chain-lists (suc more) number groups here (next ∷ behind) are few named stand =
+      let front = take 63 groups in
+      let back = drop 63 groups in
+      subst (λ places. StepsList places (chain_steps image machine chain number (suc (suc more)) (to here))) (sym (places-cut 63 groups))
+      (sector-lists number front here (Some (to next)) (places_in back) (link_steps (chain_steps image machine chain (number + 1) (suc more))) (are-front machine 63 groups are) (few-front 63 groups) named.0
+      (stand.0 ∙ ap (λ slots. section_bytes slots (Some (to next))) (slots-front 63 groups))
+      (rw (link-of number (to next) named.1.0.one)
+      (chain-lists more (number + 1) back next behind (are-back machine 63 groups are) (few-back 63 groups (63 * (more + 1)) (omega (arith, few))) named.1
+      (subst (λ slots. AreAt image (next ∷ behind) (chain_sectors to (suc more) slots behind)) (slots-back 63 groups) stand.1))))
+    where
+      few-back : (count : ℕ) (groups : List Group) (most : ℕ) → length groups ≤ count + most → length (drop count groups) ≤ most
+      few-back zero groups most few = omega (arith, few)
+      few-back (suc count) [] most few = omega arith
+      few-back (suc count) (group ∷ groups) most few = few-back count groups most (omega (arith, few))
+
+-- A section whose sectors lie where they are to lie lists the places of its slots, and nothing is refused.
+pub section_again :
+    (image : Image) (machine : Machine) (to : DiskSector → Slot) (more : ℕ) (groups : List Group) (here : DiskSector) (behind : List DiskSector)
+    → AreGroups machine groups → length groups ≤ 63 * (more + 1) → AreNamed machine to (here ∷ behind)
+    → AreAt image (here ∷ behind) (chain_sectors to (suc more) (slots_in groups) behind)
+    → Lists (places_in groups) (section image machine (to here) (length (places_in groups)) (suc more))
+unfolding section
+section_again image machine to more groups here behind are few named stand =
+    chain-lists image machine to (suc more) more 0 groups here behind are few named stand 0

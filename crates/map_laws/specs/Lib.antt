@@ -1,0 +1,4 @@
+pub mod Lies
+pub mod MapStays
+pub mod PlannedLies
+pub mod Shows

@@ -1,0 +1,31 @@
+-- A planned map that lies somewhere, once other sectors are written.
+use Rattle.std.specs.Prelude.{◌≡◌, ℕ, List, [], ◌∷◌, ◌++◌, flat_map, Option, None, Some, Ok}
+use Rattle.lilo_model.specs.Disks.{Image, Machine, Span, DiskSector, bytes_at}
+use Rattle.lilo_model.specs.LineSector.{line_at}
+use Rattle.lilo_model.specs.DefaultLine.{DefaultLine}
+use Rattle.lilo_model.specs.Meant.{Target, Menu}
+use Rattle.lilo_model.specs.Plan.{MappedFile, MappedSection, Plan, filled_places}
+use Rattle.boot_laws.specs.SameOn.{SameOn}
+use Rattle.map_laws.specs.Lies.{MapLies}
+
+-- the sectors that a planned map, its boot sector and its files lie in, but for the default line's
+abbrev pub file_sectors_of : DiskSector → Option MappedFile → List DiskSector
+file_sectors_of zero_place None = []
+file_sectors_of zero_place (Some file) = filled_places zero_place file.places
+
+abbrev pub section_places : DiskSector → MappedSection → List DiskSector
+section_places zero_place mapped = filled_places zero_place mapped.main.places ++ file_sectors_of zero_place mapped.initrd
+
+abbrev pub fixed_places : Span → Plan → DiskSector → List DiskSector → List DiskSector
+fixed_places span plan zero_place behind =
+    record { disk = span.disk; sector = span.start }
+    ∷ (behind ++ (file_sectors_of zero_place plan.message ++ flat_map (section_places zero_place) plan.sections))
+
+-- where these sectors stay, and the line's sector has a line, the map lies
+abbrev pub MapStaysLaw : Type 0
+MapStaysLaw =
+    (image c : Image) (machine : Machine) (span : Span) (plan : Plan) (menu : Menu) (targets : List Target) (line other : DefaultLine) (p0 p1 p2 p3 p4 : DiskSector) (rest : List DiskSector) (present : List ℕ)
+    → MapLies image machine span plan menu targets line p0 p1 p2 p3 p4 rest present
+    → SameOn (fixed_places span plan p4 (p1 ∷ (p2 ∷ (p3 ∷ (p4 ∷ rest))))) image c
+    → line_at (bytes_at c p0) ≡ Ok other
+    → MapLies c machine span plan menu targets other p0 p1 p2 p3 p4 rest present

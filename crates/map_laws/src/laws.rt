@@ -1,0 +1,26 @@
+// What a boot of a planned map does.
+ghost use Rattle.map_laws.specs.Lies.{MapLaw};
+ghost use Rattle.map_laws.specs.MapStays.{MapStaysLaw};
+ghost use Rattle.map_laws.specs.PlannedLies.{PlannedLaw};
+ghost use Rattle.map_laws.specs.Shows.{ShowsLaw};
+
+/// Disks that show a menu boot as it says, for all keys and any memory.
+pub fn shown_menu_is_booted()
+    ensures { ShowsLaw }
+{}
+
+/// Where a planned map lies at its places, with its boot sector, and the files where they are mapped from, a boot does what
+/// its menu says, for all keys, any memory and each default line.
+pub fn planned_map_boots_as_its_menu()
+    ensures { MapLaw }
+{}
+
+/// What a configuration plans on a sound volume boots as the configuration and its files mean.
+pub fn planned_map_boots_as_meant()
+    ensures { PlannedLaw }
+{}
+
+/// A planned map still lies at its places where only other sectors, and the default line, are written.
+pub fn planned_map_stays()
+    ensures { MapStaysLaw }
+{}

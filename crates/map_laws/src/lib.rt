@@ -1,0 +1,9 @@
+//! Laws of the map that an installation plans: public functions with empty bodies, which no code needs to call.
+#![tactic(auto)]
+
+mod laws;
+
+pub use laws::{
+    planned_map_boots_as_its_menu, planned_map_boots_as_meant, planned_map_stays,
+    shown_menu_is_booted,
+};

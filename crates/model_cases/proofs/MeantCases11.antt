@@ -1,0 +1,30 @@
+-- Cases of the model, written by tools/plan_cases.py: what a boot does as configurations say.
+use Rattle.std.proofs.Common.{◌≡◌, ◌∷◌, ◌++◌, [], codes, replicate, None, Some, refl}
+use Rattle.lilo_model.specs.Boot.{Loaded}
+use Rattle.lilo_model.specs.Bytes.{number16, number32, is_zero}
+use Rattle.lilo_model.specs.Choice.{course_of}
+use Rattle.lilo_model.specs.ConfLawful.{names_of_section, names_of_config}
+use Rattle.lilo_model.specs.DefaultLine.{Empty, Kept}
+use Rattle.lilo_model.specs.Header.{setup_of, version_of, header_of, header_at, fit_checks, plan_memory, replaced_fields, patch}
+use Rattle.lilo_model.specs.LineWords.{words_of, meaning}
+use Rattle.lilo_model.specs.Meant.{started, menu_decision, menu_boot, file_of, middle_text, target_of, menu_entries, menu_of, meant}
+use Rattle.lilo_model.specs.MinixFind.{components, child, find_path, file_block, file_at}
+use Rattle.lilo_model.specs.MinixFindNames.{child_path, path_of}
+use Rattle.lilo_model.specs.Place.{command_line, written_by, place, kernel_fit}
+use Rattle.model_cases.specs.Sparse.{hex, piece, file, typed, waited}
+use Rattle.model_cases.specs.PlanFixtures.{conf_r58, conf_r59, conf_r60, devices_many, names_many}
+
+-- by chance 58
+pub meant_by_chance_58 : (meant conf_r58 names_many devices_many (Kept (codes "gone")) [] 16777216 ≡ record { outcome = Loaded (record { real = record { address = 0x90000; size = 1024 }; protected = record { address = 0x100000; size = 576 }; initrd = None; line = record { address = 0x99800; size = 20 } }); shown = (codes "LILO\nLoading win\n"); line = Some (Kept (codes "win")); written = (record { address = 0x90000; bytes = (file 1024 (piece 497 (hex 1 0x01) ∷ piece 510 (hex 10 0x55aa0000486472530602) ∷ piece 528 (hex 2 0x0281) ∷ piece 549 (hex 11 0x96000000980900ffffff37) ∷ piece 568 (hex 1 0xff) ∷ [])) } ∷ record { address = 0x100000; bytes = (file 576 (piece 0 (replicate 576 5) ∷ [])) } ∷ record { address = 0x99800; bytes = (file 20 (piece 0 (codes "auto BOOT_IMAGE=win") ∷ [])) } ∷ []); left = [] }) × (meant conf_r58 names_many devices_many Empty (waited 60 ++ typed (hex 9 0x77696e206c6f636b0d) ++ waited 4 ++ typed (codes "win lock\n") ++ waited 1 ++ typed (hex 6 0x6162087f6c0d)) 1073741824 ≡ record { outcome = Loaded (record { real = record { address = 0x90000; size = 1024 }; protected = record { address = 0x100000; size = 576 }; initrd = None; line = record { address = 0x99800; size = 20 } }); shown = (codes "LILO\nLoading win\n"); line = Some (Kept (codes "win")); written = (record { address = 0x90000; bytes = (file 1024 (piece 497 (hex 1 0x01) ∷ piece 510 (hex 10 0x55aa0000486472530602) ∷ piece 528 (hex 2 0x0281) ∷ piece 549 (hex 11 0x96000000980900ffffff37) ∷ piece 568 (hex 1 0xff) ∷ [])) } ∷ record { address = 0x100000; bytes = (file 576 (piece 0 (replicate 576 5) ∷ [])) } ∷ record { address = 0x99800; bytes = (file 20 (piece 0 (codes "auto BOOT_IMAGE=win") ∷ [])) } ∷ []); left = (waited 40 ++ typed (hex 9 0x77696e206c6f636b0d) ++ waited 4 ++ typed (codes "win lock\n") ++ waited 1 ++ typed (hex 6 0x6162087f6c0d)) })
+unfolding number16 number32 is_zero components child find_path file_block file_at child_path path_of names_of_section names_of_config started menu_decision menu_boot file_of middle_text target_of menu_entries menu_of meant setup_of version_of header_of header_at fit_checks plan_memory replaced_fields patch command_line written_by place kernel_fit course_of words_of meaning
+meant_by_chance_58 = (refl, refl)
+
+-- by chance 59
+pub meant_by_chance_59 : (meant conf_r59 names_many devices_many (Kept (codes "gone")) [] 2097152 ≡ record { outcome = Loaded (record { real = record { address = 0x90000; size = 1024 }; protected = record { address = 0x10000; size = 5 }; initrd = None; line = record { address = 0x99800; size = 34 } }); shown = (codes "LILO\nLoading win\n"); line = Some (Kept (codes "gone")); written = (record { address = 0x90000; bytes = (file 1024 (piece 32 (hex 4 0x3fa30098) ∷ piece 497 (hex 1 0x01) ∷ piece 506 (hex 6 0xffff000055aa) ∷ piece 556 (hex 4 0xffffff37) ∷ piece 568 (hex 1 0xff) ∷ [])) } ∷ record { address = 0x10000; bytes = (file 5 (piece 0 (codes "HELLO") ∷ [])) } ∷ record { address = 0x99800; bytes = (file 34 (piece 0 (codes "auto BOOT_IMAGE=win rw mem=64M  y") ∷ [])) } ∷ []); left = [] }) × (meant conf_r59 names_many devices_many Empty (waited 4 ++ typed (hex 9 0x77696e206c6f636b15) ++ waited 4 ++ typed (hex 24 0x77696e207667613d37207a0d77696e207667613d37207a0a)) 1048576 ≡ record { outcome = Loaded (record { real = record { address = 0x90000; size = 1024 }; protected = record { address = 0x10000; size = 5 }; initrd = None; line = record { address = 0x99800; size = 34 } }); shown = (codes "LILO\nLoading win\n"); line = Some Empty; written = (record { address = 0x90000; bytes = (file 1024 (piece 32 (hex 4 0x3fa30098) ∷ piece 497 (hex 1 0x01) ∷ piece 506 (hex 6 0xffff000055aa) ∷ piece 556 (hex 4 0xffffff37) ∷ piece 568 (hex 1 0xff) ∷ [])) } ∷ record { address = 0x10000; bytes = (file 5 (piece 0 (codes "HELLO") ∷ [])) } ∷ record { address = 0x99800; bytes = (file 34 (piece 0 (codes "auto BOOT_IMAGE=win rw mem=64M  y") ∷ [])) } ∷ []); left = (waited 3 ++ typed (hex 9 0x77696e206c6f636b15) ++ waited 4 ++ typed (hex 24 0x77696e207667613d37207a0d77696e207667613d37207a0a)) })
+unfolding number16 number32 is_zero components child find_path file_block file_at child_path path_of names_of_section names_of_config started menu_decision menu_boot file_of middle_text target_of menu_entries menu_of meant setup_of version_of header_of header_at fit_checks plan_memory replaced_fields patch command_line written_by place kernel_fit course_of words_of meaning
+meant_by_chance_59 = (refl, refl)
+
+-- by chance 60
+pub meant_by_chance_60 : (meant conf_r60 names_many devices_many (Kept (codes "old")) [] 2097152 ≡ record { outcome = Loaded (record { real = record { address = 0x90000; size = 2560 }; protected = record { address = 0x100000; size = 5 }; initrd = None; line = record { address = 0x99800; size = 29 } }); shown = (codes "LILO\nLoading old\n"); line = Some (Kept (codes "old")); written = (record { address = 0x90000; bytes = (file 2560 (piece 506 (hex 14 0xffff000055aa0000486472530602) ∷ piece 528 (hex 2 0x0281) ∷ piece 549 (hex 11 0x96000000980900ffffff37) ∷ piece 568 (hex 1 0xff) ∷ [])) } ∷ record { address = 0x100000; bytes = (file 5 (piece 0 (codes "PMODE") ∷ [])) } ∷ record { address = 0x99800; bytes = (file 29 (piece 0 (codes "auto BOOT_IMAGE=old root=801") ∷ [])) } ∷ []); left = [] }) × (meant conf_r60 names_many devices_many (Kept (codes "linux")) (waited 60 ++ typed (codes "linux single\n") ++ waited 60 ++ typed (codes "tux") ++ waited 1 ++ typed (codes "none\n")) 1073741824 ≡ record { outcome = Loaded (record { real = record { address = 0x90000; size = 2560 }; protected = record { address = 0x100000; size = 5 }; initrd = None; line = record { address = 0x99800; size = 34 } }); shown = (codes "LILO\nLoading linux\n"); line = Some (Kept (codes "linux")); written = (record { address = 0x90000; bytes = (file 2560 (piece 506 (hex 14 0x0103000055aa0000486472530602) ∷ piece 528 (hex 2 0x0281) ∷ piece 549 (hex 11 0x96000000980900ffffff37) ∷ piece 568 (hex 1 0xff) ∷ [])) } ∷ record { address = 0x100000; bytes = (file 5 (piece 0 (codes "PMODE") ∷ [])) } ∷ record { address = 0x99800; bytes = (file 34 (piece 0 (codes "auto BOOT_IMAGE=linux ro root=803") ∷ [])) } ∷ []); left = (waited 60 ++ typed (codes "linux single\n") ++ waited 60 ++ typed (codes "tux") ++ waited 1 ++ typed (codes "none\n")) })
+unfolding number16 number32 is_zero components child find_path file_block file_at child_path path_of names_of_section names_of_config started menu_decision menu_boot file_of middle_text target_of menu_entries menu_of meant setup_of version_of header_of header_at fit_checks plan_memory replaced_fields patch command_line written_by place kernel_fit course_of words_of meaning
+meant_by_chance_60 = (refl, refl)

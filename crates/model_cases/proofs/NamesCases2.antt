@@ -1,0 +1,64 @@
+-- Cases of the model, written by tools/plan_cases.py: whether what a configuration names is apart, and which path is refused.
+use Rattle.std.proofs.Common.{◌≡◌, ◌∷◌, ◌++◌, [], true, false, codes, replicate, None, Some, Err, refl}
+use Rattle.std.specs.Prelude.{is_ok}
+use Rattle.lilo_model.specs.Apart.{names_pair, is_apart_path, apart_checks}
+use Rattle.lilo_model.specs.BootSector.{is_bootable, has_signature, has_options, has_names, has_slots, has_no_message, has_whole_message, has_message, has_zeros, is_whole, timeout_of, table_slots, boot_of, boot_at, field_bytes, merged_sector}
+use Rattle.lilo_model.specs.Bytes.{number16, number32, is_zero}
+use Rattle.lilo_model.specs.Devices.{disk_name, last_partition, partition_name, device_name, devices_of, named_devices, device_at, disk_number, device_number}
+use Rattle.lilo_model.specs.MinixEntries.{entry_of, entries_in, entry_at as minixentries_entry_at, find_entry, entries_at, is_dots}
+use Rattle.lilo_model.specs.MinixFind.{components, child, find_path, file_block, file_at}
+use Rattle.lilo_model.specs.MinixFindNames.{child_path, path_of}
+use Rattle.lilo_model.specs.MinixLayout.{kind_of, super_of, super_checks, super_in, super_at, with_counts, super_bytes, v1_inode, v2_inode, inode_of, inode_at, v1_inode_bytes, v2_inode_bytes, inode_bytes, kept_inode, inode_place}
+use Rattle.lilo_model.specs.MinixNames.{zone_number, block, content, entry, first_named, lookup, reached, thing, names, names_in, IsSound}
+use Rattle.lilo_model.specs.MinixParts.{bit, with_bit, parts_of, volume_at, number_in, follow, pointer_by, inside, follow_at, zone_at, block_at, content_at}
+use Rattle.lilo_model.specs.NamePlaces.{name_path, default_backup, backup_path}
+use Rattle.lilo_model.specs.Partitions.{named_device, entry_at, entries_of, table_entries, is_link, is_plain, link_of, logical_of, listed, linked_sector, chain_entries, chain_tables, partitions_of, numbered_span, span_of}
+use Rattle.lilo_model.specs.Settled.{is_foreign, replaceable_name, own_names}
+use Rattle.lilo_model.specs.Slots.{has_ranges, has_address, is_slot, is_one_slot, chs_of, address_of, slot_of, some_slot, slot_at, slot_bytes, to_chs, to_lba, sector_at, sectors_of, place_at, slot_make, could_be_one}
+use Rattle.lilo_model.specs.MinixFind as trees
+use Rattle.lilo_model.specs.ConfOptions as options
+use Rattle.model_cases.specs.Sparse.{hex, patch_at, disks_of, disk_with, machine_of}
+use Rattle.lilo_model.specs.Conf.{ReadOnlyMount}
+use Rattle.lilo_model.specs.Slots.{Lba32Mode}
+use Rattle.lilo_model.specs.MinixLayout.{V1Long}
+use Rattle.model_cases.specs.PlanFixtures.{disk_files}
+
+-- the code is a link to map
+pub names_the_code_is_a_link_to_map : (apart_checks (disks_of (disk_files ++ (patch_at 0 68 1 (hex 1 0x03) ∷ patch_at 0 70 1 (hex 1 0x07) ∷ patch_at 0 72 36 (hex 1 0xe0) ∷ patch_at 0 72 224 (hex 5 0xffa1000001) ∷ patch_at 0 72 237 (hex 2 0x010e) ∷ patch_at 0 72 256 (hex 5 0xa481000001) ∷ patch_at 0 72 269 (hex 2 0x010f) ∷ patch_at 0 78 160 (hex 3 0x07006d) ∷ patch_at 0 78 192 (hex 3 0x08006c) ∷ patch_at 0 80 64 (hex 1 0x09) ∷ patch_at 0 90 0 (codes "x") ∷ patch_at 0 92 0 (codes "m") ∷ patch_at 0 94 0 (codes "#") ∷ []))) (machine_of (disk_with 4096 16 63 ∷ [])) (record { span = record { disk = 0; start = 64; count = 4032 }; layout = record { kind = V1Long; inodes = 64; zones = 2016; imap = 1; zmap = 1; first = 6; max_size = 268966912; state = 1 } }) (record { boot = (Some (record { disk = 0; partition = 0 })); map = (codes "/boot/m"); install = (Some (codes "/boot/l")); backup = None; force_backup = None; compact = false; mode = Lba32Mode; default_name = (Some (codes "linux")); delay = 0; timeout = (Some 50); prompt = true; message = None; disks = []; sections = ((record { other = None; path = (codes "/boot/vmlinuz"); label = (codes "linux"); alias = None; initrd = (Some (codes "/boot/initrd")); root = (Some 769); mount = ReadOnlyMount; append = None; literal = None; vga = None; password = None; restricted = false; optional = false; lock = false; fallback = None; table = None; line = 8 }) ∷ []) }) (record { disk = 0; partition = 0 }) ≡ Err options.Install) × (is_ok (own_names (names_in (record { span = record { disk = 0; start = 64; count = 4032 }; layout = record { kind = V1Long; inodes = 64; zones = 2016; imap = 1; zmap = 1; first = 6; max_size = 268966912; state = 1 } }) (disks_of (disk_files ++ (patch_at 0 68 1 (hex 1 0x03) ∷ patch_at 0 70 1 (hex 1 0x07) ∷ patch_at 0 72 36 (hex 1 0xe0) ∷ patch_at 0 72 224 (hex 5 0xffa1000001) ∷ patch_at 0 72 237 (hex 2 0x010e) ∷ patch_at 0 72 256 (hex 5 0xa481000001) ∷ patch_at 0 72 269 (hex 2 0x010f) ∷ patch_at 0 78 160 (hex 3 0x07006d) ∷ patch_at 0 78 192 (hex 3 0x08006c) ∷ patch_at 0 80 64 (hex 1 0x09) ∷ patch_at 0 90 0 (codes "x") ∷ patch_at 0 92 0 (codes "m") ∷ patch_at 0 94 0 (codes "#") ∷ [])))) (record { boot = (Some (record { disk = 0; partition = 0 })); map = (codes "/boot/m"); install = (Some (codes "/boot/l")); backup = None; force_backup = None; compact = false; mode = Lba32Mode; default_name = (Some (codes "linux")); delay = 0; timeout = (Some 50); prompt = true; message = None; disks = []; sections = ((record { other = None; path = (codes "/boot/vmlinuz"); label = (codes "linux"); alias = None; initrd = (Some (codes "/boot/initrd")); root = (Some 769); mount = ReadOnlyMount; append = None; literal = None; vga = None; password = None; restricted = false; optional = false; lock = false; fallback = None; table = None; line = 8 }) ∷ []) }) (record { disk = 0; partition = 0 }) (is_foreign (disks_of (disk_files ++ (patch_at 0 68 1 (hex 1 0x03) ∷ patch_at 0 70 1 (hex 1 0x07) ∷ patch_at 0 72 36 (hex 1 0xe0) ∷ patch_at 0 72 224 (hex 5 0xffa1000001) ∷ patch_at 0 72 237 (hex 2 0x010e) ∷ patch_at 0 72 256 (hex 5 0xa481000001) ∷ patch_at 0 72 269 (hex 2 0x010f) ∷ patch_at 0 78 160 (hex 3 0x07006d) ∷ patch_at 0 78 192 (hex 3 0x08006c) ∷ patch_at 0 80 64 (hex 1 0x09) ∷ patch_at 0 90 0 (codes "x") ∷ patch_at 0 92 0 (codes "m") ∷ patch_at 0 94 0 (codes "#") ∷ [])) 0 0))) ≡ true)
+unfolding number16 number32 is_zero has_ranges has_address is_slot is_one_slot chs_of address_of slot_of some_slot slot_at slot_bytes to_chs to_lba sector_at sectors_of place_at slot_make could_be_one named_device entry_at entries_of table_entries is_link is_plain link_of logical_of listed linked_sector chain_entries chain_tables partitions_of numbered_span span_of disk_name last_partition partition_name device_name devices_of named_devices device_at disk_number device_number kind_of super_of super_checks super_in super_at with_counts super_bytes v1_inode v2_inode inode_of inode_at v1_inode_bytes v2_inode_bytes inode_bytes kept_inode inode_place bit with_bit parts_of volume_at number_in follow pointer_by inside follow_at zone_at block_at content_at entry_of entries_in minixentries_entry_at find_entry entries_at is_dots components child find_path file_block file_at zone_number block content entry first_named lookup reached thing names names_in IsSound child_path path_of is_bootable has_signature has_options has_names has_slots has_no_message has_whole_message has_message has_zeros is_whole timeout_of table_slots boot_of boot_at field_bytes merged_sector name_path default_backup backup_path names_pair is_apart_path apart_checks is_foreign replaceable_name own_names
+names_the_code_is_a_link_to_map = (refl, refl)
+
+-- the message is map~, which is absent
+pub names_the_message_is_map_which_is_absent : (apart_checks (disks_of disk_files) (machine_of (disk_with 4096 16 63 ∷ [])) (record { span = record { disk = 0; start = 64; count = 4032 }; layout = record { kind = V1Long; inodes = 64; zones = 2016; imap = 1; zmap = 1; first = 6; max_size = 268966912; state = 1 } }) (record { boot = (Some (record { disk = 0; partition = 0 })); map = (codes "/boot/map"); install = (Some (codes "/boot/boot.b")); backup = None; force_backup = None; compact = false; mode = Lba32Mode; default_name = (Some (codes "linux")); delay = 0; timeout = (Some 50); prompt = true; message = (Some (codes "/boot/map~")); disks = []; sections = ((record { other = None; path = (codes "/boot/vmlinuz"); label = (codes "linux"); alias = None; initrd = (Some (codes "/boot/initrd")); root = (Some 769); mount = ReadOnlyMount; append = None; literal = None; vga = None; password = None; restricted = false; optional = false; lock = false; fallback = None; table = None; line = 9 }) ∷ []) }) (record { disk = 0; partition = 0 }) ≡ Err options.Message) × (is_ok (own_names (names_in (record { span = record { disk = 0; start = 64; count = 4032 }; layout = record { kind = V1Long; inodes = 64; zones = 2016; imap = 1; zmap = 1; first = 6; max_size = 268966912; state = 1 } }) (disks_of disk_files)) (record { boot = (Some (record { disk = 0; partition = 0 })); map = (codes "/boot/map"); install = (Some (codes "/boot/boot.b")); backup = None; force_backup = None; compact = false; mode = Lba32Mode; default_name = (Some (codes "linux")); delay = 0; timeout = (Some 50); prompt = true; message = (Some (codes "/boot/map~")); disks = []; sections = ((record { other = None; path = (codes "/boot/vmlinuz"); label = (codes "linux"); alias = None; initrd = (Some (codes "/boot/initrd")); root = (Some 769); mount = ReadOnlyMount; append = None; literal = None; vga = None; password = None; restricted = false; optional = false; lock = false; fallback = None; table = None; line = 9 }) ∷ []) }) (record { disk = 0; partition = 0 }) (is_foreign (disks_of disk_files 0 0))) ≡ true)
+unfolding number16 number32 is_zero has_ranges has_address is_slot is_one_slot chs_of address_of slot_of some_slot slot_at slot_bytes to_chs to_lba sector_at sectors_of place_at slot_make could_be_one named_device entry_at entries_of table_entries is_link is_plain link_of logical_of listed linked_sector chain_entries chain_tables partitions_of numbered_span span_of disk_name last_partition partition_name device_name devices_of named_devices device_at disk_number device_number kind_of super_of super_checks super_in super_at with_counts super_bytes v1_inode v2_inode inode_of inode_at v1_inode_bytes v2_inode_bytes inode_bytes kept_inode inode_place bit with_bit parts_of volume_at number_in follow pointer_by inside follow_at zone_at block_at content_at entry_of entries_in minixentries_entry_at find_entry entries_at is_dots components child find_path file_block file_at zone_number block content entry first_named lookup reached thing names names_in IsSound child_path path_of is_bootable has_signature has_options has_names has_slots has_no_message has_whole_message has_message has_zeros is_whole timeout_of table_slots boot_of boot_at field_bytes merged_sector name_path default_backup backup_path names_pair is_apart_path apart_checks is_foreign replaceable_name own_names
+names_the_message_is_map_which_is_absent = (refl, refl)
+
+-- the initrd is a link to map, which is absent
+pub names_the_initrd_is_a_link_to_map_which_is_absent : (apart_checks (disks_of (disk_files ++ (patch_at 0 72 128 (hex 6 0xffa100000300) ∷ patch_at 0 86 0 (codes "map" ++ replicate 509 0) ∷ patch_at 0 87 0 (replicate 188 0) ∷ []))) (machine_of (disk_with 4096 16 63 ∷ [])) (record { span = record { disk = 0; start = 64; count = 4032 }; layout = record { kind = V1Long; inodes = 64; zones = 2016; imap = 1; zmap = 1; first = 6; max_size = 268966912; state = 1 } }) (record { boot = (Some (record { disk = 0; partition = 0 })); map = (codes "/boot/map"); install = (Some (codes "/boot/boot.b")); backup = None; force_backup = None; compact = false; mode = Lba32Mode; default_name = (Some (codes "linux")); delay = 0; timeout = (Some 50); prompt = true; message = None; disks = []; sections = ((record { other = None; path = (codes "/boot/vmlinuz"); label = (codes "linux"); alias = None; initrd = (Some (codes "/boot/initrd")); root = (Some 769); mount = ReadOnlyMount; append = None; literal = None; vga = None; password = None; restricted = false; optional = false; lock = false; fallback = None; table = None; line = 8 }) ∷ []) }) (record { disk = 0; partition = 0 }) ≡ Err options.Initrd) × (is_ok (own_names (names_in (record { span = record { disk = 0; start = 64; count = 4032 }; layout = record { kind = V1Long; inodes = 64; zones = 2016; imap = 1; zmap = 1; first = 6; max_size = 268966912; state = 1 } }) (disks_of (disk_files ++ (patch_at 0 72 128 (hex 6 0xffa100000300) ∷ patch_at 0 86 0 (codes "map" ++ replicate 509 0) ∷ patch_at 0 87 0 (replicate 188 0) ∷ [])))) (record { boot = (Some (record { disk = 0; partition = 0 })); map = (codes "/boot/map"); install = (Some (codes "/boot/boot.b")); backup = None; force_backup = None; compact = false; mode = Lba32Mode; default_name = (Some (codes "linux")); delay = 0; timeout = (Some 50); prompt = true; message = None; disks = []; sections = ((record { other = None; path = (codes "/boot/vmlinuz"); label = (codes "linux"); alias = None; initrd = (Some (codes "/boot/initrd")); root = (Some 769); mount = ReadOnlyMount; append = None; literal = None; vga = None; password = None; restricted = false; optional = false; lock = false; fallback = None; table = None; line = 8 }) ∷ []) }) (record { disk = 0; partition = 0 }) (is_foreign (disks_of (disk_files ++ (patch_at 0 72 128 (hex 6 0xffa100000300) ∷ patch_at 0 86 0 (codes "map" ++ replicate 509 0) ∷ patch_at 0 87 0 (replicate 188 0) ∷ [])) 0 0))) ≡ true)
+unfolding number16 number32 is_zero has_ranges has_address is_slot is_one_slot chs_of address_of slot_of some_slot slot_at slot_bytes to_chs to_lba sector_at sectors_of place_at slot_make could_be_one named_device entry_at entries_of table_entries is_link is_plain link_of logical_of listed linked_sector chain_entries chain_tables partitions_of numbered_span span_of disk_name last_partition partition_name device_name devices_of named_devices device_at disk_number device_number kind_of super_of super_checks super_in super_at with_counts super_bytes v1_inode v2_inode inode_of inode_at v1_inode_bytes v2_inode_bytes inode_bytes kept_inode inode_place bit with_bit parts_of volume_at number_in follow pointer_by inside follow_at zone_at block_at content_at entry_of entries_in minixentries_entry_at find_entry entries_at is_dots components child find_path file_block file_at zone_number block content entry first_named lookup reached thing names names_in IsSound child_path path_of is_bootable has_signature has_options has_names has_slots has_no_message has_whole_message has_message has_zeros is_whole timeout_of table_slots boot_of boot_at field_bytes merged_sector name_path default_backup backup_path names_pair is_apart_path apart_checks is_foreign replaceable_name own_names
+names_the_initrd_is_a_link_to_map_which_is_absent = (refl, refl)
+
+-- the initrd is a link to a name below map
+pub names_the_initrd_is_a_link_to_a_name_below_map : (is_ok (apart_checks (disks_of (disk_files ++ (patch_at 0 72 128 (hex 6 0xffa100000500) ∷ patch_at 0 86 0 (codes "map/x" ++ replicate 507 0) ∷ patch_at 0 87 0 (replicate 188 0) ∷ []))) (machine_of (disk_with 4096 16 63 ∷ [])) (record { span = record { disk = 0; start = 64; count = 4032 }; layout = record { kind = V1Long; inodes = 64; zones = 2016; imap = 1; zmap = 1; first = 6; max_size = 268966912; state = 1 } }) (record { boot = (Some (record { disk = 0; partition = 0 })); map = (codes "/boot/map"); install = (Some (codes "/boot/boot.b")); backup = None; force_backup = None; compact = false; mode = Lba32Mode; default_name = (Some (codes "linux")); delay = 0; timeout = (Some 50); prompt = true; message = None; disks = []; sections = ((record { other = None; path = (codes "/boot/vmlinuz"); label = (codes "linux"); alias = None; initrd = (Some (codes "/boot/initrd")); root = (Some 769); mount = ReadOnlyMount; append = None; literal = None; vga = None; password = None; restricted = false; optional = false; lock = false; fallback = None; table = None; line = 8 }) ∷ []) }) (record { disk = 0; partition = 0 })) ≡ true) × (is_ok (own_names (names_in (record { span = record { disk = 0; start = 64; count = 4032 }; layout = record { kind = V1Long; inodes = 64; zones = 2016; imap = 1; zmap = 1; first = 6; max_size = 268966912; state = 1 } }) (disks_of (disk_files ++ (patch_at 0 72 128 (hex 6 0xffa100000500) ∷ patch_at 0 86 0 (codes "map/x" ++ replicate 507 0) ∷ patch_at 0 87 0 (replicate 188 0) ∷ [])))) (record { boot = (Some (record { disk = 0; partition = 0 })); map = (codes "/boot/map"); install = (Some (codes "/boot/boot.b")); backup = None; force_backup = None; compact = false; mode = Lba32Mode; default_name = (Some (codes "linux")); delay = 0; timeout = (Some 50); prompt = true; message = None; disks = []; sections = ((record { other = None; path = (codes "/boot/vmlinuz"); label = (codes "linux"); alias = None; initrd = (Some (codes "/boot/initrd")); root = (Some 769); mount = ReadOnlyMount; append = None; literal = None; vga = None; password = None; restricted = false; optional = false; lock = false; fallback = None; table = None; line = 8 }) ∷ []) }) (record { disk = 0; partition = 0 }) (is_foreign (disks_of (disk_files ++ (patch_at 0 72 128 (hex 6 0xffa100000500) ∷ patch_at 0 86 0 (codes "map/x" ++ replicate 507 0) ∷ patch_at 0 87 0 (replicate 188 0) ∷ [])) 0 0))) ≡ true)
+unfolding number16 number32 is_zero has_ranges has_address is_slot is_one_slot chs_of address_of slot_of some_slot slot_at slot_bytes to_chs to_lba sector_at sectors_of place_at slot_make could_be_one named_device entry_at entries_of table_entries is_link is_plain link_of logical_of listed linked_sector chain_entries chain_tables partitions_of numbered_span span_of disk_name last_partition partition_name device_name devices_of named_devices device_at disk_number device_number kind_of super_of super_checks super_in super_at with_counts super_bytes v1_inode v2_inode inode_of inode_at v1_inode_bytes v2_inode_bytes inode_bytes kept_inode inode_place bit with_bit parts_of volume_at number_in follow pointer_by inside follow_at zone_at block_at content_at entry_of entries_in minixentries_entry_at find_entry entries_at is_dots components child find_path file_block file_at zone_number block content entry first_named lookup reached thing names names_in IsSound child_path path_of is_bootable has_signature has_options has_names has_slots has_no_message has_whole_message has_message has_zeros is_whole timeout_of table_slots boot_of boot_at field_bytes merged_sector name_path default_backup backup_path names_pair is_apart_path apart_checks is_foreign replaceable_name own_names
+names_the_initrd_is_a_link_to_a_name_below_map = (refl, refl)
+
+-- a forced backup is the initrd
+pub names_a_forced_backup_is_the_initrd : (apart_checks (disks_of disk_files) (machine_of (disk_with 4096 16 63 ∷ [])) (record { span = record { disk = 0; start = 64; count = 4032 }; layout = record { kind = V1Long; inodes = 64; zones = 2016; imap = 1; zmap = 1; first = 6; max_size = 268966912; state = 1 } }) (record { boot = (Some (record { disk = 0; partition = 0 })); map = (codes "/boot/map"); install = (Some (codes "/boot/boot.b")); backup = None; force_backup = (Some (codes "/boot/initrd")); compact = false; mode = Lba32Mode; default_name = (Some (codes "linux")); delay = 0; timeout = (Some 50); prompt = true; message = None; disks = []; sections = ((record { other = None; path = (codes "/boot/vmlinuz"); label = (codes "linux"); alias = None; initrd = (Some (codes "/boot/initrd")); root = (Some 769); mount = ReadOnlyMount; append = None; literal = None; vga = None; password = None; restricted = false; optional = false; lock = false; fallback = None; table = None; line = 9 }) ∷ []) }) (record { disk = 0; partition = 0 }) ≡ Err options.Initrd) × (is_ok (own_names (names_in (record { span = record { disk = 0; start = 64; count = 4032 }; layout = record { kind = V1Long; inodes = 64; zones = 2016; imap = 1; zmap = 1; first = 6; max_size = 268966912; state = 1 } }) (disks_of disk_files)) (record { boot = (Some (record { disk = 0; partition = 0 })); map = (codes "/boot/map"); install = (Some (codes "/boot/boot.b")); backup = None; force_backup = (Some (codes "/boot/initrd")); compact = false; mode = Lba32Mode; default_name = (Some (codes "linux")); delay = 0; timeout = (Some 50); prompt = true; message = None; disks = []; sections = ((record { other = None; path = (codes "/boot/vmlinuz"); label = (codes "linux"); alias = None; initrd = (Some (codes "/boot/initrd")); root = (Some 769); mount = ReadOnlyMount; append = None; literal = None; vga = None; password = None; restricted = false; optional = false; lock = false; fallback = None; table = None; line = 9 }) ∷ []) }) (record { disk = 0; partition = 0 }) (is_foreign (disks_of disk_files 0 0))) ≡ true)
+unfolding number16 number32 is_zero has_ranges has_address is_slot is_one_slot chs_of address_of slot_of some_slot slot_at slot_bytes to_chs to_lba sector_at sectors_of place_at slot_make could_be_one named_device entry_at entries_of table_entries is_link is_plain link_of logical_of listed linked_sector chain_entries chain_tables partitions_of numbered_span span_of disk_name last_partition partition_name device_name devices_of named_devices device_at disk_number device_number kind_of super_of super_checks super_in super_at with_counts super_bytes v1_inode v2_inode inode_of inode_at v1_inode_bytes v2_inode_bytes inode_bytes kept_inode inode_place bit with_bit parts_of volume_at number_in follow pointer_by inside follow_at zone_at block_at content_at entry_of entries_in minixentries_entry_at find_entry entries_at is_dots components child find_path file_block file_at zone_number block content entry first_named lookup reached thing names names_in IsSound child_path path_of is_bootable has_signature has_options has_names has_slots has_no_message has_whole_message has_message has_zeros is_whole timeout_of table_slots boot_of boot_at field_bytes merged_sector name_path default_backup backup_path names_pair is_apart_path apart_checks is_foreign replaceable_name own_names
+names_a_forced_backup_is_the_initrd = (refl, refl)
+
+-- a backup is the initrd
+pub names_a_backup_is_the_initrd : (is_ok (apart_checks (disks_of disk_files) (machine_of (disk_with 4096 16 63 ∷ [])) (record { span = record { disk = 0; start = 64; count = 4032 }; layout = record { kind = V1Long; inodes = 64; zones = 2016; imap = 1; zmap = 1; first = 6; max_size = 268966912; state = 1 } }) (record { boot = (Some (record { disk = 0; partition = 0 })); map = (codes "/boot/map"); install = (Some (codes "/boot/boot.b")); backup = (Some (codes "/boot/initrd")); force_backup = None; compact = false; mode = Lba32Mode; default_name = (Some (codes "linux")); delay = 0; timeout = (Some 50); prompt = true; message = None; disks = []; sections = ((record { other = None; path = (codes "/boot/vmlinuz"); label = (codes "linux"); alias = None; initrd = (Some (codes "/boot/initrd")); root = (Some 769); mount = ReadOnlyMount; append = None; literal = None; vga = None; password = None; restricted = false; optional = false; lock = false; fallback = None; table = None; line = 9 }) ∷ []) }) (record { disk = 0; partition = 0 })) ≡ true) × (is_ok (own_names (names_in (record { span = record { disk = 0; start = 64; count = 4032 }; layout = record { kind = V1Long; inodes = 64; zones = 2016; imap = 1; zmap = 1; first = 6; max_size = 268966912; state = 1 } }) (disks_of disk_files)) (record { boot = (Some (record { disk = 0; partition = 0 })); map = (codes "/boot/map"); install = (Some (codes "/boot/boot.b")); backup = (Some (codes "/boot/initrd")); force_backup = None; compact = false; mode = Lba32Mode; default_name = (Some (codes "linux")); delay = 0; timeout = (Some 50); prompt = true; message = None; disks = []; sections = ((record { other = None; path = (codes "/boot/vmlinuz"); label = (codes "linux"); alias = None; initrd = (Some (codes "/boot/initrd")); root = (Some 769); mount = ReadOnlyMount; append = None; literal = None; vga = None; password = None; restricted = false; optional = false; lock = false; fallback = None; table = None; line = 9 }) ∷ []) }) (record { disk = 0; partition = 0 }) (is_foreign (disks_of disk_files 0 0))) ≡ true)
+unfolding number16 number32 is_zero has_ranges has_address is_slot is_one_slot chs_of address_of slot_of some_slot slot_at slot_bytes to_chs to_lba sector_at sectors_of place_at slot_make could_be_one named_device entry_at entries_of table_entries is_link is_plain link_of logical_of listed linked_sector chain_entries chain_tables partitions_of numbered_span span_of disk_name last_partition partition_name device_name devices_of named_devices device_at disk_number device_number kind_of super_of super_checks super_in super_at with_counts super_bytes v1_inode v2_inode inode_of inode_at v1_inode_bytes v2_inode_bytes inode_bytes kept_inode inode_place bit with_bit parts_of volume_at number_in follow pointer_by inside follow_at zone_at block_at content_at entry_of entries_in minixentries_entry_at find_entry entries_at is_dots components child find_path file_block file_at zone_number block content entry first_named lookup reached thing names names_in IsSound child_path path_of is_bootable has_signature has_options has_names has_slots has_no_message has_whole_message has_message has_zeros is_whole timeout_of table_slots boot_of boot_at field_bytes merged_sector name_path default_backup backup_path names_pair is_apart_path apart_checks is_foreign replaceable_name own_names
+names_a_backup_is_the_initrd = (refl, refl)
+
+-- a forced backup with a tilde is the kernel
+pub names_a_forced_backup_with_a_tilde_is_the_kernel : (apart_checks (disks_of (disk_files ++ (patch_at 0 68 1 (hex 1 0x01) ∷ patch_at 0 70 1 (hex 1 0x07) ∷ patch_at 0 72 36 (hex 1 0xc0) ∷ patch_at 0 72 196 (hex 2 0x0504) ∷ patch_at 0 72 208 (hex 1 0x0e) ∷ patch_at 0 72 224 (hex 5 0xa481000001) ∷ patch_at 0 72 237 (hex 2 0x010f) ∷ patch_at 0 78 160 (hex 4 0x07006b7e) ∷ patch_at 0 80 64 (hex 1 0x08) ∷ patch_at 0 90 0 (hex 1 0x00) ∷ patch_at 0 90 497 (hex 1 0x01) ∷ patch_at 0 90 510 (hex 2 0x55aa) ∷ patch_at 0 91 2 (hex 6 0x486472530602) ∷ patch_at 0 91 17 (hex 1 0x01) ∷ patch_at 0 91 44 (hex 4 0xffffff37) ∷ patch_at 0 91 56 (hex 1 0xff) ∷ patch_at 0 92 0 (codes "HELLO") ∷ patch_at 0 94 0 (codes "#") ∷ []))) (machine_of (disk_with 4096 16 63 ∷ [])) (record { span = record { disk = 0; start = 64; count = 4032 }; layout = record { kind = V1Long; inodes = 64; zones = 2016; imap = 1; zmap = 1; first = 6; max_size = 268966912; state = 1 } }) (record { boot = (Some (record { disk = 0; partition = 0 })); map = (codes "/boot/map"); install = (Some (codes "/boot/boot.b")); backup = None; force_backup = (Some (codes "/boot/k")); compact = false; mode = Lba32Mode; default_name = (Some (codes "linux")); delay = 0; timeout = (Some 50); prompt = true; message = None; disks = []; sections = ((record { other = None; path = (codes "/boot/k~"); label = (codes "linux"); alias = None; initrd = (Some (codes "/boot/initrd")); root = (Some 769); mount = ReadOnlyMount; append = None; literal = None; vga = None; password = None; restricted = false; optional = false; lock = false; fallback = None; table = None; line = 9 }) ∷ []) }) (record { disk = 0; partition = 0 }) ≡ Err options.Image) × (is_ok (own_names (names_in (record { span = record { disk = 0; start = 64; count = 4032 }; layout = record { kind = V1Long; inodes = 64; zones = 2016; imap = 1; zmap = 1; first = 6; max_size = 268966912; state = 1 } }) (disks_of (disk_files ++ (patch_at 0 68 1 (hex 1 0x01) ∷ patch_at 0 70 1 (hex 1 0x07) ∷ patch_at 0 72 36 (hex 1 0xc0) ∷ patch_at 0 72 196 (hex 2 0x0504) ∷ patch_at 0 72 208 (hex 1 0x0e) ∷ patch_at 0 72 224 (hex 5 0xa481000001) ∷ patch_at 0 72 237 (hex 2 0x010f) ∷ patch_at 0 78 160 (hex 4 0x07006b7e) ∷ patch_at 0 80 64 (hex 1 0x08) ∷ patch_at 0 90 0 (hex 1 0x00) ∷ patch_at 0 90 497 (hex 1 0x01) ∷ patch_at 0 90 510 (hex 2 0x55aa) ∷ patch_at 0 91 2 (hex 6 0x486472530602) ∷ patch_at 0 91 17 (hex 1 0x01) ∷ patch_at 0 91 44 (hex 4 0xffffff37) ∷ patch_at 0 91 56 (hex 1 0xff) ∷ patch_at 0 92 0 (codes "HELLO") ∷ patch_at 0 94 0 (codes "#") ∷ [])))) (record { boot = (Some (record { disk = 0; partition = 0 })); map = (codes "/boot/map"); install = (Some (codes "/boot/boot.b")); backup = None; force_backup = (Some (codes "/boot/k")); compact = false; mode = Lba32Mode; default_name = (Some (codes "linux")); delay = 0; timeout = (Some 50); prompt = true; message = None; disks = []; sections = ((record { other = None; path = (codes "/boot/k~"); label = (codes "linux"); alias = None; initrd = (Some (codes "/boot/initrd")); root = (Some 769); mount = ReadOnlyMount; append = None; literal = None; vga = None; password = None; restricted = false; optional = false; lock = false; fallback = None; table = None; line = 9 }) ∷ []) }) (record { disk = 0; partition = 0 }) (is_foreign (disks_of (disk_files ++ (patch_at 0 68 1 (hex 1 0x01) ∷ patch_at 0 70 1 (hex 1 0x07) ∷ patch_at 0 72 36 (hex 1 0xc0) ∷ patch_at 0 72 196 (hex 2 0x0504) ∷ patch_at 0 72 208 (hex 1 0x0e) ∷ patch_at 0 72 224 (hex 5 0xa481000001) ∷ patch_at 0 72 237 (hex 2 0x010f) ∷ patch_at 0 78 160 (hex 4 0x07006b7e) ∷ patch_at 0 80 64 (hex 1 0x08) ∷ patch_at 0 90 0 (hex 1 0x00) ∷ patch_at 0 90 497 (hex 1 0x01) ∷ patch_at 0 90 510 (hex 2 0x55aa) ∷ patch_at 0 91 2 (hex 6 0x486472530602) ∷ patch_at 0 91 17 (hex 1 0x01) ∷ patch_at 0 91 44 (hex 4 0xffffff37) ∷ patch_at 0 91 56 (hex 1 0xff) ∷ patch_at 0 92 0 (codes "HELLO") ∷ patch_at 0 94 0 (codes "#") ∷ [])) 0 0))) ≡ true)
+unfolding number16 number32 is_zero has_ranges has_address is_slot is_one_slot chs_of address_of slot_of some_slot slot_at slot_bytes to_chs to_lba sector_at sectors_of place_at slot_make could_be_one named_device entry_at entries_of table_entries is_link is_plain link_of logical_of listed linked_sector chain_entries chain_tables partitions_of numbered_span span_of disk_name last_partition partition_name device_name devices_of named_devices device_at disk_number device_number kind_of super_of super_checks super_in super_at with_counts super_bytes v1_inode v2_inode inode_of inode_at v1_inode_bytes v2_inode_bytes inode_bytes kept_inode inode_place bit with_bit parts_of volume_at number_in follow pointer_by inside follow_at zone_at block_at content_at entry_of entries_in minixentries_entry_at find_entry entries_at is_dots components child find_path file_block file_at zone_number block content entry first_named lookup reached thing names names_in IsSound child_path path_of is_bootable has_signature has_options has_names has_slots has_no_message has_whole_message has_message has_zeros is_whole timeout_of table_slots boot_of boot_at field_bytes merged_sector name_path default_backup backup_path names_pair is_apart_path apart_checks is_foreign replaceable_name own_names
+names_a_forced_backup_with_a_tilde_is_the_kernel = (refl, refl)
+
+-- map has no directory
+pub names_map_has_no_directory : (is_ok (apart_checks (disks_of disk_files) (machine_of (disk_with 4096 16 63 ∷ [])) (record { span = record { disk = 0; start = 64; count = 4032 }; layout = record { kind = V1Long; inodes = 64; zones = 2016; imap = 1; zmap = 1; first = 6; max_size = 268966912; state = 1 } }) (record { boot = (Some (record { disk = 0; partition = 0 })); map = (codes "/none/map"); install = (Some (codes "/boot/boot.b")); backup = (Some (codes "/none/map")); force_backup = None; compact = false; mode = Lba32Mode; default_name = (Some (codes "linux")); delay = 0; timeout = (Some 50); prompt = true; message = None; disks = []; sections = ((record { other = None; path = (codes "/boot/vmlinuz"); label = (codes "linux"); alias = None; initrd = (Some (codes "/boot/initrd")); root = (Some 769); mount = ReadOnlyMount; append = None; literal = None; vga = None; password = None; restricted = false; optional = false; lock = false; fallback = None; table = None; line = 9 }) ∷ []) }) (record { disk = 0; partition = 0 })) ≡ true) × (own_names (names_in (record { span = record { disk = 0; start = 64; count = 4032 }; layout = record { kind = V1Long; inodes = 64; zones = 2016; imap = 1; zmap = 1; first = 6; max_size = 268966912; state = 1 } }) (disks_of disk_files)) (record { boot = (Some (record { disk = 0; partition = 0 })); map = (codes "/none/map"); install = (Some (codes "/boot/boot.b")); backup = (Some (codes "/none/map")); force_backup = None; compact = false; mode = Lba32Mode; default_name = (Some (codes "linux")); delay = 0; timeout = (Some 50); prompt = true; message = None; disks = []; sections = ((record { other = None; path = (codes "/boot/vmlinuz"); label = (codes "linux"); alias = None; initrd = (Some (codes "/boot/initrd")); root = (Some 769); mount = ReadOnlyMount; append = None; literal = None; vga = None; password = None; restricted = false; optional = false; lock = false; fallback = None; table = None; line = 9 }) ∷ []) }) (record { disk = 0; partition = 0 }) (is_foreign (disks_of disk_files 0 0)) ≡ Err (record { path = (codes "/none/map"); fault = trees.NotFound 0 }))
+unfolding number16 number32 is_zero has_ranges has_address is_slot is_one_slot chs_of address_of slot_of some_slot slot_at slot_bytes to_chs to_lba sector_at sectors_of place_at slot_make could_be_one named_device entry_at entries_of table_entries is_link is_plain link_of logical_of listed linked_sector chain_entries chain_tables partitions_of numbered_span span_of disk_name last_partition partition_name device_name devices_of named_devices device_at disk_number device_number kind_of super_of super_checks super_in super_at with_counts super_bytes v1_inode v2_inode inode_of inode_at v1_inode_bytes v2_inode_bytes inode_bytes kept_inode inode_place bit with_bit parts_of volume_at number_in follow pointer_by inside follow_at zone_at block_at content_at entry_of entries_in minixentries_entry_at find_entry entries_at is_dots components child find_path file_block file_at zone_number block content entry first_named lookup reached thing names names_in IsSound child_path path_of is_bootable has_signature has_options has_names has_slots has_no_message has_whole_message has_message has_zeros is_whole timeout_of table_slots boot_of boot_at field_bytes merged_sector name_path default_backup backup_path names_pair is_apart_path apart_checks is_foreign replaceable_name own_names
+names_map_has_no_directory = (refl, refl)

@@ -1,0 +1,359 @@
+#!/usr/bin/env python3
+"""Writes the cases of what configurations mean and plan, from plan_cases.json beside it, as theorems that the check
+computes: crates/model_cases/proofs/Meant*, Plan*, Refused* and NamesCases*.antt, and the disks, volumes and
+configurations that they begin with: crates/model_cases/specs/PlanFixtures.antt. With --check it writes nothing, and
+fails where a file isn't as it would be written.
+
+Bytes are hexadecimal in the data, a run of equal ones as the byte, `*` and its length, and parts are joined by `+`. A
+disk is a base with changes, each of them disk, sector, offset and bytes.
+"""
+
+import json
+import pathlib
+import re
+import sys
+
+import conf_cases
+import model_cases
+from case_files import write_or_check
+from model_cases import CRATE, SETUP, SPECS, listed, option, sectors, words_in
+
+DATA = pathlib.Path(__file__).resolve().parent / 'plan_cases.json'
+A_FILE = 8              # theorems a file
+MODULES = {'TreeFault': 'MinixFind', 'SetupFault': 'Header', 'AddressFault': 'Slots', 'TableFault': 'Partitions'}
+ALIASES = {'MinixFind': 'trees', 'Header': 'headers', 'Slots': 'slots', 'Partitions': 'tables', 'ConfOptions': 'options'}
+TREES = ['MinixLayout', 'MinixParts', 'MinixEntries', 'MinixFind', 'MinixNames', 'MinixFindNames']
+DISKS = ['Bytes', 'Slots', 'Partitions', 'Devices'] + TREES
+MAPS = ['Section', 'BootSector', 'Table', 'Options', 'LineSector']
+KERNELS = ['Header', 'Place']
+LINES = ['Choice', 'LineWords']
+# The files whose definitions a kind of case unfolds.
+FILES = {
+    'Meant': ['Bytes', 'MinixFind', 'MinixFindNames', 'ConfLawful', 'Meant'] + KERNELS + LINES,
+    'Plan': DISKS + MAPS + ['ConfLawful', 'Meant', 'Plan', 'Planned'],
+    'Boots': DISKS + MAPS + KERNELS + LINES + ['Boot', 'ConfLawful', 'Meant', 'Plan', 'Planned'],
+    'Refused': DISKS + ['BootSector', 'ConfLawful', 'Meant', 'Plan', 'Planned', 'PlanRefusal', 'ConfOptions'] + KERNELS,
+    'Names': DISKS + ['BootSector', 'NamePlaces', 'Apart', 'Settled'],
+}
+TITLES = {
+    'Meant': 'what a boot does as configurations say', 'Plan': 'the sectors of planned maps, and their boot sectors',
+    'Boots': 'planned maps boot as is meant', 'Refused': 'why no map is planned',
+    'Names': 'whether what a configuration names is apart, and which path is refused',
+}
+# Words that a case names and that aren't unfolded.
+OTHERS = {
+    'Std': ['true', 'false', 'codes', 'replicate', 'None', 'Some', 'Ok', 'Err'],
+    'Header': SETUP,
+    'Boot': ['Loaded', 'Handed', 'Refused'], 'Reason': ['Idle', 'Header'], 'DefaultLine': ['Empty', 'Once', 'Kept'],
+    'PlanRefusal': ['Missing', 'NoImagesLeft', 'Address', 'TooManySlots', 'GeometryDiffers', 'OtherIsBoot', 'NoSignature',
+                    'MessageTooLong', 'Table', 'Tree', 'plan_status'],
+}
+HELPERS = {
+    'Sparse': ['hex', 'piece', 'patch_at', 'file', 'disks_of', 'disk_with', 'machine_of', 'on', 'typed', 'waited'],
+    'Volumes': ['with_sectors'],
+}
+
+
+# Terms.
+
+def raw(data):
+    """Bytes as one term."""
+    terms = []
+    for part in filter(None, data.split('+')):
+        byte, star, length = part.partition('*')
+        terms.append('replicate %s %d' % (length, int(byte, 16)) if star else model_cases.raw(bytes.fromhex(byte)))
+    return ' ++ '.join(terms) or '[]'
+
+
+def text(data):
+    term = raw(data)
+    return term if term == '[]' else '(%s)' % term
+
+
+def content(item):
+    """A file: its size, and the pieces that aren't zero."""
+    size, pieces = item
+    if not size:
+        return '[]'
+    return '(file %d %s)' % (size, listed(['piece %d %s' % (at, text(data)) for at, data in pieces]))
+
+
+def patches(items):
+    return listed(['patch_at %d %d %d %s' % (disk, sector, at, text(data)) for disk, sector, at, data in items])
+
+
+def disks(item):
+    base, changes = item
+    return patches(changes) if base is None else '(disk_%s ++ %s)' % (base, patches(changes)) if changes else 'disk_' + base
+
+
+def volume(item):
+    number, start, count = item['span']
+    kinds = {'v1-14': 'V1Short', 'v1-30': 'V1Long', 'v2-14': 'V2Short', 'v2-30': 'V2Long'}
+    layout = dict(item['layout'])
+    layout['kind'] = kinds.get(layout['kind'], layout['kind'])
+    fields = ['kind', 'inodes', 'zones', 'imap', 'zmap', 'first', 'max_size', 'state']
+    return 'record { span = record { disk = %d; start = %d; count = %d }; layout = record { %s } }' % (
+        number, start, count, '; '.join('%s = %s' % (name, layout[name]) for name in fields))
+
+
+def thing(item):
+    if item[0] == 'File':
+        return '(File %s)' % content(item[1])
+    return '(Link %s)' % text(item[1]) if item[0] == 'Link' else item[0]
+
+
+def names(items):
+    return 'things_at %s' % listed(['named %s %s' % (listed([text(part) for part in path]), thing(what)) for path, what in items])
+
+
+def devices(items):
+    return 'sectors_of_devices %s' % listed(
+        ['sector_of_device %s %s' % (conf_cases.device(device), content(data)) for device, data in items])
+
+
+def keys(items):
+    terms = ['typed %s' % text(part) if kind == 'typed' else 'waited %d' % part for kind, part in items]
+    return '[]' if not terms else '(%s)' % ' ++ '.join(terms)
+
+
+def line(item):
+    return item[0] if len(item) == 1 else '(%s %s)' % (item[0], text(item[1]))
+
+
+def region(item):
+    return 'record { address = 0x%x; size = %d }' % tuple(item)
+
+
+def outcome(item):
+    if item[0] == 'Loaded':
+        return 'Loaded %s' % model_cases.layout(item[1])
+    return 'Handed' if item[0] == 'Handed' else 'Refused %s' % model_cases.fault(item[1])
+
+
+def boot(item):
+    written = listed(['record { address = 0x%x; bytes = %s }' % (at, content(data)) for at, data in item['written']])
+    return 'record { outcome = %s; shown = %s; line = Some %s; written = %s; left = %s }' % (
+        outcome(item['outcome']), text(item['shown']), line(item['default_line']), written, keys(item['left']))
+
+
+def fault_part(item):
+    kind, value = item[0], item[1]
+    if kind == 'text':
+        return conf_cases.text(value)
+    if kind == 'option':
+        return conf_cases.option(value)
+    if kind == 'number':
+        return str(value)
+    parts = [fault_part(part) for part in item[3]]
+    name = '%s.%s' % (ALIASES[MODULES[value]], item[2])
+    return '(%s)' % ' '.join([name] + parts) if parts else name
+
+
+def refusal(item):
+    """A refusal of a plan."""
+    name = 'headers_of' if item[0] == 'Header' else item[0]
+    return ' '.join([name] + [fault_part(part) for part in item[1:]])
+
+
+# Theorems: a name, what it shows, and the equations.
+
+def scenario(case):
+    """The names of what a case begins with: its own configuration, and disks that may be another's."""
+    others = {word: '%s_%s' % (word, case.get('uses', case['name'])) for word in ['disk', 'machine', 'names', 'devices', 'volume']}
+    return dict(others, conf='conf_' + case['name'])
+
+
+def meant(case):
+    fields = scenario(case)
+    return [('meant %s %s %s %s %s %d' % (fields['conf'], fields['names'], fields['devices'], line(one['line']),
+                                          keys(one['keys']), one['memory']), boot(one['gives'])) for one in case['meant']]
+
+
+def planned(case):
+    fields = scenario(case)
+    return '(planned (disks_of %s) %s %s %s %d)' % (
+        fields['disk'], fields['machine'], fields['volume'], fields['conf'], case['plan']['time'])
+
+
+def plan(case):
+    fields, what = scenario(case), case['plan']
+    places, disk, start = sectors(what['places']), what['span'][0], what['span'][1]
+    return [('plan_sectors %s %s %s' % (planned(case), fields['machine'], places), listed([content(one) for one in what['sectors']])[1:-1]),
+            ('plan_boot_sector %s %s %s (disks_of %s %d %d)' % (planned(case), fields['machine'], places, fields['disk'], disk, start),
+             content(what['boot'])[1:-1]),
+            ('map_size %s %s' % (planned(case), fields['machine']), str(len(what['sectors'])))]
+
+
+def boots(case):
+    fields, what = scenario(case), case['plan']
+    places, (disk, start, count) = sectors(what['places']), what['span']
+    image = '(with_sectors (disks_of %s) (record { disk = %d; sector = %d } ∷ %s) (plan_boot_sector %s %s %s (disks_of %s %d %d) ∷ plan_sectors %s %s %s))' % (
+        fields['disk'], disk, start, places, planned(case), fields['machine'], places, fields['disk'], disk, start,
+        planned(case), fields['machine'], places)
+    span = '(record { disk = %d; start = %d; count = %d })' % (disk, start, count)
+    return [('whole_boot %s %s %s %s %d' % (image, fields['machine'], span, keys(one['keys']), one['memory']),
+             'meant %s (names_in %s (disks_of %s)) (devices_in (disks_of %s) %s) Empty %s %d' % (
+                 fields['conf'], fields['volume'], fields['disk'], fields['disk'], fields['machine'], keys(one['keys']), one['memory']))
+            for one in case['boots']]
+
+
+def placed(case):
+    return '(disks_of %s) %s %s' % (disks(case['disks']), model_cases.machine(case['machine']), '(%s)' % volume(case['volume']))
+
+
+def refused(case):
+    given = 'plan_at %s %s %s 0' % (placed(case), model_cases.span(case['span']), conf_cases.config(case['config']))
+    if case['gives'] is None:
+        return [('is_ok (%s)' % given, 'true')]
+    fault = refusal(case['gives'])
+    return [(given, 'Err (%s)' % fault), ('plan_status (%s)' % fault, str(case['status'])),
+            ('plan_text (%s)' % fault, text(case['text'].split(': ', 1)[1].encode('latin-1').hex()))]
+
+
+def apart(case):
+    config, boot_device = conf_cases.config(case['config']), conf_cases.device(case['config']['boot'])
+    checks = 'apart_checks %s %s %s' % (placed(case), config, boot_device)
+    first = ('is_ok (%s)' % checks, 'true') if case['apart'] is None else (checks, 'Err %s' % conf_cases.option(case['apart']))
+    given = 'own_names (names_in (%s) (disks_of %s)) %s %s (is_foreign (disks_of %s 0 0))' % (
+        volume(case['volume']), disks(case['disks']), config, boot_device, disks(case['disks']))
+    if case['path'] is None:
+        second = ('is_ok (%s)' % given, 'true')
+    else:
+        path, kind, numbers = case['path']
+        fault = 'trees.%s' % ' '.join([kind] + [str(number) for number in numbers])
+        second = (given, 'Err (record { path = %s; fault = %s })' % (conf_cases.text(path), fault))
+    return [first, second]
+
+
+# Files.
+
+def unfolded(kind):
+    """The definitions that a proof of this kind has to unfold, by file; one whose name another file has gets a second."""
+    found, seen = {}, set()
+    for name in dict.fromkeys(FILES[kind]):
+        words = re.findall(r'^unfoldable pub (\w+)', (SPECS / (name + '.antt')).read_text(), re.M)
+        found[name] = [(word, word if word not in seen else '%s_%s' % (name.lower(), word)) for word in words]
+        seen |= set(words)
+    return found
+
+
+def imports(kind, terms, fixed):
+    both = ' '.join(terms)
+    words = words_in(terms)
+    common = ['◌≡◌'] + [name for sign, name in (('∷', '◌∷◌'), ('++', '◌++◌'), ('[]', '[]')) if sign in both]
+    rows = ['use Rattle.std.proofs.Common.{%s}' % ', '.join(common + [word for word in OTHERS['Std'] if word in words] + ['refl'])]
+    if 'is_ok' in words:
+        rows.append('use Rattle.std.specs.Prelude.{is_ok}')
+    if kind == 'Refused':
+        rows.append('use Rattle.std.specs.Fmt.{digits}')
+    taken = {name: [word if word == own else '%s as %s' % (word, own) for word, own in found] for name, found in unfolded(kind).items()}
+    for name, others in OTHERS.items():
+        if name != 'Std':
+            taken[name] = taken.get(name, []) + [word for word in others if word in words]
+    if kind == 'Refused' and 'headers_of' in words:
+        taken['PlanRefusal'].append('Header as headers_of')
+    rows += ['use Rattle.lilo_model.specs.%s.{%s}' % (name, ', '.join(taken[name])) for name in sorted(taken) if taken[name]]
+    rows += ['use Rattle.lilo_model.specs.%s as %s' % (name, alias) for name, alias in ALIASES.items() if alias + '.' in both]
+    for name, helpers in HELPERS.items():
+        used = [word for word in helpers if word in words]
+        if used:
+            rows.append('use Rattle.model_cases.specs.%s.{%s}' % (name, ', '.join(used)))
+    for name, special in (('Conf', ['Unsaid', 'ReadOnlyMount', 'ReadWriteMount']), ('Slots', ['ChsMode', 'LinearMode', 'Lba32Mode']),
+                          ('MinixLayout', ['V1Short', 'V1Long', 'V2Short', 'V2Long'])):
+        used = [word for word in special if word in words]
+        if used:
+            rows.append('use Rattle.lilo_model.specs.%s.{%s}' % (name, ', '.join(used)))
+    used = sorted(words & fixed)
+    return rows + (['use Rattle.model_cases.specs.PlanFixtures.{%s}' % ', '.join(used)] if used else [])
+
+
+def named(kind, shows, seen):
+    name = kind.lower() + '_' + re.sub(r'[^a-z0-9]+', '_', shows.lower().replace("'", '')).strip('_')
+    seen[name] = seen.get(name, 0) + 1
+    return name if seen[name] == 1 else '%s_%d' % (name, seen[name])
+
+
+def file_text(kind, theorems, fixed):
+    unfolding = ' '.join([own for found in unfolded(kind).values() for _, own in found] + (['digits'] if kind == 'Refused' else []))
+    rows = ['-- Cases of the model, written by tools/plan_cases.py: %s.' % TITLES[kind]]
+    rows += imports(kind, [side for _, _, pairs in theorems for pair in pairs for side in pair], fixed)
+    for name, shows, pairs in theorems:
+        sides = ['(%s ≡ %s)' % pair for pair in pairs]
+        proof = 'refl' if len(pairs) == 1 else '(%s)' % ', '.join(['refl'] * len(pairs))
+        rows += ['', '-- ' + shows, 'pub %s : %s' % (name, ' × '.join(sides) if len(sides) > 1 else sides[0][1:-1]),
+                 'unfolding ' + unfolding, '%s = %s' % (name, proof)]
+    return '\n'.join(rows) + '\n'
+
+
+HEAD = '''-- What cases of plans begin with, written by tools/plan_cases.py.
+use Rattle.std.specs.Prelude.{ℕ, true, false, List, [], ◌∷◌, ◌++◌, None, Some, codes, replicate}
+use Rattle.lilo_model.specs.Conf.{Config, Unsaid, ReadOnlyMount, ReadWriteMount}
+use Rattle.lilo_model.specs.Devices.{Device}
+use Rattle.lilo_model.specs.Slots.{ChsMode, LinearMode, Lba32Mode}
+use Rattle.lilo_model.specs.Disks.{Machine}
+use Rattle.lilo_model.specs.MinixLayout.{V1Short, V1Long, V2Short, V2Long}
+use Rattle.lilo_model.specs.MinixParts.{Volume}
+use Rattle.lilo_model.specs.MinixNames.{File, Link, Directory, Other}
+use Rattle.lilo_model.specs.MinixFindNames.{Names}
+use Rattle.model_cases.specs.Sparse.{Patch, patch_at, hex, piece, file, disk_with, machine_of}
+use Rattle.model_cases.specs.Volumes.{named, things_at, sector_of_device, sectors_of_devices}
+'''
+
+
+def fixtures(data):
+    rows = [HEAD.rstrip('\n')]
+
+    def abbrev(shows, name, kind, term):
+        rows.extend(['', '-- ' + shows, 'abbrev pub %s : %s' % (name, kind), '%s = %s' % (name, term)])
+
+    for base in data['bases']:
+        abbrev(base['shows'], 'disk_' + base['name'], 'List Patch', disks(base['disks']))
+    for case in data['plans']:
+        fields = scenario(case)
+        if case['config'] is not None:
+            abbrev(case['shows'], fields['conf'], 'Config', conf_cases.config(case['config'])[1:-1])
+        if 'uses' in case:
+            continue
+        abbrev('its disks', fields['disk'], 'List Patch', disks(case['disks']))
+        abbrev('their machine', fields['machine'], 'Machine', model_cases.machine(case['machine'])[1:-1])
+        abbrev('the volume', fields['volume'], 'Volume', volume(case['volume']))
+        abbrev('what has a name on it', fields['names'], 'Names', names(case['names']))
+        abbrev('the first sectors of devices', fields['devices'], 'Device → List ℕ', devices(case['devices']))
+    return used_names('\n'.join(rows) + '\n')
+
+
+def used_names(source):
+    """The file without the names that it imports and doesn't use."""
+    cut = source.index('\n\n')
+    return conf_cases.used(source[:cut], source[cut:]) + source[cut + 1:]
+
+
+def all_theorems(data):
+    plans = data['plans']
+    found = {
+        'Meant': [(case['shows'], meant(case)) for case in plans if case['meant']],
+        'Plan': [(case['shows'], plan(case)) for case in plans if 'plan' in case],
+        'Boots': [(case['shows'], boots(case)) for case in plans if 'plan' in case and case['boots']],
+        'Refused': [(case['shows'], refused(case)) for case in data['refusals']],
+        'Names': [(case['shows'], apart(case)) for case in data['names']],
+    }
+    for kind, cases in found.items():
+        seen = {}
+        yield kind, [(named(kind, shows, seen), shows, pairs) for shows, pairs in cases]
+
+
+def main(arguments):
+    data = json.loads(DATA.read_text())
+    begun = fixtures(data)
+    fixed = set(re.findall(r'^abbrev pub (\w+)', begun, re.M))
+    files = {CRATE / 'specs' / 'PlanFixtures.antt': begun}
+    for kind, theorems in all_theorems(data):
+        for part, at in enumerate(range(0, len(theorems), A_FILE), 1):
+            files[CRATE / 'proofs' / ('%sCases%d.antt' % (kind, part))] = file_text(kind, theorems[at:at + A_FILE], fixed)
+    old = [path for kind in FILES for path in (CRATE / 'proofs').glob(kind + 'Cases[0-9]*.antt') if path not in files]
+    return write_or_check('plan_cases.py', files, old, arguments)
+
+
+if __name__ == '__main__':
+    sys.exit(main(sys.argv[1:]))

@@ -1,0 +1,5 @@
+pub mod Inode
+pub mod Sees
+pub mod Joins
+pub mod Kept
+pub mod Seen

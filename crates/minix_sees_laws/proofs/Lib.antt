@@ -3,3 +3,4 @@ pub mod Sees
 pub mod Joins
 pub mod Kept
 pub mod Seen
+pub mod Tree

@@ -74,6 +74,7 @@ module _ (super : Super) (old mid new : Parts) (first : Sees super old mid) (nex
     files = λ number named file. links-join (old.node number) (mid.node number) (new.node number) (first.files number named file) (next.files number (named-mid number named) (file-mid number named file));
     bytes = λ number at zone refers file. next.bytes number at zone (refers-mid number at zone refers) (file-mid number refers.named file) ∙ first.bytes number at zone refers file;
     room = λ directory named is. let a = first.room directory named is in let b = next.room directory (named-mid directory named) (directory-mid directory named is) in omega (arith, a, b);
+    reaches = λ directory named is low. next.reaches directory (named-mid directory named) (directory-mid directory named is) (first.reaches directory named is low);
     entries = λ directory place named is below.
         let room = first.room directory named is in
         next.entries directory place (named-mid directory named) (directory-mid directory named is) (omega (arith, room, below)) ∙ first.entries directory place named is below;

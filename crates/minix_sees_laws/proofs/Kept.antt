@@ -1,7 +1,7 @@
 -- Parts that keep what has a name are seen as before.
-use Rattle.std.proofs.Common.{◌≡◌, ◌≢◌, ℕ, ◌<◌, ◌≤◌, true, false, List, [], ◌∷◌, length, refl, sym, ◌∙◌, ap, subst, arith, inl}
-use Rattle.lilo_model.specs.MinixLayout.{Super, Inode, is_size}
-use Rattle.lilo_model.specs.MinixParts.{Parts, Pointer, is_directory}
+use Rattle.std.proofs.Common.{◌≡◌, ◌≢◌, ℕ, ◌+◌, ◌/◌, ◌<◌, ◌≤◌, true, false, List, [], ◌∷◌, length, refl, sym, ◌∙◌, ap, subst, arith, inl}
+use Rattle.lilo_model.specs.MinixLayout.{Super, Inode, reach, is_size}
+use Rattle.lilo_model.specs.MinixParts.{Parts, Pointer, is_directory, blocks_for}
 use Rattle.lilo_model.specs.MinixEntries.{places}
 use Rattle.lilo_model.specs.MinixNames.{entry, Named, PointsTo, Refers, AllLead, AreDistinct, Sound}
 use Rattle.minix_beside_laws.specs.Keeps.{Keeps}
@@ -46,6 +46,7 @@ module _ (super : Super) (old new : Parts) (sound : Sound super old) (keeps : Ke
     files = λ number named file. same-is-but-links (old.node number) (new.node number) (keeps.nodes number named);
     bytes = λ number at zone refers file. keeps.zones number at zone refers;
     room = λ directory named is. subst (λ size. places super.kind (old.node directory).size ≤ places super.kind size) (sym (size-same directory named)) le-self;
+    reaches = λ directory named is low. subst (λ size. blocks_for size ≤ reach super.kind) (sym (size-same directory named)) low;
     entries = λ directory place named is below. entry-same super old new directory (node-kept directory named) (zones-kept directory named) (directory-zones old directory is) place;
     free = λ directory place named is from below.
         let low : place < places super.kind (old.node directory).size = subst (λ size. place < places super.kind size) (size-same directory named) below in

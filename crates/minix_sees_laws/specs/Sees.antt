@@ -2,8 +2,8 @@
 -- lowered to no fewer than the names, and directories get places and zones.
 use Rattle.std.specs.Prelude.{◌≡◌, ◌≢◌, ◌≤◌, ◌<◌, ◌⊎◌, ℕ, true, false, List, length}
 use Rattle.lilo_model.specs.Disks.{Image}
-use Rattle.lilo_model.specs.MinixLayout.{Super, Inode, is_size}
-use Rattle.lilo_model.specs.MinixParts.{Parts, Volume, Pointer, is_directory, parts_of}
+use Rattle.lilo_model.specs.MinixLayout.{Super, Inode, reach, is_size}
+use Rattle.lilo_model.specs.MinixParts.{Parts, Volume, Pointer, is_directory, blocks_for, parts_of}
 use Rattle.lilo_model.specs.MinixEntries.{places}
 use Rattle.lilo_model.specs.MinixNames.{entry, Named, PointsTo, Refers, AllLead, AreDistinct, IsSound}
 
@@ -31,8 +31,9 @@ pub record Sees (super : Super) (old new : Parts) : Type 0 where
   -- one that is no directory stays but for its links, and its zones stay
   pub files : (number : ℕ) → Named super old number → is_directory (old.node number) ≡ false → SameButLinks (old.node number) (new.node number)
   pub bytes : (number : ℕ) (at : Pointer) (zone : ℕ) → Refers super old number at zone → is_directory (old.node number) ≡ false → new.zone zone ≡ old.zone zone
-  -- a directory has its entries, and past them none but free ones
+  -- a directory has its entries, and past them none but free ones; an inode can name all its blocks where it could
   pub room : (directory : ℕ) → Named super old directory → is_directory (old.node directory) ≡ true → places super.kind (old.node directory).size ≤ places super.kind (new.node directory).size
+  pub reaches : (directory : ℕ) → Named super old directory → is_directory (old.node directory) ≡ true → blocks_for (old.node directory).size ≤ reach super.kind → blocks_for (new.node directory).size ≤ reach super.kind
   pub entries : (directory place : ℕ) → Named super old directory → is_directory (old.node directory) ≡ true → place < places super.kind (old.node directory).size → entry super new directory place ≡ entry super old directory place
   pub free : (directory place : ℕ) → Named super old directory → is_directory (old.node directory) ≡ true → places super.kind (old.node directory).size ≤ place → place < places super.kind (new.node directory).size → (entry super new directory place).inode ≡ 0
   -- and its pointers, and some more to fresh zones, one each

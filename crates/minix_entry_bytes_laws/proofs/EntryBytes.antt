@@ -1,5 +1,5 @@
 -- The bytes of an entry.
-use Rattle.std.proofs.Common.{◌≡◌, ◌≢◌, ℕ, zero, suc, ◌-◌, ◌<◌, ◌≤◌, ◌^◌, ◌==◌, ◌||◌, Bool, true, false, List, ◌++◌, length, take, get_or, replicate, bytes_eq, None, refl, sym, ◌∙◌, ap, arith, length-append}
+use Rattle.std.proofs.Common.{◌≡◌, ◌≢◌, ℕ, zero, suc, ◌-◌, ◌<◌, ◌≤◌, ◌^◌, ◌==◌, List, ◌++◌, length, take, get_or, replicate, refl, sym, ◌∙◌, ap, arith, length-append}
 use Rattle.std.specs.Prelude.{slice_index}
 use Rattle.std.specs.List.{before_first, position_or_len}
 use Rattle.std.specs.Int.{w16, from_le_bytes}
@@ -7,13 +7,10 @@ use Rattle.std.proofs.lemmas.Bool.{ne_eqb}
 use Rattle.std.proofs.lemmas.List.{length-replicate, get_or_append_left, get_or-append_right}
 use Rattle.std.proofs.lemmas.List.Sums.{position_or_len_is}
 use Rattle.std.proofs.lemmas.Nat.{from_le_bytes-to_le_bytes_2}
-use Rattle.std.proofs.lemmas.Slice.Eq.{bytes_eq-Decides}
 use Rattle.std.proofs.Math.Seq.{take-length, take-append_seam, drop-append_seam}
 use Rattle.lilo_model.specs.Bytes.{number16, bytes16, filled_bytes, name_in}
-use Rattle.lilo_model.specs.MinixLayout.{Super, name_size}
-use Rattle.lilo_model.specs.MinixParts.{Parts, is_directory}
-use Rattle.lilo_model.specs.MinixEntries.{Entry, entry_with, entry_of, named_inode, places, is_dots, here_name, above_name}
-use Rattle.lilo_model.specs.MinixNames.{entry, first_named, lookup, HasEntry}
+use Rattle.lilo_model.specs.MinixLayout.{name_size}
+use Rattle.lilo_model.specs.MinixEntries.{entry_with, entry_of}
 use Rattle.minix_entry_bytes_laws.specs.Written.{entry_bytes}
 use Rattle.minix_entry_bytes_laws.specs.Laws.{EntryBytesLaw}
 

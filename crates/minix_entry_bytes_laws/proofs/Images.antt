@@ -3,9 +3,11 @@ use Rattle.std.proofs.Common.{◌≡◌, ◌≢◌, ℕ, true, false, List, ◌�
 use Rattle.lilo_model.specs.Disks.{Image}
 use Rattle.lilo_model.specs.MinixParts.{Volume, is_directory, parts_of}
 use Rattle.lilo_model.specs.MinixEntries.{Entry, entry_of}
-use Rattle.lilo_model.specs.MinixNames.{Thing, Named, names_in, HasSound, IsSound}
-use Rattle.minix_entry_laws.specs.Enter.{Becomes, NamesWith, NamesMoved}
-use Rattle.minix_entry_bytes_laws.specs.Written.{IsPlaced, HasEntryBytes, EntryIsWritten, HasNamesWith, HasNamesMoved}
+use Rattle.lilo_model.specs.MinixNames.{Thing, Named, IsSound}
+use Rattle.minix_sees_laws.specs.Tree.{TreeWith, TreeMoved, HasTreeWith, HasTreeMoved}
+use Rattle.minix_sees_laws.proofs.Seen.{opened}
+use Rattle.minix_entry_laws.specs.Enter.{Becomes}
+use Rattle.minix_entry_bytes_laws.specs.Written.{IsPlaced, HasEntryBytes, EntryIsWritten}
 use Rattle.minix_entry_bytes_laws.specs.Laws.{EnterBytesLaw, EnterDirectoryBytesLaw, RemoveBytesLaw, RedirectBytesLaw, RenameBytesLaw, RemoveLastBytesLaw, RedirectLastBytesLaw}
 use Rattle.minix_entry_bytes_laws.proofs.Written.{written_law}
 use Rattle.minix_entry_laws.proofs.Names.{enter_law, enter_directory_law, remove_law, redirect_law, rename_law, remove_last_law, redirect_last_law}
@@ -26,62 +28,56 @@ module _ (volume : Volume) (old image : Image) (directory place : ℕ) (bytes : 
   unnamed-apart : (number : ℕ) → (Named volume.layout (parts_of volume old) number → ⊥) → number ≢ directory
   unnamed-apart number unnamed same = unnamed (subst (Named volume.layout (parts_of volume old)) (sym same) placed.named)
 
-  has-names : (path : List (List ℕ)) (what : Option Thing) → NamesWith volume.layout (parts_of volume old) (parts_of volume image) path what → HasNamesWith volume old image path what
-  unfolding names_in
-  has-names path what names = record { sound = written.sound names.sound; here = names.here; others = names.others }
+  has-tree : (path : List (List ℕ)) (found : Option ℕ) (what : Option Thing) → TreeWith volume.layout (parts_of volume old) (parts_of volume image) path found what → HasTreeWith volume old image path found what
+  has-tree path found what tree = record { sound = written.sound tree.sound; tree = tree }
 
-  has-moved : (former path : List (List ℕ)) → NamesMoved volume.layout (parts_of volume old) (parts_of volume image) former path → HasNamesMoved volume old image former path
-  unfolding names_in
-  has-moved former path names = record { sound = written.sound names.sound; gone = names.gone; here = names.here; others = names.others }
-
-parts-sound : (volume : Volume) (image : Image) → IsSound volume image → HasSound volume image
-unfolding IsSound
-parts-sound volume image sound = sound
+  has-moved : (former path : List (List ℕ)) → TreeMoved volume.layout (parts_of volume old) (parts_of volume image) former path → HasTreeMoved volume old image former path
+  has-moved former path tree = record { sound = written.sound tree.sound; tree = tree }
 
 -- ---- the laws
 
 pub enter_bytes_law : EnterBytesLaw
 enter_bytes_law volume old image outer directory place number name bytes sound placed has says enter stand =
     let what = (written volume old image directory place bytes sound placed has).kept number stand.fit (file-apart volume old image directory place bytes sound placed has number stand.file) in
-    has-names volume old image directory place bytes sound placed has (name ∷ outer) _
-    (enter_law volume.layout (parts_of volume old) (parts_of volume image) outer directory place number name (parts-sound volume old sound).parts enter stand
+    has-tree volume old image directory place bytes sound placed has (name ∷ outer) _ _
+    (enter_law volume.layout (parts_of volume old) (parts_of volume image) outer directory place number name (opened volume old sound).parts enter stand
     (becomes volume old image directory place bytes sound placed has _ says) what)
 
 pub enter_directory_bytes_law : EnterDirectoryBytesLaw
 enter_directory_bytes_law volume old image outer directory place number name bytes sound placed has says enter stand =
     let what = (written volume old image directory place bytes sound placed has).kept number stand.fit (unnamed-apart volume old image directory place bytes sound placed has number stand.fresh.unnamed) in
-    has-names volume old image directory place bytes sound placed has (name ∷ outer) _
-    (enter_directory_law volume.layout (parts_of volume old) (parts_of volume image) outer directory place number name (parts-sound volume old sound).parts enter stand
+    has-tree volume old image directory place bytes sound placed has (name ∷ outer) _ _
+    (enter_directory_law volume.layout (parts_of volume old) (parts_of volume image) outer directory place number name (opened volume old sound).parts enter stand
     (becomes volume old image directory place bytes sound placed has _ says) what)
 
 pub remove_bytes_law : RemoveBytesLaw
 remove_bytes_law volume old image outer directory place number name bytes sound placed has free remove =
     let all = written volume old image directory place bytes sound placed has in
-    has-names volume old image directory place bytes sound placed has (name ∷ outer) _
-    (remove_law volume.layout (parts_of volume old) (parts_of volume image) outer directory place number name (parts-sound volume old sound).parts remove
+    has-tree volume old image directory place bytes sound placed has (name ∷ outer) _ _
+    (remove_law volume.layout (parts_of volume old) (parts_of volume image) outer directory place number name (opened volume old sound).parts remove
     (record { only = all.only; free = ap (λ (e : Entry). e.inode) all.says ∙ free }))
 
 pub redirect_bytes_law : RedirectBytesLaw
 redirect_bytes_law volume old image outer directory place former number name bytes sound placed has says remove stand =
     let what = (written volume old image directory place bytes sound placed has).kept number stand.fit (file-apart volume old image directory place bytes sound placed has number stand.file) in
-    has-names volume old image directory place bytes sound placed has (name ∷ outer) _
-    (redirect_law volume.layout (parts_of volume old) (parts_of volume image) outer directory place former number name (parts-sound volume old sound).parts remove stand
+    has-tree volume old image directory place bytes sound placed has (name ∷ outer) _ _
+    (redirect_law volume.layout (parts_of volume old) (parts_of volume image) outer directory place former number name (opened volume old sound).parts remove stand
     (becomes volume old image directory place bytes sound placed has _ says) what)
 
 pub rename_bytes_law : RenameBytesLaw
 rename_bytes_law volume old image outer directory place number former name bytes sound placed has says rename =
     has-moved volume old image directory place bytes sound placed has (former ∷ outer) (name ∷ outer)
-    (rename_law volume.layout (parts_of volume old) (parts_of volume image) outer directory place number former name (parts-sound volume old sound).parts rename
+    (rename_law volume.layout (parts_of volume old) (parts_of volume image) outer directory place number former name (opened volume old sound).parts rename
     (becomes volume old image directory place bytes sound placed has _ says))
 
 pub remove_last_bytes_law : RemoveLastBytesLaw
 remove_last_bytes_law volume old image outer directory place number name bytes sound placed has free remove last =
     let all = written volume old image directory place bytes sound placed has in
-    remove_last_law volume.layout (parts_of volume old) (parts_of volume image) outer directory place number name (parts-sound volume old sound).parts remove last
+    remove_last_law volume.layout (parts_of volume old) (parts_of volume image) outer directory place number name (opened volume old sound).parts remove last
     (record { only = all.only; free = ap (λ (e : Entry). e.inode) all.says ∙ free })
 
 pub redirect_last_bytes_law : RedirectLastBytesLaw
 redirect_last_bytes_law volume old image outer directory place former number name bytes sound placed has says remove last stand apart =
     let what = (written volume old image directory place bytes sound placed has).kept number stand.fit (file-apart volume old image directory place bytes sound placed has number stand.file) in
-    redirect_last_law volume.layout (parts_of volume old) (parts_of volume image) outer directory place former number name (parts-sound volume old sound).parts remove last stand apart
+    redirect_last_law volume.layout (parts_of volume old) (parts_of volume image) outer directory place former number name (opened volume old sound).parts remove last stand apart
     (becomes volume old image directory place bytes sound placed has _ says) what

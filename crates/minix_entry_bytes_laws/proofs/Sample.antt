@@ -9,8 +9,9 @@ use Rattle.lilo_model.specs.MinixNames.{zone_number, block, content, entry, look
 use Rattle.minix_laws.specs.RootVolume.{root_layout, root_volume}
 use Rattle.minix_beside_laws.proofs.Entries.{entry_law}
 use Rattle.minix_entry_laws.specs.Only.{zone_of_entry}
+use Rattle.minix_sees_laws.specs.Tree.{HasTreeWith}
 use Rattle.minix_entry_laws.specs.Enter.{MayStand, MayEnter, MayRemove}
-use Rattle.minix_entry_bytes_laws.specs.Written.{entry_bytes, IsPlaced, HasEntryBytes, EntryIsWritten, HasNamesWith}
+use Rattle.minix_entry_bytes_laws.specs.Written.{entry_bytes, IsPlaced, HasEntryBytes, EntryIsWritten}
 use Rattle.minix_entry_bytes_laws.specs.Sample.{room_sector, room_image, sample_name, other_name, HasSampleEntry, IsEntered}
 use Rattle.minix_entry_bytes_laws.specs.Laws.{SampleLaw}
 use Rattle.minix_entry_laws.proofs.Finds.{named-free}
@@ -297,13 +298,13 @@ module _ (kind : Kind) (image : Image) (has : HasEntryBytes (root_volume kind) (
 
   entered : IsEntered kind image
   entered = record {
-    names = subst (λ what. HasNamesWith (root_volume kind) (room_image kind) image (sample_name ∷ []) (Some what)) (room-thing kind)
+    tree = subst (λ what. HasTreeWith (root_volume kind) (room_image kind) image (sample_name ∷ []) (Some 2) (Some what)) (room-thing kind)
         (enter_bytes_law (root_volume kind) (room_image kind) image [] 1 2 2 sample_name (entry_bytes kind 2 sample_name) (room-sound kind) (room-placed kind) has (room-says kind 2 (omega arith)) (may-enter sample_name plain-sample) stands);
     may_remove = may-remove;
     may_rename = record { may = may-remove; plain = plain-other; absent = no-other };
   }
 
-directory-entered : (kind : Kind) (image : Image) → HasSampleEntry kind 3 image → HasNamesWith (root_volume kind) (room_image kind) image (sample_name ∷ []) (Some Directory)
+directory-entered : (kind : Kind) (image : Image) → HasSampleEntry kind 3 image → HasTreeWith (root_volume kind) (room_image kind) image (sample_name ∷ []) (Some 3) (Some Directory)
 directory-entered kind image has = enter_directory_bytes_law (root_volume kind) (room_image kind) image [] 1 2 3 sample_name (entry_bytes kind 3 sample_name) (room-sound kind) (room-placed kind) has
     (room-says kind 3 (omega arith))
     (room-enter (root_layout kind) (parts_of (root_volume kind) (room_image kind)) 5 6 (room kind) sample_name plain-sample)

@@ -15,7 +15,7 @@ use Rattle.minix_entry_laws.specs.Only.{zone_of_entry, ChangesOnlyEntry, KeepsIn
 use Rattle.minix_entry_laws.specs.Comes.{IsFit}
 use Rattle.minix_entry_bytes_laws.specs.Written.{place_of_entry, place_in, IsPlaced, HasEntryBytes, EntryIsWritten}
 use Rattle.minix_entry_bytes_laws.specs.Laws.{WrittenLaw, WriteEntryLaw}
-use Rattle.minix_sees_laws.proofs.Inode.{directory-zones, pointer-same}
+use Rattle.minix_sees_laws.proofs.Inode.{same-node, directory-zones, pointer-same}
 use Rattle.minix_entry_laws.proofs.Only.{directory-refers, above-kept}
 use Rattle.minix_entry_bytes_laws.proofs.Blocks.{entry-fits, entry-in_sector, some-entry, index-below, place-known, block-below, entries-apart, part-same, halves}
 
@@ -144,7 +144,7 @@ module _ (volume : Volume) (old image : Image) (directory place : ℕ) (bytes : 
 
   numbers-same : (index : ℕ) → zone_number volume.layout Now directory index ≡ zone_number volume.layout Was directory index
   unfolding zone_number
-  numbers-same index = pointer-same volume.layout Was Now directory (node-named directory placed.named)
+  numbers-same index = pointer-same volume.layout Was Now directory (same-node (Was.node directory) (Now.node directory) (node-named directory placed.named))
       (above-kept volume.layout Was directory place placed.named placed.is Now sound.parts zones-named directory placed.named)
       zones-are (block_pointer volume.layout.kind index) ((pointer_law volume.layout.kind).is index)
 

@@ -1,5 +1,5 @@
 -- Names that are made, removed, led elsewhere and changed.
-use Rattle.std.proofs.Common.{◌≡◌, ◌≢◌, ℕ, ◌<◌, ◌==◌, ◌⊎◌, Bool, true, false, List, [], ◌∷◌, length, bytes_eq, Option, Some, None, refl, sym, ◌∙◌, ap, subst, arith, inl, inr}
+use Rattle.std.proofs.Common.{◌≡◌, ◌≢◌, ℕ, ◌<◌, ◌==◌, ◌⊎◌, Bool, true, false, List, [], ◌∷◌, length, bytes_eq, Some, None, refl, sym, ◌∙◌, ap, subst, arith, inl, inr}
 use Rattle.std.proofs.lemmas.Slice.Eq.{bytes_eq-Decides}
 use Rattle.lilo_model.specs.MinixLayout.{Super}
 use Rattle.lilo_model.specs.MinixParts.{Parts, is_directory}
@@ -10,7 +10,7 @@ use Rattle.minix_beside_laws.proofs.Change.{path-cases}
 use Rattle.minix_beside_laws.proofs.Entries.{entry_law}
 use Rattle.minix_entry_laws.specs.Only.{KeepsInode}
 use Rattle.minix_entry_laws.specs.Comes.{IsFit, MayGo, MayCome, MayChange, SoundAfter}
-use Rattle.minix_entry_laws.specs.Enter.{MayStand, IsNewFile, DirectoryMayStand, MayEnter, MayRemove, MayRename, Becomes, BecomesFree, IsOnlyName, IsLeft}
+use Rattle.minix_entry_laws.specs.Enter.{MayStand, DirectoryMayStand, MayEnter, MayRemove, MayRename, Becomes, BecomesFree, IsOnlyName, IsLeft}
 use Rattle.minix_entry_laws.specs.Laws.{NewFileLaw, EnterLaw, EnterDirectoryLaw, RemoveLaw, RedirectLaw, RenameLaw, RemoveLastLaw, RedirectLastLaw}
 use Rattle.minix_sees_laws.specs.Tree.{TreeWith, TreeMoved}
 use Rattle.minix_sees_laws.proofs.Inode.{thing-directory, thing-same}

@@ -4,7 +4,7 @@ use Rattle.std.specs.Prelude.{◌≡◌, ◌≢◌, ◌<◌, ◌≤◌, ℕ, tru
 use Rattle.lilo_model.specs.MinixLayout.{Super, is_size}
 use Rattle.lilo_model.specs.MinixParts.{Parts, Pointer, is_directory}
 use Rattle.lilo_model.specs.MinixEntries.{Entry, entry_with, is_dots}
-use Rattle.lilo_model.specs.MinixNames.{entry, lookup, reached, Named, PointsTo, Refers, AllLead, AreDistinct, Sound}
+use Rattle.lilo_model.specs.MinixNames.{entry, lookup, reached, Named, PointsTo, Refers, AllLead, AreDistinct}
 use Rattle.minix_entry_laws.specs.Only.{ChangesOnlyEntry}
 use Rattle.minix_entry_laws.specs.Comes.{IsFit, IsNewDirectory}
 

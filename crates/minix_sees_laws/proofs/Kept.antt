@@ -1,11 +1,11 @@
 -- Parts that keep what has a name are seen as before.
-use Rattle.std.proofs.Common.{◌≡◌, ◌≢◌, ℕ, ◌+◌, ◌/◌, ◌<◌, ◌≤◌, true, false, List, [], ◌∷◌, length, refl, sym, ◌∙◌, ap, subst, arith, inl}
+use Rattle.std.proofs.Common.{◌≡◌, ◌≢◌, ℕ, ◌<◌, ◌≤◌, true, List, [], ◌∷◌, length, sym, ◌∙◌, ap, subst, arith, inl}
 use Rattle.lilo_model.specs.MinixLayout.{Super, Inode, reach, is_size}
-use Rattle.lilo_model.specs.MinixParts.{Parts, Pointer, is_directory, blocks_for}
+use Rattle.lilo_model.specs.MinixParts.{Parts, Pointer, blocks_for}
 use Rattle.lilo_model.specs.MinixEntries.{places}
-use Rattle.lilo_model.specs.MinixNames.{entry, Named, PointsTo, Refers, AllLead, AreDistinct, Sound}
+use Rattle.lilo_model.specs.MinixNames.{Named, PointsTo, AllLead, AreDistinct, Sound}
 use Rattle.minix_beside_laws.specs.Keeps.{Keeps}
-use Rattle.minix_sees_laws.specs.Sees.{IsFresh, with_links, SameButLinks, Sees}
+use Rattle.minix_sees_laws.specs.Sees.{with_links, SameButLinks, Sees}
 use Rattle.minix_sees_laws.specs.Laws.{KeptIsSeenLaw}
 use Rattle.minix_sees_laws.proofs.Inode.{IsSameNode, same-node, KeepsAbove, keeps-above, directory-zones, points-old, points-new, entry-same}
 

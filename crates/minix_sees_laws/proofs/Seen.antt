@@ -1,13 +1,11 @@
 -- Images in which what has a name is seen as in others.
-use Rattle.std.proofs.Common.{◌≡◌, ℕ, ◌∙◌, ap}
+use Rattle.std.proofs.Common.{◌∙◌, ap}
 use Rattle.lilo_model.specs.Disks.{Image}
 use Rattle.lilo_model.specs.MinixLayout.{super_at}
 use Rattle.lilo_model.specs.MinixParts.{Volume, parts_of}
-use Rattle.lilo_model.specs.MinixNames.{names_in, Sound, HasSound, IsSound}
-use Rattle.minix_beside_laws.specs.Beside.{Beside, SoundAsIn}
+use Rattle.lilo_model.specs.MinixNames.{names_in, HasSound, IsSound}
 use Rattle.minix_beside_laws.proofs.Beside.{keeps, beside_law, same_law}
-use Rattle.minix_sees_laws.specs.Sees.{SeenAsIn}
-use Rattle.minix_sees_laws.specs.Laws.{SeenSameLaw, SeenBesideLaw, SeenSoundLaw, SeenJoinLaw, KeepsSectors, SeenPartsLaw}
+use Rattle.minix_sees_laws.specs.Laws.{SeenSameLaw, SeenBesideLaw, SeenSoundLaw, SeenJoinLaw, SeenPartsLaw}
 use Rattle.minix_sees_laws.proofs.Sees.{sees_law}
 use Rattle.minix_sees_laws.proofs.Joins.{sees_join_law}
 use Rattle.minix_sees_laws.proofs.Kept.{kept_is_seen_law}

@@ -1,11 +1,11 @@
 -- Parts in which what has a name is seen as before stay sound, with the same Names.
-use Rattle.std.proofs.Common.{◌≡◌, ◌≢◌, ℕ, zero, suc, ◌+◌, ◌-◌, ◌/◌, ◌<◌, ◌≤◌, ◌==◌, ◌&&◌, not, if◌then◌else◌, ◌⊎◌, Bool, true, false, List, [], ◌∷◌, length, bytes_eq, option_map, Option, Some, None, refl, sym, ◌∙◌, ap, subst, arith, inl, inr, ⊎_elim, ltb}
+use Rattle.std.proofs.Common.{◌≡◌, ◌≢◌, ℕ, zero, suc, ◌+◌, ◌-◌, ◌<◌, ◌≤◌, ◌⊎◌, Bool, true, false, List, [], ◌∷◌, option_map, Option, Some, None, refl, sym, ◌∙◌, ap, subst, arith, inl, inr, ⊎_elim, ltb}
 use Rattle.std.specs.Option.{option_or}
 use Rattle.std.proofs.lemmas.Bool.{ltb-true, ltb-false, cases_Bool}
-use Rattle.lilo_model.specs.MinixLayout.{Super, Inode, is_size}
+use Rattle.lilo_model.specs.MinixLayout.{Super}
 use Rattle.lilo_model.specs.MinixParts.{Parts, Pointer, is_directory}
-use Rattle.lilo_model.specs.MinixEntries.{Entry, entry_with, named_inode, places, here_name, above_name, is_dots}
-use Rattle.lilo_model.specs.MinixNames.{entry, first_named, lookup, then_lookup, reached, thing, names, Named, PointsTo, Refers, HasEntry, HasSomeEntry, AllLead, AreDistinct, Sound}
+use Rattle.lilo_model.specs.MinixEntries.{Entry, entry_with, named_inode, places, here_name, above_name}
+use Rattle.lilo_model.specs.MinixNames.{entry, first_named, lookup, then_lookup, reached, thing, names, Named, PointsTo, Refers, HasEntry, HasSomeEntry, AllLead, Sound}
 use Rattle.minix_sees_laws.specs.Sees.{IsFresh, Sees}
 use Rattle.minix_sees_laws.specs.Laws.{SeesLaw}
 use Rattle.minix_sees_laws.proofs.Inode.{same-but-links, thing-directory, thing-same, points-old, points-new, keeps-above}

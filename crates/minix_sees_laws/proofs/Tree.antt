@@ -1,13 +1,12 @@
 -- Which inode each path leads to, and what becomes of the inodes.
-use Rattle.std.proofs.Common.{◌≡◌, ◌≢◌, ℕ, ◌⊎◌, Bool, true, false, List, [], ◌∷◌, option_map, Option, Some, None, refl, sym, ◌∙◌, ap, subst, inl, inr, ⊎_elim}
+use Rattle.std.proofs.Common.{◌≡◌, ◌≢◌, ℕ, ◌⊎◌, false, List, option_map, Option, Some, None, refl, sym, ◌∙◌, ap, inl, inr, ⊎_elim}
 use Rattle.std.proofs.lemmas.Bool.{cases_Bool}
-use Rattle.lilo_model.specs.Disks.{Image}
 use Rattle.lilo_model.specs.MinixLayout.{Super}
-use Rattle.lilo_model.specs.MinixParts.{Parts, Volume, Pointer, is_directory, parts_of}
-use Rattle.lilo_model.specs.MinixNames.{Thing, reached, thing, names, names_in, Named, PointsTo, Refers, Sound, IsSound}
+use Rattle.lilo_model.specs.MinixParts.{Parts, Pointer, is_directory, parts_of}
+use Rattle.lilo_model.specs.MinixNames.{Thing, reached, thing, names, names_in, Named, PointsTo, Refers}
 use Rattle.minix_beside_laws.proofs.Change.{path-cases}
-use Rattle.minix_sees_laws.specs.Sees.{IsFresh, Sees, SeenAsIn}
-use Rattle.minix_sees_laws.specs.Tree.{IsSpare, KeepsNamed, TreeAs, TreeWith, TreeMoved, NamesWith, NamesMoved, HasTreeWith, HasTreeMoved, HasNamesWith, HasNamesMoved}
+use Rattle.minix_sees_laws.specs.Sees.{IsFresh, Sees}
+use Rattle.minix_sees_laws.specs.Tree.{IsSpare, KeepsNamed, TreeWith, TreeMoved}
 use Rattle.minix_sees_laws.specs.TreeLaws.{SeesTreeLaw, KeepsJoinLaw, TreeNamesLaw, MovedNamesLaw, TreeNamedLaw, HasNamesLaw, HasMovedLaw, TreeAfterLaw, TreeBeforeLaw, MovedTreeAfterLaw, MovedTreeBeforeLaw, WithAfterLaw, WithBeforeLaw, MovedAfterLaw, MovedBeforeLaw}
 use Rattle.minix_sees_laws.proofs.Inode.{same-but-links, thing-directory, thing-same}
 use Rattle.minix_sees_laws.proofs.Sees.{reached-same, named-old, named-new, points-kept, points-either, thing-seen, sees_law}

@@ -1,7 +1,7 @@
 -- What parts of a Minix volume are like of which no name sees what has changed.
-use Rattle.std.specs.Prelude.{◌≡◌, ◌<◌, ℕ, ◌*◌, length, Ok}
+use Rattle.std.specs.Prelude.{◌≡◌, ◌<◌, ℕ, ◌*◌, length}
 use Rattle.lilo_model.specs.Disks.{Image}
-use Rattle.lilo_model.specs.MinixLayout.{Super, super_at, super_sector}
+use Rattle.lilo_model.specs.MinixLayout.{Super, super_sector}
 use Rattle.lilo_model.specs.MinixParts.{Parts, Volume, sector_of, parts_of}
 use Rattle.lilo_model.specs.MinixNames.{Sound, IsSound}
 use Rattle.minix_beside_laws.specs.Keeps.{Keeps, SoundAs}

@@ -144,7 +144,7 @@ module _ (volume : Volume) (old image : Image) (directory place : ℕ) (bytes : 
 
   numbers-same : (index : ℕ) → zone_number volume.layout Now directory index ≡ zone_number volume.layout Was directory index
   unfolding zone_number
-  numbers-same index = pointer-same volume.layout Was Now directory (same-node (Was.node directory) (Now.node directory) (node-named directory placed.named))
+  numbers-same index = pointer-same volume.layout Was Now directory (same-node (Was.node directory) (Now.node directory) (node-named directory placed.named)).numbers
       (above-kept volume.layout Was directory place placed.named placed.is Now sound.parts zones-named directory placed.named)
       zones-are (block_pointer volume.layout.kind index) ((pointer_law volume.layout.kind).is index)
 

@@ -61,14 +61,14 @@ module _ (super : Super) (old new : Parts) (outer : List (List ℕ)) (directory 
       split : Named super old number ⊎ IsAnew super new directory place number → Refers super old number at zone ⊎ RefersAnew super old new directory place number at zone
       split (inl named) = inl (record {
         named = named;
-        to = points-old super old new number (named-node super old new directory place sound may.only number named) (named-above super old new directory place sound may.only number named) at zone refers.to;
+        to = points-old super old new number (named-node super old new directory place sound may.only number named).numbers (named-above super old new directory place sound may.only number named) at zone refers.to;
       })
       split (inr anew) =
           let kept = (may.comes anew.some).kept in
           inr (record {
             is = anew.is;
             some = anew.some;
-            to = points-old super old new Now.inode (node-kept super old new Now.inode kept) (keeps-above super old new Now.inode kept.zones) at zone (subst (λ n. PointsTo super new n at zone) anew.is refers.to);
+            to = points-old super old new Now.inode (node-kept super old new Now.inode kept).numbers (keeps-above super old new Now.inode kept.zones) at zone (subst (λ n. PointsTo super new n at zone) anew.is refers.to);
           })
 
   zone_range-by : (number : ℕ) (at : Pointer) (zone : ℕ) → Refers super old number at zone ⊎ RefersAnew super old new directory place number at zone → (super.first ≤ zone) × (zone < super.zones)
@@ -415,7 +415,7 @@ module _ (super : Super) (old new : Parts) (outer : List (List ℕ)) (directory 
     is-left = record {
       unnamed = no-name;
       unused = λ at zone points other there refers.
-          let to : PointsTo super old number at zone = points-old super old new number (named-node super old new directory place sound may.only number was-named) (named-above super old new directory place sound may.only number was-named) at zone points in
+          let to : PointsTo super old number at zone = points-old super old new number (named-node super old new directory place sound may.only number was-named).numbers (named-above super old new directory place sound may.only number was-named) at zone points in
           not-used other at there zone (record { named = was-named; to = to }) refers (refers-by other there zone refers);
     }
 

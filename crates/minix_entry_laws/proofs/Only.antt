@@ -85,11 +85,11 @@ module _ (super : Super) (old new : Parts) (directory place : ℕ) (sound : Soun
   -- all that has a name before and after
   pub keeps-named : KeepsNamed super old new
   keeps-named = record {
-    modes = λ number was now. (named-node number was).mode;
+    modes = λ number was now. (named-node number was).numbers.mode;
     files = λ number was now file. same-is-but-links (old.node number) (new.node number) (only.nodes number was);
     bytes = λ number at zone refers now file. (file-kept number refers.named file).zones at zone refers.to;
-    stays = λ number at zone refers now. points-new super old new number (named-node number refers.named) (named-above number refers.named) at zone refers.to;
-    refers = λ number at zone was refers. inl (points-old super old new number (named-node number was) (named-above number was) at zone refers.to);
+    stays = λ number at zone refers now. points-new super old new number (named-node number refers.named).numbers (named-above number refers.named) at zone refers.to;
+    refers = λ number at zone was refers. inl (points-old super old new number (named-node number was).numbers (named-above number was) at zone refers.to);
   }
 
 -- ---- the laws

@@ -9,24 +9,26 @@ use Rattle.lilo_model.specs.MinixNames.{pointer, zone_number, block, blocks, con
 use Rattle.minix_laws.proofs.Pointers.{pointer_law}
 use Rattle.minix_sees_laws.specs.Sees.{SameButLinks}
 
--- two inodes have the same mode, size and numbers of zones
-pub record IsSameNode (old new : Inode) : Type 0 where
+-- two inodes have the same mode and numbers of zones
+pub record HasSameNumbers (old new : Inode) : Type 0 where
   pub mode : new.mode ≡ old.mode
-  pub size : new.size ≡ old.size
   pub zones : new.zones ≡ old.zones
+
+-- and the same size
+pub record IsSameNode (old new : Inode) : Type 0 where
+  pub numbers : HasSameNumbers old new
+  pub size : new.size ≡ old.size
 
 pub same-node : (old new : Inode) → new ≡ old → IsSameNode old new
 same-node old new same = record {
-  mode = ap (λ (i : Inode). i.mode) same;
+  numbers = record { mode = ap (λ (i : Inode). i.mode) same; zones = ap (λ (i : Inode). i.zones) same };
   size = ap (λ (i : Inode). i.size) same;
-  zones = ap (λ (i : Inode). i.zones) same;
 }
 
 pub same-but-links : (old new : Inode) → SameButLinks old new → IsSameNode old new
 same-but-links old new same = record {
-  mode = ap (λ (i : Inode). i.mode) same;
+  numbers = record { mode = ap (λ (i : Inode). i.mode) same; zones = ap (λ (i : Inode). i.zones) same };
   size = ap (λ (i : Inode). i.size) same;
-  zones = ap (λ (i : Inode). i.zones) same;
 }
 
 -- ---- kinds of files that have zones
@@ -72,7 +74,7 @@ abbrev pub KeepsAbove : Super → Parts → Parts → ℕ → Type 0
 KeepsAbove super old new number =
     (top index : ℕ) (trail : List ℕ) (zone : ℕ) → IsPointer super.kind (record { top = top; trail = index ∷ trail }) → PointsTo super old number (record { top = top; trail = trail }) zone → new.zone zone ≡ old.zone zone
 
-module _ (super : Super) (old new : Parts) (number : ℕ) (node : IsSameNode (old.node number) (new.node number)) where
+module _ (super : Super) (old new : Parts) (number : ℕ) (node : HasSameNumbers (old.node number) (new.node number)) where
   pub directory-same : is_directory (new.node number) ≡ is_directory (old.node number)
   directory-same = rw node.mode refl
 
@@ -132,7 +134,7 @@ module _ (super : Super) (old new : Parts) (number : ℕ) (node : IsSameNode (ol
 
     pub zone-same : (index : ℕ) → zone_number super new number index ≡ zone_number super old number index
     unfolding zone_number
-    zone-same index = pointer-same super old new number node (keeps-above super old new number kept) zones (block_pointer super.kind index) ((pointer_law super.kind).is index)
+    zone-same index = pointer-same super old new number node.numbers (keeps-above super old new number kept) zones (block_pointer super.kind index) ((pointer_law super.kind).is index)
 
     pub block-same : (index : ℕ) → block super new number index ≡ block super old number index
     unfolding block
@@ -167,19 +169,19 @@ module _ (super : Super) (old new : Parts) (number : ℕ) (node : IsSameNode (ol
 
   lookup-by : (name : List ℕ) (directory : Bool) → is_directory (old.node number) ≡ directory → lookup super new name number ≡ lookup super old name number
   unfolding lookup
-  lookup-by name false is = rw (node.mode, is) refl
+  lookup-by name false is = rw (node.numbers.mode, is) refl
   lookup-by name true is =
       let entries : entry super new number ≡ entry super old number = λ i place. entry-same (directory-zones old number is) place i in
-      rw (node.mode, node.size, entries) refl
+      rw (node.numbers.mode, node.size, entries) refl
 
   pub lookup-same : (name : List ℕ) → lookup super new name number ≡ lookup super old name number
   lookup-same name = lookup-by name _ refl
 
   thing-by : (file link : Bool) → is_file (old.node number) ≡ file → is_link (old.node number) ≡ link → thing super new number ≡ thing super old number
   unfolding thing
-  thing-by true link f l = rw (node.mode, f) (ap File (content-same (file-zones old number f)))
-  thing-by false true f l = rw (node.mode, f, l) (ap Link (content-same (link-zones old number l)))
-  thing-by false false f l = rw (node.mode, f, l) refl
+  thing-by true link f l = rw (node.numbers.mode, f) (ap File (content-same (file-zones old number f)))
+  thing-by false true f l = rw (node.numbers.mode, f, l) (ap Link (content-same (link-zones old number l)))
+  thing-by false false f l = rw (node.numbers.mode, f, l) refl
 
   pub thing-same : thing super new number ≡ thing super old number
   thing-same = thing-by _ _ refl refl

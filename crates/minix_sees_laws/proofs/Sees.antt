@@ -51,7 +51,7 @@ module _ (super : Super) (old new : Parts) (sees : Sees super old new) where
 
         as_file : is_directory (old.node number) ≡ false → PointsTo super new number at zone
         as_file is =
-            points-new super old new number (same-but-links (old.node number) (new.node number) (sees.files number named is))
+            points-new super old new number (same-but-links (old.node number) (new.node number) (sees.files number named is)).numbers
             (keeps-above super old new number (λ there y to'. sees.bytes number there y (record { named = named; to = to' }) is)) at zone to
 
     pub points-either : (at : Pointer) (zone : ℕ) → PointsTo super new number at zone → PointsTo super old number at zone ⊎ IsFresh super old new zone
@@ -61,7 +61,7 @@ module _ (super : Super) (old new : Parts) (sees : Sees super old new) where
         as_directory is = sees.refers number at zone named is to
 
         as_file : is_directory (old.node number) ≡ false → PointsTo super old number at zone ⊎ IsFresh super old new zone
-        as_file is = inl (points-old super old new number (same-but-links (old.node number) (new.node number) (sees.files number named is))
+        as_file is = inl (points-old super old new number (same-but-links (old.node number) (new.node number) (sees.files number named is)).numbers
             (keeps-above super old new number (λ there y to'. sees.bytes number there y (record { named = named; to = to' }) is)) at zone to)
 
     module _ (is : is_directory (old.node number) ≡ true) where

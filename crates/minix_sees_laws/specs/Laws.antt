@@ -6,7 +6,7 @@ use Rattle.lilo_model.specs.MinixParts.{Parts, Volume, sector_of, parts_of}
 use Rattle.lilo_model.specs.MinixNames.{Sound, IsSound}
 use Rattle.minix_beside_laws.specs.Keeps.{Keeps, SoundAs}
 use Rattle.minix_beside_laws.specs.Beside.{Beside, SoundAsIn}
-use Rattle.minix_sees_laws.specs.Sees.{Sees, SeenAsIn}
+use Rattle.minix_sees_laws.specs.Sees.{KeepsButLinks, Sees, SeenAsIn}
 
 -- ---- parts
 
@@ -18,7 +18,11 @@ SeesLaw = (super : Super) (old new : Parts) → Sound super old → Sees super o
 abbrev pub SeesJoinLaw : Type 0
 SeesJoinLaw = (super : Super) (old mid new : Parts) → Sees super old mid → Sees super mid new → Sees super old new
 
--- parts that keep what has a name are seen as before
+-- parts that keep what has a name but for links are seen as before
+abbrev pub LinksLaw : Type 0
+LinksLaw = (super : Super) (old new : Parts) → Sound super old → KeepsButLinks super old new → Sees super old new
+
+-- and so are those that keep it whole
 abbrev pub KeptIsSeenLaw : Type 0
 KeptIsSeenLaw = (super : Super) (old new : Parts) → Sound super old → Keeps super old new → Sees super old new
 

@@ -21,6 +21,15 @@ with_links inode links = record inode { links = links }
 abbrev pub SameButLinks : Inode → Inode → Type 0
 SameButLinks old new = new ≡ with_links old new.links
 
+-- the inodes that have a name stay but for their links, which are enough; the zones that they refer to stay, and so do
+-- their marks
+pub record KeepsButLinks (super : Super) (old new : Parts) : Type 0 where
+  pub nodes : (number : ℕ) → Named super old number → SameButLinks (old.node number) (new.node number)
+  pub links : (number : ℕ) (paths : List (List (List ℕ))) → number ≢ 1 → AreDistinct paths → AllLead super old number paths → length paths ≤ (new.node number).links
+  pub marks : (number : ℕ) → Named super old number → new.has_inode number ≡ old.has_inode number
+  pub zones : (number : ℕ) (at : Pointer) (zone : ℕ) → Refers super old number at zone → new.zone zone ≡ old.zone zone
+  pub zone_marks : (number : ℕ) (at : Pointer) (zone : ℕ) → Refers super old number at zone → new.has_zone zone ≡ old.has_zone zone
+
 -- what has a name is seen as before
 pub record Sees (super : Super) (old new : Parts) : Type 0 where
   -- a named inode is of the same mode and marked, has a right size and links enough for its names

@@ -1,6 +1,7 @@
 // What a change that no name sees does to a sound Minix volume.
 ghost use Rattle.minix_sees_laws.specs.Laws.{
   KeptIsSeenLaw,
+  LinksLaw,
   SeenBesideLaw,
   SeenJoinLaw,
   SeenPartsLaw,
@@ -20,7 +21,12 @@ pub fn changes_that_are_unseen_join()
     ensures { SeesJoinLaw }
 {}
 
-/// Parts that keep what has a name are such.
+/// Parts that keep what has a name but for links that are enough are such.
+pub fn changed_links_are_unseen()
+    ensures { LinksLaw }
+{}
+
+/// And so are those that keep it whole.
 pub fn kept_parts_are_seen_as_before()
     ensures { KeptIsSeenLaw }
 {}

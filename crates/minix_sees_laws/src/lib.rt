@@ -6,9 +6,9 @@ mod laws;
 mod trees;
 
 pub use laws::{
-    changes_that_are_unseen_join, harmless_bytes_are_unseen, kept_parts_are_seen_as_before,
-    seen_parts_are_a_volume, seen_parts_stay_sound, seen_volume_has_the_same_names,
-    unseen_writes_join, what_stands_is_seen,
+    changed_links_are_unseen, changes_that_are_unseen_join, harmless_bytes_are_unseen,
+    kept_parts_are_seen_as_before, seen_parts_are_a_volume, seen_parts_stay_sound,
+    seen_volume_has_the_same_names, unseen_writes_join, what_stands_is_seen,
 };
 pub use trees::{
     moved_name_after_what_is_unseen, moved_name_before_what_is_unseen, moved_names_are_of_the_tree,

@@ -1,0 +1,5 @@
+pub mod Zeros
+pub mod Holes
+pub mod Extends
+pub mod Grow
+pub mod Chain

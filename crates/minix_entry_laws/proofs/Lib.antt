@@ -3,4 +3,5 @@ pub mod Only
 pub mod Finds
 pub mod Changed
 pub mod Names
+pub mod Replace
 pub mod Dots

@@ -78,6 +78,13 @@ pub record BecomesFree (super : Super) (old new : Parts) (directory place : ℕ)
   pub only : ChangesOnlyEntry super old new directory place
   pub free : (entry super new directory place).inode ≡ 0
 
+-- ---- links that may be taken back
+
+-- the inode had a link more than it has names in the new parts
+abbrev pub HasLinkMore : Super → Parts → Parts → ℕ → Type 0
+HasLinkMore super old new number =
+    (paths : List (List (List ℕ))) → AreDistinct paths → AllLead super new number paths → length paths < (old.node number).links
+
 -- ---- the last name
 
 -- a path leads to an inode, and no other does

@@ -1,13 +1,14 @@
 -- What a change of one entry of a directory does to a sound Minix volume.
-use Rattle.std.specs.Prelude.{◌≡◌, ◌≢◌, ◌<◌, ℕ, List, ◌∷◌, length, false, Some, None}
+use Rattle.std.specs.Prelude.{◌≡◌, ◌≢◌, ◌<◌, ℕ, List, ◌∷◌, length, true, false, Some, None}
 use Rattle.lilo_model.specs.MinixLayout.{Super}
 use Rattle.lilo_model.specs.MinixParts.{Parts, is_directory}
-use Rattle.lilo_model.specs.MinixEntries.{entry_with}
-use Rattle.lilo_model.specs.MinixNames.{Directory, thing, Named, depth_limit, Sound}
+use Rattle.lilo_model.specs.MinixEntries.{entry_with, places}
+use Rattle.lilo_model.specs.MinixNames.{Directory, reached, thing, Named, depth_limit, Sound}
 use Rattle.minix_sees_laws.specs.Tree.{KeepsNamed, TreeWith, TreeMoved}
 use Rattle.minix_entry_laws.specs.Only.{ChangesOnlyEntry, KeepsInode}
 use Rattle.minix_entry_laws.specs.Comes.{IsFit, IsNewDirectory, HasOnlyDots, MayChange, SoundAfter}
-use Rattle.minix_entry_laws.specs.Enter.{MayStand, IsNewFile, DirectoryMayStand, MayEnter, MayRemove, MayRename, Becomes, BecomesFree, IsOnlyName, IsLeft}
+use Rattle.minix_entry_laws.specs.Enter.{MayStand, IsNewFile, DirectoryMayStand, MayEnter, MayRemove, MayRename, Becomes, BecomesFree, HasLinkMore, IsOnlyName, IsLeft}
+use Rattle.minix_entry_laws.specs.Replaces.{Replaces, Replaced}
 
 -- where an entry that may go becomes one that may come, a sound volume stays sound
 abbrev pub ChangedLaw : Type 0
@@ -86,6 +87,29 @@ RenameLaw =
     → Sound super old → MayRename super old outer directory place number former name
     → Becomes super old new directory place (entry_with number name)
     → TreeMoved super old new (former ∷ outer) (name ∷ outer)
+
+-- where an entry stands that may go, its name leads to its inode, which isn't the root
+abbrev pub StoodLaw : Type 0
+StoodLaw =
+    (super : Super) (parts : Parts) (outer : List (List ℕ)) (directory place number : ℕ) (name : List ℕ)
+    → Sound super parts → MayRemove super parts outer directory place number name → place < places super.kind (parts.node directory).size
+    → is_directory (parts.node directory) ≡ true
+    → (reached super parts (name ∷ outer) ≡ Some number) × (number ≢ 1)
+
+-- once it is free, the inode's links may be lowered by one
+abbrev pub RemoveLowerLaw : Type 0
+RemoveLowerLaw =
+    (super : Super) (old new : Parts) (outer : List (List ℕ)) (directory place number : ℕ) (name : List ℕ)
+    → Sound super old → MayRemove super old outer directory place number name
+    → BecomesFree super old new directory place
+    → HasLinkMore super old new number
+
+-- a name replaces another by two entries
+abbrev pub ReplaceLaw : Type 0
+ReplaceLaw =
+    (super : Super) (old mid new : Parts) (outer : List (List ℕ)) (directory to_place from_place former number : ℕ) (to from : List ℕ)
+    → Sound super old → Replaces super old mid new outer directory to_place from_place former number to from
+    → Replaced super old mid new outer former number to from
 
 -- ---- the last name
 

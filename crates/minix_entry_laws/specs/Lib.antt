@@ -1,4 +1,5 @@
 pub mod Only
 pub mod Comes
 pub mod Enter
+pub mod Replaces
 pub mod Laws

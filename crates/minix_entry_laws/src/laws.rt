@@ -12,6 +12,9 @@ ghost use Rattle.minix_entry_laws.specs.Laws.{
   RedirectLaw,
   RemoveLastLaw,
   RemoveLaw,
+  RemoveLowerLaw,
+  ReplaceLaw,
+  StoodLaw,
   RenameLaw,
 };
 
@@ -73,6 +76,21 @@ pub fn last_name_leaves_an_inode()
 /// And so is one whose only name is led to another.
 pub fn redirected_last_name_leaves_an_inode()
     ensures { RedirectLastLaw }
+{}
+
+/// Where an entry stands that may go, its name leads to its inode.
+pub fn standing_entry_leads_its_name()
+    ensures { StoodLaw }
+{}
+
+/// Once an entry is free, the links of its inode may be lowered by one.
+pub fn removed_name_leaves_a_link()
+    ensures { RemoveLowerLaw }
+{}
+
+/// A name replaces another, both leading to the one inode in between.
+pub fn name_replaces_another()
+    ensures { ReplaceLaw }
 {}
 
 /// A new file may get its name.

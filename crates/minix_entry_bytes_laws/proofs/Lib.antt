@@ -1,4 +1,3 @@
-pub mod Blocks
 pub mod EntryBytes
 pub mod Written
 pub mod Images

@@ -17,7 +17,7 @@ use Rattle.minix_entry_bytes_laws.specs.Written.{place_of_entry, place_in, IsPla
 use Rattle.minix_entry_bytes_laws.specs.Laws.{WrittenLaw, WriteEntryLaw}
 use Rattle.minix_sees_laws.proofs.Inode.{same-node, directory-zones, pointer-same}
 use Rattle.minix_entry_laws.proofs.Only.{directory-refers, above-kept}
-use Rattle.minix_entry_bytes_laws.proofs.Blocks.{entry-fits, entry-in_sector, some-entry, index-below, place-known, block-below, entries-apart, part-same, halves}
+use Rattle.minix_entry_laws.proofs.Blocks.{entry-fits, entry-in_sector, some-entry, index-below, place-known, block-below, entries-apart, part-same, halves}
 
 module _ (volume : Volume) (old image : Image) (directory place : ℕ) (bytes : List ℕ) (sound : HasSound volume old) (placed : IsPlaced volume old directory place) (written : HasEntryBytes volume old image directory place bytes) where
   abbrev Was : Parts

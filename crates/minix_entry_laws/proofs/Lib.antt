@@ -5,3 +5,4 @@ pub mod Changed
 pub mod Names
 pub mod Replace
 pub mod Dots
+pub mod Blocks

@@ -25,7 +25,7 @@ zeroed-other : (parts : Parts) (zone other : ℕ) → other ≢ zone → (zeroed
 zeroed-other parts zone other apart = rw (ne_eqb other zone apart) refl
 
 -- the pointers on the way down
-on-way : (super : Super) (at : Pointer) (more : List Deeper) → IsPointer super.kind (down at more) → IsPointer super.kind at
+pub on-way : (super : Super) (at : Pointer) (more : List Deeper) → IsPointer super.kind (down at more) → IsPointer super.kind at
 on-way super at [] is = is
 on-way super at (next ∷ more) is = shorter super at.top next.index at.trail (on-way super (below at next.index) more is)
 

@@ -43,7 +43,7 @@ module _ (super : Super) (old new : Parts) (directory : ℕ) (sound : Sound supe
   points-is number named other = points-new super old new number (node-other number named other).numbers (keeps-above super old new number (stay.zones number named other))
 
   pub entry-other : (number place : ℕ) → Named super old number → is_directory (old.node number) ≡ true → number ≢ directory → entry super new number place ≡ entry super old number place
-  entry-other number place named is other = entry-same super old new number (node-other number named other) (stay.zones number named other) (directory-zones old number is) place
+  entry-other number place named is other = entry-same super old new number (node-other number named other).numbers (stay.zones number named other) (directory-zones old number is) place
 
   -- links that stay are enough
   pub links-stay : (new.node directory).links ≡ (old.node directory).links → (number : ℕ) (paths : List (List (List ℕ))) → number ≢ 1 → AreDistinct paths → AllLead super old number paths → length paths ≤ (new.node number).links

@@ -3,3 +3,4 @@ pub mod Holes
 pub mod Extends
 pub mod Grow
 pub mod Chain
+pub mod Changes

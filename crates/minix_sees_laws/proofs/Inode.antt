@@ -122,7 +122,7 @@ KeepsZones super old new number = (at : Pointer) (zone : ℕ) → PointsTo super
 pub keeps-above : (super : Super) (old new : Parts) (number : ℕ) → KeepsZones super old new number → KeepsAbove super old new number
 keeps-above super old new number kept top index trail zone is to = kept (record { top = top; trail = trail }) zone to
 
-module _ (super : Super) (old new : Parts) (number : ℕ) (node : IsSameNode (old.node number) (new.node number)) (kept : KeepsZones super old new number) where
+module _ (super : Super) (old new : Parts) (number : ℕ) (numbers : HasSameNumbers (old.node number) (new.node number)) (kept : KeepsZones super old new number) where
   module _ (zones : has_zones (old.node number) ≡ true) where
     bytes-by : (index zone : ℕ) → zone_number super old number index ≡ zone → (hole : Bool) → (zone == 0) ≡ hole → zone_bytes new zone ≡ zone_bytes old zone
     unfolding zone_number
@@ -134,7 +134,7 @@ module _ (super : Super) (old new : Parts) (number : ℕ) (node : IsSameNode (ol
 
     pub zone-same : (index : ℕ) → zone_number super new number index ≡ zone_number super old number index
     unfolding zone_number
-    zone-same index = pointer-same super old new number node.numbers (keeps-above super old new number kept) zones (block_pointer super.kind index) ((pointer_law super.kind).is index)
+    zone-same index = pointer-same super old new number numbers (keeps-above super old new number kept) zones (block_pointer super.kind index) ((pointer_law super.kind).is index)
 
     pub block-same : (index : ℕ) → block super new number index ≡ block super old number index
     unfolding block
@@ -145,9 +145,11 @@ module _ (super : Super) (old new : Parts) (number : ℕ) (node : IsSameNode (ol
     unfolding entry
     entry-same place = ap (λ bytes. entry_in super.kind bytes (place % entries_per_block super.kind)) (block-same (place / entries_per_block super.kind))
 
+module _ (super : Super) (old new : Parts) (number : ℕ) (node : IsSameNode (old.node number) (new.node number)) (kept : KeepsZones super old new number) where
+  module _ (zones : has_zones (old.node number) ≡ true) where
     blocks-same : (count : ℕ) → blocks (block super new number) count ≡ blocks (block super old number) count
     blocks-same zero = refl
-    blocks-same (suc count) = rw (blocks-same count, block-same count) refl
+    blocks-same (suc count) = rw (blocks-same count, block-same super old new number node.numbers kept zones count) refl
 
     pub content-same : content super new number ≡ content super old number
     unfolding content
@@ -158,20 +160,20 @@ module _ (super : Super) (old new : Parts) (number : ℕ) (node : IsSameNode (ol
     pub has_entry-same : (place : ℕ) (what : Entry) → HasEntry super new number place what → HasEntry super old number place what
     has_entry-same place what has = record {
       below = subst (λ size. place < places super.kind size) node.size has.below;
-      is = sym (entry-same place) ∙ has.is;
+      is = sym (entry-same super old new number node.numbers kept zones place) ∙ has.is;
     }
 
     pub has_entry-kept : (place : ℕ) (what : Entry) → HasEntry super old number place what → HasEntry super new number place what
     has_entry-kept place what has = record {
       below = subst (λ size. place < places super.kind size) (sym node.size) has.below;
-      is = entry-same place ∙ has.is;
+      is = entry-same super old new number node.numbers kept zones place ∙ has.is;
     }
 
   lookup-by : (name : List ℕ) (directory : Bool) → is_directory (old.node number) ≡ directory → lookup super new name number ≡ lookup super old name number
   unfolding lookup
   lookup-by name false is = rw (node.numbers.mode, is) refl
   lookup-by name true is =
-      let entries : entry super new number ≡ entry super old number = λ i place. entry-same (directory-zones old number is) place i in
+      let entries : entry super new number ≡ entry super old number = λ i place. entry-same super old new number node.numbers kept (directory-zones old number is) place i in
       rw (node.numbers.mode, node.size, entries) refl
 
   pub lookup-same : (name : List ℕ) → lookup super new name number ≡ lookup super old name number

@@ -41,7 +41,7 @@ module _ (super : Super) (old new : Parts) (sound : Sound super old) (keeps : Ke
     bytes = λ number at zone refers file. keeps.zones number at zone refers;
     room = λ directory named is. subst (λ size. places super.kind (old.node directory).size ≤ places super.kind size) (sym (size-same directory named)) le-self;
     reaches = λ directory named is low. subst (λ size. blocks_for size ≤ reach super.kind) (sym (size-same directory named)) low;
-    entries = λ directory place named is below. entry-same super old new directory (node-kept directory named) (zones-kept directory named) (directory-zones old directory is) place;
+    entries = λ directory place named is below. entry-same super old new directory (node-kept directory named).numbers (zones-kept directory named) (directory-zones old directory is) place;
     free = λ directory place named is from below.
         let low : place < places super.kind (old.node directory).size = subst (λ size. place < places super.kind size) (size-same directory named) below in
         absurd (omega (arith, from, low));

@@ -57,7 +57,7 @@ module _ (volume : Volume) (old : Image) (sound : HasSound volume old) where
   module _ (image : Image) (beside : Beside volume old image) where
     -- ---- harmless bytes keep what has a name
 
-    keeps : Keeps volume.layout (parts_of volume old) (parts_of volume image)
+    pub keeps : Keeps volume.layout (parts_of volume old) (parts_of volume image)
     unfolding parts_of
     keeps = record {
       nodes = λ number named. ap (inode_of volume.layout.kind) ((beside.inside (inode_place volume.layout number).sector (place-inside number named)).nodes number named refl);

@@ -9,9 +9,9 @@ use Rattle.minix_beside_laws.specs.Change.{ChangesEntry}
 use Rattle.minix_entry_laws.specs.Comes.{MayChange, SoundAfter}
 use Rattle.minix_entry_laws.specs.Enter.{IsOnlyName, IsLeft}
 use Rattle.minix_entry_laws.specs.Laws.{ChangedLaw}
-use Rattle.minix_entry_laws.proofs.Inode.{directory-zones, points-old, keeps-above, has_entry-same, has_entry-kept}
+use Rattle.minix_sees_laws.proofs.Inode.{directory-zones, points-old, keeps-above, has_entry-same, has_entry-kept}
 use Rattle.minix_entry_laws.proofs.Lists.{without, new-without, distinct-without, absent-without, length-without, lead-without, lead-new}
-use Rattle.minix_entry_laws.proofs.Only.{named-above, other-kept, thing-kept}
+use Rattle.minix_entry_laws.proofs.Only.{node-kept, named-node, named-above, other-kept, thing-kept, keeps-named}
 use Rattle.minix_entry_laws.proofs.Finds.{LeadsAnew, named-some, named-is, finds, found, comes-kept-leaf, paths-from, leads-by, outer-leads}
 
 -- an inode with a name had it, or is the one that comes
@@ -61,14 +61,14 @@ module _ (super : Super) (old new : Parts) (outer : List (List ℕ)) (directory 
       split : Named super old number ⊎ IsAnew super new directory place number → Refers super old number at zone ⊎ RefersAnew super old new directory place number at zone
       split (inl named) = inl (record {
         named = named;
-        to = points-old super old new number (may.only.nodes number named) (named-above super old new directory place sound may.only number named) at zone refers.to;
+        to = points-old super old new number (named-node super old new directory place sound may.only number named).numbers (named-above super old new directory place sound may.only number named) at zone refers.to;
       })
       split (inr anew) =
           let kept = (may.comes anew.some).kept in
           inr (record {
             is = anew.is;
             some = anew.some;
-            to = points-old super old new Now.inode kept.node (keeps-above super old new Now.inode kept.zones) at zone (subst (λ n. PointsTo super new n at zone) anew.is refers.to);
+            to = points-old super old new Now.inode (node-kept super old new Now.inode kept).numbers (keeps-above super old new Now.inode kept.zones) at zone (subst (λ n. PointsTo super new n at zone) anew.is refers.to);
           })
 
   zone_range-by : (number : ℕ) (at : Pointer) (zone : ℕ) → Refers super old number at zone ⊎ RefersAnew super old new directory place number at zone → (super.first ≤ zone) × (zone < super.zones)
@@ -193,8 +193,8 @@ module _ (super : Super) (old new : Parts) (outer : List (List ℕ)) (directory 
       let was = directory-old number named is in
       let zones = directory-zones old number was in
       sound.no_twice number one two inode inode' name named was some some'
-      (has_entry-same super old new number kept.node kept.zones zones one (entry_with inode name) has)
-      (has_entry-same super old new number kept.node kept.zones zones two (entry_with inode' name) has')
+      (has_entry-same super old new number (node-kept super old new number kept) kept.zones zones one (entry_with inode name) has)
+      (has_entry-same super old new number (node-kept super old new number kept) kept.zones zones two (entry_with inode' name) has')
 
   no_twice-come : (number one two inode inode' : ℕ) (name : List ℕ) → is_directory (new.node number) ≡ true → inode ≢ 0 → inode' ≢ 0 → HasEntry super new number one (entry_with inode name) → HasEntry super new number two (entry_with inode' name)
       → IsAnew super new directory place number → one ≡ two
@@ -203,8 +203,8 @@ module _ (super : Super) (old new : Parts) (outer : List (List ℕ)) (directory 
       let kept = (may.comes anew.some).kept in
       let zones = directory-zones old Now.inode was in
       ((may.comes anew.some).fresh was).no_twice one two inode inode' name some some'
-      (has_entry-same super old new Now.inode kept.node kept.zones zones one (entry_with inode name) (subst (λ n. HasEntry super new n one (entry_with inode name)) anew.is has))
-      (has_entry-same super old new Now.inode kept.node kept.zones zones two (entry_with inode' name) (subst (λ n. HasEntry super new n two (entry_with inode' name)) anew.is has'))
+      (has_entry-same super old new Now.inode (node-kept super old new Now.inode kept) kept.zones zones one (entry_with inode name) (subst (λ n. HasEntry super new n one (entry_with inode name)) anew.is has))
+      (has_entry-same super old new Now.inode (node-kept super old new Now.inode kept) kept.zones zones two (entry_with inode' name) (subst (λ n. HasEntry super new n two (entry_with inode' name)) anew.is has'))
 
   dots-by : (number : ℕ) (what : Entry) → what.inode ≢ 0 → is_dots what.name ≡ true → is_directory (old.node number) ≡ true → Named super old number → HasSomeEntry super old number what → (here : Bool) → (number == directory) ≡ here → HasSomeEntry super new number what
   dots-by number what some dots is named has true here =
@@ -212,7 +212,7 @@ module _ (super : Super) (old new : Parts) (outer : List (List ℕ)) (directory 
       subst (λ n. HasSomeEntry super new n what) (sym same) (own_dots-by what some dots has.0 (subst (λ n. HasEntry super old n has.0 what) same has.1) _ refl)
   dots-by number what some dots is named has false here =
       let kept = other-kept super old new directory place sound may.only number named (λ e. let t = eq-eqb number directory e in cc) in
-      (has.0, has_entry-kept super old new number kept.node kept.zones (directory-zones old number is) has.0 what has.1)
+      (has.0, has_entry-kept super old new number (node-kept super old new number kept) kept.zones (directory-zones old number is) has.0 what has.1)
 
   dots-kept : (number : ℕ) (what : Entry) → what.inode ≢ 0 → is_dots what.name ≡ true → is_directory (old.node number) ≡ true → Named super old number → HasSomeEntry super old number what → HasSomeEntry super new number what
   dots-kept number what some dots is named has = dots-by number what some dots is named has _ refl
@@ -220,7 +220,7 @@ module _ (super : Super) (old new : Parts) (outer : List (List ℕ)) (directory 
   dots-come : (some : Now.inode ≢ 0) (what : Entry) → is_directory (old.node Now.inode) ≡ true → HasSomeEntry super old Now.inode what → HasSomeEntry super new Now.inode what
   dots-come some what is has =
       let kept = (may.comes some).kept in
-      (has.0, has_entry-kept super old new Now.inode kept.node kept.zones (directory-zones old Now.inode is) has.0 what has.1)
+      (has.0, has_entry-kept super old new Now.inode (node-kept super old new Now.inode kept) kept.zones (directory-zones old Now.inode is) has.0 what has.1)
 
   some-named : (number : ℕ) → Named super old number → number ≢ 0
   some-named number named = let range = (sound.in_range number named).0 in λ e. absurd (omega (arith, range, e))
@@ -376,6 +376,7 @@ module _ (super : Super) (old new : Parts) (outer : List (List ℕ)) (directory 
     finds = finds super old new outer directory place sound may;
     paths = paths-from super old new outer directory place sound may;
     things = thing-kept super old new directory place sound may.only;
+    keeps = keeps-named super old new directory place sound may.only;
   }
 
   -- ---- what went has no name, where that was its only one and it doesn't come
@@ -414,7 +415,7 @@ module _ (super : Super) (old new : Parts) (outer : List (List ℕ)) (directory 
     is-left = record {
       unnamed = no-name;
       unused = λ at zone points other there refers.
-          let to : PointsTo super old number at zone = points-old super old new number (may.only.nodes number was-named) (named-above super old new directory place sound may.only number was-named) at zone points in
+          let to : PointsTo super old number at zone = points-old super old new number (named-node super old new directory place sound may.only number was-named).numbers (named-above super old new directory place sound may.only number was-named) at zone points in
           not-used other at there zone (record { named = was-named; to = to }) refers (refers-by other there zone refers);
     }
 

@@ -10,8 +10,8 @@ use Rattle.minix_beside_laws.specs.Change.{ChangesEntry, FindsBy, IsLeaf, FindsL
 use Rattle.minix_beside_laws.proofs.Change.{path-cases, change_law}
 use Rattle.minix_beside_laws.proofs.Entries.{entry_law}
 use Rattle.minix_entry_laws.specs.Comes.{MayCome, MayChange}
-use Rattle.minix_entry_laws.proofs.Inode.{lookup-same}
-use Rattle.minix_entry_laws.proofs.Only.{other-kept}
+use Rattle.minix_sees_laws.proofs.Inode.{lookup-same}
+use Rattle.minix_entry_laws.proofs.Only.{node-kept, other-kept}
 
 -- ---- an entry of a name
 
@@ -96,7 +96,7 @@ module _ (super : Super) (old new : Parts) (outer : List (List ℕ)) (directory 
   pub comes-kept-leaf : Now.inode ≢ 0 → IsLeaf super new Now.inode
   comes-kept-leaf some name =
       let come = may.comes some in
-      lookup-same super old new Now.inode come.kept.node come.kept.zones name ∙ by_kind come _ refl
+      lookup-same super old new Now.inode (node-kept super old new Now.inode come.kept) come.kept.zones name ∙ by_kind come _ refl
     where
       by_kind : MayCome super old new outer directory place Now → (directory' : Bool) → is_directory (old.node Now.inode) ≡ directory' → lookup super old name Now.inode ≡ None
       by_kind come true is = (come.fresh is).empty name
@@ -145,7 +145,7 @@ module _ (super : Super) (old new : Parts) (outer : List (List ℕ)) (directory 
     is = may.only.change.is;
     elsewhere = λ number name named other.
         let kept = other-kept super old new directory place sound may.only number named other in
-        lookup-same super old new number kept.node kept.zones name;
+        lookup-same super old new number (node-kept super old new number kept) kept.zones name;
     here = λ name. by_name name (name-cases name);
   }
     where

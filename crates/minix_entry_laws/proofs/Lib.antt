@@ -1,13 +1,8 @@
-pub mod Inode
 pub mod Lists
 pub mod Only
 pub mod Finds
 pub mod Changed
 pub mod Names
-pub mod Blocks
-pub mod Written
-pub mod Images
+pub mod Replace
 pub mod Dots
-pub mod Room
-pub mod Sample
-pub mod Still
+pub mod Blocks

@@ -1,19 +1,20 @@
 -- Names that are made, removed, led elsewhere and changed.
-use Rattle.std.proofs.Common.{◌≡◌, ◌≢◌, ℕ, ◌<◌, ◌==◌, ◌⊎◌, Bool, true, false, List, [], ◌∷◌, length, bytes_eq, option_map, Option, Some, None, refl, sym, ◌∙◌, ap, subst, arith, inl, inr}
+use Rattle.std.proofs.Common.{◌≡◌, ◌≢◌, ℕ, ◌<◌, ◌==◌, ◌⊎◌, Bool, true, false, List, [], ◌∷◌, length, bytes_eq, Some, None, refl, sym, ◌∙◌, ap, subst, arith, inl, inr}
 use Rattle.std.proofs.lemmas.Slice.Eq.{bytes_eq-Decides}
 use Rattle.lilo_model.specs.MinixLayout.{Super}
 use Rattle.lilo_model.specs.MinixParts.{Parts, is_directory}
 use Rattle.lilo_model.specs.MinixEntries.{Entry, entry_with, named_inode}
-use Rattle.lilo_model.specs.MinixNames.{Directory, entry, lookup, then_lookup, reached, thing, names, Named, AllLead, IsNew, Sound}
+use Rattle.lilo_model.specs.MinixNames.{Directory, entry, lookup, then_lookup, reached, thing, Named, AllLead, IsNew, Sound}
 use Rattle.minix_beside_laws.specs.Change.{ChangesEntry}
 use Rattle.minix_beside_laws.proofs.Change.{path-cases}
 use Rattle.minix_beside_laws.proofs.Entries.{entry_law}
 use Rattle.minix_entry_laws.specs.Only.{KeepsInode}
 use Rattle.minix_entry_laws.specs.Comes.{IsFit, MayGo, MayCome, MayChange, SoundAfter}
-use Rattle.minix_entry_laws.specs.Enter.{MayStand, DirectoryMayStand, MayEnter, MayRemove, MayRename, Becomes, BecomesFree, NamesWith, NamesMoved, IsOnlyName, IsLeft}
-use Rattle.minix_entry_laws.specs.Laws.{EnterLaw, EnterDirectoryLaw, RemoveLaw, RedirectLaw, RenameLaw, RemoveLastLaw, RedirectLastLaw}
-use Rattle.minix_entry_laws.proofs.Inode.{thing-directory, thing-same}
-use Rattle.minix_entry_laws.proofs.Only.{fit_law, file-kept}
+use Rattle.minix_entry_laws.specs.Enter.{MayStand, DirectoryMayStand, MayEnter, MayRemove, MayRename, Becomes, BecomesFree, IsOnlyName, IsLeft}
+use Rattle.minix_entry_laws.specs.Laws.{NewFileLaw, EnterLaw, EnterDirectoryLaw, RemoveLaw, RedirectLaw, RenameLaw, RemoveLastLaw, RedirectLastLaw}
+use Rattle.minix_sees_laws.specs.Tree.{TreeWith, TreeMoved}
+use Rattle.minix_sees_laws.proofs.Inode.{thing-directory, thing-same}
+use Rattle.minix_entry_laws.proofs.Only.{node-kept, fit_law, file-kept}
 use Rattle.minix_entry_laws.proofs.Finds.{named-is, named-free}
 use Rattle.minix_entry_laws.proofs.Changed.{changed_law, is-left}
 
@@ -39,33 +40,42 @@ module _ (super : Super) (old new : Parts) (outer : List (List ℕ)) (directory 
   unfolding reached
   was-name name = ap (then_lookup super old name) leads
 
-  things-by : (path : List (List ℕ)) (found : Option ℕ) → reached super old path ≡ found → option_map (thing super new) found ≡ option_map (thing super old) found
-  things-by path None is = refl
-  things-by path (Some number) is = ap Some (after.things number (record { path = path; leads = is }))
-
-  names-same : (path : List (List ℕ)) → reached super new path ≡ reached super old path → names super new path ≡ names super old path
-  unfolding names
-  names-same path same = ap (option_map (thing super new)) same ∙ things-by path (reached super old path) refl
-
-  -- what a name of the directory leads to now
-  now-name : (name : List ℕ) (found : Option ℕ) → lookup super new name directory ≡ found → names super new (name ∷ outer) ≡ option_map (thing super new) found
-  unfolding names
-  now-name name found is = ap (option_map (thing super new)) (after.paths.here name ∙ is)
-
   -- a name of which the entry says what it said
-  kept-name : (name : List ℕ) → named_inode name Now ≡ named_inode name Was → names super new (name ∷ outer) ≡ names super old (name ∷ outer)
-  kept-name name same = names-same (name ∷ outer) (after.paths.here name ∙ (after.finds.kept name same ∙ sym (was-name name)))
+  kept-name : (name : List ℕ) → named_inode name Now ≡ named_inode name Was → reached super new (name ∷ outer) ≡ reached super old (name ∷ outer)
+  kept-name name same = after.paths.here name ∙ (after.finds.kept name same ∙ sym (was-name name))
 
   -- a path that none of the entry's names ends
-  other-path : (path : List (List ℕ)) → ((name : List ℕ) → path ≡ name ∷ outer → named_inode name Now ≡ named_inode name Was) → names super new path ≡ names super old path
-  other-path [] same = names-same [] (after.paths.elsewhere [] (λ name e. cc))
+  other-path : (path : List (List ℕ)) → ((name : List ℕ) → path ≡ name ∷ outer → named_inode name Now ≡ named_inode name Was) → reached super new path ≡ reached super old path
+  other-path [] same = after.paths.elsewhere [] (λ name e. cc)
   other-path (name ∷ path) same = by_path (path-cases path outer)
     where
-      by_path : (path ≡ outer) ⊎ (path ≢ outer) → names super new (name ∷ path) ≡ names super old (name ∷ path)
+      by_path : (path ≡ outer) ⊎ (path ≢ outer) → reached super new (name ∷ path) ≡ reached super old (name ∷ path)
       by_path (inl is) =
-          let P : List (List ℕ) → Type 0 = λ p. names super new (name ∷ p) ≡ names super old (name ∷ p) in
+          let P : List (List ℕ) → Type 0 = λ p. reached super new (name ∷ p) ≡ reached super old (name ∷ p) in
           subst P (sym is) (kept-name name (same name (ap (λ p. name ∷ p) is)))
-      by_path (inr apart) = names-same (name ∷ path) (after.paths.elsewhere (name ∷ path) (λ other e. apart cc))
+      by_path (inr apart) = after.paths.elsewhere (name ∷ path) (λ other e. apart cc)
+
+-- ---- a new file
+
+unnamed-links : (super : Super) (parts : Parts) (number : ℕ) (paths : List (List (List ℕ))) → (Named super parts number → ⊥) → AllLead super parts number paths → 0 < (parts.node number).links → length paths < (parts.node number).links
+unnamed-links super parts number [] unnamed lead some = some
+unnamed-links super parts number (path ∷ paths) unnamed lead some = absurd (unnamed (record { path = path; leads = lead.0 }))
+
+pub new_file_law : NewFileLaw
+new_file_law super parts number new = record {
+  file = new.file;
+  fit = record {
+    range = new.range;
+    marked = new.marked;
+    mode = new.mode;
+    size = new.size;
+    zone_range = new.zone_range;
+    zone_marked = new.zone_marked;
+    once = new.once;
+    apart = λ other at there zone points refers. absurd (new.unused at zone points other there refers);
+  };
+  links = λ paths distinct lead. unnamed-links super parts number paths new.unnamed lead new.some_link;
+}
 
 -- ---- an entry is made
 
@@ -81,21 +91,23 @@ module _ (super : Super) (old new : Parts) (outer : List (List ℕ)) (directory 
     comes = λ some. subst (MayCome super old new outer directory place) (sym becomes.says) come;
   }
 
-  enter-names : MayCome super old new outer directory place (entry_with number name) → number ≢ 0 → NamesWith super old new (name ∷ outer) (Some (thing super old number))
+  enter-names : MayCome super old new outer directory place (entry_with number name) → number ≢ 0 → TreeWith super old new (name ∷ outer) (Some number) (Some (thing super old number))
   enter-names come some =
       let after = changed_law super old new outer directory place sound (enter-may come) in
       let finds_it : lookup super new name directory ≡ Some number =
       after.finds.changed name enter.plain (inl enter.absent) ∙ (ap (named_inode name) becomes.says ∙ named-is name number some) in
       record {
         sound = after.sound;
-        here = now-name super old new outer directory place enter.leads after name (Some number) finds_it ∙ ap Some (thing-same super old new number kept.node kept.zones);
+        here = after.paths.here name ∙ finds_it;
+        is = ap Some (thing-same super old new number (node-kept super old new number kept) kept.zones);
+        keeps = after.keeps;
         others = λ other apart. other-path super old new outer directory place enter.leads after other (λ last is.
             ap (named_inode last) becomes.says
             ∙ (named-other last name number (λ same. apart (is ∙ ap (λ n. n ∷ outer) (sym same)))
             ∙ sym (named-free last (entry super old directory place) enter.free)));
       }
 
-  enter-file : MayStand super old number → NamesWith super old new (name ∷ outer) (Some (thing super old number))
+  enter-file : MayStand super old number → TreeWith super old new (name ∷ outer) (Some number) (Some (thing super old number))
   enter-file stand = enter-names (record {
     plain = enter.plain;
     alone = inl enter.absent;
@@ -105,17 +117,13 @@ module _ (super : Super) (old new : Parts) (outer : List (List ℕ)) (directory 
     fresh = λ is. let file = stand.file in let t = sym is ∙ file in cc;
   }) (some-number super old number stand.fit)
 
-  unnamed-links : (paths : List (List (List ℕ))) → (Named super old number → ⊥) → AllLead super old number paths → 0 < (old.node number).links → length paths < (old.node number).links
-  unnamed-links [] unnamed lead some = some
-  unnamed-links (path ∷ paths) unnamed lead some = absurd (unnamed (record { path = path; leads = lead.0 }))
-
-  enter-directory : DirectoryMayStand super old outer directory number → NamesWith super old new (name ∷ outer) (Some Directory)
-  enter-directory stand = subst (λ what. NamesWith super old new (name ∷ outer) (Some what)) (thing-directory super old number stand.is) (enter-names (record {
+  enter-directory : DirectoryMayStand super old outer directory number → TreeWith super old new (name ∷ outer) (Some number) (Some Directory)
+  enter-directory stand = subst (λ what. TreeWith super old new (name ∷ outer) (Some number) (Some what)) (thing-directory super old number stand.is) (enter-names (record {
     plain = enter.plain;
     alone = inl enter.absent;
     fit = stand.fit;
     kept = kept;
-    links = λ paths distinct lead gone. unnamed-links paths stand.fresh.unnamed lead stand.some_link;
+    links = λ paths distinct lead gone. unnamed-links super old number paths stand.fresh.unnamed lead stand.some_link;
     fresh = λ is. stand.fresh;
   }) (some-number super old number stand.fit))
 
@@ -150,14 +158,16 @@ module _ (super : Super) (old new : Parts) (outer : List (List ℕ)) (directory 
   free : (last : List ℕ) → named_inode last (entry super new directory place) ≡ None
   free last = named-free last (entry super new directory place) becomes.free
 
-  remove-names : NamesWith super old new (name ∷ outer) None
+  remove-names : TreeWith super old new (name ∷ outer) None None
   remove-names =
       let after = changed_law super old new outer directory place sound remove-may in
       let finds_it : lookup super new name directory ≡ None =
       after.finds.changed name remove.plain (inr (named-stood super old outer directory place number name remove)) ∙ free name in
       record {
         sound = after.sound;
-        here = now-name super old new outer directory place remove.leads after name None finds_it;
+        here = after.paths.here name ∙ finds_it;
+        is = refl;
+        keeps = after.keeps;
         others = λ other apart. other-path super old new outer directory place remove.leads after other (λ last is.
             free last ∙ sym (ap (named_inode last) remove.stands ∙ named-other last name number (λ same. apart (is ∙ ap (λ n. n ∷ outer) (sym same)))));
       }
@@ -198,7 +208,7 @@ module _ (super : Super) (old new : Parts) (outer : List (List ℕ)) (directory 
     comes = λ some. subst (MayCome super old new outer directory place) (sym becomes.says) redirect-come;
   }
 
-  redirect-names : NamesWith super old new (name ∷ outer) (Some (thing super old number))
+  redirect-names : TreeWith super old new (name ∷ outer) (Some number) (Some (thing super old number))
   redirect-names =
       let after = changed_law super old new outer directory place sound redirect-may in
       let finds_it : lookup super new name directory ≡ Some number =
@@ -206,7 +216,9 @@ module _ (super : Super) (old new : Parts) (outer : List (List ℕ)) (directory 
       ∙ (ap (named_inode name) becomes.says ∙ named-is name number (some-number super old number stand.fit)) in
       record {
         sound = after.sound;
-        here = now-name super old new outer directory place remove.leads after name (Some number) finds_it ∙ ap Some (thing-same super old new number kept.node kept.zones);
+        here = after.paths.here name ∙ finds_it;
+        is = ap Some (thing-same super old new number (node-kept super old new number kept) kept.zones);
+        keeps = after.keeps;
         others = λ other apart. other-path super old new outer directory place remove.leads after other (λ last is.
             let away : name ≢ last = λ same. apart (is ∙ ap (λ n. n ∷ outer) (sym same)) in
             ap (named_inode last) becomes.says ∙ (named-other last name number away
@@ -290,15 +302,12 @@ module _ (super : Super) (old new : Parts) (outer : List (List ℕ)) (directory 
   now-found : lookup super new name directory ≡ Some number
   now-found = rename-after.finds.changed name rename.plain (inl rename.absent) ∙ (ap (named_inode name) becomes.says ∙ named-is name number rename.may.some)
 
-  was-thing : names super old (former ∷ outer) ≡ Some (thing super old number)
-  unfolding names
-  was-thing = ap (option_map (thing super old)) was-reached
-
-  rename-names : NamesMoved super old new (former ∷ outer) (name ∷ outer)
+  rename-names : TreeMoved super old new (former ∷ outer) (name ∷ outer)
   rename-names = record {
     sound = rename-after.sound;
-    gone = now-name super old new outer directory place rename.may.leads rename-after former None now-former;
-    here = now-name super old new outer directory place rename.may.leads rename-after name (Some number) now-found ∙ (ap Some (rename-after.things number number-named) ∙ sym was-thing);
+    gone = rename-after.paths.here former ∙ now-former;
+    here = rename-after.paths.here name ∙ (now-found ∙ sym was-reached);
+    keeps = rename-after.keeps;
     others = λ other apart away. other-path super old new outer directory place rename.may.leads rename-after other (λ last is.
         ap (named_inode last) becomes.says ∙ (named-other last name number (λ same. away (is ∙ ap (λ n. n ∷ outer) (sym same)))
         ∙ sym (ap (named_inode last) rename.may.stands ∙ named-other last former number (λ same. apart (is ∙ ap (λ n. n ∷ outer) (sym same))))));

@@ -1,5 +1,5 @@
 -- What stays where one entry of one directory changes.
-use Rattle.std.proofs.Common.{◌≡◌, ◌≢◌, ℕ, ◌-◌, ◌/◌, ◌==◌, Bool, true, false, length, refl, sym, ◌∙◌, ap, arith, eq-eqb}
+use Rattle.std.proofs.Common.{◌≡◌, ◌≢◌, ℕ, ◌-◌, ◌/◌, ◌==◌, Bool, true, false, length, refl, sym, ◌∙◌, ap, arith, eq-eqb, inl}
 use Rattle.std.proofs.lemmas.Bool.{eqb-true}
 use Rattle.lilo_model.specs.MinixLayout.{Super}
 use Rattle.lilo_model.specs.MinixParts.{Parts, Pointer, is_directory, block_pointer}
@@ -7,8 +7,10 @@ use Rattle.lilo_model.specs.MinixEntries.{entries_per_block}
 use Rattle.lilo_model.specs.MinixNames.{zone_number, thing, Named, Refers, Sound}
 use Rattle.minix_laws.proofs.Pointers.{pointer_law}
 use Rattle.minix_entry_laws.specs.Only.{zone_of_entry, ChangesOnlyEntry, KeepsInode}
-use Rattle.minix_entry_laws.specs.Laws.{FitLaw, FileLaw}
-use Rattle.minix_entry_laws.proofs.Inode.{KeepsAbove, directory-zones, thing-directory, thing-same}
+use Rattle.minix_entry_laws.specs.Laws.{KeepsNamedLaw, FitLaw, FileLaw}
+use Rattle.minix_sees_laws.specs.Tree.{KeepsNamed}
+use Rattle.minix_sees_laws.proofs.Inode.{IsSameNode, same-node, KeepsAbove, directory-zones, points-old, points-new, thing-directory, thing-same}
+use Rattle.minix_sees_laws.proofs.Kept.{same-is-but-links}
 
 -- the zones but that of an entry stay
 abbrev pub KeepsOtherZones : Super → Parts → Parts → ℕ → ℕ → Type 0
@@ -42,7 +44,14 @@ module _ (super : Super) (old : Parts) (directory place : ℕ) (named : Named su
         let high : top ≡ Here.top = ap (λ (p : Pointer). p.top) same in
         omega (arith, pointer.deep, whole, long, high))
 
+-- an inode that stays has the same node
+pub node-kept : (super : Super) (old new : Parts) (number : ℕ) → KeepsInode super old new number → IsSameNode (old.node number) (new.node number)
+node-kept super old new number kept = same-node (old.node number) (new.node number) kept.node
+
 module _ (super : Super) (old new : Parts) (directory place : ℕ) (sound : Sound super old) (only : ChangesOnlyEntry super old new directory place) where
+  pub named-node : (number : ℕ) → Named super old number → IsSameNode (old.node number) (new.node number)
+  named-node number named = same-node (old.node number) (new.node number) (only.nodes number named)
+
   pub named-above : (number : ℕ) → Named super old number → KeepsAbove super old new number
   named-above number named = above-kept super old directory place only.change.named only.change.is new sound only.zones number named
 
@@ -68,12 +77,25 @@ module _ (super : Super) (old new : Parts) (directory place : ℕ) (sound : Soun
       ap (thing super new) same ∙ thing-directory super new directory now ∙ sym (thing-directory super old directory only.change.is) ∙ ap (thing super old) (sym same)
   thing-by number named false here =
       let kept = other-kept number named (λ e. let t = eq-eqb number directory e in cc) in
-      thing-same super old new number kept.node kept.zones
+      thing-same super old new number (node-kept super old new number kept) kept.zones
 
   pub thing-kept : (number : ℕ) → Named super old number → thing super new number ≡ thing super old number
   thing-kept number named = thing-by number named _ refl
 
+  -- all that has a name before and after
+  pub keeps-named : KeepsNamed super old new
+  keeps-named = record {
+    modes = λ number was now. (named-node number was).numbers.mode;
+    files = λ number was now file. same-is-but-links (old.node number) (new.node number) (only.nodes number was);
+    bytes = λ number at zone refers now file. (file-kept number refers.named file).zones at zone refers.to;
+    stays = λ number at zone refers now. points-new super old new number (named-node number refers.named).numbers (named-above number refers.named) at zone refers.to;
+    refers = λ number at zone was refers. inl (points-old super old new number (named-node number was).numbers (named-above number was) at zone refers.to);
+  }
+
 -- ---- the laws
+
+pub keeps_named_law : KeepsNamedLaw
+keeps_named_law super old new directory place sound only = keeps-named super old new directory place sound only
 
 pub fit_law : FitLaw
 fit_law super parts number sound named = record {

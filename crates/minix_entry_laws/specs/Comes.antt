@@ -6,6 +6,7 @@ use Rattle.lilo_model.specs.MinixParts.{Parts, Pointer, is_directory}
 use Rattle.lilo_model.specs.MinixEntries.{Entry, entry_with, named_inode, places, here_name, above_name, is_dots}
 use Rattle.lilo_model.specs.MinixNames.{entry, lookup, reached, thing, Named, PointsTo, Refers, HasEntry, HasSomeEntry, AllLead, IsNew, AreDistinct, depth_limit, Sound}
 use Rattle.minix_beside_laws.specs.Change.{IsLeaf, FindsBy, PathsFrom}
+use Rattle.minix_sees_laws.specs.Tree.{KeepsNamed}
 use Rattle.minix_entry_laws.specs.Only.{ChangesOnlyEntry, KeepsInode}
 
 -- an inode, whether it has a name or not, and its zones are as a sound volume has them, and no other named inode
@@ -67,3 +68,4 @@ pub record SoundAfter (super : Super) (old new : Parts) (outer : List (List ℕ)
   pub finds : FindsBy super old new directory place
   pub paths : PathsFrom super old new outer directory
   pub things : (number : ℕ) → Named super old number → thing super new number ≡ thing super old number
+  pub keeps : KeepsNamed super old new

@@ -1,10 +1,10 @@
 -- Names that are made, removed, led elsewhere and changed on a sound Minix volume, each by one entry. A path is a
 -- list of components, the last one first.
-use Rattle.std.specs.Prelude.{◌≡◌, ◌≢◌, ◌<◌, ℕ, true, false, List, length, Option, Some, None}
-use Rattle.lilo_model.specs.MinixLayout.{Super}
+use Rattle.std.specs.Prelude.{◌≡◌, ◌≢◌, ◌<◌, ◌≤◌, ℕ, true, false, List, length, Some, None}
+use Rattle.lilo_model.specs.MinixLayout.{Super, is_size}
 use Rattle.lilo_model.specs.MinixParts.{Parts, Pointer, is_directory}
 use Rattle.lilo_model.specs.MinixEntries.{Entry, entry_with, is_dots}
-use Rattle.lilo_model.specs.MinixNames.{Thing, entry, lookup, reached, names, Named, PointsTo, Refers, AllLead, AreDistinct, Sound}
+use Rattle.lilo_model.specs.MinixNames.{entry, lookup, reached, Named, PointsTo, Refers, AllLead, AreDistinct}
 use Rattle.minix_entry_laws.specs.Only.{ChangesOnlyEntry}
 use Rattle.minix_entry_laws.specs.Comes.{IsFit, IsNewDirectory}
 
@@ -20,6 +20,21 @@ pub record MayStand (super : Super) (parts : Parts) (number : ℕ) : Type 0 wher
   pub file : is_directory (parts.node number) ≡ false
   pub fit : IsFit super parts number
   pub links : HasLinkLeft super parts number
+
+-- an inode without a name is no directory, and it and its zones are as a sound volume has them; no named inode refers
+-- to these
+pub record IsNewFile (super : Super) (parts : Parts) (number : ℕ) : Type 0 where
+  pub unnamed : Named super parts number → ⊥
+  pub file : is_directory (parts.node number) ≡ false
+  pub range : (0 < number) × (number ≤ super.inodes)
+  pub marked : parts.has_inode number ≡ true
+  pub mode : (parts.node number).mode ≢ 0
+  pub size : is_size super.kind (parts.node number).size ≡ true
+  pub some_link : 0 < (parts.node number).links
+  pub zone_range : (at : Pointer) (zone : ℕ) → PointsTo super parts number at zone → (super.first ≤ zone) × (zone < super.zones)
+  pub zone_marked : (at : Pointer) (zone : ℕ) → PointsTo super parts number at zone → parts.has_zone zone ≡ true
+  pub once : (at there : Pointer) (zone : ℕ) → PointsTo super parts number at zone → PointsTo super parts number there zone → at ≡ there
+  pub unused : (at : Pointer) (zone : ℕ) → PointsTo super parts number at zone → (other : ℕ) (there : Pointer) → Refers super parts other there zone → ⊥
 
 -- a directory without a name, and with nothing in it but `.` and `..`, may get its name in another
 pub record DirectoryMayStand (super : Super) (parts : Parts) (outer : List (List ℕ)) (directory number : ℕ) : Type 0 where
@@ -63,21 +78,12 @@ pub record BecomesFree (super : Super) (old new : Parts) (directory place : ℕ)
   pub only : ChangesOnlyEntry super old new directory place
   pub free : (entry super new directory place).inode ≡ 0
 
--- ---- what comes of it
+-- ---- links that may be taken back
 
--- the new parts are sound, and their Names are those of the old ones but for what one path leads to
-pub record NamesWith (super : Super) (old new : Parts) (path : List (List ℕ)) (what : Option Thing) : Type 0 where
-  pub sound : Sound super new
-  pub here : names super new path ≡ what
-  pub others : (other : List (List ℕ)) → other ≢ path → names super new other ≡ names super old other
-
--- the new parts are sound, and their Names are those of the old ones, but that one path leads nowhere, and
--- another to what that one led to
-pub record NamesMoved (super : Super) (old new : Parts) (former path : List (List ℕ)) : Type 0 where
-  pub sound : Sound super new
-  pub gone : names super new former ≡ None
-  pub here : names super new path ≡ names super old former
-  pub others : (other : List (List ℕ)) → other ≢ former → other ≢ path → names super new other ≡ names super old other
+-- the inode had a link more than it has names in the new parts
+abbrev pub HasLinkMore : Super → Parts → Parts → ℕ → Type 0
+HasLinkMore super old new number =
+    (paths : List (List (List ℕ))) → AreDistinct paths → AllLead super new number paths → length paths < (old.node number).links
 
 -- ---- the last name
 

@@ -1,38 +1,31 @@
 // What a change of one entry of a directory does to a sound Minix volume.
 ghost use Rattle.minix_entry_laws.specs.Laws.{
   ChangedLaw,
-  EnterBytesLaw,
-  EnterDirectoryBytesLaw,
   EnterDirectoryLaw,
   EnterLaw,
-  EntryBytesLaw,
   FileLaw,
   FitLaw,
-  MovedAfterLaw,
-  MovedBeforeLaw,
+  KeepsNamedLaw,
   NewDirectoryLaw,
   NewFileLaw,
-  RedirectBytesLaw,
-  RedirectLastBytesLaw,
   RedirectLastLaw,
   RedirectLaw,
-  RemoveBytesLaw,
-  RemoveLastBytesLaw,
   RemoveLastLaw,
   RemoveLaw,
-  RenameBytesLaw,
+  RemoveLowerLaw,
+  ReplaceLaw,
+  StoodLaw,
   RenameLaw,
-  SampleLaw,
-  StillLaw,
-  WithAfterLaw,
-  WithBeforeLaw,
-  WriteEntryLaw,
-  WrittenLaw,
 };
 
 /// Where an entry that may go becomes one that may come, a sound volume stays sound.
 pub fn changed_entry_keeps_a_volume_sound()
     ensures { ChangedLaw }
+{}
+
+/// Where one entry changes, what has a name before and after stays.
+pub fn named_inodes_stay()
+    ensures { KeepsNamedLaw }
 {}
 
 /// An inode with a name is fit for another.
@@ -75,51 +68,6 @@ pub fn renamed_entry_moves_a_name()
     ensures { RenameLaw }
 {}
 
-/// The bytes of an entry say its inode and its name.
-pub fn entry_bytes_say_an_entry()
-    ensures { EntryBytesLaw }
-{}
-
-/// Other bytes of one entry are a change of that entry alone.
-pub fn written_entry_changes_alone()
-    ensures { WrittenLaw }
-{}
-
-/// One write of a sector leaves them.
-pub fn one_write_leaves_an_entry()
-    ensures { WriteEntryLaw }
-{}
-
-/// The bytes of an entry that is made add one name.
-pub fn bytes_of_an_entry_add_a_name()
-    ensures { EnterBytesLaw }
-{}
-
-/// And so do those of the entry of a new directory.
-pub fn bytes_of_a_directory_add_a_name()
-    ensures { EnterDirectoryBytesLaw }
-{}
-
-/// Those of a free entry take one name away.
-pub fn bytes_of_a_free_entry_take_a_name_away()
-    ensures { RemoveBytesLaw }
-{}
-
-/// Those of an entry of another inode lead its name to that one.
-pub fn bytes_of_another_inode_lead_a_name()
-    ensures { RedirectBytesLaw }
-{}
-
-/// Those of an entry with another name lead that one to where the former one led.
-pub fn bytes_of_another_name_move_a_name()
-    ensures { RenameBytesLaw }
-{}
-
-/// There are sound volumes on which a name may be made, removed and changed.
-pub fn names_may_be_made()
-    ensures { SampleLaw }
-{}
-
 /// An inode whose only name goes is left without one.
 pub fn last_name_leaves_an_inode()
     ensures { RemoveLastLaw }
@@ -130,42 +78,22 @@ pub fn redirected_last_name_leaves_an_inode()
     ensures { RedirectLastLaw }
 {}
 
-/// An inode whose only name goes by the bytes of its entry is left without one.
-pub fn bytes_of_a_last_name_leave_an_inode()
-    ensures { RemoveLastBytesLaw }
+/// Where an entry stands that may go, its name leads to its inode.
+pub fn standing_entry_leads_its_name()
+    ensures { StoodLaw }
 {}
 
-/// And so is one whose only name they lead to another.
-pub fn bytes_of_a_redirected_last_name_leave_an_inode()
-    ensures { RedirectLastBytesLaw }
+/// Once an entry is free, the links of its inode may be lowered by one.
+pub fn removed_name_leaves_a_link()
+    ensures { RemoveLowerLaw }
+{}
+
+/// A name replaces another, both leading to the one inode in between.
+pub fn name_replaces_another()
+    ensures { ReplaceLaw }
 {}
 
 /// A new file may get its name.
 pub fn new_file_may_stand()
     ensures { NewFileLaw }
-{}
-
-/// What may be done to entries may be done after harmless writes.
-pub fn what_may_be_done_still_may()
-    ensures { StillLaw }
-{}
-
-/// A name that is made or goes after harmless writes makes the same of the image before them.
-pub fn name_after_harmless_writes()
-    ensures { WithAfterLaw }
-{}
-
-/// And so does one before them.
-pub fn name_before_harmless_writes()
-    ensures { WithBeforeLaw }
-{}
-
-/// A name that is changed after harmless writes makes the same of the image before them.
-pub fn moved_name_after_harmless_writes()
-    ensures { MovedAfterLaw }
-{}
-
-/// And so does one before them.
-pub fn moved_name_before_harmless_writes()
-    ensures { MovedBeforeLaw }
 {}

@@ -1,0 +1,6 @@
+pub mod EntryBytes
+pub mod Written
+pub mod Images
+pub mod Room
+pub mod Sample
+pub mod Still

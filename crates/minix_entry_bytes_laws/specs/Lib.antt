@@ -1,0 +1,4 @@
+pub mod Written
+pub mod Still
+pub mod Sample
+pub mod Laws

@@ -1,0 +1,5 @@
+pub mod Extends
+pub mod Grows
+pub mod Laws
+pub mod Changes
+pub mod ChangeLaws

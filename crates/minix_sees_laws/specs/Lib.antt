@@ -1,0 +1,4 @@
+pub mod Sees
+pub mod Laws
+pub mod Tree
+pub mod TreeLaws

@@ -1,0 +1,6 @@
+pub mod Asked
+pub mod GatheredView
+pub mod Reader
+pub mod Run
+pub mod Steps
+pub mod View

@@ -25,7 +25,7 @@ abbrev with_shown : Run → List Mark → Run
 with_shown run marks = record { picked = run.picked; shown = marks; left = run.left }
 
 -- a run behind two texts is one behind both
-behind_both : (a b : List ℕ) (run : Run) → run_behind (text_marks (a ++ b)) run ≡ run_behind (text_marks a) (run_behind (text_marks b) run)
+pub behind_both : (a b : List ℕ) (run : Run) → run_behind (text_marks (a ++ b)) run ≡ run_behind (text_marks a) (run_behind (text_marks b) run)
 behind_both a b run = ap (λ marks. with_shown run marks) (marks_on a b run.shown)
 
 turn_both : (a b : List ℕ) (turn : Turn) → turn_behind (a ++ b) turn ≡ turn_behind a (turn_behind b turn)
@@ -94,7 +94,7 @@ names_filled entries (name ∷ words) place behind all is = by (entry_named entr
         let here : words ≡ behind = cc in
         rw (← here) all.1
 
-meaning_filled : (entries : List ListedEntry) (text : List ℕ) (place : ℕ) (behind : List (List ℕ)) → meaning entries text ≡ Names place behind → AreFilled behind
+pub meaning_filled : (entries : List ListedEntry) (text : List ℕ) (place : ℕ) (behind : List (List ℕ)) → meaning entries text ≡ Names place behind → AreFilled behind
 unfolding meaning
 meaning_filled entries text place behind is = names_filled entries (words_of text) place behind (words_filled text) is
 
@@ -105,14 +105,14 @@ driven_decided setup [] chosen = refl
 driven_decided setup (key ∷ keys) chosen = refl
 
 -- what is asked next is what it should be
-abbrev AnswersGo : Setup → ℕ → List Key → Type 0
+abbrev pub AnswersGo : Setup → ℕ → List Key → Type 0
 AnswersGo setup most keys =
     (candidate : Candidate) (password : List ℕ) (answer : Option (List ℕ)) (quiet : ℕ) (opened : Bool)
     → seen setup (course_from setup most opened (answer_turn candidate password answer (cut_answer quiet keys)))
     ≡ driven setup keys (Asking (record { chosen = chosen_of setup.entries candidate; password = password; answer = answer; quiet = quiet; opened = opened }))
 
 -- a line goes on as it should
-abbrev LinesGo : Setup → ℕ → List Key → Type 0
+abbrev pub LinesGo : Setup → ℕ → List Key → Type 0
 LinesGo setup most keys =
     (text : List ℕ) (first : Bool)
     → seen setup (course_from setup most true (line_turn setup text (cut_line first keys))) ≡ driven setup keys (Typing text first)
@@ -132,7 +132,7 @@ question_goes setup most keys opened candidate before (Some password) go =
     ∙ ap (run_behind (text_marks (before ++ codes "Password: "))) (go candidate password (Some []) 0 opened)
 
 -- a candidate behind a text
-candidate_goes : (setup : Setup) (most : ℕ) (keys : List Key) (opened : Bool) (candidate : Candidate) (before : List ℕ) → AreFilled candidate.words
+pub candidate_goes : (setup : Setup) (most : ℕ) (keys : List Key) (opened : Bool) (candidate : Candidate) (before : List ℕ) → AreFilled candidate.words
     → AnswersGo setup most keys
     → seen setup (course_from setup most opened (turn_behind before (candidate_turn setup candidate keys)))
     ≡ after_step setup keys (choice_step setup.entries before opened (chosen_of setup.entries candidate))
@@ -162,15 +162,6 @@ meaning_goes setup most keys before (Names place words) filled answers_go lines_
     candidate_goes setup (suc most) keys true (record { entry = place; words = words; automatic = false }) before (filled place words refl) answers_go
 meaning_goes setup most keys before NoSuch filled answers_go lines_go =
     shown_again setup most keys before (codes "No such image." ++ newline) lines_go
-
--- the keys of a line
-record Tests (first : Bool) (byte : ℕ) : Type 0 where
-  enter : Bool
-  erase : Bool
-  lists : Bool
-  is_enter : is_enter_key byte ≡ enter
-  is_erase : is_erase_key byte ≡ erase
-  is_list : (first && is_list_key byte) ≡ lists
 
 -- where it goes on
 edits : (setup : Setup) (most : ℕ) (keys : List Key) (text : List ℕ) (first : Bool) (byte : ℕ)
@@ -283,9 +274,9 @@ answer_tick setup most keys candidate password answer quiet opened answers_go li
 
 -- ---- any keys
 
-record Goes (setup : Setup) (keys : List Key) : Type 0 where
-  lines : (most : ℕ) → length keys ≤ most → LinesGo setup most keys
-  asks : (most : ℕ) → length keys < most → AnswersGo setup most keys
+pub record Goes (setup : Setup) (keys : List Key) : Type 0 where
+  pub lines : (most : ℕ) → length keys ≤ most → LinesGo setup most keys
+  pub asks : (most : ℕ) → length keys < most → AnswersGo setup most keys
 
 goes_nil : (setup : Setup) → Goes setup []
 unfolding key_step
@@ -330,7 +321,7 @@ goes_tick setup keys go = record {
     asks_tick (suc most) enough = λ candidate password answer quiet opened.
         answer_tick setup most keys candidate password answer quiet opened (go.asks (suc most) (omega arith)) (go.lines most (omega arith))
 
-goes : (setup : Setup) (keys : List Key) → Goes setup keys
+pub goes : (setup : Setup) (keys : List Key) → Goes setup keys
 goes setup [] = goes_nil setup
 goes setup (Byte byte ∷ keys) = goes_byte setup byte keys (goes setup keys)
 goes setup (Tick ∷ keys) = goes_tick setup keys (goes setup keys)

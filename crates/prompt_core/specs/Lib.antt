@@ -1,4 +1,5 @@
 pub mod Asked
+pub mod Decided
 pub mod GatheredView
 pub mod Reader
 pub mod Run

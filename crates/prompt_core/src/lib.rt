@@ -8,6 +8,7 @@
 
 mod entry;
 mod key;
+mod laws;
 mod line;
 mod prompt;
 mod reply;
@@ -20,5 +21,6 @@ mod word;
 
 pub use entry::{Choice, Settings};
 pub use key::Key;
+pub use laws::keys_one_by_one;
 pub use prompt::Prompt;
 pub use reply::{Answer, Picked, Reply};

@@ -5,7 +5,6 @@
 #![tactic(auto)]
 
 mod line;
-mod number;
 mod option;
 mod reader;
 mod reason;
@@ -15,9 +14,9 @@ mod tests;
 mod value;
 
 pub use line::config_line;
-pub use number::{number_between, video_mode};
 pub use option::{Opt, Part, Takes};
 pub use reader::read_settings;
 pub use reason::{ConfFault, ConfReason, ReasonText};
 pub use setting::{Cut, Given, Setting, SettingList};
+pub use text_numbers::{number_between, video_mode};
 pub use value::{is_name, is_path, is_shown, is_text, is_value, last_part, root_at, whole_disk_at};

@@ -5,9 +5,9 @@ ghost use Rattle.lilo_model.specs.Bytes.{is_between};
 ghost use Rattle.lilo_model.specs.ConfValues as model;
 ghost use Rattle.conf_settings.specs.View.{takes_view};
 
-use crate::number::{number_between, video_mode};
 use crate::option::Takes;
 use mbr_table::{device_of, number_of};
+use text_numbers::{number_between, video_mode};
 
 /// Whether a text is a path: it begins with a slash and has no zero byte.
 #[tactic(auto, unfolding(lilo_model::specs::ConfValues::is_path))]

@@ -1,8 +1,8 @@
 use Rattle.std.proofs.Common.{◌<◌, get_or, refl, arith}
 use Rattle.std.specs.Char.{digit_value}
 use Rattle.std.proofs.lemmas.Int.Digits.{digits_value_more}
-use Rattle.conf_settings.proofs.NumberLemmas.{digits_more, capped_more}
-use Rattle.conf_settings.proofs.number.numeral_value.Goals as goal
+use Rattle.text_numbers.proofs.NumberLemmas.{digits_more, capped_more}
+use Rattle.text_numbers.proofs.numeral_value.Goals as goal
 
 pub loop-digit-preserved : goal.loop-digit-preserved
 loop-digit-preserved c =

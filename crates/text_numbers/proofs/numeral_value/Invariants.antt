@@ -2,7 +2,7 @@ use Rattle.std.proofs.Common.{◌≡◌, min, take, true}
 use Rattle.std.specs.List.{list_all}
 use Rattle.std.specs.Char.{is_digit}
 use Rattle.std.specs.Str.Parse.{digits_value}
-use Rattle.conf_settings.proofs.number.numeral_value.Given as goal
+use Rattle.text_numbers.proofs.numeral_value.Given as goal
 
 -- the bytes so far are digits, and this is what they write, unless it is too large
 abbrev pub invariant-loop-digit : goal.invariant-loop-digit

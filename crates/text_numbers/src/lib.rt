@@ -1,4 +1,12 @@
-// Numbers that texts write.
+//! The numbers that texts write, and the video modes that they name.
+//!
+//! That a number may be hexadecimal, and how far a mode goes, are this project's own; the names of modes follow
+//! LILO's manners.
+#![tactic(auto)]
+
+#[cfg(test)]
+mod tests;
+
 ghost use Rattle.std.specs.Prelude.{◌≡◌, ℕ, ◌≤◌, min};
 ghost use Rattle.std.specs.Option.{option_map};
 ghost use Rattle.lilo_model.specs.VideoMode as model;

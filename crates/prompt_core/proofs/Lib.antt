@@ -1,0 +1,5 @@
+pub mod DecidedLemmas
+pub mod GatherLemmas
+pub mod RunLemmas
+pub mod StartLemmas
+pub mod WordLemmas

@@ -1,0 +1,7 @@
+pub mod Asked
+pub mod Decided
+pub mod GatheredView
+pub mod Reader
+pub mod Run
+pub mod Steps
+pub mod View

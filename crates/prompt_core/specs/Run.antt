@@ -1,0 +1,139 @@
+-- What a prompt shows and comes to where it is told a list of keys, one by one. (This project's own.)
+use Rattle.std.specs.Prelude.{◌≡◌, ℕ, zero, suc, List, [], ◌∷◌, ◌++◌, length, take, drop, map, flat_map, Bool, true, false, if◌then◌else◌, Option, None, Some, unwrap_or, nat_eq}
+use Rattle.std.specs.Option.{option_map}
+use Rattle.std.specs.List.{starts_with}
+use Rattle.lilo_model.specs.DefaultLine.{DefaultLine, line_after}
+use Rattle.lilo_model.specs.Prompt.{Key, Byte, Tick, Settings, ListedEntry, Picked, Decision, Opening}
+use Rattle.lilo_model.specs.Choice.{Setup, listing, Piece, Shows, Opens, Course, course_of, filled_text, opening_behind}
+use Rattle.prompt_core.specs.declared.key.Key as heard
+use Rattle.prompt_core.specs.declared.key.Key.TheVariants as keys
+use Rattle.prompt_core.specs.declared.reply.Answer.{Answer}
+use Rattle.prompt_core.specs.declared.reply.Answer.TheVariants as answers
+use Rattle.prompt_core.specs.Steps.{Chosen, chosen_of, State, Delaying, Timing, Typing, Asking, Decided, Over, Said, Step, prompt_text, key_step, silence_step, start_step}
+
+-- ---- what is shown
+
+pub data Mark : Type 0 where
+  -- a byte
+  Shown : ℕ → Mark
+  -- the message's place, where the prompt opens; the keys that are not taken then
+  Opened : List Key → Mark
+
+abbrev pub text_marks : List ℕ → List Mark
+text_marks text = map Shown text
+
+-- where the first prompt in a text begins
+abbrev pub first_prompt : List ℕ → Option ℕ
+first_prompt [] = None
+first_prompt (byte ∷ text) = if starts_with nat_eq (byte ∷ text) prompt_text then Some 0 else option_map suc (first_prompt text)
+
+-- the later of two places in a text
+abbrev pub later_place : Option ℕ → Option ℕ → Option ℕ
+later_place (Some place) other = Some (suc place)
+later_place None other = other
+
+-- where the last prompt in a text begins
+abbrev pub last_prompt : List ℕ → Option ℕ
+last_prompt [] = None
+last_prompt (byte ∷ text) =
+    later_place (last_prompt text) (if starts_with nat_eq (byte ∷ text) prompt_text then Some 0 else None)
+
+-- a text with another at a place
+abbrev pub inserted : List ℕ → ℕ → List ℕ → List ℕ
+inserted text place other = take place text ++ (other ++ drop place text)
+
+-- a text with the names directly before its last prompt, where they are listed
+abbrev pub with_names : List ListedEntry → Answer → List ℕ → List ℕ
+with_names entries answers.List text = inserted text (unwrap_or (last_prompt text) (length text)) (listing entries)
+with_names entries _ text = text
+
+-- a text with the message's place directly before its first prompt
+abbrev pub message_marks : List ListedEntry → Answer → List Key → ℕ → List ℕ → List Mark
+message_marks entries answer left place text =
+    text_marks (take place text) ++ (Opened left ∷ text_marks (with_names entries answer (drop place text)))
+
+-- what is shown of an answer, where so many keys are not taken
+abbrev pub said_marks : List ListedEntry → List Key → Said → List Mark
+said_marks entries left said =
+    if said.opened
+    then message_marks entries said.answer left (unwrap_or (first_prompt said.show) (length said.show)) said.show
+    else text_marks (with_names entries said.answer said.show)
+
+-- ---- a list of keys
+
+-- what was chosen, all that was shown, and the keys that were not taken
+pub record Run : Type 0 where
+  pub picked : Option Chosen
+  pub shown : List Mark
+  pub left : List Key
+
+-- a run with more shown before it
+abbrev pub run_behind : List Mark → Run → Run
+run_behind marks run = record { picked = run.picked; shown = marks ++ run.shown; left = run.left }
+
+-- whether no key is waited for
+abbrev pub is_done : State → Bool
+is_done (Decided chosen) = true
+is_done Over = true
+is_done _ = false
+
+-- what is chosen in a state
+abbrev pub chosen_in : State → Option Chosen
+chosen_in (Decided chosen) = Some chosen
+chosen_in _ = None
+
+-- a run that takes no more keys
+abbrev pub ended : State → List Key → Run
+ended state left = record { picked = chosen_in state; shown = []; left = left }
+
+-- a key, as the prompt is told it
+abbrev pub heard_key : Key → heard.Key
+heard_key (Byte byte) = keys.Byte byte
+heard_key Tick = keys.Tick
+
+-- what comes of silence, as long as it is told at most so often
+abbrev pub silenced : Setup → ℕ → State → Run
+silenced setup zero state = ended state []
+silenced setup (suc more) state =
+    if is_done state then ended state []
+    else run_behind
+    (said_marks setup.entries [] (key_step setup state keys.Silence).said)
+    (silenced setup more (key_step setup state keys.Silence).state)
+
+-- what comes of keys, and silence behind them: one that waits asks a password, and begins a line, at most
+abbrev pub driven : Setup → List Key → State → Run
+driven setup [] state = silenced setup 3 state
+driven setup (key ∷ left) state =
+    if is_done state then ended state (key ∷ left)
+    else run_behind
+    (said_marks setup.entries left (key_step setup state (heard_key key)).said)
+    (driven setup left (key_step setup state (heard_key key)).state)
+
+-- what comes of a step, with these keys behind it
+abbrev pub after_step : Setup → List Key → Step → Run
+after_step setup left step = run_behind (said_marks setup.entries left step.said) (driven setup left step.state)
+
+-- what comes of keys from the start on
+unfoldable pub run_of : Setup → List Key → Run
+run_of setup keys = after_step setup keys (start_step setup)
+
+-- ---- the same by cutting
+
+abbrev pub piece_marks : Piece → List Mark
+piece_marks (Shows text) = text_marks text
+piece_marks (Opens left) = Opened left ∷ []
+
+-- a course, as it is seen
+abbrev pub seen : Setup → Course → Run
+seen setup course = record {
+  picked = option_map (chosen_of setup.entries) course.picked;
+  shown = flat_map piece_marks course.shown;
+  left = course.left;
+}
+
+-- ---- the law
+
+-- Told any list of keys one by one, the prompt chooses, shows and leaves what the list does that is cut: the same
+-- entry with its words, mode and lines, the same text with the message's place, and the same keys left.
+abbrev pub KeysLaw : Type 0
+KeysLaw = (setup : Setup) (keys : List Key) → run_of setup keys ≡ seen setup (course_of setup keys)

@@ -1,0 +1,26 @@
+//! The prompt of a boot loader in LILO's manner: it is told one key at a time, and answers what it shows and what
+//! is chosen.
+//!
+//! The texts, as `boot: `, the keys that edit a line and the words `lock` and `vga=` follow LILO's manners; how long
+//! an answer is waited for, and how words count that are repeated or wrong, are rules of this project's own. No call
+//! takes memory, and none fails.
+#![tactic(auto)]
+
+mod entry;
+mod key;
+mod laws;
+mod line;
+mod prompt;
+mod reply;
+mod state;
+mod step;
+#[cfg(test)]
+mod tests;
+mod text;
+mod word;
+
+pub use entry::{Choice, Settings};
+pub use key::Key;
+pub use laws::keys_one_by_one;
+pub use prompt::Prompt;
+pub use reply::{Answer, Picked, Reply};

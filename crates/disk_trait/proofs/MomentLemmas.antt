@@ -244,6 +244,14 @@ by_cases event old new P made after none = ⊎_elim (λ is. subst P (sym is) aft
 pub told_event : (event : Event) (old new : Option Past) → MayAppend event old new → IsTold old → IsTold new
 told_event event old new made told = by_cases event old new IsTold made (told_appended event old told) told
 
+told_as_before : (event : Event) (past : Option Past) → IsTold (appended event past) → IsTold past
+unfolding IsTold
+told_as_before event None told = told
+told_as_before event (Some past) told = told
+
+pub told_before_event : (event : Event) (old new : Option Past) → MayAppend event old new → IsTold new → IsTold old
+told_before_event event old new made = by_cases event old new (λ (p : Option Past). IsTold p → IsTold old) made (told_as_before event old) (λ told. told)
+
 now_appended : (past : Option Past) (disk sector : ℕ) (bytes : List ℕ) → (now (appended (Write disk sector bytes) past) ≡ with_sector (now past) disk sector bytes) ⊎ (now (appended (Write disk sector bytes) past) ≡ now past)
 unfolding now
 now_appended None disk sector bytes = inr refl

@@ -5,12 +5,12 @@ use Rattle.disk_trait.specs.declared.event.Event.TheVariants.{Write, Flush}
 use Rattle.disk_trait.specs.declared.disks.Disks.{Ghosts}
 use Rattle.disk_trait.specs.Past.{Image, Past, with_sector, appended}
 use Rattle.disk_trait.specs.Moments.{IsTold, now, begun, MayLeave, IsQuiet, LeftOrWritten, MayWrite, LeavesOnly, IsWholeImage, IsWhole, StaysWhole}
-use Rattle.disk_trait.specs.NotWritten.{NotWritten, IsOther}
-use Rattle.disk_trait.specs.Range.{IsOutside, IsWritten, IsPartWritten, LeftOrPartWritten}
+use Rattle.disk_trait.specs.NotWritten.{WritesNoOther}
+use Rattle.disk_trait.specs.Range.{IsWritten, IsPartWritten, LeftOrPartWritten}
 use Rattle.disk_trait.specs.Calls.{GoesOn, Reads, Writes, WritesRange, Flushes, EndsWithFlush}
-use Rattle.disk_trait.proofs.MomentLemmas.{at_now, left_now, leaves_none, leaves_same, leaves_weaker, leaves_join, MayAppend, now_write, now_made, left_made, leaves_made, now_flushed, left_flushed, leaves_flushed, quiet_flush, begun_flush, told_event, told_before_event, whole_same, whole_write, on_ok, ok_or_err}
+use Rattle.disk_trait.proofs.MomentLemmas.{at_now, left_told, told_or_not, untold_same, leaves_weaker, leaves_join, MayAppend, now_write, now_made, left_made, leaves_made, now_flushed, left_flushed, leaves_flushed, quiet_flush, begun_flush, told_event, told_before_event, whole_same, whole_write, on_ok, ok_or_err}
 use Rattle.disk_trait.proofs.RangeLemmas.{part_same, part_more, outside_is_other}
-use Rattle.disk_trait.proofs.NotWrittenLemmas.{not_written_none, not_written_made, not_written_flushed, not_written_join}
+use Rattle.disk_trait.proofs.NotWrittenLemmas.{not_written_made, not_written_flushed, not_written_join}
 
 on_err : {E : Type 0} (result : Result (Unit {0}) E) (P Q : Type 0) → OnErr result P → (P → Q) → OnErr result Q
 on_err (Ok x) P Q holds so = tt
@@ -107,6 +107,56 @@ module _ {D : Type 0} (disks : Ghosts D) where
       where
         made : MayAppend Flush (disks.past old) (disks.past new)
         made = ok_or_err result _ _ ok err
+
+    -- nothing was written, as where a call before was refused
+    pub writes_none : (old new : D) (disk sector : ℕ) (bytes : List ℕ) (error : E) → disks.past new ≡ disks.past old → Stays old new → Writes disks old new disk sector bytes (Err error)
+    writes_none old new disk sector bytes error same stays = record {
+      written = λ told. tt;
+      made = inr (ap now same);
+      left = λ c left. as_before c (left_flushed (disks.past old) (disks.past new) (inr same) c left);
+      any_moment = leaves_weaker (disks.past old) (disks.past new) (MayLeave (disks.past old)) (LeftOrWritten (disks.past old) disk sector bytes)
+          (leaves_flushed (disks.past old) (disks.past new) (inr same)) as_before;
+      others = λ d s other. not_written_flushed (disks.past old) (disks.past new) (inr same) d s;
+      goes_on = goes_on_same old new same stays;
+    }
+      where
+        as_before : (c : Image) → MayLeave (disks.past old) c → LeftOrWritten (disks.past old) disk sector bytes c
+        as_before c left = (c, left, inl refl)
+
+    -- a write after a call that only read
+    pub writes_after : (old mid new : D) (disk sector : ℕ) (bytes : List ℕ) (result : Result (Unit {0}) E)
+        → disks.past mid ≡ disks.past old → GoesOn disks old mid → Writes disks mid new disk sector bytes result → Writes disks old new disk sector bytes result
+    writes_after old mid new disk sector bytes result same first next = record {
+      written = subst (λ (p : Option Past). IsTold p → OnOk result (now (disks.past new) ≡ with_sector (now p) disk sector bytes)) same next.written;
+      made = subst (λ (p : Option Past). (now (disks.past new) ≡ with_sector (now p) disk sector bytes) ⊎ (now (disks.past new) ≡ now p)) same next.made;
+      left = subst (λ (p : Option Past). MayWrite disk sector bytes p (disks.past new)) same next.left;
+      any_moment = subst (λ (p : Option Past). LeavesOnly p (disks.past new) (LeftOrWritten p disk sector bytes)) same next.any_moment;
+      others = subst (λ (p : Option Past). WritesNoOther disk sector p (disks.past new)) same next.others;
+      goes_on = goes_on_join old mid new first next.goes_on;
+    }
+
+    -- a write of bytes that are others where the past is told
+    module _ (old new : D) (disk sector : ℕ) (from bytes : List ℕ) (result : Result (Unit {0}) E) (is : IsTold (disks.past old) → from ≡ bytes)
+        (writes : Writes disks old new disk sector from result) where
+      as_bytes : (c : Image) → LeftOrWritten (disks.past old) disk sector from c → LeftOrWritten (disks.past old) disk sector bytes c
+      as_bytes c left = (left.0, left.1, subst (λ (b : List ℕ). (c ≡ left.0) ⊎ (c ≡ with_sector left.0 disk sector b)) (is (left_told (disks.past old) left.0 left.1)) left.2)
+
+      -- a past that isn't told holds nothing, and stays so
+      untold_now : (IsTold (disks.past old) → ⊥) → now (disks.past new) ≡ now (disks.past old)
+      untold_now not = untold_same (disks.past old) (disks.past new) not (λ told. not (writes.goes_on.told_before told))
+
+      pub writes_as : Writes disks old new disk sector bytes result
+      writes_as = record {
+        written = λ told. on_ok result _ _ (writes.written told) (λ at. subst (λ (b : List ℕ). now (disks.past new) ≡ with_sector (now (disks.past old)) disk sector b) (is told) at);
+        made = ⊎_elim
+            (λ told. subst (λ (b : List ℕ). (now (disks.past new) ≡ with_sector (now (disks.past old)) disk sector b) ⊎ (now (disks.past new) ≡ now (disks.past old))) (is told) writes.made)
+            (λ not. inr (untold_now not))
+            (told_or_not (disks.past old));
+        left = λ c left. as_bytes c (writes.left c left);
+        any_moment = leaves_weaker (disks.past old) (disks.past new) (LeftOrWritten (disks.past old) disk sector from) (LeftOrWritten (disks.past old) disk sector bytes) writes.any_moment as_bytes;
+        others = writes.others;
+        goes_on = writes.goes_on;
+      }
 
     -- a written sector, and then a flush that was made or failed
     pub writes_flushed : (old mid new : D) (disk sector : ℕ) (bytes : List ℕ) (result : Result (Unit {0}) E)

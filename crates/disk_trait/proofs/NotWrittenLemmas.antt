@@ -1,12 +1,12 @@
 -- Sectors that a run doesn't write.
-use Rattle.std.proofs.Common.{◌≡◌, ◌≢◌, ◌⊎◌, inl, inr, ⊎_elim, ℕ, zero, suc, ◌+◌, ◌<◌, ◌≤◌, ◌==◌, ◌&&◌, Bool, true, false, List, [], ◌∷◌, ◌++◌, length, All, Option, None, Some, refl, sym, ◌∙◌, ap, subst, arith, append_assoc}
+use Rattle.std.proofs.Common.{◌≡◌, inl, inr, ⊎_elim, ℕ, false, List, [], ◌∷◌, ◌++◌, All, Option, None, Some, refl, sym, ◌∙◌, ap, subst, arith, append_assoc}
 use Rattle.std.proofs.lemmas.Bool.{cases_Bool}
 use Rattle.std.proofs.lemmas.List.{append_cancel_right}
 use Rattle.std.proofs.lemmas.List.Elements.{All-append, All-cons, All-head, All-nil, All-tail}
 use Rattle.disk_trait.specs.declared.event.Event.{Event}
 use Rattle.disk_trait.specs.declared.event.Event.TheVariants.{Write, Flush}
-use Rattle.disk_trait.specs.Past.{Image, Past, with_sector, appended}
-use Rattle.disk_trait.specs.Moments.{IsTold, now, MayLeave, LeftOrWritten, LeavesOnly}
+use Rattle.disk_trait.specs.Past.{Image, Past, appended}
+use Rattle.disk_trait.specs.Moments.{now, MayLeave, LeftOrWritten}
 use Rattle.disk_trait.specs.Range.{IsOutside}
 use Rattle.disk_trait.specs.NotWritten.{IsOther, IsElsewhere, continued, NotWritten, WritesNoOther, Untouched}
 use Rattle.disk_trait.specs.Laws.{NotWrittenLaw, NotWrittenByOneLaw, IsWithin, NotWrittenByRangeLaw, NotWrittenJoinsLaw, NotWrittenStaysLaw}

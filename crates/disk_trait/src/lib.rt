@@ -19,6 +19,7 @@ mod left;
 mod mem_disk;
 mod mem_disks;
 mod range;
+mod sector_file;
 #[cfg(test)]
 mod tests;
 

@@ -9,3 +9,4 @@ pub mod TurnLemmas
 pub mod ReadLemmas
 pub mod WalkLemmas
 pub mod ZoneLemmas
+pub mod WriteLemmas

@@ -160,6 +160,24 @@ later event (Some past) = omega arith
 -- for a function that returns before its first call, or begins with a loop
 pub ruleset at_entry = (at_now, left_now)
 
+-- where an image is left, the past is told
+pub left_told : (past : Option Past) (c : Image) → MayLeave past c → IsTold past
+unfolding MayLeave IsTold
+left_told None c left = left
+left_told (Some past) c left = tt
+
+pub told_or_not : (past : Option Past) → IsTold past ⊎ (IsTold past → ⊥)
+unfolding IsTold
+told_or_not None = inr (λ told. told)
+told_or_not (Some past) = inl tt
+
+-- pasts that aren't told hold the same
+pub untold_same : (old new : Option Past) → (IsTold old → ⊥) → (IsTold new → ⊥) → now new ≡ now old
+unfolding IsTold
+untold_same None None old new = refl
+untold_same None (Some past) old new = absurd (new tt)
+untold_same (Some past) next old new = absurd (old tt)
+
 -- before the first event
 pub leaves_none : (past : Option Past) (P : Image → Type 0) → ((c : Image) → MayLeave past c → P c) → LeavesOnly past past P
 leaves_none past P so = record { later = omega arith; each = λ c left. so c (left_now past c left); before = λ t c le left. inl left }
@@ -243,6 +261,14 @@ by_cases event old new P made after none = ⊎_elim (λ is. subst P (sym is) aft
 
 pub told_event : (event : Event) (old new : Option Past) → MayAppend event old new → IsTold old → IsTold new
 told_event event old new made told = by_cases event old new IsTold made (told_appended event old told) told
+
+told_as_before : (event : Event) (past : Option Past) → IsTold (appended event past) → IsTold past
+unfolding IsTold
+told_as_before event None told = told
+told_as_before event (Some past) told = told
+
+pub told_before_event : (event : Event) (old new : Option Past) → MayAppend event old new → IsTold new → IsTold old
+told_before_event event old new made = by_cases event old new (λ (p : Option Past). IsTold p → IsTold old) made (told_as_before event old) (λ told. told)
 
 now_appended : (past : Option Past) (disk sector : ℕ) (bytes : List ℕ) → (now (appended (Write disk sector bytes) past) ≡ with_sector (now past) disk sector bytes) ⊎ (now (appended (Write disk sector bytes) past) ≡ now past)
 unfolding now

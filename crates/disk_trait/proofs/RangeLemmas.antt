@@ -1,33 +1,14 @@
 -- One more sector of a range.
-use Rattle.std.proofs.Common.{◌≡◌, ◌⊎◌, inl, inr, ⊎_elim, ℕ, ◌+◌, ◌<◌, ◌≤◌, true, false, List, [], length, Option, slice_index_or, refl, sym, ◌∙◌, ap, subst, arith}
+use Rattle.std.proofs.Common.{◌≡◌, ◌⊎◌, inl, inr, ⊎_elim, ℕ, ◌+◌, ◌<◌, ◌≤◌, true, false, List, [], length, slice_index_or, refl, sym, ◌∙◌, ap, subst, arith}
 use Rattle.std.proofs.lemmas.Bool.{cases_lt, cond_both}
-use Rattle.disk_trait.specs.Past.{Image, Past, with_sector}
-use Rattle.disk_trait.specs.Moments.{IsTold, now, begun, MayLeave, LeftOrWritten, MayWrite, LeavesOnly, IsWholeImage, IsWhole, StaysWhole}
-use Rattle.disk_trait.specs.Range.{IsOutside, IsWritten, IsPartWritten, LeftOrPartWritten}
-use Rattle.disk_trait.proofs.MomentLemmas.{here, here_true, here_is, leaves_none, leaves_weaker, leaves_join}
-
--- What the first writes of a range left, whether the last of them failed or not.
-pub record Staged (disk start : ℕ) (sectors : List (List ℕ)) (size_of : ℕ → ℕ) (old new : Option Past) : Type 0 where
-  pub told : IsTold old → IsTold new
-  pub made : IsPartWritten disk start sectors (now old) (now new)
-  pub same : begun new ≡ begun old
-  pub left : (c : Image) → MayLeave new c → LeftOrPartWritten old disk start sectors c
-  pub any_moment : LeavesOnly old new (LeftOrPartWritten old disk start sectors)
-  pub whole : IsWhole size_of old → StaysWhole size_of old new
-
-part_same : (disk start : ℕ) (sectors : List (List ℕ)) (image : Image) → IsPartWritten disk start sectors image image
-part_same disk start sectors image = record { inside = λ i lt. inr refl; outside = λ d s out. refl }
+use Rattle.disk_trait.specs.Past.{Image, with_sector}
+use Rattle.disk_trait.specs.NotWritten.{IsOther}
+use Rattle.disk_trait.specs.Range.{IsOutside, IsWritten, IsPartWritten}
+use Rattle.disk_trait.proofs.MomentLemmas.{here, here_true, here_is}
 
 -- before the first
-pub staged_none : (disk start : ℕ) (sectors : List (List ℕ)) (size_of : ℕ → ℕ) (past : Option Past) → Staged disk start sectors size_of past past
-staged_none disk start sectors size_of past = record {
-  told = λ told. told;
-  made = part_same disk start sectors (now past);
-  same = refl;
-  left = λ c left. (c, left, part_same disk start sectors c);
-  any_moment = leaves_none past (LeftOrPartWritten past disk start sectors) (λ c left. (c, left, part_same disk start sectors c));
-  whole = λ whole. record { after = whole; any_moment = leaves_none past (IsWholeImage size_of) whole };
-}
+pub part_same : (disk start : ℕ) (sectors : List (List ℕ)) (image : Image) → IsPartWritten disk start sectors image image
+part_same disk start sectors image = record { inside = λ i lt. inr refl; outside = λ d s out. refl }
 
 pub written_none : (disk start : ℕ) (sectors : List (List ℕ)) (image : Image) → IsWritten disk start sectors 0 image image
 written_none disk start sectors image = record { inside = λ i lt. absurd (omega arith); outside = λ d s out. refl }
@@ -42,6 +23,12 @@ not_inside disk start count i d s lt out is = ⊎_elim (λ other. other (sym pla
     before_or_after : (s < start) ⊎ (start + count ≤ s) → start + i ≡ s → ⊥
     before_or_after (inl before) at = omega arith
     before_or_after (inr after) at = omega arith
+
+-- a sector that is none of the range is another than its i-th
+pub outside_is_other : (disk start count i d s : ℕ) → i < count → IsOutside disk start count d s → IsOther disk (start + i) d s
+outside_is_other disk start count i d s lt (inl other) = inl other
+outside_is_other disk start count i d s lt (inr (inl before)) = inr (λ same. absurd (omega (arith, before, same)))
+outside_is_other disk start count i d s lt (inr (inr after)) = inr (λ same. absurd (omega (arith, after, lt, same)))
 
 -- with the i-th sector of the range written
 module _ (disk start : ℕ) (sectors : List (List ℕ)) (i : ℕ) (lt : i < length sectors) (bytes : List ℕ) (is : bytes ≡ slice_index_or sectors i []) where
@@ -61,7 +48,7 @@ module _ (disk start : ℕ) (sectors : List (List ℕ)) (i : ℕ) (lt : i < leng
         (λ not_at. part.outside d s out);
   }
 
-  part_more : (old mid new : Image) → IsPartWritten disk start sectors old mid → (new ≡ mid) ⊎ (new ≡ with_sector mid disk (start + i) bytes) → IsPartWritten disk start sectors old new
+  pub part_more : (old mid new : Image) → IsPartWritten disk start sectors old mid → (new ≡ mid) ⊎ (new ≡ with_sector mid disk (start + i) bytes) → IsPartWritten disk start sectors old new
   part_more old mid new part (inl same) = subst (IsPartWritten disk start sectors old) (sym same) part
   part_more old mid new part (inr with) = subst (IsPartWritten disk start sectors old) (sym with) (part_with old mid part)
 
@@ -88,28 +75,3 @@ module _ (disk start : ℕ) (sectors : List (List ℕ)) (i : ℕ) (lt : i < leng
 
   pub written_more : (old mid new : Image) → IsWritten disk start sectors i old mid → new ≡ with_sector mid disk (start + i) bytes → IsWritten disk start sectors (i + 1) old new
   written_more old mid new written is_with = subst (IsWritten disk start sectors (i + 1) old) (sym is_with) (written_with old mid written)
-
-  -- after one write more, made or not
-  pub staged_more : (size_of after : ℕ → ℕ) (old mid new : Option Past) → after ≡ size_of → Staged disk start sectors size_of old mid
-      → (IsTold mid → IsTold new)
-      → (now new ≡ with_sector (now mid) disk (start + i) bytes) ⊎ (now new ≡ now mid)
-      → begun new ≡ begun mid
-      → MayWrite disk (start + i) bytes mid new
-      → LeavesOnly mid new (LeftOrWritten mid disk (start + i) bytes)
-      → (IsWhole after mid → StaysWhole after mid new)
-      → Staged disk start sectors size_of old new
-  staged_more size_of after old mid new sizes so_far told made same write run whole = record {
-    told = λ it_is. told (so_far.told it_is);
-    made = part_more (now old) (now mid) (now new) so_far.made (⊎_elim (λ with. inr with) (λ as_before. inl as_before) made);
-    same = same ∙ so_far.same;
-    left = λ c left. joined c (write c left);
-    any_moment = leaves_join old mid new (LeftOrPartWritten old disk start sectors) so_far.any_moment
-        (leaves_weaker mid new (LeftOrWritten mid disk (start + i) bytes) (LeftOrPartWritten old disk start sectors) run joined);
-    whole = λ it_is. let first = so_far.whole it_is in let next = subst (λ (s : ℕ → ℕ). IsWhole s mid → StaysWhole s mid new) sizes whole first.after in record {
-      after = next.after;
-      any_moment = leaves_join old mid new (IsWholeImage size_of) first.any_moment next.any_moment;
-    };
-  }
-    where
-      joined : (c : Image) → LeftOrWritten mid disk (start + i) bytes c → LeftOrPartWritten old disk start sectors c
-      joined c from = let before = so_far.left from.0 from.1 in (before.0, before.1, part_more before.0 from.0 c before.2 from.2)

@@ -1,9 +1,11 @@
 -- What the words of moments say, as laws.
-use Rattle.std.specs.Prelude.{◌≡◌, ◌⊎◌, ◌↔◌, ◌≤◌, ◌<◌, ℕ, ◌-◌, Bool, List, ◌++◌, length, take, slice_get, All, Option, None, Some}
+use Rattle.std.specs.Prelude.{◌≡◌, ◌⊎◌, ◌↔◌, ◌≤◌, ◌<◌, ⊤, ℕ, ◌+◌, ◌-◌, Bool, List, ◌++◌, length, take, slice_get, All, Option, None, Some}
 use Rattle.disk_trait.specs.declared.event.Event.{Event}
 use Rattle.disk_trait.specs.declared.event.Event.TheVariants.{Write, Flush}
-use Rattle.disk_trait.specs.Past.{Image, Past, now_after, IsQuietAfter, MayHold, first_events, Leaves}
+use Rattle.disk_trait.specs.Past.{Image, Past, now_after, IsQuietAfter, MayHold, first_events, Leaves, appended}
 use Rattle.disk_trait.specs.MemDisks.{WritesWholeSector}
+use Rattle.disk_trait.specs.NotWritten.{IsOther, IsElsewhere, continued, NotWritten, Untouched}
+use Rattle.disk_trait.specs.Range.{IsOutside}
 use Rattle.disk_trait.specs.Left.{unflushed_count, left_image}
 use Rattle.disk_trait.specs.Moments.{IsTold, now, begun_after, begun, moment, MayLeave, LeftSince, IsQuiet, LeavesOnly, IsWholeImage, IsWhole}
 
@@ -38,10 +40,6 @@ abbrev pub JoiningLaw : Type 0
 JoiningLaw = (past : Past) (n k : ℕ) (c : Image) → IsQuietAfter (first_events n past.events) → n ≤ k
     → (Leaves past k c ↔ Leaves (begun_anew n past) (k - n) c)
 
--- a past with further events
-abbrev pub continued : List Event → Past → Past
-continued newer past = record { start = past.start; events = newer ++ past.events }
-
 -- LeavesOnly in other words: at every k from the number of events before to that after, every image with Leaves at k
 -- has P
 abbrev pub LeavesOnlyLaw : (Image → Type 0) → Type 0
@@ -74,3 +72,31 @@ UntoldLaw = (size_of : ℕ → ℕ) → IsWhole size_of None
 abbrev pub LeftImagesLaw : Type 0
 LeftImagesLaw = (past : Past) (k : ℕ) (c : Image)
     → Leaves past k c ↔ ((keep : List Bool) × (length keep ≡ unflushed_count (first_events k past.events)) × (c ≡ left_image past k keep))
+
+-- NotWritten in other words: each event between the two pasts is a flush, or a write to another sector
+abbrev pub NotWrittenLaw : Type 0
+NotWrittenLaw = (past : Past) (newer : List Event) (d s : ℕ) → NotWritten (Some past) (Some (continued newer past)) d s ↔ All (IsElsewhere d s) newer
+
+-- of a write, of a flush, and of no event
+abbrev pub NotWrittenByOneLaw : Type 0
+NotWrittenByOneLaw = (past : Option Past) (disk sector : ℕ) (bytes : List ℕ) (d s : ℕ)
+    → (IsOther disk sector d s → NotWritten past (appended (Write disk sector bytes) past) d s)
+    × NotWritten past (appended Flush past) d s × NotWritten past past d s
+
+-- an event writes no sector but some neighbouring ones
+abbrev pub IsWithin : ℕ → ℕ → ℕ → Event → Type 0
+IsWithin disk start count (Write d s bytes) = (d ≡ disk) × (start ≤ s) × (s < start + count)
+IsWithin disk start count Flush = ⊤
+
+-- of writes to neighbouring sectors
+abbrev pub NotWrittenByRangeLaw : Type 0
+NotWrittenByRangeLaw = (past : Past) (newer : List Event) (disk start count d s : ℕ) → All (IsWithin disk start count) newer
+    → IsOutside disk start count d s → NotWritten (Some past) (Some (continued newer past)) d s
+
+-- two runs in a row that don't write a sector are one
+abbrev pub NotWrittenJoinsLaw : Type 0
+NotWrittenJoinsLaw = (old mid new : Option Past) (d s : ℕ) → NotWritten old mid d s → NotWritten mid new d s → NotWritten old new d s
+
+-- a sector that isn't written is as before, and what every stop left there stays at each moment
+abbrev pub NotWrittenStaysLaw : Type 0
+NotWrittenStaysLaw = (old new : Option Past) (d s : ℕ) → NotWritten old new d s → (now new d s ≡ now old d s) × Untouched old new d s

@@ -2,6 +2,8 @@ pub mod Past
 pub mod Cause
 pub mod Moments
 pub mod Range
+pub mod NotWritten
+pub mod Calls
 pub mod Laws
 pub mod Count
 pub mod Absent

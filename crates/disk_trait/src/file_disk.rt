@@ -1,20 +1,19 @@
 // One disk over an opened image file.
-ghost use Rattle.std.specs.Prelude.{◌≡◌, ◌*◌, ◌/◌, ◌<◌, ◌≤◌, ◌^◌, length, IfOk, IfSome, OnOk, OnSome};
-ghost use Rattle.std.specs.Io.Seek.{MovesTo};
-ghost use Rattle.std.specs.Io.KnownBytes.{Appends, Consumes};
+ghost use Rattle.std.specs.Prelude.{◌≡◌, ◌*◌, ◌/◌, ◌<◌, ◌≤◌, ◌^◌, length, IfOk, IfSome, OnSome};
 ghost use Rattle.disk_trait.specs.FileDisks.{DiskShape};
 
 use crate::Geometry;
+use crate::sector_file::SectorFile;
 use sector_parts::Sector;
 use std::fs::OpenFile;
 use std::io;
-use std::io::{ErrorKind, Read, Seek, SeekFrom, Write};
+use std::io::{Read, Seek, SeekFrom, Write};
 use std::marker::Model;
 
 /// An opened image file or block device. Bytes past its last whole sector aren't part of the disk.
 #[derive(Drop)]
 pub struct FileDisk<F> {
-    file: F,
+    file: SectorFile<F>,
     sectors: u64,
     geometry: Geometry,
 }
@@ -55,7 +54,7 @@ impl<F: Seek + Drop> FileDisk<F> {
     {
         let bytes = file.seek(SeekFrom::End(0))?;
         Ok(FileDisk {
-            file,
+            file: SectorFile::new(file),
             sectors: bytes / 512,
             geometry,
         })
@@ -68,8 +67,7 @@ impl<F: Read + Write + Seek + OpenFile> FileDisk<F> {
         requires { sector < self.old.sectors }
         ensures { self.new ≡ self.old }
     {
-        seek_sector(&mut self.file, sector)?;
-        read_sector(&mut self.file)
+        self.file.read(sector)
     }
 
     /// Writes a sector. After an error any part of it may be written.
@@ -77,50 +75,11 @@ impl<F: Read + Write + Seek + OpenFile> FileDisk<F> {
         requires { sector < self.old.sectors }
         ensures { self.new ≡ self.old }
     {
-        seek_sector(&mut self.file, sector)?;
-        write_sector(&mut self.file, from)
+        self.file.write(sector, from)
     }
 
     /// Makes the writes so far durable.
     pub(crate) fn sync(&self) -> io::Result<()> {
-        self.file.sync_all()
+        self.file.sync()
     }
-}
-
-// Goes to the start of a sector.
-fn seek_sector<F: Seek>(file: &mut F, sector: u64) -> io::Result<()>
-    requires { sector * 512 < 2 ^ 64 }
-    ensures { MovesTo (F.stream_position file.old) (F.stream_position file.new) (sector * 512) result }
-{
-    file.seek(SeekFrom::Start(sector * 512))?;
-    Ok(())
-}
-
-// Reads the next sector of a file.
-fn read_sector<F: Read>(file: &mut F) -> io::Result<Sector>
-    ensures { IfOk result (Consumes (F.remaining file.old) (F.remaining file.new)) }
-{
-    let mut bytes = [0; 512];
-    let mut at = 0;
-    while at < 512 {
-        match file.read(&mut bytes[at..])? {
-            0 => return Err(io::Error::from(ErrorKind::UnexpectedEof)),
-            count => at += count,
-        }
-    }
-    Ok(bytes)
-}
-
-// Writes a sector where the file stands.
-fn write_sector<F: Write>(file: &mut F, from: &Sector) -> io::Result<()>
-    ensures { OnOk result (Appends (F.contents file.old) (F.contents file.new) from.now) }
-{
-    let mut rest = from.as_slice();
-    while !rest.is_empty() {
-        match file.write(rest)? {
-            0 => return Err(io::Error::from(ErrorKind::WriteZero)),
-            count => rest = &rest[count..],
-        }
-    }
-    Ok(())
 }

@@ -1,6 +1,6 @@
 // What the words of moments say: laws, which no code needs to call.
 ghost use Rattle.disk_trait.specs.Past.{Image};
-ghost use Rattle.disk_trait.specs.Laws.{MayHoldLaw, LastMomentLaw, NowAndBegunLaw, QuietLaw, JoiningLaw, LeavesOnlyLaw, RunsJoinLaw, WeakerLaw, EndOfRunLaw, WholeLaw, UntoldLaw, LeftImagesLaw};
+ghost use Rattle.disk_trait.specs.Laws.{MayHoldLaw, LastMomentLaw, NowAndBegunLaw, QuietLaw, JoiningLaw, LeavesOnlyLaw, RunsJoinLaw, WeakerLaw, EndOfRunLaw, WholeLaw, UntoldLaw, LeftImagesLaw, NotWrittenLaw, NotWrittenByOneLaw, NotWrittenByRangeLaw, NotWrittenJoinsLaw, NotWrittenStaysLaw};
 
 use std::marker::Brand;
 
@@ -72,4 +72,14 @@ pub fn untold()
 /// The images that a stop may leave are those that come of a choice for each write since the last flush.
 pub fn left_images()
     ensures { LeftImagesLaw }
+{}
+
+/// A run doesn't write a sector exactly where each of its events is a flush or writes another one; what a stop
+/// left there stays as it was.
+pub fn not_written()
+    ensures exact { NotWrittenLaw }
+    ensures by_one { NotWrittenByOneLaw }
+    ensures by_range { NotWrittenByRangeLaw }
+    ensures joins { NotWrittenJoinsLaw }
+    ensures stays { NotWrittenStaysLaw }
 {}

@@ -19,6 +19,7 @@ mod left;
 mod mem_disk;
 mod mem_disks;
 mod range;
+mod sector_file;
 #[cfg(test)]
 mod tests;
 
@@ -28,8 +29,8 @@ pub use file_disk::FileDisk;
 pub use file_disks::FileDisks;
 pub use geometry::{Geometry, GeometryFault};
 pub use laws::{
-    Claim, end_of_run, joining, last_moment, leaves_only, left_images, may_hold, now_and_begun,
-    quiet, runs_join, untold, weaker, whole,
+    Claim, end_of_run, joining, last_moment, leaves_only, left_images, may_hold, not_written,
+    now_and_begun, quiet, runs_join, untold, weaker, whole,
 };
 pub use layer::{flush, read, write, write_and_flush};
 pub use mem_disk::{Failing, MemDisk};

@@ -1,3 +1,4 @@
+mod files;
 mod left;
 
 use super::*;

@@ -1,12 +1,11 @@
 // The marks of zones and inodes.
-ghost use Rattle.std.specs.Prelude.{◌≡◌, ◌≢◌, ◌⊎◌, ◌≤◌, ◌<◌, true, false, OnOk, IfErr};
-ghost use Rattle.disk_trait.specs.Cause.{Rose};
-ghost use Rattle.disk_trait.specs.Past.{Told, with_sector};
-ghost use Rattle.disk_trait.specs.Moments.{IsTold, now, begun, MayLeave, LeftOrWritten, MayWrite, LeavesOnly, IsWhole, StaysWhole};
+ghost use Rattle.std.specs.Prelude.{◌≡◌, ◌≢◌, ◌≤◌, ◌<◌, true, false, OnOk};
+ghost use Rattle.disk_trait.specs.Past.{Told};
 ghost use Rattle.lilo_model.specs.MinixLayout.{super_sector};
-ghost use Rattle.lilo_model.specs.MinixParts.{sector_of, with_bit};
-ghost use Rattle.minix_zones.specs.Volume.{volume_view, past_of, faults_of, sizes_of, count_of, geometries_of, KeepsVolume, SameVolume};
-ghost use Rattle.minix_bits.specs.Mark.{Writes, sector_on_disk, zone_mark_on_disk, inode_mark_on_disk, remarked, zone_remarked, inode_remarked};
+ghost use Rattle.lilo_model.specs.MinixParts.{sector_of, inode_mark_sector, zone_mark_sector, with_bit};
+ghost use Rattle.minix_layout.specs.View.{super_view};
+ghost use Rattle.minix_zones.specs.Volume.{volume_view, past_of, faults_of, SameVolume, HasDeviceCause, WritesSector};
+ghost use Rattle.minix_bits.specs.Mark.{remarked, zone_remarked, inode_remarked};
 
 use crate::bit_fault::BitFault;
 use crate::bitmap::{SECTOR_BITS, inode_bitmap, zone_bitmap};
@@ -24,7 +23,8 @@ use sector_parts::Sector;
 pub fn mark_zone<D: Disks>(volume: &mut Volume<'_, D>, n: u32) -> Result<(), BitFault>
     requires from { volume.old.layout.first ≤ n }
     requires below { n < volume.old.layout.zones }
-    ensures writes { Writes volume.old volume.new (zone_mark_on_disk volume.old n) (zone_remarked volume.old n true) result }
+    ensures writes { WritesSector volume.old volume.new (zone_mark_sector (super_view volume.old.layout) n)
+        (zone_remarked volume.old n true) BitFault.Device result }
 {
     put_zone_mark(volume, n, true)
 }
@@ -38,7 +38,8 @@ pub fn mark_zone<D: Disks>(volume: &mut Volume<'_, D>, n: u32) -> Result<(), Bit
 pub fn clear_zone<D: Disks>(volume: &mut Volume<'_, D>, n: u32) -> Result<(), BitFault>
     requires from { volume.old.layout.first ≤ n }
     requires below { n < volume.old.layout.zones }
-    ensures writes { Writes volume.old volume.new (zone_mark_on_disk volume.old n) (zone_remarked volume.old n false) result }
+    ensures writes { WritesSector volume.old volume.new (zone_mark_sector (super_view volume.old.layout) n)
+        (zone_remarked volume.old n false) BitFault.Device result }
 {
     put_zone_mark(volume, n, false)
 }
@@ -52,7 +53,8 @@ pub fn clear_zone<D: Disks>(volume: &mut Volume<'_, D>, n: u32) -> Result<(), Bi
 pub fn mark_inode<D: Disks>(volume: &mut Volume<'_, D>, n: u32) -> Result<(), BitFault>
     requires some { 1 ≤ n }
     requires there { n ≤ volume.old.layout.inodes }
-    ensures writes { Writes volume.old volume.new (inode_mark_on_disk volume.old n) (inode_remarked volume.old n true) result }
+    ensures writes { WritesSector volume.old volume.new (inode_mark_sector n)
+        (inode_remarked volume.old n true) BitFault.Device result }
 {
     put_inode_mark(volume, n, true)
 }
@@ -66,7 +68,8 @@ pub fn mark_inode<D: Disks>(volume: &mut Volume<'_, D>, n: u32) -> Result<(), Bi
 pub fn clear_inode<D: Disks>(volume: &mut Volume<'_, D>, n: u32) -> Result<(), BitFault>
     requires some { 1 ≤ n }
     requires there { n ≤ volume.old.layout.inodes }
-    ensures writes { Writes volume.old volume.new (inode_mark_on_disk volume.old n) (inode_remarked volume.old n false) result }
+    ensures writes { WritesSector volume.old volume.new (inode_mark_sector n)
+        (inode_remarked volume.old n false) BitFault.Device result }
 {
     put_inode_mark(volume, n, false)
 }
@@ -75,7 +78,8 @@ pub fn clear_inode<D: Disks>(volume: &mut Volume<'_, D>, n: u32) -> Result<(), B
 fn put_zone_mark<D: Disks>(volume: &mut Volume<'_, D>, n: u32, value: bool) -> Result<(), BitFault>
     requires from { volume.old.layout.first ≤ n }
     requires below { n < volume.old.layout.zones }
-    ensures writes { Writes volume.old volume.new (zone_mark_on_disk volume.old n) (zone_remarked volume.old n value) result }
+    ensures writes { WritesSector volume.old volume.new (zone_mark_sector (super_view volume.old.layout) n)
+        (zone_remarked volume.old n value) BitFault.Device result }
 {
     let bitmap = zone_bitmap(volume);
     let bit = n - bitmap.origin;
@@ -87,7 +91,8 @@ fn put_zone_mark<D: Disks>(volume: &mut Volume<'_, D>, n: u32, value: bool) -> R
 fn put_inode_mark<D: Disks>(volume: &mut Volume<'_, D>, n: u32, value: bool) -> Result<(), BitFault>
     requires some { 1 ≤ n }
     requires there { n ≤ volume.old.layout.inodes }
-    ensures writes { Writes volume.old volume.new (inode_mark_on_disk volume.old n) (inode_remarked volume.old n value) result }
+    ensures writes { WritesSector volume.old volume.new (inode_mark_sector n)
+        (inode_remarked volume.old n value) BitFault.Device result }
 {
     let bitmap = inode_bitmap(volume);
     let sector = bitmap.sector + u64::from(n / SECTOR_BITS);
@@ -104,36 +109,8 @@ fn put_mark<D: Disks>(
     requires inside { sector < volume.old.span.count }
     requires no_super { sector ≢ super_sector }
     requires at { at < 4096 }
-    ensures told { IsTold (past_of volume.old) → IsTold (past_of volume.new) }
-
-    // What the disks hold now, and what they held at the last flush.
-    ensures written { IsTold (past_of volume.old) → OnOk result (now (past_of volume.new)
-        ≡ with_sector (now (past_of volume.old)) volume.old.span.disk (sector_on_disk volume.old sector)
-        (remarked volume.old sector at value)) }
-    ensures made { IsTold (past_of volume.old) → (now (past_of volume.new)
-        ≡ with_sector (now (past_of volume.old)) volume.old.span.disk (sector_on_disk volume.old sector)
-        (remarked volume.old sector at value))
-        ⊎ (now (past_of volume.new) ≡ now (past_of volume.old)) }
-    ensures begun { begun (past_of volume.new) ≡ begun (past_of volume.old) }
-
-    // What a stop may leave after the call, and at any moment of it.
-    ensures left { MayWrite volume.old.span.disk (sector_on_disk volume.old sector)
-        (remarked volume.old sector at value) (past_of volume.old) (past_of volume.new) }
-    ensures any_moment { LeavesOnly (past_of volume.old) (past_of volume.new)
-        (LeftOrWritten (past_of volume.old) volume.old.span.disk (sector_on_disk volume.old sector)
-        (remarked volume.old sector at value)) }
-    ensures at_now { IsTold (past_of volume.new) → MayLeave (past_of volume.new) (now (past_of volume.new)) }
-    ensures whole { IsWhole (sizes_of volume.old) (past_of volume.old)
-        → StaysWhole (sizes_of volume.old) (past_of volume.old) (past_of volume.new) }
-
-    // When it is refused, and what stays.
-    ensures device { IfErr result (λ fault. (fault ≡ BitFault.Device)
-        × Rose (faults_of volume.old) (faults_of volume.new)) }
-    ensures later { faults_of volume.old ≤ faults_of volume.new }
-    ensures size { sizes_of volume.new ≡ sizes_of volume.old }
-    ensures count { count_of volume.new ≡ count_of volume.old }
-    ensures geometry { geometries_of volume.new ≡ geometries_of volume.old }
-    ensures kept { KeepsVolume volume.old volume.new }
+    ensures writes { WritesSector volume.old volume.new sector (remarked volume.old sector at value)
+        BitFault.Device result }
 {
     let mut bytes = [0; 512];
     read_with_bit(volume, sector, at, value, &mut bytes)?;
@@ -155,8 +132,7 @@ fn read_with_bit<D: Disks>(
     requires at { at < 4096 }
     ensures bytes { OnOk result (Told (past_of volume.old)
         (λ now. into.new ≡ with_bit (sector_of (volume_view volume.old) now sector) at value)) }
-    ensures device { IfErr result (λ fault. (fault ≡ BitFault.Device)
-        × Rose (faults_of volume.old) (faults_of volume.new)) }
+    ensures device { HasDeviceCause volume.old volume.new BitFault.Device result }
     ensures later { faults_of volume.old ≤ faults_of volume.new }
     ensures same { SameVolume volume.old volume.new }
 {

@@ -1,5 +1,5 @@
 -- The write of an inode into the bytes of its sector that were read.
-use Rattle.std.proofs.Common.{◌≡◌, ◌≢◌, ◌≤◌, ◌<◌, ◌*◌, ℕ, List, length, Option, Result, Ok, Err, OnOk, refl, sym, ◌∙◌, ap, subst, inl, inr, ⊎_elim, arith}
+use Rattle.std.proofs.Common.{◌≡◌, ◌≢◌, ◌≤◌, ◌<◌, ◌*◌, ℕ, List, length, Option, Result, sym, ◌∙◌, ap, subst, arith}
 use Rattle.disk_trait.specs.declared.disks.Disks.{Ghosts}
 use Rattle.disk_trait.specs.Past.{Image, Past, Told}
 use Rattle.disk_trait.specs.Moments.{IsTold, now, begun}
@@ -11,20 +11,16 @@ use Rattle.lilo_model.specs.MinixParts.{sector_of}
 use Rattle.minix_beside_laws.specs.Beside.{Harmless}
 use Rattle.minix_layout.specs.View.{super_view}
 use Rattle.minix_layout.specs.declared.superblock.Super.{Super}
-use Rattle.minix_zones.specs.Volume.{volume_view, past_of, faults_of, SameVolume}
+use Rattle.minix_zones.specs.Volume.{volume_view, past_of, faults_of, SameVolume, WritesSector}
+use Rattle.minix_zones.proofs.WriteLemmas.{sector_after}
 use Rattle.minix_zones.specs.declared.volume.Volume.{Volume}
 use Rattle.minix_zones.specs.declared.zone_fault.ZoneFault.{ZoneFault}
+use Rattle.minix_zones.specs.declared.zone_fault.ZoneFault.TheVariants.{Device}
 use Rattle.minix_steps.specs.Steps.{IsReady, IsUnnamedInode}
-use Rattle.minix_steps.specs.Written.{WritesOne, HasStepCause, with_sector_of, with_inode}
+use Rattle.minix_steps.specs.Written.{with_inode}
 use Rattle.minix_steps.proofs.HarmlessLemmas.{inode_harmless, place_inside}
 use Rattle.minix_steps.proofs.RegionLemmas.{sector_there, place_from}
 use Rattle.minix_steps.proofs.StepLemmas.{same_view}
-
--- a call refused after one that changed nothing
-cause_after : {D : Type 0} {disks : Ghosts D} (old mid new : Volume D disks) (result : Result (Unit {0}) ZoneFault) → faults_of old ≤ faults_of mid
-    → HasStepCause mid new result → HasStepCause old new result
-cause_after old mid new (Ok value) before cause = tt
-cause_after old mid new (Err fault) before cause = (cause.0, λ below. let rose = cause.1 below in omega (arith, before, rose))
 
 module _ {D : Type 0} {disks : Ghosts D} (old : Volume D disks) (ready : IsReady old) (number : ℕ) (some : 1 ≤ number) (there : number ≤ old.layout.inodes)
     (sector at : ℕ) (place : record { sector = sector; at = at } ≡ inode_place (super_view old.layout) number) where
@@ -68,34 +64,8 @@ module _ {D : Type 0} {disks : Ghosts D} (old : Volume D disks) (ready : IsReady
         let H : Option Past → Type 0 = λ p. Harmless (volume_view mid) (begun p) sector put in
         subst H (sym same.same_disks.same_past) (subst V (sym mid_view) (subst B (sym (rewritten before)) (subst S (sym stands) harmless)))
 
-    module _ (new : Volume D disks) (result : Result (Unit {0}) ZoneFault) (later : faults_of old ≤ faults_of mid) (writes : WritesOne mid new sector put result) where
-      -- the image that was to come about
-      meant : IsTold (past_of old)
-          → with_sector_of (volume_view mid) (now (past_of mid)) sector put
-          ≡ with_sector_of (volume_view old) (now (past_of old)) (inode_place (super_view old.layout) number).sector (with_inode (volume_view old) (now (past_of old)) number part)
-      meant told =
-          let to : Image = with_sector_of (volume_view old) (now (past_of old)) (inode_place (super_view old.layout) number).sector (with_inode (volume_view old) (now (past_of old)) number part) in
-          let S : ℕ → Type 0 = λ s. with_sector_of (volume_view old) (now (past_of old)) s (with_inode (volume_view old) (now (past_of old)) number part) ≡ to in
-          let B : List ℕ → Type 0 = λ bytes. with_sector_of (volume_view old) (now (past_of old)) sector bytes ≡ to in
-          let V : model.Volume → Type 0 = λ view. with_sector_of view (now (past_of old)) sector put ≡ to in
-          let H : Option Past → Type 0 = λ p. with_sector_of (volume_view mid) (now p) sector put ≡ to in
-          subst H (sym same.same_disks.same_past) (subst V (sym mid_view) (subst B (sym (rewritten told)) (subst S (sym stands) refl)))
-
-      mid_now : now (past_of mid) ≡ now (past_of old)
-      mid_now = ap now same.same_disks.same_past
-
-      told_mid : IsTold (past_of old) → IsTold (past_of mid)
-      told_mid told = subst IsTold (sym same.same_disks.same_past) told
-
-      pub inode_writes : WritesOne old new (inode_place (super_view old.layout) number).sector (with_inode (volume_view old) (now (past_of old)) number part) result
-      inode_writes = record {
-        written = λ told.
-            let P : Image → Type 0 = λ image. OnOk result (now (past_of new) ≡ image) in
-            subst P (meant told) (writes.written (told_mid told));
-        made = λ told. ⊎_elim
-            (λ made. inl (made ∙ meant told))
-            (λ kept. inr (kept ∙ mid_now))
-            (writes.made (told_mid told));
-        begun = writes.begun ∙ ap begun same.same_disks.same_past;
-        device = cause_after old mid new result later writes.device;
-      }
+    pub inode_writes : (new : Volume D disks) (result : Result (Unit {0}) ZoneFault) → faults_of old ≤ faults_of mid → WritesSector mid new sector put Device result
+        → WritesSector old new (inode_place (super_view old.layout) number).sector (with_inode (volume_view old) (now (past_of old)) number part) Device result
+    inode_writes new result later writes =
+        let S : ℕ → Type 0 = λ s. WritesSector old new s (with_inode (volume_view old) (now (past_of old)) number part) Device result in
+        subst S stands (sector_after old mid new sector put (with_inode (volume_view old) (now (past_of old)) number part) Device result same later rewritten writes)

@@ -14,7 +14,8 @@ use Rattle.minix_zones.specs.declared.volume.Volume.{Volume}
 use Rattle.minix_steps.specs.Steps.{IsReady, IsUnusedZone, IsUnnamedInode}
 use Rattle.minix_steps.specs.Written.{parts_now}
 use Rattle.minix_steps.proofs.HarmlessLemmas.{zone_mark_inside, inode_mark_inside}
-use Rattle.minix_steps.proofs.StepLemmas.{now_beside, left_told}
+use Rattle.disk_trait.proofs.MomentLemmas.{left_told}
+use Rattle.minix_steps.proofs.StepLemmas.{now_beside}
 
 differ : (value : Bool) → value ≡ true → value ≡ false → ⊥
 differ value is isnt = let both : true ≡ false = sym is ∙ isnt in cc

@@ -1,10 +1,12 @@
 -- What a step leaves, and how steps go on.
-use Rattle.std.proofs.Common.{◌≡◌, ◌⊎◌, ◌↔◌, ◌<◌, ◌≤◌, ◌+◌, ◌*◌, ℕ, List, Option, Some, None, Result, Ok, Err, OnOk, OnErr, refl, sym, ◌∙◌, subst, inl, inr, ⊎_elim, arith}
+use Rattle.std.proofs.Common.{◌≡◌, ◌⊎◌, ◌<◌, ◌≤◌, ◌+◌, ◌*◌, ℕ, List, Option, Some, None, Result, refl, sym, ◌∙◌, subst, inl, inr, ⊎_elim}
 use Rattle.std.proofs.Math.Path.{subst₂}
 use Rattle.disk_trait.specs.declared.disks.Disks.{Ghosts}
 use Rattle.disk_trait.specs.Past.{Image, Past}
-use Rattle.disk_trait.specs.Moments.{IsTold, now, begun, MayLeave, LeftSince, LeftOrWritten, MayWrite, LeavesOnly, IsWhole, StaysWhole, IsQuiet, IsWholeImage}
-use Rattle.disk_trait.proofs.MomentLemmas.{at_now, leaves_none, leaves_same, leaves_weaker, leaves_join, ok_or_err, whole_same}
+use Rattle.disk_trait.specs.Moments.{IsTold, now, begun, MayLeave, LeftSince, LeftOrWritten, LeavesOnly, IsQuiet}
+use Rattle.disk_trait.specs.Calls.{GoesOn}
+use Rattle.disk_trait.proofs.MomentLemmas.{at_now, left_told, leaves_none, leaves_weaker, leaves_join, ok_or_err}
+use Rattle.disk_trait.proofs.CallLemmas.{goes_on_join}
 use Rattle.lilo_model.specs.MinixParts as model
 use Rattle.lilo_model.specs.MinixNames.{IsSound}
 use Rattle.minix_beside_laws.specs.Beside.{Harmless, Beside, SoundAsIn, IsUnused, IsUnnamed}
@@ -13,19 +15,12 @@ use Rattle.minix_layout.specs.View.{super_view}
 use Rattle.minix_layout.specs.declared.superblock.Super.{Super}
 use Rattle.disk_trait.specs.declared.disks.Span.{Span}
 use Rattle.minix_zones.specs.View.{span_view}
-use Rattle.minix_zones.specs.Volume.{volume_view, past_of, faults_of, sizes_of, count_of, geometries_of, KeepsVolume, SameVolume}
+use Rattle.minix_zones.specs.Volume.{volume_view, past_of, faults_of, KeepsVolume, SameVolume, WritesSector, Syncs}
+use Rattle.minix_zones.proofs.WriteLemmas.{goes_on_unchanged, keeps_join, keeps_same}
 use Rattle.minix_zones.specs.declared.volume.Volume.{Volume}
-use Rattle.minix_zones.specs.declared.zone_fault.ZoneFault.{ZoneFault}
-use Rattle.minix_bits.specs.declared.bit_fault.BitFault.{BitFault}
-use Rattle.minix_bits.specs.Mark.{Writes}
 use Rattle.minix_steps.specs.Steps.{Within, IsReady, IsUnusedZone, IsUnnamedInode, Steps}
 
 -- ---- where an image is left, the past is told
-
-pub left_told : (past : Option Past) (c : Image) → MayLeave past c → IsTold past
-unfolding MayLeave IsTold
-left_told None c left = left
-left_told (Some past) c left = tt
 
 since_told : (past : Option Past) (t : ℕ) (c : Image) → LeftSince past t c → IsTold past
 unfolding LeftSince IsTold
@@ -47,13 +42,6 @@ same_view old new kept =
     let P : Span → Super → Type 0 = λ span layout. record { span = span_view span; layout = super_view layout } ≡ volume_view old in
     subst₂ P (sym kept.same_span) (sym kept.same_layout) refl
 
-pub keeps_join : {D : Type 0} {disks : Ghosts D} (old mid new : Volume D disks) → KeepsVolume old mid → KeepsVolume mid new → KeepsVolume old new
-keeps_join old mid new first next = record {
-  same_span = next.same_span ∙ first.same_span;
-  same_layout = next.same_layout ∙ first.same_layout;
-  same_reference = next.same_reference ∙ first.same_reference;
-}
-
 -- ---- one sector with harmless bytes
 
 module _ (view : model.Volume) (old : Option Past) (sector : ℕ) (bytes : List ℕ)
@@ -70,18 +58,14 @@ module _ (view : model.Volume) (old : Option Past) (sector : ℕ) (bytes : List 
       left.2
 
 -- what makes a step of calls on the disks
-module _ {D : Type 0} {disks : Ghosts D} (old new : Volume D disks) (ready : IsReady old)
-    (told : IsTold (past_of new) ↔ IsTold (past_of old))
+module _ {D : Type 0} {disks : Ghosts D} (old new : Volume D disks) (ready : IsReady old) (goes_on : GoesOn disks old.disks.now new.disks.now)
     (run : LeavesOnly (past_of old) (past_of new) (Beside (volume_view old) (begun (past_of old))))
     (begun_beside : IsTold (past_of old) → Beside (volume_view old) (begun (past_of old)) (begun (past_of new)))
-    (after : (c : Image) → MayLeave (past_of new) c → Beside (volume_view old) (begun (past_of new)) c)
-    (whole : IsWhole (sizes_of old) (past_of old) → StaysWhole (sizes_of old) (past_of old) (past_of new))
-    (later : faults_of old ≤ faults_of new) (size : sizes_of new ≡ sizes_of old) (count : count_of new ≡ count_of old)
-    (geometry : geometries_of new ≡ geometries_of old) (kept : KeepsVolume old new) where
+    (after : (c : Image) → MayLeave (past_of new) c → Beside (volume_view old) (begun (past_of new)) c) (kept : KeepsVolume old new) where
   now_ready : IsReady new
   now_ready = record {
     sound = λ is.
-        let before : IsTold (past_of old) = told.0 is in
+        let before : IsTold (past_of old) = goes_on.told_before is in
         let P : model.Volume → Type 0 = λ view. IsSound view (begun (past_of new)) in
         subst P (sym (same_view old new kept)) (beside_law (volume_view old) (begun (past_of old)) (begun (past_of new)) (ready.sound before) (begun_beside before)).sound;
     within = λ c left.
@@ -89,74 +73,68 @@ module _ {D : Type 0} {disks : Ghosts D} (old new : Volume D disks) (ready : IsR
         subst P (sym (same_view old new kept)) (after c left);
   }
 
+  still_unused : (zone : ℕ) → IsUnusedZone old zone → IsUnusedZone new zone
+  still_unused zone unused = record {
+    unused = λ is.
+        let told : IsTold (past_of old) = goes_on.told_before is in
+        let named = named_law (volume_view old) (begun (past_of old)) (begun (past_of new)) (ready.sound told) (begun_beside told) in
+        let P : model.Volume → Type 0 = λ view. IsUnused view (begun (past_of new)) zone in
+        subst P (sym (same_view old new kept)) (λ number at refers. unused.unused told number at ((named.refers number at zone).0 refers));
+  }
+
+  still_unnamed : (number : ℕ) → IsUnnamedInode old number → IsUnnamedInode new number
+  still_unnamed number unnamed = record {
+    unnamed = λ is.
+        let told : IsTold (past_of old) = goes_on.told_before is in
+        let named = named_law (volume_view old) (begun (past_of old)) (begun (past_of new)) (ready.sound told) (begun_beside told) in
+        let P : model.Volume → Type 0 = λ view. IsUnnamed view (begun (past_of new)) number in
+        subst P (sym (same_view old new kept)) (λ has_name. unnamed.unnamed told ((named.named number).0 has_name));
+  }
+
   pub made_step : Steps old new
   made_step = record {
-    told = told;
     any_moment = run;
     names = leaves_told (past_of old) (past_of new) (Beside (volume_view old) (begun (past_of old))) (SoundAsIn (volume_view old) (begun (past_of old))) run
-        (λ is c beside. beside_law (volume_view old) (begun (past_of old)) c (ready.sound (told.0 is)) beside);
+        (λ is c beside. beside_law (volume_view old) (begun (past_of old)) c (ready.sound (goes_on.told_before is)) beside);
     beside = begun_beside;
     sound = λ is. beside_law (volume_view old) (begun (past_of old)) (begun (past_of new)) (ready.sound is) (begun_beside is);
     ready = now_ready;
-    whole = whole;
-    later = later;
-    size = size;
-    count = count;
-    geometry = geometry;
+    unused = still_unused;
+    unnamed = still_unnamed;
+    goes_on = goes_on;
     kept = kept;
   }
 
--- the write of one sector is a step
-module _ {D : Type 0} {disks : Ghosts D} (old new : Volume D disks) (sector : ℕ) (bytes : List ℕ) (ready : IsReady old)
+-- a write of one sector with harmless bytes is a step
+module _ {D E : Type 0} {disks : Ghosts D} (old new : Volume D disks) (sector : ℕ) (bytes : List ℕ) (error : E) (result : Result (Unit {0}) E) (ready : IsReady old)
     (inside : sector < 2 * old.layout.zones)
     (harmless : IsTold (past_of old) → Harmless (volume_view old) (begun (past_of old)) sector bytes)
-    (told : IsTold (past_of old) → IsTold (past_of new)) (begun_same : begun (past_of new) ≡ begun (past_of old))
-    (left : MayWrite old.span.disk (old.span.start + sector) bytes (past_of old) (past_of new))
-    (run : LeavesOnly (past_of old) (past_of new) (LeftOrWritten (past_of old) old.span.disk (old.span.start + sector) bytes)) where
-  told_before : IsTold (past_of new) → IsTold (past_of old)
-  told_before is =
-      let from = left (now (past_of new)) (at_now (past_of new) is) in
-      left_told (past_of old) from.0 from.1
-
+    (call : WritesSector old new sector bytes error result) where
   beside_left : (c : Image) → LeftOrWritten (past_of old) old.span.disk (old.span.start + sector) bytes c → Beside (volume_view old) (begun (past_of old)) c
   beside_left = beside_written (volume_view old) (past_of old) sector bytes ready.sound ready.within inside harmless
 
-  pub write_step : (IsWhole (sizes_of old) (past_of old) → StaysWhole (sizes_of old) (past_of old) (past_of new))
-      → faults_of old ≤ faults_of new → sizes_of new ≡ sizes_of old → count_of new ≡ count_of old
-      → geometries_of new ≡ geometries_of old → KeepsVolume old new → Steps old new
-  write_step = made_step old new ready (told_before, told)
-      (leaves_weaker (past_of old) (past_of new) (LeftOrWritten (past_of old) old.span.disk (old.span.start + sector) bytes) (Beside (volume_view old) (begun (past_of old))) run beside_left)
+  pub write_step : Steps old new
+  write_step = made_step old new ready call.writes.goes_on
+      (leaves_weaker (past_of old) (past_of new) (LeftOrWritten (past_of old) old.span.disk (old.span.start + sector) bytes) (Beside (volume_view old) (begun (past_of old))) call.writes.any_moment beside_left)
       (λ is.
       let P : Image → Type 0 = Beside (volume_view old) (begun (past_of old)) in
-      subst P (sym begun_same) (same_law (volume_view old) (begun (past_of old)) (ready.sound is)))
+      subst P (sym call.same_begun) (same_law (volume_view old) (begun (past_of old)) (ready.sound is)))
       (λ c may.
       let P : Image → Type 0 = λ image. Beside (volume_view old) image c in
-      subst P (sym begun_same) (beside_left c (left c may)))
-
--- a call of minix_bits that writes harmless bytes is a step
-pub marks_step : {D : Type 0} {disks : Ghosts D} (old new : Volume D disks) (sector : ℕ) (bytes : List ℕ) (result : Result (Unit {0}) BitFault)
-    → IsReady old → sector < 2 * old.layout.zones
-    → (IsTold (past_of old) → Harmless (volume_view old) (begun (past_of old)) sector bytes)
-    → Writes old new (old.span.start + sector) bytes result → Steps old new
-marks_step old new sector bytes result ready inside harmless w =
-    write_step old new sector bytes ready inside harmless w.told w.begun w.left w.any_moment w.whole w.later w.size w.count w.geometry w.kept
+      subst P (sym call.same_begun) (beside_left c (call.writes.left c may)))
+      call.kept
 
 -- no call was made
 pub no_step : {D : Type 0} {disks : Ghosts D} (old new : Volume D disks) → IsReady old → SameVolume old new → faults_of old ≤ faults_of new → Steps old new
 no_step old new ready same later =
     let past : past_of new ≡ past_of old = same.same_disks.same_past in
     let B : Image → Type 0 = Beside (volume_view old) (begun (past_of old)) in
-    made_step old new ready
-    (let P : Option Past → Type 0 = λ p. IsTold p ↔ IsTold (past_of old) in subst P (sym past) (λ is. is, λ is. is))
+    made_step old new ready (goes_on_unchanged old new same later)
     (let P : Option Past → Type 0 = λ p. LeavesOnly (past_of old) p B in subst P (sym past) (leaves_none (past_of old) B ready.within))
     (λ is. let P : Option Past → Type 0 = λ p. Beside (volume_view old) (begun (past_of old)) (begun p) in
     subst P (sym past) (same_law (volume_view old) (begun (past_of old)) (ready.sound is)))
     (let P : Option Past → Type 0 = λ p. (c : Image) → MayLeave p c → Beside (volume_view old) (begun p) c in subst P (sym past) ready.within)
-    (λ whole. let P : Option Past → Type 0 = λ p. StaysWhole (sizes_of old) (past_of old) p in
-    subst P (sym past) (whole_same (sizes_of old) (past_of old) (past_of old) (λ c left. left) (leaves_same (past_of old)) whole))
-    later
-    same.same_disks.same_size same.same_disks.same_count same.same_disks.same_geometry
-    (record { same_span = same.same_span; same_layout = same.same_layout; same_reference = same.same_reference })
+    (keeps_same old new same)
 
 -- ---- what disks hold now is beside what they held at the last flush
 
@@ -165,17 +143,8 @@ pub now_beside : {D : Type 0} {disks : Ghosts D} (volume : Volume D disks) → I
 now_beside volume ready told = ready.within (now (past_of volume)) (at_now (past_of volume) told)
 
 -- a flush is a step
-module _ {D : Type 0} {disks : Ghosts D} (old new : Volume D disks) (result : Result (Unit {0}) ZoneFault) (ready : IsReady old)
-    (told : IsTold (past_of old) → IsTold (past_of new))
-    (left : (c : Image) → MayLeave (past_of new) c → MayLeave (past_of old) c)
-    (run : LeavesOnly (past_of old) (past_of new) (MayLeave (past_of old)))
-    (now_kept : now (past_of new) ≡ now (past_of old))
-    (failed : OnErr result (past_of new ≡ past_of old))
-    (begun_now : OnOk result (begun (past_of new) ≡ now (past_of old)))
-    (quiet : OnOk result (IsQuiet (past_of new))) where
-  flushed_before : IsTold (past_of new) → IsTold (past_of old)
-  flushed_before is = left_told (past_of old) (now (past_of new)) (left (now (past_of new)) (at_now (past_of new) is))
-
+module _ {D E : Type 0} {disks : Ghosts D} (old new : Volume D disks) (error : E) (result : Result (Unit {0}) E) (ready : IsReady old)
+    (call : Syncs old new error result) where
   -- what is held at the last flush is what the disks hold, or what was held before
   begun_by : (begun (past_of new) ≡ now (past_of old)) ⊎ (past_of new ≡ past_of old) → IsTold (past_of old) → Beside (volume_view old) (begun (past_of old)) (begun (past_of new))
   begun_by (inl is) before =
@@ -186,7 +155,7 @@ module _ {D : Type 0} {disks : Ghosts D} (old new : Volume D disks) (result : Re
       subst P (sym same) (same_law (volume_view old) (begun (past_of old)) (ready.sound before))
 
   flushed_begun : IsTold (past_of old) → Beside (volume_view old) (begun (past_of old)) (begun (past_of new))
-  flushed_begun = begun_by (ok_or_err result (begun (past_of new) ≡ now (past_of old)) (past_of new ≡ past_of old) begun_now failed)
+  flushed_begun = begun_by (ok_or_err result (begun (past_of new) ≡ now (past_of old)) (past_of new ≡ past_of old) call.flushes.durable call.flushes.failed)
 
   after_by : (begun (past_of new) ≡ now (past_of old)) ⊎ (past_of new ≡ past_of old) → IsQuiet (past_of new) ⊎ (past_of new ≡ past_of old)
       → (c : Image) → MayLeave (past_of new) c → Beside (volume_view old) (begun (past_of new)) c
@@ -197,25 +166,24 @@ module _ {D : Type 0} {disks : Ghosts D} (old new : Volume D disks) (result : Re
       let P : Option Past → Type 0 = λ p. MayLeave p c → Beside (volume_view old) (begun p) c in
       subst P (sym same) (ready.within c) may
   after_by (inl is) (inl calm) c may =
-      let before : IsTold (past_of old) = left_told (past_of old) c (left c may) in
-      let held : c ≡ begun (past_of new) = calm c may ∙ (now_kept ∙ sym is) in
+      let before : IsTold (past_of old) = left_told (past_of old) c (call.flushes.left c may) in
+      let held : c ≡ begun (past_of new) = calm c may ∙ (call.flushes.same_now ∙ sym is) in
       let P : Image → Type 0 = Beside (volume_view old) (begun (past_of new)) in
       subst P (sym held) (same_law (volume_view old) (begun (past_of new))
       (beside_law (volume_view old) (begun (past_of old)) (begun (past_of new)) (ready.sound before) (flushed_begun before)).sound)
 
-  pub flush_step : (IsWhole (sizes_of old) (past_of old) → StaysWhole (sizes_of old) (past_of old) (past_of new))
-      → faults_of old ≤ faults_of new → sizes_of new ≡ sizes_of old → count_of new ≡ count_of old
-      → geometries_of new ≡ geometries_of old → KeepsVolume old new → Steps old new
-  flush_step = made_step old new ready (flushed_before, told)
-      (leaves_weaker (past_of old) (past_of new) (MayLeave (past_of old)) (Beside (volume_view old) (begun (past_of old))) run ready.within)
+  pub flush_step : Steps old new
+  flush_step = made_step old new ready call.flushes.goes_on
+      (leaves_weaker (past_of old) (past_of new) (MayLeave (past_of old)) (Beside (volume_view old) (begun (past_of old))) call.flushes.any_moment ready.within)
       flushed_begun
-      (after_by (ok_or_err result (begun (past_of new) ≡ now (past_of old)) (past_of new ≡ past_of old) begun_now failed)
-      (ok_or_err result (IsQuiet (past_of new)) (past_of new ≡ past_of old) quiet failed))
+      (after_by (ok_or_err result (begun (past_of new) ≡ now (past_of old)) (past_of new ≡ past_of old) call.flushes.durable call.flushes.failed)
+      (ok_or_err result (IsQuiet (past_of new)) (past_of new ≡ past_of old) call.flushes.quiet call.flushes.failed))
+      call.kept
 
   pub flush_sound : IsTold (past_of old) → SoundAsIn (volume_view old) (begun (past_of old)) (now (past_of new))
   flush_sound before =
       let P : Image → Type 0 = SoundAsIn (volume_view old) (begun (past_of old)) in
-      subst P (sym now_kept) (beside_law (volume_view old) (begun (past_of old)) (now (past_of old)) (ready.sound before) (now_beside old ready before))
+      subst P (sym call.flushes.same_now) (beside_law (volume_view old) (begun (past_of old)) (now (past_of old)) (ready.sound before) (now_beside old ready before))
 
 -- ---- steps in a row
 
@@ -226,54 +194,20 @@ module _ {D : Type 0} {disks : Ghosts D} (old new : Volume D disks) (ready : IsR
       let P : model.Volume → Type 0 = λ view. Beside view (begun (past_of new)) c in
       join_law (volume_view old) (begun (past_of old)) (begun (past_of new)) c (ready.sound told) (steps.beside told) (subst P (same_view old new steps.kept) beside)
 
-  pub still_unused : (zone : ℕ) → IsUnusedZone old zone → IsUnusedZone new zone
-  still_unused zone unused = record {
-    unused = λ is.
-        let told : IsTold (past_of old) = steps.told.0 is in
-        let named = named_law (volume_view old) (begun (past_of old)) (begun (past_of new)) (ready.sound told) (steps.beside told) in
-        let P : model.Volume → Type 0 = λ view. IsUnused view (begun (past_of new)) zone in
-        subst P (sym (same_view old new steps.kept)) (λ number at refers. unused.unused told number at ((named.refers number at zone).0 refers));
-  }
-
-  pub still_unnamed : (number : ℕ) → IsUnnamedInode old number → IsUnnamedInode new number
-  still_unnamed number unnamed = record {
-    unnamed = λ is.
-        let told : IsTold (past_of old) = steps.told.0 is in
-        let kept = named_law (volume_view old) (begun (past_of old)) (begun (past_of new)) (ready.sound told) (steps.beside told) in
-        let P : model.Volume → Type 0 = λ view. IsUnnamed view (begun (past_of new)) number in
-        subst P (sym (same_view old new steps.kept)) (λ named. unnamed.unnamed told ((kept.named number).0 named));
-  }
-
-whole_join : {D : Type 0} {disks : Ghosts D} (old mid new : Volume D disks) → Steps old mid → Steps mid new
-    → IsWhole (sizes_of old) (past_of old) → StaysWhole (sizes_of old) (past_of old) (past_of new)
-whole_join old mid new first next whole =
-    let one : StaysWhole (sizes_of old) (past_of old) (past_of mid) = first.whole whole in
-    let P : (ℕ → ℕ) → Type 0 = λ size_of. IsWhole size_of (past_of mid) → StaysWhole size_of (past_of mid) (past_of new) in
-    let two : StaysWhole (sizes_of old) (past_of mid) (past_of new) = subst P first.size next.whole one.after in
-    record { after = two.after; any_moment = leaves_join (past_of old) (past_of mid) (past_of new) (IsWholeImage (sizes_of old)) one.any_moment two.any_moment }
-
 pub steps_join : {D : Type 0} {disks : Ghosts D} (old mid new : Volume D disks) → IsReady old → Steps old mid → Steps mid new → Steps old new
-steps_join old mid new ready first next =
+steps_join {disks} old mid new ready first next =
     let B : Image → Type 0 = Beside (volume_view old) (begun (past_of old)) in
     let M : Image → Type 0 = Beside (volume_view mid) (begun (past_of mid)) in
     let view : volume_view mid ≡ volume_view old = same_view old mid first.kept in
     made_step old new ready
-    (λ is. first.told.0 (next.told.0 is), λ is. next.told.1 (first.told.1 is))
+    (goes_on_join disks old.disks.now mid.disks.now new.disks.now first.goes_on next.goes_on)
     (leaves_join (past_of old) (past_of mid) (past_of new) B first.any_moment
-    (leaves_told (past_of mid) (past_of new) M B next.any_moment (λ is. beside_before old mid ready first (first.told.0 (next.told.0 is)))))
-    (λ told. beside_before old mid ready first told (begun (past_of new)) (next.beside (first.told.1 told)))
+    (leaves_told (past_of mid) (past_of new) M B next.any_moment (λ is. beside_before old mid ready first (first.goes_on.told_before (next.goes_on.told_before is)))))
+    (λ told. beside_before old mid ready first told (begun (past_of new)) (next.beside (first.goes_on.told told)))
     (λ c may.
     let P : model.Volume → Type 0 = λ v. Beside v (begun (past_of new)) c in
     subst P (same_view mid new next.kept ∙ view) (next.ready.within c may))
-    (whole_join old mid new first next)
-    (omega (arith, first.later, next.later))
-    (next.size ∙ first.size) (next.count ∙ first.count) (next.geometry ∙ first.geometry)
     (keeps_join old mid new first.kept next.kept)
-
--- what holds holds after Ok
-pub on_ok_told : {T E : Type 0} (result : Result T E) (P : Type 0) → P → OnOk result P
-on_ok_told (Ok value) P holds = holds
-on_ok_told (Err fault) P holds = tt
 
 -- a step after a call that changed nothing
 pub after_step : {D : Type 0} {disks : Ghosts D} (old mid new : Volume D disks) → IsReady old → SameVolume old mid → faults_of old ≤ faults_of mid → Steps mid new → Steps old new

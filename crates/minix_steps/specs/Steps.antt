@@ -1,13 +1,14 @@
 -- When a step of a writer may be taken on a volume, and what it leaves (a rule of this project's own). What is said of
 -- bytes holds where the disks tell their past; where they don't, the conditions hold of themselves.
-use Rattle.std.specs.Prelude.{◌≡◌, ◌≤◌, ◌↔◌, ℕ, Option}
+use Rattle.std.specs.Prelude.{ℕ, Option}
 use Rattle.disk_trait.specs.declared.disks.Disks.{Ghosts}
 use Rattle.disk_trait.specs.Past.{Image, Past}
-use Rattle.disk_trait.specs.Moments.{IsTold, begun, MayLeave, LeavesOnly, IsWhole, StaysWhole}
+use Rattle.disk_trait.specs.Moments.{IsTold, begun, MayLeave, LeavesOnly}
+use Rattle.disk_trait.specs.Calls.{GoesOn}
 use Rattle.lilo_model.specs.MinixParts as model
 use Rattle.lilo_model.specs.MinixNames.{IsSound}
 use Rattle.minix_beside_laws.specs.Beside.{IsUnnamed, IsUnused, Beside, SoundAsIn}
-use Rattle.minix_zones.specs.Volume.{volume_view, past_of, faults_of, sizes_of, count_of, geometries_of, KeepsVolume}
+use Rattle.minix_zones.specs.Volume.{volume_view, past_of, KeepsVolume}
 use Rattle.minix_zones.specs.declared.volume.Volume.{Volume}
 
 -- whatever a stop leaves is beside what was held at the last flush
@@ -29,7 +30,6 @@ pub record IsUnnamedInode {D : Type 0} {disks : Ghosts D} (volume : Volume D dis
 
 -- What one step or several in a row leave, also where the last one was refused.
 pub record Steps {D : Type 0} {disks : Ghosts D} (old new : Volume D disks) : Type 0 where
-  pub told : IsTold (past_of new) ↔ IsTold (past_of old)
   -- whatever a stop leaves at any moment is beside what was held at the last flush before, hence sound with the same
   -- Names
   pub any_moment : LeavesOnly (past_of old) (past_of new) (Beside (volume_view old) (begun (past_of old)))
@@ -39,10 +39,9 @@ pub record Steps {D : Type 0} {disks : Ghosts D} (old new : Volume D disks) : Ty
   pub sound : IsTold (past_of old) → SoundAsIn (volume_view old) (begun (past_of old)) (begun (past_of new))
   -- the next step may be taken
   pub ready : IsReady new
-  pub whole : IsWhole (sizes_of old) (past_of old) → StaysWhole (sizes_of old) (past_of old) (past_of new)
+  -- what no named inode used, or no name led to, is so still
+  pub unused : (zone : ℕ) → IsUnusedZone old zone → IsUnusedZone new zone
+  pub unnamed : (number : ℕ) → IsUnnamedInode old number → IsUnnamedInode new number
   -- what stays
-  pub later : faults_of old ≤ faults_of new
-  pub size : sizes_of new ≡ sizes_of old
-  pub count : count_of new ≡ count_of old
-  pub geometry : geometries_of new ≡ geometries_of old
+  pub goes_on : GoesOn disks old.disks.now new.disks.now
   pub kept : KeepsVolume old new

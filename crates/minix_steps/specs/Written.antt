@@ -1,8 +1,7 @@
 -- What a step writes.
-use Rattle.std.specs.Prelude.{◌≡◌, ◌⊎◌, ◌+◌, ℕ, List, Result, OnOk, IfErr}
+use Rattle.std.specs.Prelude.{◌≡◌, ◌⊎◌, ◌+◌, ℕ, List}
 use Rattle.disk_trait.specs.declared.disks.Disks.{Ghosts}
-use Rattle.disk_trait.specs.Cause.{Rose}
-use Rattle.disk_trait.specs.Moments.{IsTold, now, begun}
+use Rattle.disk_trait.specs.Moments.{now}
 use Rattle.disk_trait.specs.Past.{Image, with_sector}
 use Rattle.disk_trait.specs.Range.{SameOutside}
 use Rattle.lilo_model.specs.Bytes.{part_of, with_part}
@@ -10,26 +9,12 @@ use Rattle.lilo_model.specs.MinixLayout.{Inode, inode_bytes, inode_place, zone_s
 use Rattle.lilo_model.specs.MinixParts as model
 use Rattle.lilo_model.specs.MinixParts.{sector_of}
 use Rattle.minix_layout.specs.View.{kind_view}
-use Rattle.minix_zones.specs.Volume.{volume_view, past_of, faults_of}
+use Rattle.minix_zones.specs.Volume.{volume_view, past_of}
 use Rattle.minix_zones.specs.declared.volume.Volume.{Volume}
-use Rattle.minix_zones.specs.declared.zone_fault.ZoneFault.{ZoneFault}
-use Rattle.minix_zones.specs.declared.zone_fault.ZoneFault.TheVariants as faults
 
 -- an image with other bytes in one sector of a volume
 abbrev pub with_sector_of : model.Volume → Image → ℕ → List ℕ → Image
 with_sector_of volume image sector bytes = with_sector image volume.span.disk (volume.span.start + sector) bytes
-
--- a step was refused because the disk failed, and its count of faults rose
-abbrev pub HasStepCause : {D : Type 0} {disks : Ghosts D} → Volume D disks → Volume D disks → Result (Unit {0}) ZoneFault → Type 0
-HasStepCause old new result = IfErr result (λ fault. (fault ≡ faults.Device) × Rose (faults_of old) (faults_of new))
-
--- A step wrote these bytes into one sector of a volume, without a flush; one that was refused has written them or
--- hasn't.
-pub record WritesOne {D : Type 0} {disks : Ghosts D} (old new : Volume D disks) (sector : ℕ) (bytes : List ℕ) (result : Result (Unit {0}) ZoneFault) : Type 0 where
-  pub written : IsTold (past_of old) → OnOk result (now (past_of new) ≡ with_sector_of (volume_view old) (now (past_of old)) sector bytes)
-  pub made : IsTold (past_of old) → (now (past_of new) ≡ with_sector_of (volume_view old) (now (past_of old)) sector bytes) ⊎ (now (past_of new) ≡ now (past_of old))
-  pub begun : begun (past_of new) ≡ begun (past_of old)
-  pub device : HasStepCause old new result
 
 -- an image with other bytes in a zone of a volume
 abbrev pub with_zone : model.Volume → Image → ℕ → List ℕ → Image

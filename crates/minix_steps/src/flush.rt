@@ -1,10 +1,9 @@
 // What makes steps durable.
-ghost use Rattle.std.specs.Prelude.{◌≡◌, OnOk, OnErr};
-ghost use Rattle.disk_trait.specs.Moments.{IsTold, now, begun, IsQuiet};
+ghost use Rattle.std.specs.Prelude.{◌≡◌, OnOk};
+ghost use Rattle.disk_trait.specs.Moments.{IsTold, now, begun};
 ghost use Rattle.minix_beside_laws.specs.Beside.{SoundAsIn};
-ghost use Rattle.minix_zones.specs.Volume.{volume_view, past_of};
+ghost use Rattle.minix_zones.specs.Volume.{volume_view, past_of, Syncs};
 ghost use Rattle.minix_steps.specs.Steps.{IsReady, Steps};
-ghost use Rattle.minix_steps.specs.Written.{HasStepCause};
 
 use disk_trait::Disks;
 use minix_zones::{Volume, ZoneFault};
@@ -18,16 +17,10 @@ use minix_zones::{Volume, ZoneFault};
 pub fn settle<D: Disks>(volume: &mut Volume<'_, D>) -> Result<(), ZoneFault>
     requires { IsReady volume.old }
     ensures steps { Steps volume.old volume.new }
-    ensures failed { OnErr result (past_of volume.new ≡ past_of volume.old) }
-
-    // What the disks hold now, and what they held at the last flush.
-    ensures now { now (past_of volume.new) ≡ now (past_of volume.old) }
+    ensures syncs { Syncs volume.old volume.new ZoneFault.Device result }
     ensures begun { OnOk result (begun (past_of volume.new) ≡ now (past_of volume.new)) }
-    ensures quiet { OnOk result (IsQuiet (past_of volume.new)) }
     ensures sound { IsTold (past_of volume.old)
         → OnOk result (SoundAsIn (volume_view volume.old) (begun (past_of volume.old)) (now (past_of volume.new))) }
-
-    ensures device { HasStepCause volume.old volume.new result }
 {
     volume.sync()
 }

@@ -4,10 +4,10 @@ ghost use Rattle.disk_trait.specs.Moments.{IsTold};
 ghost use Rattle.lilo_model.specs.Bytes.{with_part};
 ghost use Rattle.lilo_model.specs.MinixLayout.{inode_size, inode_bytes, inode_place, most_links, number_size};
 ghost use Rattle.minix_layout.specs.View.{kind_view, super_view, inode_view};
-ghost use Rattle.minix_zones.specs.Volume.{volume_view, past_of};
+ghost use Rattle.minix_zones.specs.Volume.{volume_view, past_of, WritesSector};
 ghost use Rattle.minix_steps.specs.Laws.{OneInode};
 ghost use Rattle.minix_steps.specs.Steps.{IsReady, IsUnnamedInode, Steps};
-ghost use Rattle.minix_steps.specs.Written.{WritesOne, inode_rewritten, parts_now};
+ghost use Rattle.minix_steps.specs.Written.{inode_rewritten, parts_now};
 
 use crate::write::write_beside;
 use disk_trait::Disks;
@@ -34,8 +34,8 @@ pub fn write_inode<D: Disks>(
     requires ready { IsReady volume.old }
     requires unnamed { IsUnnamedInode volume.old number }
     ensures steps { Steps volume.old volume.new }
-    ensures writes { WritesOne volume.old volume.new (inode_place (super_view volume.old.layout) number).sector
-        (inode_rewritten volume.old number (inode_view inode.now)) result }
+    ensures writes { WritesSector volume.old volume.new (inode_place (super_view volume.old.layout) number).sector
+        (inode_rewritten volume.old number (inode_view inode.now)) ZoneFault.Device result }
     ensures parts { IsTold (past_of volume.old) → OnOk result (OneInode (volume_view volume.old)
         (parts_now volume.old) (parts_now volume.new) number
         (inode_bytes (kind_view volume.old.layout.kind) (inode_view inode.now))) }

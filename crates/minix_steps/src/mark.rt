@@ -5,9 +5,9 @@ ghost use Rattle.lilo_model.specs.MinixParts.{inode_mark_sector, zone_mark_secto
 ghost use Rattle.minix_bits.specs.Laws.{OneZoneMark, OneInodeMark};
 ghost use Rattle.minix_bits.specs.Mark.{zone_remarked, inode_remarked};
 ghost use Rattle.minix_layout.specs.View.{super_view};
-ghost use Rattle.minix_zones.specs.Volume.{volume_view, past_of};
+ghost use Rattle.minix_zones.specs.Volume.{volume_view, past_of, WritesSector};
 ghost use Rattle.minix_steps.specs.Steps.{IsReady, IsUnusedZone, IsUnnamedInode, Steps};
-ghost use Rattle.minix_steps.specs.Written.{WritesOne, parts_now};
+ghost use Rattle.minix_steps.specs.Written.{parts_now};
 
 use disk_trait::Disks;
 use minix_bits::{clear_inode, clear_zone, mark_inode, mark_zone};
@@ -23,8 +23,8 @@ pub fn put_zone_mark<D: Disks>(volume: &mut Volume<'_, D>, zone: u32) -> Result<
     requires below { zone < volume.old.layout.zones }
     requires ready { IsReady volume.old }
     ensures steps { Steps volume.old volume.new }
-    ensures writes { WritesOne volume.old volume.new (zone_mark_sector (super_view volume.old.layout) zone)
-        (zone_remarked volume.old zone true) result }
+    ensures writes { WritesSector volume.old volume.new (zone_mark_sector (super_view volume.old.layout) zone)
+        (zone_remarked volume.old zone true) ZoneFault.Device result }
     ensures parts { IsTold (past_of volume.old) → OnOk result (OneZoneMark (volume_view volume.old)
         (parts_now volume.old) (parts_now volume.new) zone true) }
 {
@@ -45,8 +45,8 @@ pub fn free_zone<D: Disks>(volume: &mut Volume<'_, D>, zone: u32) -> Result<(), 
     requires ready { IsReady volume.old }
     requires unused { IsUnusedZone volume.old zone }
     ensures steps { Steps volume.old volume.new }
-    ensures writes { WritesOne volume.old volume.new (zone_mark_sector (super_view volume.old.layout) zone)
-        (zone_remarked volume.old zone false) result }
+    ensures writes { WritesSector volume.old volume.new (zone_mark_sector (super_view volume.old.layout) zone)
+        (zone_remarked volume.old zone false) ZoneFault.Device result }
     ensures parts { IsTold (past_of volume.old) → OnOk result (OneZoneMark (volume_view volume.old)
         (parts_now volume.old) (parts_now volume.new) zone false) }
 {
@@ -66,8 +66,8 @@ pub fn put_inode_mark<D: Disks>(volume: &mut Volume<'_, D>, number: u32) -> Resu
     requires there { number ≤ volume.old.layout.inodes }
     requires ready { IsReady volume.old }
     ensures steps { Steps volume.old volume.new }
-    ensures writes { WritesOne volume.old volume.new (inode_mark_sector number)
-        (inode_remarked volume.old number true) result }
+    ensures writes { WritesSector volume.old volume.new (inode_mark_sector number)
+        (inode_remarked volume.old number true) ZoneFault.Device result }
     ensures parts { IsTold (past_of volume.old) → OnOk result (OneInodeMark (volume_view volume.old)
         (parts_now volume.old) (parts_now volume.new) number true) }
 {
@@ -89,8 +89,8 @@ pub fn free_inode<D: Disks>(volume: &mut Volume<'_, D>, number: u32) -> Result<(
     requires ready { IsReady volume.old }
     requires unnamed { IsUnnamedInode volume.old number }
     ensures steps { Steps volume.old volume.new }
-    ensures writes { WritesOne volume.old volume.new (inode_mark_sector number)
-        (inode_remarked volume.old number false) result }
+    ensures writes { WritesSector volume.old volume.new (inode_mark_sector number)
+        (inode_remarked volume.old number false) ZoneFault.Device result }
     ensures parts { IsTold (past_of volume.old) → OnOk result (OneInodeMark (volume_view volume.old)
         (parts_now volume.old) (parts_now volume.new) number false) }
 {

@@ -41,19 +41,3 @@ pub fn steps_join<D: Disks>(old: &Volume<'_, D>, mid: &Volume<'_, D>, new: &Volu
     requires next { Steps mid.now new.now }
     ensures { Steps old.now new.now }
 {}
-
-/// After steps a zone to which no named inode referred is such a zone still.
-pub fn unused_stays_unused<D: Disks>(old: &Volume<'_, D>, new: &Volume<'_, D>, zone: u32)
-    requires ready { IsReady old.now }
-    requires steps { Steps old.now new.now }
-    requires unused { IsUnusedZone old.now zone }
-    ensures { IsUnusedZone new.now zone }
-{}
-
-/// After steps an inode that was neither the root nor had a name is such an inode still.
-pub fn unnamed_stays_unnamed<D: Disks>(old: &Volume<'_, D>, new: &Volume<'_, D>, number: u32)
-    requires ready { IsReady old.now }
-    requires steps { Steps old.now new.now }
-    requires unnamed { IsUnnamedInode old.now number }
-    ensures { IsUnnamedInode new.now number }
-{}

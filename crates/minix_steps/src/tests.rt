@@ -34,7 +34,7 @@ fn reserve<D: Disks>(volume: &mut Volume<'_, D>, zone: u32, number: u32) -> Resu
 
 // Marks a zone and an inode, then writes both, and makes each of these durable: at every moment whatever a stop
 // leaves is beside what was held before.
-#[tactic(auto, using(crate::proofs::StepLemmas::steps_join, crate::proofs::StepLemmas::still_unused, crate::proofs::StepLemmas::still_unnamed))]
+#[tactic(auto, using(crate::proofs::StepLemmas::steps_join))]
 fn fill<D: Disks>(
     volume: &mut Volume<'_, D>,
     zone: u32,

@@ -3,9 +3,8 @@ ghost use Rattle.std.specs.Prelude.{◌≢◌, ◌*◌, ◌<◌};
 ghost use Rattle.disk_trait.specs.Moments.{IsTold, begun};
 ghost use Rattle.lilo_model.specs.MinixLayout.{super_sector};
 ghost use Rattle.minix_beside_laws.specs.Beside.{Harmless};
-ghost use Rattle.minix_zones.specs.Volume.{volume_view, past_of};
+ghost use Rattle.minix_zones.specs.Volume.{volume_view, past_of, WritesSector};
 ghost use Rattle.minix_steps.specs.Steps.{IsReady, Steps};
-ghost use Rattle.minix_steps.specs.Written.{WritesOne};
 
 use disk_trait::Disks;
 use minix_zones::{Volume, ZoneFault};
@@ -28,7 +27,7 @@ pub fn write_beside<D: Disks>(
     requires harmless { IsTold (past_of volume.old)
         → Harmless (volume_view volume.old) (begun (past_of volume.old)) sector from.now }
     ensures steps { Steps volume.old volume.new }
-    ensures writes { WritesOne volume.old volume.new sector from.now result }
+    ensures writes { WritesSector volume.old volume.new sector from.now ZoneFault.Device result }
 {
     volume.write_sector(sector, from)
 }

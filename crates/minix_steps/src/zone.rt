@@ -1,11 +1,14 @@
 // The bytes of a zone.
 ghost use Rattle.std.specs.Prelude.{◌≡◌, ◌+◌, ◌≤◌, ◌<◌, OnOk};
 ghost use Rattle.disk_trait.specs.Moments.{IsTold, now, begun};
+ghost use Rattle.disk_trait.specs.NotWritten.{NotWritten};
+ghost use Rattle.disk_trait.specs.Range.{IsOutside};
 ghost use Rattle.lilo_model.specs.Bytes.{part_of};
-ghost use Rattle.minix_zones.specs.Volume.{volume_view, past_of};
+ghost use Rattle.lilo_model.specs.MinixLayout.{zone_sector};
+ghost use Rattle.minix_zones.specs.Volume.{volume_view, past_of, HasDeviceCause};
 ghost use Rattle.minix_steps.specs.Laws.{OneZone};
 ghost use Rattle.minix_steps.specs.Steps.{IsReady, IsUnusedZone, Steps};
-ghost use Rattle.minix_steps.specs.Written.{HasStepCause, with_zone, IsPartOfZone, parts_now};
+ghost use Rattle.minix_steps.specs.Written.{with_zone, IsPartOfZone, parts_now};
 
 use crate::write::write_beside;
 use disk_trait::Disks;
@@ -39,7 +42,11 @@ pub fn write_zone<D: Disks>(
         (parts_now volume.old) (parts_now volume.new) zone bytes.now) }
     ensures begun { begun (past_of volume.new) ≡ begun (past_of volume.old) }
 
-    ensures device { HasStepCause volume.old volume.new result }
+    // It wrote no other sector.
+    ensures others { (d s : _) → IsOutside volume.old.span.disk (volume.old.span.start + zone_sector zone) 2 d s
+        → NotWritten (past_of volume.old) (past_of volume.new) d s }
+
+    ensures device { HasDeviceCause volume.old volume.new ZoneFault.Device result }
 {
     let sector = where_zone(zone);
     write_beside(volume, sector, &half(bytes, 0))?;

@@ -11,3 +11,4 @@ pub mod ReadLemmas
 pub mod SameLemmas
 pub mod WalkLemmas
 pub mod ZoneLemmas
+pub mod WriteLemmas

@@ -23,15 +23,15 @@ pub struct Volume<'d, D: Disks> {
 }
 
 impl<'d, D: Disks> Volume<'d, D> {
-    ghost use Rattle.std.specs.Prelude.{◌≡◌, ◌≢◌, ◌⊎◌, ◌+◌, ◌≤◌, ◌<◌, ℕ, OnOk, OnErr, IfOk, IfErr, IsErrOf};
-    ghost use Rattle.disk_trait.specs.Past.{Image, Told, SameDisks, with_sector};
-    ghost use Rattle.disk_trait.specs.Moments.{IsTold, now, begun, MayLeave, IsQuiet, LeftOrWritten, MayWrite, LeavesOnly, IsWhole, StaysWhole};
+    ghost use Rattle.std.specs.Prelude.{◌≡◌, ◌≢◌, ◌+◌, ◌≤◌, ◌<◌, ℕ, OnOk, OnErr, IfOk, IsErrOf};
+    ghost use Rattle.disk_trait.specs.Past.{Told};
+    ghost use Rattle.disk_trait.specs.Calls.{SameOf};
     ghost use Rattle.disk_trait.specs.Cause.{Rose};
     ghost use Rattle.lilo_model.specs.MinixLayout.{IsSuper, super_at, super_sector};
     ghost use Rattle.lilo_model.specs.MinixParts.{volume_at, sector_of, parts_of};
     ghost use Rattle.minix_layout.specs.View.{super_view};
     ghost use Rattle.minix_zones.specs.View.{span_view, Gives};
-    ghost use Rattle.minix_zones.specs.Volume.{volume_view, past_of, faults_of, sizes_of, count_of, geometries_of, SameVolume, KeepsVolume, attached, disks_in};
+    ghost use Rattle.minix_zones.specs.Volume.{volume_view, past_of, faults_of, SameVolume, HasDeviceCause, WritesSector, Syncs, attached, disks_in};
 
     /// Reads the superblock of the volume that stands in a span of a disk, and takes the disks.
     ///
@@ -55,8 +55,7 @@ impl<'d, D: Disks> Volume<'d, D> {
         ensures no_zone { (zone : ℕ) → IsErrOf (attached result) (ZoneFault.ZoneOutside zone) → ⊥ }
 
         // The disks, held or handed back.
-        ensures same { SameDisks D.past D.size_of D.count_of D.geometry_of
-            disks.old (disks_in result).now }
+        ensures same { SameOf D.Disks disks.old (disks_in result).now }
         ensures same_reference { (disks_in result).ghost_name ≡ disks.entry.ghost_name }
     {
         let size = disks.size(span.disk);
@@ -118,8 +117,7 @@ impl<'d, D: Disks> Volume<'d, D> {
         ensures bytes { OnOk result (Told (past_of self.old)
             (λ now. into.new ≡ sector_of (volume_view self.old) now sector)) }
         ensures refused { OnErr result (into.new ≡ into.old) }
-        ensures device { IfErr result (λ fault. (fault ≡ ZoneFault.Device)
-            × Rose (faults_of self.old) (faults_of self.new)) }
+        ensures device { HasDeviceCause self.old self.new ZoneFault.Device result }
         ensures later { faults_of self.old ≤ faults_of self.new }
         ensures same { SameVolume self.old self.new }
     {
@@ -142,33 +140,7 @@ impl<'d, D: Disks> Volume<'d, D> {
     pub fn write_sector(&mut self, sector: u64, from: &Sector) -> Result<(), ZoneFault>
         requires inside { sector < self.old.span.count }
         requires no_super { sector ≢ super_sector }
-        ensures told { IsTold (past_of self.old) → IsTold (past_of self.new) }
-
-        // What the disks hold now, and what they held at the last flush.
-        ensures written { IsTold (past_of self.old) → OnOk result (now (past_of self.new)
-            ≡ with_sector (now (past_of self.old)) self.old.span.disk (self.old.span.start + sector) from.now) }
-        ensures made { (now (past_of self.new)
-            ≡ with_sector (now (past_of self.old)) self.old.span.disk (self.old.span.start + sector) from.now)
-            ⊎ (now (past_of self.new) ≡ now (past_of self.old)) }
-        ensures begun { begun (past_of self.new) ≡ begun (past_of self.old) }
-
-        // What a stop may leave after the call, and at any moment of it.
-        ensures left { MayWrite self.old.span.disk (self.old.span.start + sector) from.now
-            (past_of self.old) (past_of self.new) }
-        ensures any_moment { LeavesOnly (past_of self.old) (past_of self.new)
-            (LeftOrWritten (past_of self.old) self.old.span.disk (self.old.span.start + sector) from.now) }
-        ensures at_now { IsTold (past_of self.new) → MayLeave (past_of self.new) (now (past_of self.new)) }
-        ensures whole { IsWhole (sizes_of self.old) (past_of self.old)
-            → StaysWhole (sizes_of self.old) (past_of self.old) (past_of self.new) }
-
-        // When it is refused, and what stays.
-        ensures device { IfErr result (λ fault. (fault ≡ ZoneFault.Device)
-            × Rose (faults_of self.old) (faults_of self.new)) }
-        ensures later { faults_of self.old ≤ faults_of self.new }
-        ensures size { sizes_of self.new ≡ sizes_of self.old }
-        ensures count { count_of self.new ≡ count_of self.old }
-        ensures geometry { geometries_of self.new ≡ geometries_of self.old }
-        ensures kept { KeepsVolume self.old self.new }
+        ensures writes { WritesSector self.old self.new sector from.now ZoneFault.Device result }
     {
         let sector = self.span.start + sector;
         match disk_trait::write(self.disks, self.span.disk, sector, from) {
@@ -183,29 +155,7 @@ impl<'d, D: Disks> Volume<'d, D> {
     ///
     /// `Device` alone.
     pub fn sync(&mut self) -> Result<(), ZoneFault>
-        ensures told { IsTold (past_of self.old) → IsTold (past_of self.new) }
-        ensures failed { OnErr result (past_of self.new ≡ past_of self.old) }
-
-        // What the disks hold now, and what they held at the last flush.
-        ensures now { now (past_of self.new) ≡ now (past_of self.old) }
-        ensures begun { OnOk result (begun (past_of self.new) ≡ now (past_of self.old)) }
-
-        // What a stop may leave after the call, and at any moment of it.
-        ensures quiet { OnOk result (IsQuiet (past_of self.new)) }
-        ensures left { (c : Image) → MayLeave (past_of self.new) c → MayLeave (past_of self.old) c }
-        ensures any_moment { LeavesOnly (past_of self.old) (past_of self.new) (MayLeave (past_of self.old)) }
-        ensures at_now { IsTold (past_of self.new) → MayLeave (past_of self.new) (now (past_of self.new)) }
-        ensures whole { IsWhole (sizes_of self.old) (past_of self.old)
-            → StaysWhole (sizes_of self.old) (past_of self.old) (past_of self.new) }
-
-        // When it is refused, and what stays.
-        ensures device { IfErr result (λ fault. (fault ≡ ZoneFault.Device)
-            × Rose (faults_of self.old) (faults_of self.new)) }
-        ensures later { faults_of self.old ≤ faults_of self.new }
-        ensures size { sizes_of self.new ≡ sizes_of self.old }
-        ensures count { count_of self.new ≡ count_of self.old }
-        ensures geometry { geometries_of self.new ≡ geometries_of self.old }
-        ensures kept { KeepsVolume self.old self.new }
+        ensures syncs { Syncs self.old self.new ZoneFault.Device result }
     {
         match disk_trait::flush(self.disks) {
             Ok(()) => Ok(()),
@@ -224,8 +174,7 @@ impl<'d, D: Disks> Volume<'d, D> {
         ensures bytes { OnOk result (Told (past_of self.old)
             (λ now. into.new ≡ (parts_of (volume_view self.old) now).zone zone)) }
         ensures refused { OnErr result (into.new ≡ into.old) }
-        ensures device { IfErr result (λ fault. (fault ≡ ZoneFault.Device)
-            × Rose (faults_of self.old) (faults_of self.new)) }
+        ensures device { HasDeviceCause self.old self.new ZoneFault.Device result }
         ensures later { faults_of self.old ≤ faults_of self.new }
         ensures same { SameVolume self.old self.new }
     {

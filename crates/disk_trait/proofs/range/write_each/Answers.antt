@@ -1,34 +1,24 @@
-use Rattle.std.proofs.Common.{refl, ◌∙◌, arith}
-use Rattle.disk_trait.proofs.MomentLemmas.{at_now}
-use Rattle.disk_trait.proofs.RangeLemmas.{staged_none, written_none, staged_more, written_more}
+use Rattle.std.proofs.Common.{rules, refl, ◌∙◌, arith}
+use Rattle.disk_trait.specs.declared.disks.DiskFault.TheVariants.{Failed}
+use Rattle.disk_trait.proofs.RangeLemmas.{written_none, written_more}
+use Rattle.disk_trait.proofs.CallLemmas.{range_none, range_more}
 use Rattle.disk_trait.proofs.range.write_each.Goals as goal
 
 pub loop-i-init : goal.loop-i-init
 loop-i-init g c = record {
-  staged = staged_none _ _ _ _ _;
+  writes = range_none g.D.Disks _ _ _ _ _ Failed refl record { later = omega arith; size = refl; count = refl; geometry = refl };
   written = λ told. written_none _ _ _ _;
-  later = omega arith;
-  size = refl;
-  count = refl;
-  geometry = refl;
+  same_begun = refl;
 }
 
 pub loop-i-preserved : goal.loop-i-preserved
 loop-i-preserved g c = record {
-  staged = staged_more _ _ _ c.loop-i.i c.loop-i-test.true _ refl _ _ _ _ _ c.loop-i.invariant.size c.loop-i.invariant.staged
-      c.write.ensures.told c.write.ensures.made c.write.ensures.begun c.write.ensures.left c.write.ensures.any_moment c.write.ensures.whole;
+  writes = range_more g.D.Disks _ _ _ _ _ _ c.loop-i.i _ _ _ _ c.loop-i-test.true refl c.loop-i.invariant.writes c.write.ensures.writes (λ told. tt);
   written = λ told. written_more _ _ _ c.loop-i.i c.loop-i-test.true _ refl _ _ _ (c.loop-i.invariant.written told)
-      (c.in_ok-write.ensures.written (c.loop-i.invariant.staged.told told));
-  later = omega (arith, c.loop-i.invariant.later, c.write.ensures.cause.later);
-  size = c.write.ensures.size ∙ c.loop-i.invariant.size;
-  count = c.write.ensures.count ∙ c.loop-i.invariant.count;
-  geometry = c.write.ensures.geometry ∙ c.loop-i.invariant.geometry;
+      (c.in_ok-write.ensures.writes.written (c.loop-i.invariant.writes.goes_on.told told));
+  same_begun = c.write.ensures.begun ∙ c.loop-i.invariant.same_begun;
 }
 
-pub returns-in_err-write-clause-any_moment : goal.returns-in_err-write-clause-any_moment
-returns-in_err-write-clause-any_moment g c =
-    (staged_more _ _ _ c.loop-i.i c.loop-i-test.true _ refl _ _ _ _ _ c.loop-i.invariant.size c.loop-i.invariant.staged
-    c.write.ensures.told c.write.ensures.made c.write.ensures.begun c.write.ensures.left c.write.ensures.any_moment c.write.ensures.whole).any_moment
-
-pub returns-clause-at_now : goal.returns-clause-at_now
-returns-clause-at_now g c = at_now (g.D.Disks.past c.loop-i.disks)
+pub returns-in_err-write-clause-writes : goal.returns-in_err-write-clause-writes
+returns-in_err-write-clause-writes g c =
+    range_more g.D.Disks _ _ _ _ _ _ c.loop-i.i _ _ _ _ c.loop-i-test.true refl c.loop-i.invariant.writes c.write.ensures.writes (λ told. search rules)

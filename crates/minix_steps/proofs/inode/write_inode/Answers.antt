@@ -1,3 +1,7 @@
+use Rattle.std.proofs.Common.{rules}
+use Rattle.minix_zones.specs.declared.zone_fault.ZoneFault.TheVariants.{Device}
+use Rattle.minix_zones.proofs.WriteLemmas.{sector_refused}
+use Rattle.minix_steps.specs.Written.{inode_rewritten}
 use Rattle.lilo_model.specs.MinixLayout.{inode_bytes}
 use Rattle.minix_layout.specs.View.{kind_view, inode_view}
 use Rattle.minix_steps.proofs.InodeLemmas.{inode_there, inode_no_super, inode_inside_mid, inode_harmless_mid, inode_writes}
@@ -44,12 +48,21 @@ returns-clause-writes g c =
     c.read_sector.new.self c.read_sector.ensures.same c.read_sector.new.into c.put_inode.new.sector _ c.in_ok-read_sector.ensures.bytes put
     c.write_beside.new.volume c.write_beside.result c.read_sector.ensures.later c.write_beside.ensures.writes
 
+pub returns-in_err-read_sector-clause-writes : goal.returns-in_err-read_sector-clause-writes
+returns-in_err-read_sector-clause-writes g c =
+    let old = c.args.volume.now in
+    sector_refused old c.read_sector.new.self _ (inode_rewritten old c.args.number (inode_view c.args.inode.now)) Device _ (λ P. search rules)
+    c.read_sector.ensures.same c.read_sector.ensures.later (search rules)
+
+pub returns-clause-steps : goal.returns-clause-steps
+returns-clause-steps g c =
+    after_step c.args.volume.now c.read_sector.new.self c.write_beside.new.volume c.requires.ready c.read_sector.ensures.same c.read_sector.ensures.later c.write_beside.ensures.steps
+
 pub returns-clause-parts : goal.returns-clause-parts
 returns-clause-parts g c told =
     let old = c.args.volume.now in
     let new = c.write_beside.new.volume in
     let writes = returns-clause-writes g c in
-    let steps = after_step old c.read_sector.new.self new c.requires.ready c.read_sector.ensures.same c.read_sector.ensures.later c.write_beside.ensures.steps in
     let long = rw c.layout.ensures.value at c.put_inode.ensures.length in
-    on_ok c.write_beside.result _ _ (writes.written told)
-    (inode_now old new steps c.requires.ready told c.args.number (inode_bytes (kind_view old.layout.kind) (inode_view c.args.inode.now)) c.requires.some c.requires.there long)
+    on_ok c.write_beside.result _ _ (writes.writes.written told)
+    (inode_now old new (returns-clause-steps g c) c.requires.ready told c.args.number (inode_bytes (kind_view old.layout.kind) (inode_view c.args.inode.now)) c.requires.some c.requires.there long)

@@ -1,4 +1,5 @@
 use Rattle.minix_layout.specs.View.{super_view}
+use Rattle.minix_zones.specs.declared.zone_fault.ZoneFault.TheVariants.{Device}
 use Rattle.minix_steps.proofs.RegionLemmas.{sector_there}
 use Rattle.minix_steps.proofs.StepLemmas.{write_step}
 use Rattle.minix_steps.proofs.write.write_beside.Goals as goal
@@ -10,6 +11,5 @@ write_sector-requires-clause-inside g c =
 
 pub returns-clause-steps : goal.returns-clause-steps
 returns-clause-steps g c =
-    let e = c.write_sector.ensures in
-    write_step c.args.volume.now c.write_sector.new.self c.args.sector c.args.from.now c.requires.ready c.requires.inside c.requires.harmless
-    e.told e.begun e.left e.any_moment e.whole e.later e.size e.count e.geometry e.kept
+    write_step c.args.volume.now c.write_sector.new.self c.args.sector c.args.from.now Device c.write_sector.result c.requires.ready c.requires.inside c.requires.harmless
+    c.write_sector.ensures.writes

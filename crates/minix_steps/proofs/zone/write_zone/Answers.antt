@@ -3,7 +3,7 @@ use Rattle.disk_trait.proofs.MomentLemmas.{on_ok}
 use Rattle.lilo_model.specs.Bytes.{part_of}
 use Rattle.minix_steps.proofs.NowLemmas.{zone_now}
 use Rattle.minix_steps.proofs.StepLemmas.{steps_join}
-use Rattle.minix_steps.proofs.ZoneLemmas.{part_long, not_super, front_harmless, back_harmless, front_part, back_part}
+use Rattle.minix_steps.proofs.ZoneLemmas.{part_long, not_super, front_harmless, back_harmless, front_part, back_part, front_others, both_others}
 use Rattle.minix_steps.proofs.zone.write_zone.Goals as goal
 
 pub write_beside-requires-clause-no_super : goal.write_beside-requires-clause-no_super
@@ -40,7 +40,7 @@ returns-clause-parts g c told =
 pub returns-in_err-write_beside-clause-made : goal.returns-in_err-write_beside-clause-made
 returns-in_err-write_beside-clause-made g c told =
     front_part c.args.volume.now c.write_beside.new.volume c.args.zone c.args.bytes.now c.where_zone-sector.result c.half.result c.write_beside.result
-    c.where_zone-sector.ensures c.half.ensures c.write_beside.ensures.writes told
+    c.where_zone-sector.ensures c.half.ensures c.write_beside.ensures.writes
 
 pub returns-clause-made : goal.returns-clause-made
 returns-clause-made g c told =
@@ -48,6 +48,15 @@ returns-clause-made g c told =
     let mid = c.write_beside.new.volume in
     let steps = c.write_beside.ensures.steps in
     let part = front_part old mid c.args.zone c.args.bytes.now c.where_zone-sector.result c.half.result c.write_beside.result
-    c.where_zone-sector.ensures c.half.ensures c.write_beside.ensures.writes told in
+    c.where_zone-sector.ensures c.half.ensures c.write_beside.ensures.writes in
     back_part old mid c.write_beside-2.new.volume c.args.zone c.args.bytes.now c.where_zone-sector.result c.half-2.result c.write_beside-2.result
-    c.where_zone-sector.ensures c.half-2.ensures steps.kept part c.write_beside-2.ensures.writes (steps.told.1 told)
+    c.where_zone-sector.ensures c.half-2.ensures steps.kept part c.write_beside-2.ensures.writes
+
+pub returns-in_err-write_beside-clause-others : goal.returns-in_err-write_beside-clause-others
+returns-in_err-write_beside-clause-others g c =
+    front_others c.args.volume.now c.write_beside.new.volume c.args.zone c.where_zone-sector.result c.half.result c.write_beside.result c.where_zone-sector.ensures c.write_beside.ensures.writes
+
+pub returns-clause-others : goal.returns-clause-others
+returns-clause-others g c =
+    both_others c.args.volume.now c.write_beside.new.volume c.write_beside-2.new.volume c.args.zone c.where_zone-sector.result c.half.result c.half-2.result c.write_beside.result c.write_beside-2.result
+    c.where_zone-sector.ensures c.write_beside.ensures.steps.kept c.write_beside.ensures.writes c.write_beside-2.ensures.writes

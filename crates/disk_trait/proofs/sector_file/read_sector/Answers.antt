@@ -3,7 +3,7 @@ use Rattle.std.specs.Io.KnownBytes.{Consumes}
 use borrow.Rule.Slice.PartMut.{same_len_mid}
 use Rattle.std.proofs.KnownBytes.{Consumes-trans}
 use Rattle.disk_trait.proofs.Streams.{take-put_mid_more}
-use Rattle.disk_trait.proofs.file_disk.read_sector.Goals as goal
+use Rattle.disk_trait.proofs.sector_file.read_sector.Goals as goal
 
 pub loop-at-preserved : goal.loop-at-preserved
 loop-at-preserved g c =

@@ -1,0 +1,256 @@
+// Disks over files of which each call is counted, and may be short or fail.
+ghost use Rattle.std.specs.Prelude.{◌≤◌, ◌+◌};
+
+use super::*;
+use std::cell::Cell;
+use std::fs::{Metadata, OpenFile};
+use std::io::{ErrorKind, Read, Seek, SeekFrom, Write};
+
+// The calls of a file so far, and what becomes of the next ones.
+#[derive(Drop)]
+struct Calls {
+    seeks: Cell<u32>,
+    reads: Cell<u32>,
+    writes: Cell<u32>,
+    syncs: Cell<u32>,
+    // How many bytes a call reads or writes at most.
+    most: Cell<usize>,
+    // How many seeks, reads and writes are made before all fail, and how.
+    granted: Cell<u32>,
+    fault: Cell<ErrorKind>,
+    syncs_fail: Cell<bool>,
+}
+
+impl Calls {
+    fn new() -> Calls {
+        Calls {
+            seeks: Cell::new(0),
+            reads: Cell::new(0),
+            writes: Cell::new(0),
+            syncs: Cell::new(0),
+            most: Cell::new(512),
+            granted: Cell::new(u32::MAX),
+            fault: Cell::new(ErrorKind::Other),
+            syncs_fail: Cell::new(false),
+        }
+    }
+
+    // Counts a call, which fails where no more are granted.
+    fn count(&self, calls: &Cell<u32>) -> io::Result<()> {
+        calls.set(calls.get().saturating_add(1));
+        let granted = self.granted.get();
+        if granted == 0 {
+            return Err(io::Error::from(self.fault.get()));
+        }
+        self.granted.set(granted - 1);
+        Ok(())
+    }
+
+    // How many seeks, reads and writes there were since this was asked.
+    fn taken(&self) -> [u32; 3] {
+        [&self.seeks, &self.reads, &self.writes].map(|calls| calls.replace(0))
+    }
+}
+
+const LENGTH: usize = 2048;
+
+// A file of four sectors.
+#[derive(Drop)]
+struct CountedFile<'c> {
+    bytes: [u8; LENGTH],
+    at: usize,
+    calls: &'c Calls,
+}
+
+impl CountedFile<'_> {
+    // Where the next call begins and ends, if it is to move so many bytes.
+    fn part(&self, len: usize) -> (usize, usize)
+        ensures ordered { result.0 ≤ result.1 }
+        ensures within { result.1 ≤ 2048 }
+        ensures few { result.1 ≤ result.0 + len }
+    {
+        let start = self.at.min(LENGTH);
+        let len = len.min(self.calls.most.get()).min(LENGTH - start);
+        (start, start + len)
+    }
+}
+
+impl Read for CountedFile<'_> {
+    fn read(&mut self, buf: &mut [u8]) -> io::Result<usize> {
+        self.calls.count(&self.calls.reads)?;
+        let (start, end) = self.part(buf.len());
+        buf[..end - start].copy_from_slice(&self.bytes[start..end]);
+        self.at = end;
+        Ok(end - start)
+    }
+}
+
+impl Write for CountedFile<'_> {
+    fn write(&mut self, buf: &[u8]) -> io::Result<usize> {
+        self.calls.count(&self.calls.writes)?;
+        let (start, end) = self.part(buf.len());
+        self.bytes[start..end].copy_from_slice(&buf[..end - start]);
+        self.at = end;
+        Ok(end - start)
+    }
+
+    fn flush(&mut self) -> io::Result<()> {
+        Ok(())
+    }
+}
+
+impl Seek for CountedFile<'_> {
+    fn seek(&mut self, to: SeekFrom) -> io::Result<u64> {
+        self.calls.count(&self.calls.seeks)?;
+        self.at = match to {
+            SeekFrom::Start(at) => at.min(LENGTH as u64) as usize,
+            SeekFrom::End(0) => LENGTH,
+            _ => return Err(io::Error::from(ErrorKind::Unsupported)),
+        };
+        Ok(self.at as u64)
+    }
+}
+
+impl OpenFile for CountedFile<'_> {
+    fn metadata(&self) -> io::Result<Metadata> {
+        Err(io::Error::from(ErrorKind::Unsupported))
+    }
+
+    fn set_len(&self, _size: u64) -> io::Result<()> {
+        Err(io::Error::from(ErrorKind::Unsupported))
+    }
+
+    fn sync_all(&self) -> io::Result<()> {
+        self.calls
+            .syncs
+            .set(self.calls.syncs.get().saturating_add(1));
+        if self.calls.syncs_fail.get() {
+            return Err(io::Error::from(ErrorKind::Other));
+        }
+        Ok(())
+    }
+
+    fn sync_data(&self) -> io::Result<()> {
+        Err(io::Error::from(ErrorKind::Unsupported))
+    }
+}
+
+// A disk for each of these files, whose sectors hold 1, 2, 3 and 4.
+fn counted_disks<'c>(
+    alloc: Global,
+    files: [&'c Calls; 2],
+) -> io::Result<FileDisks<CountedFile<'c>>> {
+    let geometry = Geometry {
+        heads: 1,
+        sectors: 4,
+    };
+    let mut disks = FileDisks::new(alloc);
+    for calls in files {
+        let mut bytes = [0; LENGTH];
+        for (i, sector) in (1..).zip(bytes.chunks_exact_mut(512)) {
+            sector.fill(i);
+        }
+        let file = CountedFile {
+            bytes,
+            at: 0,
+            calls,
+        };
+        let disk = FileDisk::new(file, geometry)?;
+        if disks.count() < 4 {
+            disks.push(Some(disk))?;
+        }
+    }
+    Ok(disks)
+}
+
+#[test]
+fn neighbouring_sectors_need_no_seek(rt: HostRuntime) -> Result<(), Fail> {
+    let (first, second) = (Calls::new(), Calls::new());
+    let mut disks = counted_disks(rt.alloc(), [&first, &second])?;
+    assert_eq!(rt; first.taken(), [1, 0, 0]);
+    // Each call, and the seeks, reads and writes of the first file.
+    let run = [
+        (Call::Write(0, 0, 9), Ok(0), [1, 0, 1]),
+        (Call::Write(0, 1, 8), Ok(0), [0, 0, 1]),
+        (Call::Read(0, 2), Ok(3), [0, 1, 0]),
+        (Call::Read(1, 1), Ok(2), [0, 0, 0]),
+        (Call::Flush, Ok(0), [0, 0, 0]),
+        (Call::Write(0, 3, 7), Ok(0), [0, 0, 1]),
+        (Call::Read(0, 3), Ok(7), [1, 1, 0]),
+        (Call::Read(0, 4), OUT_OF_RANGE, [0, 0, 0]),
+        (Call::Read(0, 0), Ok(9), [1, 1, 0]),
+        (Call::Read(0, 1), Ok(8), [0, 1, 0]),
+        (Call::Read(0, 1), Ok(8), [1, 1, 0]),
+        (Call::Write(0, 2, 6), Ok(0), [0, 0, 1]),
+        (Call::Read(0, 2), Ok(6), [1, 1, 0]),
+    ];
+    for (call, answer, calls) in run {
+        assert_eq!(rt; make(&mut disks, call), answer, "{call:?}");
+        assert_eq!(rt; first.taken(), calls, "{call:?}");
+    }
+    Ok(())
+}
+
+// Calls on a file that moves 200 bytes at a time, and fails after some of them.
+fn expect_fault(
+    rt: &impl Abort,
+    disks: &mut FileDisks<CountedFile<'_>>,
+    file: &Calls,
+    call: Call,
+    granted: u32,
+) {
+    file.granted.set(granted);
+    let faults = make(disks, call);
+    file.granted.set(u32::MAX);
+    assert_eq!(rt; faults, FAILED, "{call:?} after {granted}");
+}
+
+#[test]
+fn files_that_are_short_or_fail(rt: HostRuntime) -> Result<(), Fail> {
+    let (first, second) = (Calls::new(), Calls::new());
+    let mut disks = counted_disks(rt.alloc(), [&first, &second])?;
+    first.most.set(200);
+    for fault in [ErrorKind::Other, ErrorKind::Interrupted] {
+        first.fault.set(fault);
+        // A seek and three parts: any of the four may fail, and then the place is sought anew.
+        for granted in 0..4 {
+            expect_byte(&rt, &mut disks, 0, 0, 1);
+            expect_fault(&rt, &mut disks, &first, Call::Read(0, 3), granted);
+            expect_byte(&rt, &mut disks, 0, 1, 2);
+            expect_fault(&rt, &mut disks, &first, Call::Write(0, 3, 5), granted);
+            expect_byte(&rt, &mut disks, 0, 2, 3);
+        }
+    }
+    let _ = first.taken();
+    assert_eq!(rt; make(&mut disks, Call::Write(0, 3, 6)), Ok(0));
+    expect_byte(&rt, &mut disks, 0, 3, 6);
+    assert_eq!(rt; first.taken(), [1, 3, 3]);
+    // A file that takes nothing, or ends within a sector, fails.
+    first.most.set(0);
+    assert_eq!(rt; make(&mut disks, Call::Write(0, 1, 6)), FAILED);
+    assert_eq!(rt; make(&mut disks, Call::Read(0, 1)), FAILED);
+    Ok(())
+}
+
+#[test]
+fn a_flush_syncs_each_file(rt: HostRuntime) -> Result<(), Fail> {
+    let (first, second) = (Calls::new(), Calls::new());
+    let mut disks = counted_disks(rt.alloc(), [&first, &second])?;
+    for (first_fails, second_fails) in [
+        (false, false),
+        (true, false),
+        (false, true),
+        (true, true),
+    ] {
+        first.syncs_fail.set(first_fails);
+        second.syncs_fail.set(second_fails);
+        let answer = if first_fails || second_fails {
+            Err(DiskFault::Failed)
+        } else {
+            Ok(())
+        };
+        assert_eq!(rt; disks.flush(), answer);
+        assert_eq!(rt; [first.syncs.replace(0), second.syncs.replace(0)], [1, 1]);
+    }
+    Ok(())
+}

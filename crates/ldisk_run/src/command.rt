@@ -31,7 +31,8 @@ pub(crate) fn carry_out<D: Disks, O: Sink>(
     out: &mut Pieces<'_, O>,
 ) -> Result<(), Halt>
     ensures does { Told (D.past disks.old) (λ now. Does
-        (command_verdict now (machine_of (D.size_of disks.old) (D.geometry_of disks.old)) (command_view command.entry)) result
+        (command_verdict now (machine_of (D.size_of disks.old) (D.geometry_of disks.old))
+        (command_view command.entry)) result
         (held_by O.taken O.faults out.old) (held_by O.taken O.faults out.new)) }
     ensures no_disk { D.size_of disks.old 0 ≡ 0 → result ≡ Err Halt.Refused }
     ensures cause { IfErr result (HasCause (D.faults disks.old) (D.faults disks.new)) }
@@ -63,7 +64,8 @@ fn carry_out_on<D: Disks, O: Sink>(
     out: &mut Pieces<'_, O>,
 ) -> Result<(), Halt>
     ensures does { Told (past_of volume.old) (λ now. Does
-        (verdict_on (super_view volume.old.layout) (parts_of (volume_view volume.old) now) (command_view command.entry)) result
+        (verdict_on (super_view volume.old.layout) (parts_of (volume_view volume.old) now)
+        (command_view command.entry)) result
         (held_by O.taken O.faults out.old) (held_by O.taken O.faults out.new)) }
     ensures cause { IfErr result (HasCause (faults_of volume.old) (faults_of volume.new)) }
     ensures later { faults_of volume.old ≤ faults_of volume.new }

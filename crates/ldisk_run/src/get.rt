@@ -65,7 +65,8 @@ fn put_file<D: Disks, O: Sink>(
 ) -> Result<(), Halt>
     requires { IsStat volume.old.layout stat.now }
     ensures does { Told (past_of volume.old) (λ now. Does
-        (file_verdict (super_view volume.old.layout) (parts_of (volume_view volume.old) now) (inode_view stat.now.node)) result
+        (file_verdict (super_view volume.old.layout) (parts_of (volume_view volume.old) now)
+        (inode_view stat.now.node)) result
         (held_by O.taken O.faults out.old) (held_by O.taken O.faults out.new)) }
     ensures cause { IfErr result (HasCause (faults_of volume.old) (faults_of volume.new)) }
     ensures later { faults_of volume.old ≤ faults_of volume.new }
@@ -92,7 +93,8 @@ fn put_block<D: Disks, O: Sink>(
     requires index { index < reach (kind_view volume.old.layout.kind) }
     requires held { AreHeld volume.old held.old }
     ensures does { Told (past_of volume.old) (λ now. Does (piece_verdict
-        (file_block (super_view volume.old.layout) (parts_of (volume_view volume.old) now) (inode_view stat.now.node) index)) result
+        (file_block (super_view volume.old.layout) (parts_of (volume_view volume.old) now)
+        (inode_view stat.now.node) index)) result
         (held_by O.taken O.faults out.old) (held_by O.taken O.faults out.new)) }
     ensures held { AreHeld volume.new held.new }
     ensures cause { IfErr result (HasCause (faults_of volume.old) (faults_of volume.new)) }

@@ -5,7 +5,8 @@ ghost use Rattle.stream_trait.specs.Shows.{HasFailed};
 ghost use Rattle.lilo_model.specs.MinixLayout.{reach};
 ghost use Rattle.lilo_model.specs.MinixParts.{parts_of};
 ghost use Rattle.lilo_model.specs.MinixEntries.{entry_with, is_dots};
-ghost use Rattle.lilo_model.specs.LdiskVerdict.{silent, piece_verdict, directory_found, entry_text, entry_line, kind_letter, named_node, listing_verdict, ls_verdict};
+ghost use Rattle.lilo_model.specs.LdiskVerdict.{silent, piece_verdict, directory_found, entry_text, entry_line};
+ghost use Rattle.lilo_model.specs.LdiskVerdict.{kind_letter, named_node, listing_verdict, ls_verdict};
 ghost use Rattle.minix_layout.specs.View.{kind_view, super_view, inode_view};
 ghost use Rattle.minix_zones.specs.Volume.{volume_view, past_of, faults_of, SameVolume};
 ghost use Rattle.minix_tree.specs.View.{IsStat};
@@ -75,7 +76,8 @@ fn put_directory<D: Disks, O: Sink>(
 ) -> Result<(), Halt>
     requires { IsStat volume.old.layout stat.now }
     ensures does { Told (past_of volume.old) (λ now. Does
-        (listing_verdict (super_view volume.old.layout) (parts_of (volume_view volume.old) now) (inode_view stat.now.node)) result
+        (listing_verdict (super_view volume.old.layout) (parts_of (volume_view volume.old) now)
+        (inode_view stat.now.node)) result
         (held_by O.taken O.faults out.old) (held_by O.taken O.faults out.new)) }
     ensures cause { IfErr result (HasCause (faults_of volume.old) (faults_of volume.new)) }
     ensures later { faults_of volume.old ≤ faults_of volume.new }
@@ -100,7 +102,8 @@ fn put_entries<D: Disks, O: Sink>(
 ) -> Result<(), Halt>
     requires { index < reach (kind_view volume.old.layout.kind) }
     ensures does { Told (past_of volume.old) (λ now. Does
-        (block_verdict (super_view volume.old.layout) (parts_of (volume_view volume.old) now) (inode_view stat.now.node) index) result
+        (block_verdict (super_view volume.old.layout) (parts_of (volume_view volume.old) now)
+        (inode_view stat.now.node) index) result
         (held_by O.taken O.faults out.old) (held_by O.taken O.faults out.new)) }
     ensures cause { IfErr result (HasCause (faults_of volume.old) (faults_of volume.new)) }
     ensures later { faults_of volume.old ≤ faults_of volume.new }
@@ -124,7 +127,8 @@ fn put_each<D: Disks, O: Sink>(
     out: &mut Pieces<'_, O>,
 ) -> Result<(), Halt>
     ensures does { Told (past_of volume.old) (λ now. Does
-        (lines_behind (super_view volume.old.layout) (parts_of (volume_view volume.old) now) (silent 0) (map without_place entries.entry)) result
+        (lines_behind (super_view volume.old.layout) (parts_of (volume_view volume.old) now) (silent 0)
+        (map without_place entries.entry)) result
         (held_by O.taken O.faults out.old) (held_by O.taken O.faults out.new)) }
     ensures cause { IfErr result (HasCause (faults_of volume.old) (faults_of volume.new)) }
     ensures later { faults_of volume.old ≤ faults_of volume.new }
@@ -146,7 +150,8 @@ fn put_entry<D: Disks, O: Sink>(
     out: &mut Pieces<'_, O>,
 ) -> Result<(), Halt>
     ensures does { Told (past_of volume.old) (λ now. Does (piece_verdict
-        (entry_text (super_view volume.old.layout) (parts_of (volume_view volume.old) now) (entry_with entry.now.inode entry.now.name.now))) result
+        (entry_text (super_view volume.old.layout) (parts_of (volume_view volume.old) now)
+        (entry_with entry.now.inode entry.now.name.now))) result
         (held_by O.taken O.faults out.old) (held_by O.taken O.faults out.new)) }
     ensures cause { IfErr result (HasCause (faults_of volume.old) (faults_of volume.new)) }
     ensures later { faults_of volume.old ≤ faults_of volume.new }
@@ -204,7 +209,8 @@ fn put_line<O: Sink>(inode: &Inode, name: &[u8], out: &mut Pieces<'_, O>)
 
 /// What stands in a line before the name.
 fn line_head(inode: &Inode) -> Head
-    ensures { result.items ≡ kind_letter (inode_view inode.now) ∷ (codes " " ++ decimal (inode_view inode.now).size ++ codes " ") }
+    ensures { result.items
+        ≡ kind_letter (inode_view inode.now) ∷ (codes " " ++ decimal (inode_view inode.now).size ++ codes " ") }
 {
     let mut head = Head::new();
     head.push(kind_letter(inode));

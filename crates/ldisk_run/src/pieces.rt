@@ -42,7 +42,8 @@ impl<'o, O: Sink> Pieces<'o, O> {
 
     /// Shows what is held.
     pub(crate) fn show(&mut self)
-        ensures shown { Shows (sink_of O.taken O.faults self.old) self.old.held.items (sink_of O.taken O.faults self.new) }
+        ensures shown { Shows (sink_of O.taken O.faults self.old) self.old.held.items
+            (sink_of O.taken O.faults self.new) }
         ensures empty { self.new.held.items ≡ [] }
         ensures same_reference { self.new.out.out.ghost_name ≡ self.old.out.out.ghost_name }
     {

@@ -55,7 +55,8 @@ pub fn ldisk<D: Disks, I: Source, O: Sink>(
         (ldisk_verdict now (machine_of (D.size_of disks.old) (D.geometry_of disks.old)) words.now) result
         (O.taken out.old) (O.taken out.new) (O.faults out.old) (O.faults out.new)) }
     ensures whole { result ≡ 0 → Told (D.past disks.old) (λ now. Takes (O.taken out.old)
-        (ldisk_verdict now (machine_of (D.size_of disks.old) (D.geometry_of disks.old)) words.now).text (O.taken out.new)) }
+        (ldisk_verdict now (machine_of (D.size_of disks.old) (D.geometry_of disks.old)) words.now).text
+        (O.taken out.new)) }
 
     // Whatever the disks tell, these are the statuses, and what words or an absent disk decide is known.
     ensures statuses { IsTrue (is_status result) }

@@ -20,3 +20,4 @@ pub mod MeantMenu
 pub mod Lawful
 pub mod Planned
 pub mod Stays
+pub mod Lines

@@ -282,7 +282,7 @@ module _ (image : Image) (machine : Machine) (span : Span) (plan : Plan) (menu :
     third = s.named.1.1.1.0.one;
   }
 
-  boot-read : boot_at (image span.disk span.start) ≡ Ok said
+  pub boot-read : boot_at (image span.disk span.start) ≡ Ok said
   unfolding plan_boot_sector
   boot-read =
       ap boot_at s.boot ∙ boot_again said (filled_bytes 512 plan.code) present boot-fits

@@ -1,4 +1,5 @@
 pub mod Lies
+pub mod Lines
 pub mod MapStays
 pub mod PlannedLies
 pub mod Shows

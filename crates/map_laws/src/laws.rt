@@ -1,5 +1,6 @@
 // What a boot of a planned map does.
 ghost use Rattle.map_laws.specs.Lies.{MapLaw};
+ghost use Rattle.map_laws.specs.Lines.{LinesLaw};
 ghost use Rattle.map_laws.specs.MapStays.{MapStaysLaw};
 ghost use Rattle.map_laws.specs.PlannedLies.{PlannedLaw};
 ghost use Rattle.map_laws.specs.Shows.{ShowsLaw};
@@ -23,4 +24,9 @@ pub fn planned_map_boots_as_meant()
 /// A planned map still lies at its places where only other sectors, and the default line, are written.
 pub fn planned_map_stays()
     ensures { MapStaysLaw }
+{}
+
+/// It boots as is meant with each other default line that its sector may say.
+pub fn planned_map_boots_with_each_line()
+    ensures { LinesLaw }
 {}

@@ -21,3 +21,4 @@ pub mod Lawful
 pub mod Planned
 pub mod Stays
 pub mod Lines
+pub mod Maximal

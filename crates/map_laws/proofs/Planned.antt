@@ -49,10 +49,23 @@ map-lies before image machine volume span config time devices line p0 p1 p2 p3 p
     let lie : TargetsLie image machine config p0 p4 (planned before machine volume config time).sections targets = targets-lie image machine config p0 p4 (planned before machine volume config time).sections targets (sections-lawful before machine volume config time s.lawful) s.files in
     let some : 1 ≤ length (plan_names (planned before machine volume config time)) = some-name (planned before machine volume config time).sections s.left in
     record {
-      boot = s.boot; present_long = let long = s.present_long in part-long present long; code_long = code-long before machine volume config time; line_is = s.line_is; lies = s.lies; named = s.named; apart = s.apart;
-      time = s.time_fits; delay = let most = s.lawful.delay in omega (arith, most); timeout = tenths-below config.timeout s.lawful.timeout; names = planned-names before machine volume config time s.lawful; some_name = some; few_names = few-names before machine volume config time s.lawful;
+      boot = s.boot;
+      present_long = let long = s.present_long in part-long present long;
+      code_long = code-long before machine volume config time;
+      line_is = s.line_is;
+      lies = s.lies;
+      named = s.named;
+      apart = s.apart;
+      time = s.time_fits;
+      delay = let most = s.lawful.delay in omega (arith, most);
+      timeout = tenths-below config.timeout s.lawful.timeout;
+      names = planned-names before machine volume config time s.lawful;
+      some_name = some;
+      few_names = few-names before machine volume config time s.lawful;
       default = default-below config.default_name (plan_names (planned before machine volume config time)) some;
-      message_few = s.message_few; message = s.message; targets_lie = lie;
+      message_few = s.message_few;
+      message = s.message;
+      targets_lie = lie;
       entries = menu-entries before machine volume sound config time devices;
       prompt_is = menu-settings before image machine volume sound config time devices p0 p4 lie;
     }

@@ -1,3 +1,4 @@
+pub mod Compact
 pub mod Lies
 pub mod Lines
 pub mod MapStays

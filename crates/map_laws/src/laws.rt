@@ -1,4 +1,5 @@
 // What a boot of a planned map does.
+ghost use Rattle.map_laws.specs.Compact.{CompactLaw};
 ghost use Rattle.map_laws.specs.Lies.{MapLaw};
 ghost use Rattle.map_laws.specs.Lines.{LinesLaw};
 ghost use Rattle.map_laws.specs.MapStays.{MapStaysLaw};
@@ -29,4 +30,9 @@ pub fn planned_map_stays()
 /// It boots as is meant with each other default line that its sector may say.
 pub fn planned_map_boots_with_each_line()
     ensures { LinesLaw }
+{}
+
+/// No two neighbours of the slots that `compact` makes could be one.
+pub fn compact_slots_are_apart()
+    ensures { CompactLaw }
 {}

@@ -237,7 +237,7 @@ SLOT = ('record { one = record { whole = record { disk = omega arith; some = ome
 
 
 def nested(terms):
-    """Terms as facts of a list, one behind the other."""
+    """Terms as facts of a list, one after the other."""
     return '(%s, %s)' % (terms[0], nested(terms[1:])) if terms else 'tt'
 
 
@@ -256,7 +256,7 @@ def target_lies(item, image):
         initrd = 'tt' if item['initrd'] is None else file_lies(item['initrd'])
         return '(refl, refl, refl, %s, %s)' % (file_lies(count), initrd)
     bytes_there = 'concat (map (bytes_at %s) %s)' % (image, sectors(item['places']))
-    return '(refl, refl, refl, record { bytes = %s; lies = %s; long = refl; front = refl; back = %s })' % (
+    return '(refl, refl, refl, record { bytes = %s; lies = %s; long = refl; prefix = refl; suffix = %s })' % (
         bytes_there, file_lies(count), 'refl' if item['table'] else 'tt')
 
 

@@ -64,5 +64,5 @@ lies_full = record {
   left = λ none. no-section _ _ none;
   message_few = lit≤ tt;
   message = record { size = refl; some = lit≤ tt; few = lit< tt; slots = lit≤ tt; count = refl; named = (record { one = record { whole = record { disk = omega arith; some = omega arith; few = omega arith; address = lit< tt }; one = refl }; names = refl }, tt); apart = (other-sector _ _ refl, tt); lies = refl };
-  files = (lit≤ tt, (refl, refl, refl, record { size = refl; some = lit≤ tt; few = lit< tt; slots = lit≤ tt; count = refl; named = (record { one = record { whole = record { disk = omega arith; some = omega arith; few = omega arith; address = lit< tt }; one = refl }; names = refl }, (record { one = record { whole = record { disk = omega arith; some = omega arith; few = omega arith; address = lit< tt }; one = refl }; names = refl }, (record { one = record { whole = record { disk = omega arith; some = omega arith; few = omega arith; address = lit< tt }; one = refl }; names = refl }, tt))); apart = (other-sector _ _ refl, (other-sector _ _ refl, (other-sector _ _ refl, tt))); lies = refl }, record { size = refl; some = lit≤ tt; few = lit< tt; slots = lit≤ tt; count = refl; named = (record { one = record { whole = record { disk = omega arith; some = omega arith; few = omega arith; address = lit< tt }; one = refl }; names = refl }, (record { one = record { whole = record { disk = omega arith; some = omega arith; few = omega arith; address = lit< tt }; one = refl }; names = refl }, tt)); apart = (other-sector _ _ refl, (other-sector _ _ refl, tt)); lies = refl }), (lit≤ tt, (refl, refl, refl, record { bytes = concat (map (bytes_at image_full) (on 1 (0 ∷ []) ++ on 0 (0 ∷ []))); lies = record { size = refl; some = lit≤ tt; few = lit< tt; slots = lit≤ tt; count = refl; named = (record { one = record { whole = record { disk = omega arith; some = omega arith; few = omega arith; address = lit< tt }; one = refl }; names = refl }, (record { one = record { whole = record { disk = omega arith; some = omega arith; few = omega arith; address = lit< tt }; one = refl }; names = refl }, tt)); apart = (other-sector _ _ refl, (other-sector _ _ refl, tt)); lies = refl }; long = refl; front = refl; back = refl }), (lit≤ tt, (refl, refl, refl, record { bytes = concat (map (bytes_at image_full) (on 1 (63 ∷ []))); lies = record { size = refl; some = lit≤ tt; few = lit< tt; slots = lit≤ tt; count = refl; named = (record { one = record { whole = record { disk = omega arith; some = omega arith; few = omega arith; address = lit< tt }; one = refl }; names = refl }, tt); apart = (other-sector _ _ refl, tt); lies = refl }; long = refl; front = refl; back = tt }), tt)));
+  files = (lit≤ tt, (refl, refl, refl, record { size = refl; some = lit≤ tt; few = lit< tt; slots = lit≤ tt; count = refl; named = (record { one = record { whole = record { disk = omega arith; some = omega arith; few = omega arith; address = lit< tt }; one = refl }; names = refl }, (record { one = record { whole = record { disk = omega arith; some = omega arith; few = omega arith; address = lit< tt }; one = refl }; names = refl }, (record { one = record { whole = record { disk = omega arith; some = omega arith; few = omega arith; address = lit< tt }; one = refl }; names = refl }, tt))); apart = (other-sector _ _ refl, (other-sector _ _ refl, (other-sector _ _ refl, tt))); lies = refl }, record { size = refl; some = lit≤ tt; few = lit< tt; slots = lit≤ tt; count = refl; named = (record { one = record { whole = record { disk = omega arith; some = omega arith; few = omega arith; address = lit< tt }; one = refl }; names = refl }, (record { one = record { whole = record { disk = omega arith; some = omega arith; few = omega arith; address = lit< tt }; one = refl }; names = refl }, tt)); apart = (other-sector _ _ refl, (other-sector _ _ refl, tt)); lies = refl }), (lit≤ tt, (refl, refl, refl, record { bytes = concat (map (bytes_at image_full) (on 1 (0 ∷ []) ++ on 0 (0 ∷ []))); lies = record { size = refl; some = lit≤ tt; few = lit< tt; slots = lit≤ tt; count = refl; named = (record { one = record { whole = record { disk = omega arith; some = omega arith; few = omega arith; address = lit< tt }; one = refl }; names = refl }, (record { one = record { whole = record { disk = omega arith; some = omega arith; few = omega arith; address = lit< tt }; one = refl }; names = refl }, tt)); apart = (other-sector _ _ refl, (other-sector _ _ refl, tt)); lies = refl }; long = refl; prefix = refl; suffix = refl }), (lit≤ tt, (refl, refl, refl, record { bytes = concat (map (bytes_at image_full) (on 1 (63 ∷ []))); lies = record { size = refl; some = lit≤ tt; few = lit< tt; slots = lit≤ tt; count = refl; named = (record { one = record { whole = record { disk = omega arith; some = omega arith; few = omega arith; address = lit< tt }; one = refl }; names = refl }, tt); apart = (other-sector _ _ refl, tt); lies = refl }; long = refl; prefix = refl; suffix = tt }), tt)));
 }

@@ -91,10 +91,10 @@ module _ (volume : Volume) (image : Image) (number : ℕ) (zero_place : DiskSect
         ap (λ n. length (sectors_to n)) next ∙ ap length (one-more count) ∙ length-append (sectors_to count) (sector_bytes count)
         ∙ ap (λ n. n + length (sector_bytes count)) (length-sectors count) ∙ ap (λ n. 512 * count + n) (long count) ∙ omega arith
 
-    take-front : (size : ℕ) (front back : List ℕ) → size ≤ length front → take size (front ++ back) ≡ take size front
-    take-front zero front back fits = refl
-    take-front (suc size) [] back fits = absurd (omega (arith, fits))
-    take-front (suc size) (byte ∷ front) back fits = ap (λ bytes. byte ∷ bytes) (take-front size front back (omega (arith, fits)))
+    take-prefix : (size : ℕ) (prefix suffix : List ℕ) → size ≤ length prefix → take size (prefix ++ suffix) ≡ take size prefix
+    take-prefix zero prefix suffix fits = refl
+    take-prefix (suc size) [] suffix fits = absurd (omega (arith, fits))
+    take-prefix (suc size) (byte ∷ prefix) suffix fits = ap (λ bytes. byte ∷ bytes) (take-prefix size prefix suffix (omega (arith, fits)))
 
     -- as many bytes of them as the file has are its first blocks'
     sectors-enough : (size : ℕ) → take size (sectors_to (sectors_for size)) ≡ take size (blocks (block volume.layout (parts_of volume image) number) (blocks_for size))
@@ -108,7 +108,7 @@ module _ (volume : Volume) (image : Image) (number : ℕ) (zero_place : DiskSect
             let other : 2 * blocks_for size ≢ sectors_for size = grind (arith, nat_tests) in
             let more : 2 * blocks_for size ≡ sectors_for size + 1 = omega (arith, other) in
             let size_fits : size ≤ length (sectors_to (sectors_for size)) = rw (length-sectors (sectors_for size)) (omega arith) in
-            sym (take-front size (sectors_to (sectors_for size)) (sector_bytes (sectors_for size)) size_fits)
+            sym (take-prefix size (sectors_to (sectors_for size)) (sector_bytes (sectors_for size)) size_fits)
             ∙ ap (take size) (sym (one-more (sectors_for size)) ∙ ap sectors_to (sym more) ∙ blocks-sectors (blocks_for size))
 
     -- A file's sectors in order, the zero sector for holes, have its content.

@@ -61,11 +61,11 @@ other-line : (image : Image) (machine : Machine) (span : Span) (plan : Plan) (me
     → MapLies image machine span plan menu targets line p0 p1 p2 p3 p4 rest present → p0 ≢ record { disk = span.disk; sector = span.start } → line_at bytes ≡ Ok other
     → MapLies (with_sector image p0 bytes) machine span plan menu targets other p0 p1 p2 p3 p4 rest present
 other-line image machine span plan menu targets line other p0 p1 p2 p3 p4 rest present bytes s elsewhere is =
-    let behind = p1 ∷ (p2 ∷ (p3 ∷ (p4 ∷ rest))) in
+    let after = p1 ∷ (p2 ∷ (p3 ∷ (p4 ∷ rest))) in
     let files = joined image machine plan.config p0 p4 (file_sectors_of p4 plan.message) (flat_map (section_places p4) plan.sections) (of-optional image machine plan.config p0 p4 plan.message menu.message s.message) (of-targets image machine plan.config p0 p4 plan.sections targets s.targets_lie) in
-    let others : AllByRecursion (λ place. place ≢ p0) (fixed_places span plan p4 behind) = ((λ same. elsewhere (sym same)), joined image machine plan.config p0 p4 behind _ (from-none image machine plan.config p0 p4 behind s.apart) files) in
+    let others : AllByRecursion (λ place. place ≢ p0) (fixed_places span plan p4 after) = ((λ same. elsewhere (sym same)), joined image machine plan.config p0 p4 after _ (from-none image machine plan.config p0 p4 after s.apart) files) in
     map_stays_law image (with_sector image p0 bytes) machine span plan menu targets line other p0 p1 p2 p3 p4 rest present s
-    (unlisted_law (fixed_places span plan p4 behind) image p0 bytes (All-from_recursion _ (fixed_places span plan p4 behind) others))
+    (unlisted_law (fixed_places span plan p4 after) image p0 bytes (All-from_recursion _ (fixed_places span plan p4 after) others))
     (ap line_at (written image p0 bytes) ∙ is)
 
 pub lines_law : LinesLaw

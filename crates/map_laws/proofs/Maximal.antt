@@ -67,12 +67,12 @@ module _ (machine : Machine) where
   joined (next ∷ others) slot = by (could_be_one (machine.geometry_of slot.disk) slot next) refl (λ slot. joined others slot)
     where
       by : (one : Bool) → could_be_one (machine.geometry_of slot.disk) slot next ≡ one → ((slot : Slot) → Joined machine slot others) → Joined machine slot (next ∷ others)
-      by true one behind =
-          let j = behind (longer slot (slot.count + next.count)) in
+      by true one after =
+          let j = after (longer slot (slot.count + next.count)) in
           let more = j.more in
           record { count = j.count; rest = j.rest; is = rw one j.is; more = omega (arith, more); apart = j.apart }
-      by false one behind =
-          let j = behind next in
+      by false one after =
+          let j = after next in
           record {
             count = slot.count;
             rest = longer next j.count ∷ j.rest;

@@ -93,11 +93,11 @@ module _ (volume : Volume) (image : Image) (sound : IsSound volume image) where
     length-file_places = length-map (range_with_len 0 (sectors_for (parts.node number).size)) (λ index. sector_in_zone volume.span (zone_number volume.layout parts number (index / 2)) index) ∙ length-range_with_len 0 (sectors_for (parts.node number).size)
 
     -- A named file whose sectors have slots, none of them the default line's, lies where it is mapped from.
-    pub file-stands : (machine : Machine) (config : Config) (line_place : DiskSector) → 1 ≤ (parts.node number).size → (parts.node number).size < 2 ^ 32 → slots_for config machine (mapped_inode volume parts number) ≤ 4128705
+    pub file-lies : (machine : Machine) (config : Config) (line_place : DiskSector) → 1 ≤ (parts.node number).size → (parts.node number).size < 2 ^ 32 → slots_for config machine (mapped_inode volume parts number) ≤ 4128705
         → AreNamed machine (slot_to config.mode machine) (filled_places zero_place (inode_places volume parts number)) → IsNone line_place (filled_places zero_place (inode_places volume parts number))
         → FileLies image machine config line_place zero_place (mapped_inode volume parts number) (content volume.layout parts number)
     unfolding mapped_inode
-    file-stands machine config line_place some few slots are apart = record {
+    file-lies machine config line_place some few slots are apart = record {
       size = sym length-content;
       some = subst (λ n. 1 ≤ n) (sym length-content) some;
       few = subst (λ n. n < 2 ^ 32) (sym length-content) few;

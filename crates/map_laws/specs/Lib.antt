@@ -1,4 +1,5 @@
 pub mod Compact
+pub mod Files
 pub mod Lies
 pub mod Lines
 pub mod MapStays

@@ -1,8 +1,9 @@
 #!/usr/bin/env python3
 """Writes the cases of what configurations mean and plan, from plan_cases.json beside it, as theorems that the check
-computes: crates/model_cases/proofs/Meant*, Plan*, Refused* and NamesCases*.antt, and the disks, volumes and
-configurations that they begin with: crates/model_cases/specs/PlanFixtures.antt. With --check it writes nothing, and
-fails where a file isn't as it would be written.
+computes: crates/model_cases/proofs/Meant*, Plan*, Boots*, Refused* and NamesCases*.antt, and the disks, volumes and
+configurations that they begin with: crates/model_cases/specs/PlanFixtures.antt. Of some it writes that the premises of
+the law on planned maps are met: crates/map_cases/proofs/LiesCases*.antt. With --check it writes nothing, and fails where
+a file isn't as it would be written.
 
 Bytes are hexadecimal in the data, a run of equal ones as the byte, `*` and its length, and parts are joined by `+`. A
 disk is a base with changes, each of them disk, sector, offset and bytes.
@@ -20,6 +21,8 @@ from model_cases import CRATE, SETUP, SPECS, listed, option, sectors, words_in
 
 DATA = pathlib.Path(__file__).resolve().parent / 'plan_cases.json'
 A_FILE = 8              # theorems a file
+LAWS = CRATE.parent / 'map_cases' / 'proofs'
+FIXED = set()           # the names of what the cases begin with
 MODULES = {'TreeFault': 'MinixFind', 'SetupFault': 'Header', 'AddressFault': 'Slots', 'TableFault': 'Partitions'}
 ALIASES = {'MinixFind': 'trees', 'Header': 'headers', 'Slots': 'slots', 'Partitions': 'tables', 'ConfOptions': 'options'}
 TREES = ['MinixLayout', 'MinixParts', 'MinixEntries', 'MinixFind', 'MinixNames', 'MinixFindNames']
@@ -32,6 +35,7 @@ FILES = {
     'Meant': ['Bytes', 'MinixFind', 'MinixFindNames', 'ConfLawful', 'Meant'] + KERNELS + LINES,
     'Plan': DISKS + MAPS + ['ConfLawful', 'Meant', 'Plan', 'Planned'],
     'Boots': DISKS + MAPS + KERNELS + LINES + ['Boot', 'ConfLawful', 'Meant', 'Plan', 'Planned'],
+    'Lies': DISKS + MAPS + ['ConfLawful', 'Meant', 'Plan', 'Planned', 'Conf', 'ConfJudge', 'ConfOptions', 'ConfSettings', 'ConfTokens', 'ConfValues'],
     'Refused': DISKS + ['BootSector', 'ConfLawful', 'Meant', 'Plan', 'Planned', 'PlanRefusal', 'ConfOptions'] + KERNELS,
     'Names': DISKS + ['BootSector', 'NamePlaces', 'Apart', 'Settled'],
 }
@@ -226,11 +230,98 @@ def apart(case):
     return [first, second]
 
 
+# That a planned map lies: the premises of the law on what it boots.
+
+SLOT = ('record { one = record { whole = record { disk = omega arith; some = omega arith; few = omega arith; address = lit< tt }; '
+        'one = refl }; names = refl }')
+
+
+def nested(terms):
+    """Terms as facts of a list, one after the other."""
+    return '(%s, %s)' % (terms[0], nested(terms[1:])) if terms else 'tt'
+
+
+def others(count):
+    return nested(['other-sector _ _ refl'] * count)
+
+
+def file_lies(count):
+    return ('record { size = refl; some = lit≤ tt; few = lit< tt; slots = lit≤ tt; count = refl; named = %s; apart = %s; lies = refl }'
+            % (nested([SLOT] * count), others(count)))
+
+
+def target_lies(item, image):
+    count = len(item['places'])
+    if not item['other']:
+        initrd = 'tt' if item['initrd'] is None else file_lies(item['initrd'])
+        return '(refl, refl, refl, %s, %s)' % (file_lies(count), initrd)
+    bytes_there = 'concat (map (bytes_at %s) %s)' % (image, sectors(item['places']))
+    return '(refl, refl, refl, record { bytes = %s; lies = %s; long = refl; prefix = refl; suffix = %s })' % (
+        bytes_there, file_lies(count), 'refl' if item['table'] else 'tt')
+
+
+def lies(case, name):
+    """The theorem that one case's map lies, and its proof."""
+    fields, what, given = scenario(case), case['plan'], case['lies']
+    places, (disk, start, count) = what['places'], what['span']
+    image = 'image_' + case['name']
+    made = '(with_sectors (disks_of %s) (record { disk = %d; sector = %d } ∷ %s) (plan_boot_sector %s %s %s (disks_of %s %d %d) ∷ plan_sectors %s %s %s))' % (
+        fields['disk'], disk, start, sectors(places), planned(case), fields['machine'], sectors(places), fields['disk'], disk, start,
+        planned(case), fields['machine'], sectors(places))
+    place = ['(record { disk = %d; sector = %d })' % tuple(one) for one in places]
+    span = '(record { disk = %d; start = %d; count = %d })' % (disk, start, count)
+    statement = 'PlannedLies (disks_of %s) %s %s %s %s %s %d (devices_in (disks_of %s) %s) Empty %s %s (disks_of %s %d %d)' % (
+        fields['disk'], image, fields['machine'], fields['volume'], span, fields['conf'], what['time'], fields['disk'],
+        fields['machine'], ' '.join(place[:5]), listed(place[5:]), fields['disk'], disk, start)
+    terms = ['lit≤ tt, %s' % target_lies(one, image) for one in given['sections']]
+    files = 'tt'
+    for term in reversed(terms):
+        files = '(%s, %s)' % (term, files)
+    message = 'tt' if given['message'] is None else file_lies(given['message'])
+    proof = ('record {\n  lawful = lawful_law %s %s refl;\n  time_fits = lit< tt;\n  present_long = refl;\n  boot = refl;\n'
+             '  line_is = refl;\n'
+             '  lies = %s;\n  named = %s;\n  apart = %s;\n  left = λ none. no-section _ _ none;\n  message_few = %s;\n  message = %s;\n  files = %s;\n}') % (
+        conf_cases.text(given['text']), fields['conf'], nested(['refl'] * (len(places) - 1)), nested([SLOT] * len(places)),
+        others(len(places) - 1), 'tt' if given['message'] is None else 'lit≤ tt', message, files)
+    return ['', '-- the disks with what was planned', 'abbrev %s : Image' % image, '%s = %s' % (image, made[1:-1]), '',
+            '-- ' + case['shows'], 'pub %s : %s' % (name, statement), None, '%s = %s' % (name, proof)]
+
+
+LIES_HEAD = '''-- The premises of the law on what planned maps boot are met, written by tools/plan_cases.py.
+use Rattle.std.proofs.Common.{◌≡◌, ◌≢◌, ◌==◌, List, [], ◌∷◌, ◌++◌, map, length, None, Some, true, false, codes, replicate, refl, ap, arith, lit<, lit≤}
+use Rattle.std.specs.List.{concat}
+use Rattle.std.specs.Fmt.{digits}
+use Rattle.std.proofs.lemmas.Bool.Decides.{nat_tests}
+use Rattle.lilo_model.specs.Disks.{Image, DiskSector, bytes_at}
+use Rattle.conf_laws.proofs.Lawful.{lawful_law}
+use Rattle.map_laws.specs.PlannedLies.{PlannedLies}
+'''
+LIES_LEMMAS = '''
+other-sector : (place other : DiskSector) → (place.sector == other.sector) ≡ false → place ≢ other
+other-sector place other test same =
+    let same_sector : place.sector ≡ other.sector = ap (λ (place : DiskSector). place.sector) same in
+    let differs : place.sector ≢ other.sector = grind (arith, nat_tests) in
+    differs same_sector
+
+no-section : {A : Type 0} → (first : A) (others : List A) → first ∷ others ≡ [] → ⊥
+no-section first others none = let long = ap length none in omega (arith, long)
+'''
+
+
+def lies_text(case):
+    name = 'lies_' + case['name']
+    rows = lies(case, name)
+    unfolding = 'unfolding ' + ' '.join([own for found in unfolded('Lies').values() for _, own in found] + ['digits'])
+    body = '\n'.join(unfolding if row is None else row for row in rows)
+    head = conf_cases.used(LIES_HEAD, LIES_LEMMAS + body) + '\n'.join(imports('Lies', [body], FIXED)[1:]) + '\n'
+    return head + LIES_LEMMAS + body + '\n'
+
+
 # Files.
 
 def unfolded(kind):
     """The definitions that a proof of this kind has to unfold, by file; one whose name another file has gets a second."""
-    found, seen = {}, set()
+    found, seen = {}, {word for words in HELPERS.values() for word in words}
     for name in dict.fromkeys(FILES[kind]):
         words = re.findall(r'^unfoldable pub (\w+)', (SPECS / (name + '.antt')).read_text(), re.M)
         found[name] = [(word, word if word not in seen else '%s_%s' % (name.lower(), word)) for word in words]
@@ -351,7 +442,11 @@ def main(arguments):
     for kind, theorems in all_theorems(data):
         for part, at in enumerate(range(0, len(theorems), A_FILE), 1):
             files[CRATE / 'proofs' / ('%sCases%d.antt' % (kind, part))] = file_text(kind, theorems[at:at + A_FILE], fixed)
+    FIXED.update(fixed)
+    for part, case in enumerate([case for case in data['plans'] if 'lies' in case], 1):
+        files[LAWS / ('LiesCases%d.antt' % part)] = lies_text(case)
     old = [path for kind in FILES for path in (CRATE / 'proofs').glob(kind + 'Cases[0-9]*.antt') if path not in files]
+    old += [path for path in LAWS.glob('LiesCases*.antt') if path not in files]
     return write_or_check('plan_cases.py', files, old, arguments)
 
 

@@ -1,3 +1,4 @@
 pub mod Headline
 pub mod Outside
+pub mod Planned
 pub mod Writes

@@ -24,7 +24,7 @@ module _ (volume : Volume) (old : Image) (disk sector : ℕ) (bytes : List ℕ) 
       by true false e1 e2 out = refl
       by true true e1 e2 (inl other) = absurd (other (eqb-true disk volume.span.disk e1))
       by true true e1 e2 (inr (inl before)) = let is = eqb-true sector (volume.span.start + n) e2 in absurd (omega (arith, before, is))
-      by true true e1 e2 (inr (inr behind)) = let is = eqb-true sector (volume.span.start + n) e2 in absurd (omega (arith, behind, is, below))
+      by true true e1 e2 (inr (inr after)) = let is = eqb-true sector (volume.span.start + n) e2 in absurd (omega (arith, after, is, below))
 
   keeps : Keeps volume.layout (parts_of volume old) (parts_of volume new)
   unfolding parts_of

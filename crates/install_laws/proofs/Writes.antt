@@ -18,7 +18,7 @@ module _ (volume : Volume) (image : Image) (chosen : ℕ → Bool) (place : Disk
     where
       by-tables : (sector < Rattle.lilo_model.specs.MinixLayout.super_sector) ⊎ (2 * (Rattle.lilo_model.specs.MinixLayout.table_start volume.layout + Rattle.lilo_model.specs.MinixLayout.table_blocks volume.layout) ≤ sector) → ⊥
       by-tables (inl before) = omega (arith, before, tables)
-      by-tables (inr behind) = omega (arith, behind, tables)
+      by-tables (inr after) = omega (arith, after, tables)
   by-sector sector is plain (inr zone) = by-zone sector zone.0 is plain zone.1 zone.2
 
   not-written : IsClearPlace volume image place → IsWritable volume image chosen place → ⊥

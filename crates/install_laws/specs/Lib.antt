@@ -1,3 +1,4 @@
 pub mod Boots
 pub mod Headline
+pub mod Planned
 pub mod Writes

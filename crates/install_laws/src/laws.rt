@@ -1,11 +1,18 @@
 // What follows of the promises of an installation's steps.
 ghost use Rattle.install_laws.specs.Headline.{HeadlineLaw};
+ghost use Rattle.install_laws.specs.Planned.{MeansLaw};
 ghost use Rattle.install_laws.specs.Writes.{OutsideLaw, SparesLaw};
 
 /// At every moment of an installation whose steps promise what is stated, a stop leaves what boots as before or as is
 /// meant, the same of the two for all keys and any memory; and from the commit on only as is meant.
 pub fn stop_leaves_what_boots_as_before_or_as_meant()
     ensures { HeadlineLaw }
+{}
+
+/// Where what a configuration plans lies, and its default line is empty, an image means the configuration and its files:
+/// it boots so, and with each other default line too.
+pub fn planned_map_means_its_configuration()
+    ensures { MeansLaw }
 {}
 
 /// A run that writes only where a writer of files may spares the sectors of a Clear map that its chosen zones avoid.

@@ -6,7 +6,7 @@ use Rattle.std.proofs.lemmas.Bool.Decides.{nat_tests}
 use Rattle.lilo_model.specs.Bytes.{is_zero, is_between, part_of, number16, number32, bytes16, bytes32}
 use Rattle.lilo_model.specs.Slots.{Slot, is_one_slot, some_slot, slot_bytes, optional_bytes}
 use Rattle.lilo_model.specs.BootSector.{BootSector, MapFault, first_bytes, last_bytes, is_bootable, has_signature, has_options, has_names, has_slots, has_no_message, has_whole_message, has_message, has_zeros, is_whole, timeout_of, table_slots, boot_of, boot_at, flag_number, timeout_number, field_bytes, merged_sector}
-use Rattle.map_laws.proofs.Parts.{part-behind}
+use Rattle.map_laws.proofs.Parts.{part-after}
 use Rattle.map_laws.specs.Lies.{IsOneSlot}
 use Rattle.map_laws.proofs.SlotAgain.{length-slot, read-as, one-slot, some-slot}
 
@@ -116,9 +116,9 @@ length-optional (Some slot) = length-slot slot
 -- the end of a sector of which three parts lie before it
 end-of : (fields code kept : List ℕ) → length fields ≡ 128 → length code ≡ 312 → length kept ≡ 70 → part_of (fields ++ (code ++ (kept ++ last_bytes))) 0x1FE 2 ≡ last_bytes
 end-of fields code kept e1 e2 e3 =
-    part-behind fields (code ++ (kept ++ last_bytes)) 0x1FE 382 2 (omega (arith, e1))
-    ∙ part-behind code (kept ++ last_bytes) 382 70 2 (omega (arith, e2))
-    ∙ part-behind kept last_bytes 70 0 2 (omega (arith, e3))
+    part-after fields (code ++ (kept ++ last_bytes)) 0x1FE 382 2 (omega (arith, e1))
+    ∙ part-after code (kept ++ last_bytes) 382 70 2 (omega (arith, e2))
+    ∙ part-after kept last_bytes 70 0 2 (omega (arith, e3))
 
 flag-small : (prompt : Bool) → nat_le (flag_number prompt) 1 ≡ true
 flag-small true = refl

@@ -52,10 +52,10 @@ abbrev longer : Slot → Slot → Slot
 longer slot next = record slot { count = slot.count + next.count }
 
 -- a slot that takes a next one of one sector names that too
-longer-group : (machine : Machine) (to : DiskSector → Slot) (slot : Slot) (front : List DiskSector) (place : DiskSector) → IsGroup machine (record { slot = slot; places = front }) → IsNamed machine to place
-    → could_be_one (machine.geometry_of slot.disk) slot (to place) ≡ true → IsGroup machine (record { slot = longer slot (to place); places = front ++ (place ∷ []) })
+longer-group : (machine : Machine) (to : DiskSector → Slot) (slot : Slot) (prefix : List DiskSector) (place : DiskSector) → IsGroup machine (record { slot = slot; places = prefix }) → IsNamed machine to place
+    → could_be_one (machine.geometry_of slot.disk) slot (to place) ≡ true → IsGroup machine (record { slot = longer slot (to place); places = prefix ++ (place ∷ []) })
 unfolding could_be_one place_at sector_at
-longer-group machine to slot front place group named e =
+longer-group machine to slot prefix place group named e =
     let geometry = machine.geometry_of slot.disk in
     let next = to place in
     let all = three (slot.disk == next.disk) (nat_le (slot.count + next.count) 127) (follows geometry slot.address slot.count next.address next.count) e in
@@ -71,8 +71,8 @@ longer-group machine to slot front place group named e =
           ap (λ n. map (λ index. sector_step (place_of machine slot.disk (number_at geometry slot.address index))) (range_with_len 0 n)) one
           ∙ map-range_with_len_more (λ index. sector_step (place_of machine slot.disk (number_at geometry slot.address index))) 0 slot.count slot.count (omega arith)
           ∙ ap (λ steps. steps ++ (sector_step (place_of machine slot.disk (number_at geometry slot.address slot.count)) ∷ [])) group.steps
-          ∙ ap (λ found. map Names front ++ (sector_step found ∷ [])) place_is
-          ∙ sym (map-append Names front (place ∷ []));
+          ∙ ap (λ found. map Names prefix ++ (sector_step found ∷ [])) place_is
+          ∙ sym (map-append Names prefix (place ∷ []));
     }
   where
     three : (a b c : Bool) → (a && b && c) ≡ true → (a ≡ true) × (b ≡ true) × (c ≡ true)
@@ -87,23 +87,23 @@ longer-group machine to slot front place group named e =
 one-group : (machine : Machine) (to : DiskSector → Slot) (place : DiskSector) → IsNamed machine to place → IsGroup machine (record { slot = to place; places = place ∷ [] })
 one-group machine to place named = record { whole = named.one.whole; steps = ap (λ n. map (λ index. sector_step (place_at machine (to place) index)) (range_with_len 0 n)) named.one.one ∙ ap (λ found. sector_step found ∷ []) named.names }
 
-joined : (machine : Machine) (to : DiskSector → Slot) (places : List DiskSector) (slot : Slot) (front : List DiskSector) → IsGroup machine (record { slot = slot; places = front }) → AreNamed machine to places
-    → Joined machine (joined_slots machine slot (map to places)) (front ++ places)
-joined machine to [] slot front group named = record { groups = record { slot = slot; places = front } ∷ []; slots_are = refl; places_are = refl; good = (group, tt) }
-joined machine to (place ∷ places) slot front group named =
+joined : (machine : Machine) (to : DiskSector → Slot) (places : List DiskSector) (slot : Slot) (prefix : List DiskSector) → IsGroup machine (record { slot = slot; places = prefix }) → AreNamed machine to places
+    → Joined machine (joined_slots machine slot (map to places)) (prefix ++ places)
+joined machine to [] slot prefix group named = record { groups = record { slot = slot; places = prefix } ∷ []; slots_are = refl; places_are = refl; good = (group, tt) }
+joined machine to (place ∷ places) slot prefix group named =
     by-test (could_be_one (machine.geometry_of slot.disk) slot (to place)) refl
-    (λ e. joined machine to places (longer slot (to place)) (front ++ (place ∷ [])) (longer-group machine to slot front place group named.0 e) named.1)
+    (λ e. joined machine to places (longer slot (to place)) (prefix ++ (place ∷ [])) (longer-group machine to slot prefix place group named.0 e) named.1)
     (joined machine to places (to place) (place ∷ []) (one-group machine to place named.0) named.1)
   where
     by-test : (test : Bool) → could_be_one (machine.geometry_of slot.disk) slot (to place) ≡ test
-        → (could_be_one (machine.geometry_of slot.disk) slot (to place) ≡ true → Joined machine (joined_slots machine (longer slot (to place)) (map to places)) ((front ++ (place ∷ [])) ++ places))
+        → (could_be_one (machine.geometry_of slot.disk) slot (to place) ≡ true → Joined machine (joined_slots machine (longer slot (to place)) (map to places)) ((prefix ++ (place ∷ [])) ++ places))
         → Joined machine (joined_slots machine (to place) (map to places)) ((place ∷ []) ++ places)
-        → Joined machine (if test then joined_slots machine (longer slot (to place)) (map to places) else slot ∷ joined_slots machine (to place) (map to places)) (front ++ (place ∷ places))
-    by-test true e more other = subst (Joined machine (joined_slots machine (longer slot (to place)) (map to places))) (append_assoc front (place ∷ []) places) (more e)
+        → Joined machine (if test then joined_slots machine (longer slot (to place)) (map to places) else slot ∷ joined_slots machine (to place) (map to places)) (prefix ++ (place ∷ places))
+    by-test true e more other = subst (Joined machine (joined_slots machine (longer slot (to place)) (map to places))) (append_assoc prefix (place ∷ []) places) (more e)
     by-test false e more other = record {
-      groups = record { slot = slot; places = front } ∷ other.groups;
+      groups = record { slot = slot; places = prefix } ∷ other.groups;
       slots_are = ap (λ slots. slot ∷ slots) other.slots_are;
-      places_are = ap (λ places. front ++ places) other.places_are;
+      places_are = ap (λ places. prefix ++ places) other.places_are;
       good = (group, other.good);
     }
 

@@ -17,19 +17,19 @@ use Rattle.map_laws.specs.Lies.{IsNamed, AreNamed, IsNone, OptionalLies, IsFitSe
 use Rattle.lilo_model.specs.Lays.{AreAt}
 use Rattle.map_laws.proofs.Texts.{options_again, extra_again}
 use Rattle.map_laws.proofs.Flags.{FlagsAre, flags-are}
-use Rattle.map_laws.proofs.Files.{file-shown, file-still, stand-still}
+use Rattle.map_laws.proofs.Files.{file-shown, file-still, lie-still}
 
 -- ---- sectors one after the other
 
-pub stand-front : (image : Image) (places : List DiskSector) (front back : List (List ℕ)) → AreAt image places (front ++ back) → AreAt image places front
-stand-front image places [] back stand = tt
-stand-front image [] (bytes ∷ front) back stand = absurd stand
-stand-front image (place ∷ places) (bytes ∷ front) back stand = (stand.0, stand-front image places front back stand.1)
+pub lie-prefix : (image : Image) (places : List DiskSector) (prefix suffix : List (List ℕ)) → AreAt image places (prefix ++ suffix) → AreAt image places prefix
+lie-prefix image places [] suffix lie = tt
+lie-prefix image [] (bytes ∷ prefix) suffix lie = absurd lie
+lie-prefix image (place ∷ places) (bytes ∷ prefix) suffix lie = (lie.0, lie-prefix image places prefix suffix lie.1)
 
-pub stand-back : (image : Image) (places : List DiskSector) (front back : List (List ℕ)) → AreAt image places (front ++ back) → AreAt image (drop (length front) places) back
-stand-back image places [] back stand = stand
-stand-back image [] (bytes ∷ front) back stand = absurd stand
-stand-back image (place ∷ places) (bytes ∷ front) back stand = stand-back image places front back stand.1
+pub lie-suffix : (image : Image) (places : List DiskSector) (prefix suffix : List (List ℕ)) → AreAt image places (prefix ++ suffix) → AreAt image (drop (length prefix) places) suffix
+lie-suffix image places [] suffix lie = lie
+lie-suffix image [] (bytes ∷ prefix) suffix lie = absurd lie
+lie-suffix image (place ∷ places) (bytes ∷ prefix) suffix lie = lie-suffix image places prefix suffix lie.1
 
 pub named-drop : (machine : Machine) (to : DiskSector → Slot) (count : ℕ) (places : List DiskSector) → AreNamed machine to places → AreNamed machine to (drop count places)
 named-drop machine to zero places named = named
@@ -41,9 +41,9 @@ none-drop line_place zero places none = none
 none-drop line_place (suc count) [] none = tt
 none-drop line_place (suc count) (place ∷ places) none = none-drop line_place count places none.1
 
-pub length-chain : (to : DiskSector → Slot) (count : ℕ) (slots : List Slot) (behind : List DiskSector) → length (chain_sectors to count slots behind) ≡ count
-length-chain to zero slots behind = refl
-length-chain to (suc count) slots behind = ap suc (length-chain to count (drop 63 slots) (drop 1 behind))
+pub length-chain : (to : DiskSector → Slot) (count : ℕ) (slots : List Slot) (after : List DiskSector) → length (chain_sectors to count slots after) ≡ count
+length-chain to zero slots after = refl
+length-chain to (suc count) slots after = ap suc (length-chain to count (drop 63 slots) (drop 1 after))
 
 pub length-file : (config : Config) (machine : Machine) (zero_place : DiskSector) (file : MappedFile) (places : List DiskSector) → length (file_sectors config machine zero_place file places) ≡ chain_for config machine file
 unfolding file_sectors
@@ -90,11 +90,11 @@ module _ (image : Image) (machine : Machine) (config : Config) (line_place zero_
   ExtraRead own = needs_extra mapped.section ≡ true → slot_bytes_at image machine (to (place_of_sector own 1)) ≡ Ok (extra_bytes (texts_of mapped.section))
 
   extra-read : (first : DiskSector) (own : List DiskSector) → AreNamed machine to own → AreAt image own (extra_sectors mapped.section) → ExtraRead (first ∷ own)
-  extra-read first own named stand has = by-own own named (subst (λ b. AreAt image own (if b then extra_bytes (texts_of mapped.section) ∷ [] else [])) has stand)
+  extra-read first own named lie has = by-own own named (subst (λ b. AreAt image own (if b then extra_bytes (texts_of mapped.section) ∷ [] else [])) has lie)
     where
       by-own : (own : List DiskSector) → AreNamed machine to own → AreAt image own (extra_bytes (texts_of mapped.section) ∷ []) → slot_bytes_at image machine (to (place_of_sector (first ∷ own) 1)) ≡ Ok (extra_bytes (texts_of mapped.section))
-      by-own [] named stand = absurd stand
-      by-own (place ∷ own) named stand = slot-read image machine to place (extra_bytes (texts_of mapped.section)) named.0 stand.0
+      by-own [] named lie = absurd lie
+      by-own (place ∷ own) named lie = slot-read image machine to place (extra_bytes (texts_of mapped.section)) named.0 lie.0
 
   extra-texts : extra_at (extra_bytes (texts_of mapped.section)) ≡ Ok (texts_of mapped.section)
   extra-texts = extra_again (texts_of mapped.section) (short mapped.section.fallback 255 lawful.fallback) (short mapped.section.password 31 lawful.password)
@@ -159,11 +159,11 @@ module _ (image : Image) (machine : Machine) (config : Config) (line_place zero_
       → AreNamed machine to (initrd_places config machine mapped own) → AreAt image (initrd_places config machine mapped own) (optional_sectors config machine zero_place file (initrd_places config machine mapped own))
       → (initrd_size (entry_at_own own name) ≡ option_map length initrd) × (initrd_of image machine (entry_at_own own name) ≡ option_map whole initrd)
   unfolding descriptor_for
-  initrd-read own name None None is lies named stand = (rw ((flags-of mapped).initrd, is) refl, rw is refl)
-  initrd-read own name None (Some bytes) is lies named stand = absurd lies
-  initrd-read own name (Some file) None is lies named stand = absurd lies
-  initrd-read own name (Some file) (Some bytes) is lies named stand =
-      (rw ((flags-of mapped).initrd, is) (ap Some lies.size), rw is (ap Some (file-shown image machine config line_place zero_place file bytes (initrd_places config machine mapped own) lies named stand)))
+  initrd-read own name None None is lies named lie = (rw ((flags-of mapped).initrd, is) refl, rw is refl)
+  initrd-read own name None (Some bytes) is lies named lie = absurd lies
+  initrd-read own name (Some file) None is lies named lie = absurd lies
+  initrd-read own name (Some file) (Some bytes) is lies named lie =
+      (rw ((flags-of mapped).initrd, is) (ap Some lies.size), rw is (ap Some (file-shown image machine config line_place zero_place file bytes (initrd_places config machine mapped own) lies named lie)))
 
   kernel-read : (own : List DiskSector) (name : List ℕ) (bytes : List ℕ) (initrd : Option (List ℕ)) (middle : List ℕ) (video : Option ℕ) → TargetLies image machine config line_place zero_place mapped (Kernel bytes initrd middle video)
       → AreNamed machine to (main_places mapped.section own) → AreNamed machine to (initrd_places config machine mapped own)
@@ -171,12 +171,12 @@ module _ (image : Image) (machine : Machine) (config : Config) (line_place zero_
       → AreAt image (initrd_places config machine mapped own) (optional_sectors config machine zero_place mapped.initrd (initrd_places config machine mapped own))
       → ShowsKernel image machine (entry_at_own own name) bytes initrd video
   unfolding descriptor_for main_of
-  kernel-read own name bytes initrd middle video lies named named' stand stand' =
-      let both = initrd-read own name mapped.initrd initrd refl lies.4 named' stand' in
+  kernel-read own name bytes initrd middle video lies named named' lie lie' =
+      let both = initrd-read own name mapped.initrd initrd refl lies.4 named' lie' in
       record {
         kernel = (flags-of mapped).other ∙ ap is_some lies.0;
         size = lies.3.size;
-        main = file-shown image machine config line_place zero_place mapped.main bytes (main_places mapped.section own) lies.3 named stand;
+        main = file-shown image machine config line_place zero_place mapped.main bytes (main_places mapped.section own) lies.3 named lie;
         initrd_size_is = both.0;
         initrd_is = both.1;
         video_is = rw (flags-of mapped).video (by-video mapped.section.vga) ∙ lies.2;
@@ -191,13 +191,13 @@ module _ (image : Image) (machine : Machine) (config : Config) (line_place zero_
       → AreAt image (main_places mapped.section own) (file_sectors config machine zero_place mapped.main (main_places mapped.section own))
       → ShowsSystem image machine (entry_at_own own name) sector table
   unfolding descriptor_for main_of
-  system-read own name sector table lies named stand = record {
+  system-read own name sector table lies named lie = record {
     other = (flags-of mapped).other ∙ lies.0;
     has_table = (flags-of mapped).table ∙ lies.1;
     bytes = lies.3.bytes;
-    main = file-shown image machine config line_place zero_place mapped.main lies.3.bytes (main_places mapped.section own) lies.3.lies named stand;
-    front = lies.3.front;
-    back = lies.3.back;
+    main = file-shown image machine config line_place zero_place mapped.main lies.3.bytes (main_places mapped.section own) lies.3.lies named lie;
+    prefix = lies.3.prefix;
+    suffix = lies.3.suffix;
   }
 
   target-read : (own : List DiskSector) (name : List ℕ) (target : Target) → TargetLies image machine config line_place zero_place mapped target
@@ -205,8 +205,8 @@ module _ (image : Image) (machine : Machine) (config : Config) (line_place zero_
       → AreAt image (main_places mapped.section own) (file_sectors config machine zero_place mapped.main (main_places mapped.section own))
       → AreAt image (initrd_places config machine mapped own) (optional_sectors config machine zero_place mapped.initrd (initrd_places config machine mapped own))
       → ShowsTarget image machine (entry_at_own own name) target
-  target-read own name (Kernel bytes initrd middle video) lies named named' stand stand' = kernel-read own name bytes initrd middle video lies named named' stand stand'
-  target-read own name (System sector table) lies named named' stand stand' = system-read own name sector table lies named stand
+  target-read own name (Kernel bytes initrd middle video) lies named named' lie lie' = kernel-read own name bytes initrd middle video lies named named' lie lie'
+  target-read own name (System sector table) lies named named' lie lie' = system-read own name sector table lies named lie
 
 -- ---- once the default line is written
 
@@ -220,7 +220,7 @@ target-still image line_place new machine config zero_place mapped (Kernel bytes
     optional-still (Some file) None lies = absurd lies
     optional-still (Some file) (Some bytes) lies = file-still image line_place new machine config zero_place file bytes lies
 target-still image line_place new machine config zero_place mapped (System sector table) lies =
-    (lies.0, lies.1, lies.2, record { bytes = lies.3.bytes; lies = file-still image line_place new machine config zero_place mapped.main lies.3.bytes lies.3.lies; long = lies.3.long; front = lies.3.front; back = lies.3.back })
+    (lies.0, lies.1, lies.2, record { bytes = lies.3.bytes; lies = file-still image line_place new machine config zero_place mapped.main lies.3.bytes lies.3.lies; long = lies.3.long; prefix = lies.3.prefix; suffix = lies.3.suffix })
 
 -- ---- an entry
 
@@ -241,8 +241,8 @@ pub section-read : (image : Image) (machine : Machine) (config : Config) (line_p
     → AreNamed machine (slot_to config.mode machine) own → IsNone line_place own → AreAt image own (section_sectors_at config machine zero_place mapped own)
     → EntryShown image machine line_place (descriptor_for config machine mapped own name) (menu_entry mapped.section target name)
 unfolding section_sectors_at descriptor_for
-section-read image machine config line_place zero_place mapped target [] name lawful lies named none stand = absurd stand
-section-read image machine config line_place zero_place mapped target (first ∷ own) name lawful lies named none stand =
+section-read image machine config line_place zero_place mapped target [] name lawful lies named none lie = absurd lie
+section-read image machine config line_place zero_place mapped target (first ∷ own) name lawful lies named none lie =
     let to = slot_to config.mode machine in
     let all = first ∷ own in
     let extras = extra_sectors mapped.section in
@@ -250,10 +250,10 @@ section-read image machine config line_place zero_place mapped target (first ∷
     let ramdisk = initrd_places config machine mapped all in
     let mains = file_sectors config machine zero_place mapped.main main in
     let ramdisks = optional_sectors config machine zero_place mapped.initrd ramdisk in
-    let extra = extra-read image machine config line_place zero_place mapped lawful first own named.1 (stand-front image own extras (mains ++ ramdisks) stand.1) in
-    let behind = stand-back image own extras (mains ++ ramdisks) stand.1 in
-    let stand_main = stand-front image main mains ramdisks behind in
-    let stand_ramdisk = subst (λ n. AreAt image (drop n main) ramdisks) (length-file config machine zero_place mapped.main main) (stand-back image main mains ramdisks behind) in
+    let extra = extra-read image machine config line_place zero_place mapped lawful first own named.1 (lie-prefix image own extras (mains ++ ramdisks) lie.1) in
+    let after = lie-suffix image own extras (mains ++ ramdisks) lie.1 in
+    let lie_main = lie-prefix image main mains ramdisks after in
+    let lie_ramdisk = subst (λ n. AreAt image (drop n main) ramdisks) (length-file config machine zero_place mapped.main main) (lie-suffix image main mains ramdisks after) in
     let named_main = named-drop machine to (length extras) own named.1 in
     let named_ramdisk = named-drop machine to (chain_for config machine mapped.main) main named_main in
     let none_main = none-drop line_place (length extras) own none.1 in
@@ -261,10 +261,10 @@ section-read image machine config line_place zero_place mapped target (first ∷
     record {
       shows = record {
         name = refl;
-        middle = middle-read image machine config line_place zero_place mapped lawful all name extra (slot-read image machine to first (options_bytes (kept_middle mapped.section)) named.0 stand.0) (kept-short mapped.section lawful.middle) ∙ ap Ok (target-middle image machine config line_place zero_place mapped target lies);
-        now = target-read image machine config line_place zero_place mapped lawful all name target lies named_main named_ramdisk stand_main stand_ramdisk;
-        behind = λ line. target-read (with_sector image line_place (line_bytes line)) machine config line_place zero_place mapped lawful all name target (target-still image line_place (line_bytes line) machine config zero_place mapped target lies) named_main named_ramdisk
-            (stand-still image line_place (line_bytes line) main mains none_main stand_main) (stand-still image line_place (line_bytes line) ramdisk ramdisks none_ramdisk stand_ramdisk);
+        middle = middle-read image machine config line_place zero_place mapped lawful all name extra (slot-read image machine to first (options_bytes (kept_middle mapped.section)) named.0 lie.0) (kept-short mapped.section lawful.middle) ∙ ap Ok (target-middle image machine config line_place zero_place mapped target lies);
+        now = target-read image machine config line_place zero_place mapped lawful all name target lies named_main named_ramdisk lie_main lie_ramdisk;
+        after = λ line. target-read (with_sector image line_place (line_bytes line)) machine config line_place zero_place mapped lawful all name target (target-still image line_place (line_bytes line) machine config zero_place mapped target lies) named_main named_ramdisk
+            (lie-still image line_place (line_bytes line) main mains none_main lie_main) (lie-still image line_place (line_bytes line) ramdisk ramdisks none_ramdisk lie_ramdisk);
       };
       extra = option_map (λ text. extra_bytes (texts_of mapped.section)) mapped.section.password;
       extra_is = ap (λ flag. optional_at image machine (if flag then (descriptor_for config machine mapped all name).extra else None)) (password-flag mapped all name) ∙ asked-read image machine config line_place zero_place mapped lawful all name mapped.section.password (has-by-password image machine config line_place zero_place mapped lawful) extra;

@@ -10,13 +10,13 @@ use Rattle.std.proofs.lemmas.List.{length-replicate}
 use Rattle.lilo_model.specs.Bytes.{is_zero, is_between, part_of, filled_bytes, number16, number32, bytes16, bytes32}
 use Rattle.lilo_model.specs.Slots.{Slot, is_one_slot, some_slot, slot_bytes, optional_bytes}
 use Rattle.lilo_model.specs.Table.{Descriptor, other_flag, password_flag, restricted_flag, lock_flag, fallback_flag, video_flag, initrd_flag, table_flag, has_flag, is_set, entry_name, is_printable, is_name, has_flags, has_video, has_length, has_main, has_initrd, has_extra, is_entry, descriptor_of, descriptor_bytes}
-use Rattle.map_laws.proofs.Parts.{part-behind, part-front, part-between, length-filled}
+use Rattle.map_laws.proofs.Parts.{part-after, part-prefix, part-between, length-filled}
 use Rattle.map_laws.specs.Lies.{IsOneSlot, IsName}
 use Rattle.map_laws.proofs.SlotAgain.{length-slot, read-as, one-slot, some-slot}
 
 -- the 48 bytes after the name
-abbrev pub fields_behind : (flags vga main initrd chain chain' : ℕ) (options first ramdisk extra : List ℕ) → List ℕ
-fields_behind flags vga main initrd chain chain' options first ramdisk extra =
+abbrev pub fields_after : (flags vga main initrd chain chain' : ℕ) (options first ramdisk extra : List ℕ) → List ℕ
+fields_after flags vga main initrd chain chain' options first ramdisk extra =
     bytes16 flags ++ bytes16 vga ++ bytes32 main ++ bytes32 initrd ++ options ++ first ++ ramdisk ++ bytes16 chain ++ bytes16 chain' ++ extra
 
 record ReadsBehind (bytes : List ℕ) (flags vga main initrd chain chain' : ℕ) (options first ramdisk extra : List ℕ) : Type 0 where
@@ -31,12 +31,12 @@ record ReadsBehind (bytes : List ℕ) (flags vga main initrd chain chain' : ℕ)
   chain'_is : number16 bytes 38 ≡ chain'
   extra_is : part_of bytes 40 8 ≡ extra
 
-reads-behind : (flags vga main initrd chain chain' : ℕ) (options first ramdisk extra : List ℕ)
+reads-after : (flags vga main initrd chain chain' : ℕ) (options first ramdisk extra : List ℕ)
     → flags < 2 ^ 16 → vga < 2 ^ 16 → main < 2 ^ 32 → initrd < 2 ^ 32 → chain < 2 ^ 16 → chain' < 2 ^ 16
     → length options ≡ 8 → length first ≡ 8 → length ramdisk ≡ 8 → length extra ≡ 8
-    → ReadsBehind (fields_behind flags vga main initrd chain chain' options first ramdisk extra) flags vga main initrd chain chain' options first ramdisk extra
+    → ReadsBehind (fields_after flags vga main initrd chain chain' options first ramdisk extra) flags vga main initrd chain chain' options first ramdisk extra
 unfolding number16 number32
-reads-behind flags vga main initrd chain chain'
+reads-after flags vga main initrd chain chain'
     (l0 ∷ (l1 ∷ (l2 ∷ (l3 ∷ (l4 ∷ (l5 ∷ (l6 ∷ (l7 ∷ [])))))))) (z0 ∷ (z1 ∷ (z2 ∷ (z3 ∷ (z4 ∷ (z5 ∷ (z6 ∷ (z7 ∷ []))))))))
     (m0 ∷ (m1 ∷ (m2 ∷ (m3 ∷ (m4 ∷ (m5 ∷ (m6 ∷ (m7 ∷ [])))))))) (a0 ∷ (a1 ∷ (a2 ∷ (a3 ∷ (a4 ∷ (a5 ∷ (a6 ∷ (a7 ∷ [])))))))) ff vf mf jf cf df e1 e2 e3 e4 = record {
       flags_is = from_le_bytes-to_le_bytes_2 flags ff;
@@ -50,7 +50,7 @@ reads-behind flags vga main initrd chain chain'
       chain'_is = from_le_bytes-to_le_bytes_2 chain' df;
       extra_is = refl;
     }
-reads-behind flags vga main initrd chain chain' _ _ _ _ ff vf mf jf cf df e1 e2 e3 e4 = absurd (omega (arith, e1, e2, e3, e4))
+reads-after flags vga main initrd chain chain' _ _ _ _ ff vf mf jf cf df e1 e2 e3 e4 = absurd (omega (arith, e1, e2, e3, e4))
 
 -- ---- the name
 
@@ -85,7 +85,7 @@ name-16 name rest is =
     ∙ ap (λ zeros. part_of (name ++ zeros ++ rest) 0 15) (replicate-last (15 - length name))
     ∙ ap (λ bytes. part_of (bytes ++ rest) 0 15) (sym (append_assoc name (replicate (15 - length name) 0) (0 ∷ [])))
     ∙ ap (λ bytes. part_of bytes 0 15) (append_assoc (name ++ replicate (15 - length name) 0) (0 ∷ []) rest)
-    ∙ part-front (name ++ replicate (15 - length name) 0) ((0 ∷ []) ++ rest) 15 (length-filled 15 name (omega (arith, is)))
+    ∙ part-prefix (name ++ replicate (15 - length name) 0) ((0 ∷ []) ++ rest) 15 (length-filled 15 name (omega (arith, is)))
   where
     replicate-last : (count : ℕ) → replicate {A = ℕ} (count + 1) 0 ≡ replicate count 0 ++ (0 ∷ [])
     replicate-last zero = refl
@@ -159,16 +159,16 @@ optional-test (Some slot) fits = one-slot slot fits
 -- ---- both
 
 -- numbers and slots after the name
-number16-behind : (name rest : List ℕ) (at n : ℕ) → length name ≡ 16 → at ≡ 16 + n → number16 (name ++ rest) at ≡ number16 rest n
+number16-after : (name rest : List ℕ) (at n : ℕ) → length name ≡ 16 → at ≡ 16 + n → number16 (name ++ rest) at ≡ number16 rest n
 unfolding number16
-number16-behind name rest at n long is = ap (from_le_bytes w16) (part-behind name rest at n 2 (omega (arith, long, is)))
+number16-after name rest at n long is = ap (from_le_bytes w16) (part-after name rest at n 2 (omega (arith, long, is)))
 
-number32-behind : (name rest : List ℕ) (at n : ℕ) → length name ≡ 16 → at ≡ 16 + n → number32 (name ++ rest) at ≡ number32 rest n
+number32-after : (name rest : List ℕ) (at n : ℕ) → length name ≡ 16 → at ≡ 16 + n → number32 (name ++ rest) at ≡ number32 rest n
 unfolding number32
-number32-behind name rest at n long is = ap (from_le_bytes w32) (part-behind name rest at n 4 (omega (arith, long, is)))
+number32-after name rest at n long is = ap (from_le_bytes w32) (part-after name rest at n 4 (omega (arith, long, is)))
 
-slot-behind : (name rest : List ℕ) (at n : ℕ) → length name ≡ 16 → at ≡ 16 + n → part_of (name ++ rest) at 8 ≡ part_of rest n 8
-slot-behind name rest at n long is = part-behind name rest at n 8 (omega (arith, long, is))
+slot-after : (name rest : List ℕ) (at n : ℕ) → length name ≡ 16 → at ≡ 16 + n → part_of (name ++ rest) at 8 ≡ part_of rest n 8
+slot-after name rest at n long is = part-after name rest at n 8 (omega (arith, long, is))
 
 append-ten : (a b c d e f g h i j k : List ℕ) → a ++ b ++ c ++ d ++ e ++ f ++ g ++ h ++ i ++ j ++ k ≡ a ++ (b ++ c ++ d ++ e ++ f ++ g ++ h ++ i ++ j ++ k)
 append-ten a b c d e f g h i j k = simp append_assoc
@@ -190,33 +190,33 @@ record ReadsEntry (bytes : List ℕ) (entry : Descriptor) : Type 0 where
 reads-entry : (entry : Descriptor) → FitsEntry entry → ReadsEntry (descriptor_bytes entry) entry
 unfolding descriptor_bytes
 reads-entry entry fits = subst (λ bytes. ReadsEntry bytes entry) (sym joined) (record {
-  name_is = name-again entry.name behind fits.name;
-  name_good = name-whole entry.name behind fits.name;
-  flags_is = number16-behind name behind 16 0 long refl ∙ r.flags_is;
-  vga_is = number16-behind name behind 18 2 long refl ∙ r.vga_is;
-  main_is = number32-behind name behind 20 4 long refl ∙ r.main_is;
-  initrd_is = number32-behind name behind 24 8 long refl ∙ r.initrd_is;
-  options_is = slot-behind name behind 28 12 long refl ∙ r.options_is;
-  first_is = slot-behind name behind 36 20 long refl ∙ r.first_is;
-  ramdisk_is = slot-behind name behind 44 28 long refl ∙ r.ramdisk_is;
-  chain_is = number16-behind name behind 52 36 long refl ∙ r.chain_is;
-  chain'_is = number16-behind name behind 54 38 long refl ∙ r.chain'_is;
-  extra_is = slot-behind name behind 56 40 long refl ∙ r.extra_is;
+  name_is = name-again entry.name after fits.name;
+  name_good = name-whole entry.name after fits.name;
+  flags_is = number16-after name after 16 0 long refl ∙ r.flags_is;
+  vga_is = number16-after name after 18 2 long refl ∙ r.vga_is;
+  main_is = number32-after name after 20 4 long refl ∙ r.main_is;
+  initrd_is = number32-after name after 24 8 long refl ∙ r.initrd_is;
+  options_is = slot-after name after 28 12 long refl ∙ r.options_is;
+  first_is = slot-after name after 36 20 long refl ∙ r.first_is;
+  ramdisk_is = slot-after name after 44 28 long refl ∙ r.ramdisk_is;
+  chain_is = number16-after name after 52 36 long refl ∙ r.chain_is;
+  chain'_is = number16-after name after 54 38 long refl ∙ r.chain'_is;
+  extra_is = slot-after name after 56 40 long refl ∙ r.extra_is;
 })
   where
     name : List ℕ
     name = filled_bytes 16 entry.name
 
-    behind : List ℕ
-    behind = fields_behind entry.flags entry.vga entry.main_length entry.initrd_length entry.chain entry.initrd_chain (slot_bytes entry.options) (slot_bytes entry.first) (optional_bytes entry.initrd) (optional_bytes entry.extra)
+    after : List ℕ
+    after = fields_after entry.flags entry.vga entry.main_length entry.initrd_length entry.chain entry.initrd_chain (slot_bytes entry.options) (slot_bytes entry.first) (optional_bytes entry.initrd) (optional_bytes entry.extra)
 
     long : length name ≡ 16
     long = length-filled 16 entry.name (omega (arith, fits.name))
 
-    r : ReadsBehind behind entry.flags entry.vga entry.main_length entry.initrd_length entry.chain entry.initrd_chain (slot_bytes entry.options) (slot_bytes entry.first) (optional_bytes entry.initrd) (optional_bytes entry.extra)
-    r = reads-behind entry.flags entry.vga entry.main_length entry.initrd_length entry.chain entry.initrd_chain (slot_bytes entry.options) (slot_bytes entry.first) (optional_bytes entry.initrd) (optional_bytes entry.extra) (omega (arith, fits.flags.known)) fits.vga fits.main fits.initrd_size fits.chain fits.initrd_chain (length-slot entry.options) (length-slot entry.first) (length-optional entry.initrd) (length-optional entry.extra)
+    r : ReadsBehind after entry.flags entry.vga entry.main_length entry.initrd_length entry.chain entry.initrd_chain (slot_bytes entry.options) (slot_bytes entry.first) (optional_bytes entry.initrd) (optional_bytes entry.extra)
+    r = reads-after entry.flags entry.vga entry.main_length entry.initrd_length entry.chain entry.initrd_chain (slot_bytes entry.options) (slot_bytes entry.first) (optional_bytes entry.initrd) (optional_bytes entry.extra) (omega (arith, fits.flags.known)) fits.vga fits.main fits.initrd_size fits.chain fits.initrd_chain (length-slot entry.options) (length-slot entry.first) (length-optional entry.initrd) (length-optional entry.extra)
 
-    joined : descriptor_bytes entry ≡ name ++ behind
+    joined : descriptor_bytes entry ≡ name ++ after
     joined = append-ten name (bytes16 entry.flags) (bytes16 entry.vga) (bytes32 entry.main_length) (bytes32 entry.initrd_length) (slot_bytes entry.options) (slot_bytes entry.first) (optional_bytes entry.initrd) (bytes16 entry.chain) (bytes16 entry.initrd_chain) (optional_bytes entry.extra)
 
 -- An entry's bytes are an entry, and that one.
@@ -255,13 +255,13 @@ pub length-entry : (entry : Descriptor) → IsName entry.name → length (descri
 unfolding descriptor_bytes
 length-entry entry name =
     ap length (append-ten (filled_bytes 16 entry.name) (bytes16 entry.flags) (bytes16 entry.vga) (bytes32 entry.main_length) (bytes32 entry.initrd_length) (slot_bytes entry.options) (slot_bytes entry.first) (optional_bytes entry.initrd) (bytes16 entry.chain) (bytes16 entry.initrd_chain) (optional_bytes entry.extra))
-    ∙ length-append (filled_bytes 16 entry.name) (fields_behind entry.flags entry.vga entry.main_length entry.initrd_length entry.chain entry.initrd_chain (slot_bytes entry.options) (slot_bytes entry.first) (optional_bytes entry.initrd) (optional_bytes entry.extra))
-    ∙ ap (λ n. n + length (fields_behind entry.flags entry.vga entry.main_length entry.initrd_length entry.chain entry.initrd_chain (slot_bytes entry.options) (slot_bytes entry.first) (optional_bytes entry.initrd) (optional_bytes entry.extra))) (length-filled 16 entry.name (omega (arith, name)))
-    ∙ ap (λ n. 16 + n) (length-behind entry.flags entry.vga entry.main_length entry.initrd_length entry.chain entry.initrd_chain (slot_bytes entry.options) (slot_bytes entry.first) (optional_bytes entry.initrd) (optional_bytes entry.extra) (length-slot entry.options) (length-slot entry.first) (length-optional entry.initrd) (length-optional entry.extra))
+    ∙ length-append (filled_bytes 16 entry.name) (fields_after entry.flags entry.vga entry.main_length entry.initrd_length entry.chain entry.initrd_chain (slot_bytes entry.options) (slot_bytes entry.first) (optional_bytes entry.initrd) (optional_bytes entry.extra))
+    ∙ ap (λ n. n + length (fields_after entry.flags entry.vga entry.main_length entry.initrd_length entry.chain entry.initrd_chain (slot_bytes entry.options) (slot_bytes entry.first) (optional_bytes entry.initrd) (optional_bytes entry.extra))) (length-filled 16 entry.name (omega (arith, name)))
+    ∙ ap (λ n. 16 + n) (length-after entry.flags entry.vga entry.main_length entry.initrd_length entry.chain entry.initrd_chain (slot_bytes entry.options) (slot_bytes entry.first) (optional_bytes entry.initrd) (optional_bytes entry.extra) (length-slot entry.options) (length-slot entry.first) (length-optional entry.initrd) (length-optional entry.extra))
   where
-    length-behind : (flags vga main initrd chain chain' : ℕ) (options first ramdisk extra : List ℕ) → length options ≡ 8 → length first ≡ 8 → length ramdisk ≡ 8 → length extra ≡ 8
-        → length (fields_behind flags vga main initrd chain chain' options first ramdisk extra) ≡ 48
-    length-behind flags vga main initrd chain chain'
+    length-after : (flags vga main initrd chain chain' : ℕ) (options first ramdisk extra : List ℕ) → length options ≡ 8 → length first ≡ 8 → length ramdisk ≡ 8 → length extra ≡ 8
+        → length (fields_after flags vga main initrd chain chain' options first ramdisk extra) ≡ 48
+    length-after flags vga main initrd chain chain'
         (l0 ∷ (l1 ∷ (l2 ∷ (l3 ∷ (l4 ∷ (l5 ∷ (l6 ∷ (l7 ∷ [])))))))) (z0 ∷ (z1 ∷ (z2 ∷ (z3 ∷ (z4 ∷ (z5 ∷ (z6 ∷ (z7 ∷ []))))))))
         (m0 ∷ (m1 ∷ (m2 ∷ (m3 ∷ (m4 ∷ (m5 ∷ (m6 ∷ (m7 ∷ [])))))))) (a0 ∷ (a1 ∷ (a2 ∷ (a3 ∷ (a4 ∷ (a5 ∷ (a6 ∷ (a7 ∷ [])))))))) e1 e2 e3 e4 = refl
-    length-behind flags vga main initrd chain chain' _ _ _ _ e1 e2 e3 e4 = absurd (omega (arith, e1, e2, e3, e4))
+    length-after flags vga main initrd chain chain' _ _ _ _ e1 e2 e3 e4 = absurd (omega (arith, e1, e2, e3, e4))

@@ -12,7 +12,7 @@ use Rattle.map_laws.specs.Lies.{IsOneSlot, AreNamed, FileLies, OptionalLies, IsF
 use Rattle.lilo_model.specs.Lays.{AreAt}
 use Rattle.map_laws.proofs.EntryAgain.{FitsOptional, FitsFlags, FitsEntry}
 use Rattle.map_laws.proofs.Files.{chain-is, slots-between}
-use Rattle.map_laws.proofs.Entries.{stand-front, stand-back, named-drop, length-file, flags-of}
+use Rattle.map_laws.proofs.Entries.{lie-prefix, lie-suffix, named-drop, length-file, flags-of}
 
 module _ (image : Image) (machine : Machine) (config : Config) (line_place zero_place : DiskSector) where
   abbrev to : DiskSector → Slot
@@ -27,12 +27,12 @@ module _ (image : Image) (machine : Machine) (config : Config) (line_place zero_
   -- the first of the places of a file's sectors is named
   pub first-one : (file : MappedFile) (bytes : List ℕ) (own : List DiskSector) → FileLies image machine config line_place zero_place file bytes → AreNamed machine to own → AreAt image own (file_sectors config machine zero_place file own) → IsOneSlot (to (place_of_sector own 0))
   unfolding file_sectors
-  first-one file bytes [] lies named stand = by-chain (chain_for config machine file) (chain-some file bytes lies) stand
+  first-one file bytes [] lies named lie = by-chain (chain_for config machine file) (chain-some file bytes lies) lie
     where
       by-chain : (chain : ℕ) → 1 ≤ chain → AreAt image [] (chain_sectors to chain (Rattle.lilo_model.specs.Plan.file_slots config machine zero_place file) (drop 1 [])) → IsOneSlot (to (place_of_sector [] 0))
-      by-chain zero some stand = absurd (omega (arith, some))
-      by-chain (suc chain) some stand = absurd stand
-  first-one file bytes (place ∷ own) lies named stand = named.0.one
+      by-chain zero some lie = absurd (omega (arith, some))
+      by-chain (suc chain) some lie = absurd lie
+  first-one file bytes (place ∷ own) lies named lie = named.0.one
 
   module _ (mapped : MappedSection) (lawful : IsFitSection mapped.section) (own : List DiskSector) (name : List ℕ) where
     abbrev entry : Descriptor
@@ -120,8 +120,8 @@ pub entry-bytes-fit : (image : Image) (machine : Machine) (config : Config) (lin
     → AreNamed machine (slot_to config.mode machine) own → AreAt image own (section_sectors_at config machine zero_place mapped own)
     → FitsEntry (descriptor_for config machine mapped own name)
 unfolding section_sectors_at descriptor_for
-entry-bytes-fit image machine config line_place zero_place mapped target [] name lawful lies is_name named stand = absurd stand
-entry-bytes-fit image machine config line_place zero_place mapped target (first ∷ own) name lawful lies is_name named stand =
+entry-bytes-fit image machine config line_place zero_place mapped target [] name lawful lies is_name named lie = absurd lie
+entry-bytes-fit image machine config line_place zero_place mapped target (first ∷ own) name lawful lies is_name named lie =
     let all = first ∷ own in
     let d = differs image machine config line_place zero_place mapped lawful all name target lies in
     let extras = extra_sectors mapped.section in
@@ -129,9 +129,9 @@ entry-bytes-fit image machine config line_place zero_place mapped target (first 
     let ramdisk = initrd_places config machine mapped all in
     let mains = file_sectors config machine zero_place mapped.main main in
     let ramdisks = optional_sectors config machine zero_place mapped.initrd ramdisk in
-    let behind = stand-back image own extras (mains ++ ramdisks) stand.1 in
-    let stand_main = stand-front image main mains ramdisks behind in
-    let stand_ramdisk = subst (λ n. AreAt image (drop n main) ramdisks) (length-file config machine zero_place mapped.main main) (stand-back image main mains ramdisks behind) in
+    let after = lie-suffix image own extras (mains ++ ramdisks) lie.1 in
+    let lie_main = lie-prefix image main mains ramdisks after in
+    let lie_ramdisk = subst (λ n. AreAt image (drop n main) ramdisks) (length-file config machine zero_place mapped.main main) (lie-suffix image main mains ramdisks after) in
     let named_main = named-drop machine (slot_to config.mode machine) (length extras) own named.1 in
     let named_ramdisk = named-drop machine (slot_to config.mode machine) (chain_for config machine mapped.main) main named_main in
     record {
@@ -144,9 +144,9 @@ entry-bytes-fit image machine config line_place zero_place mapped target (first 
       chain = chain-few image machine config line_place zero_place mapped.main d.bytes d.main;
       initrd_chain = ramdisk-chain mapped.initrd d.initrd d.ramdisk;
       options = named.0.one;
-      first = first-one image machine config line_place zero_place mapped.main d.bytes main d.main named_main stand_main;
-      initrd = ramdisk-one mapped.initrd d.initrd d.ramdisk ramdisk named_ramdisk stand_ramdisk;
-      extra = extra-one (needs_extra mapped.section) own named.1 (stand-front image own extras (mains ++ ramdisks) stand.1);
+      first = first-one image machine config line_place zero_place mapped.main d.bytes main d.main named_main lie_main;
+      initrd = ramdisk-one mapped.initrd d.initrd d.ramdisk ramdisk named_ramdisk lie_ramdisk;
+      extra = extra-one (needs_extra mapped.section) own named.1 (lie-prefix image own extras (mains ++ ramdisks) lie.1);
     }
   where
     vga-fits : (vga : Option ℕ) → IfSome vga (λ mode. mode < 2 ^ 16) → unwrap_or vga 0 < 2 ^ 16
@@ -165,12 +165,12 @@ entry-bytes-fit image machine config line_place zero_place mapped target (first 
 
     ramdisk-one : (file : Option MappedFile) (initrd : Option (List ℕ)) → OptionalLies image machine config line_place zero_place file initrd → (places : List DiskSector) → AreNamed machine (slot_to config.mode machine) places → AreAt image places (optional_sectors config machine zero_place file places)
         → FitsOptional (option_map (λ (file : MappedFile). slot_to config.mode machine (place_of_sector places 0)) file)
-    ramdisk-one None initrd lies places named stand = tt
-    ramdisk-one (Some file) None lies places named stand = absurd lies
-    ramdisk-one (Some file) (Some bytes) lies places named stand = first-one image machine config line_place zero_place file bytes places lies named stand
+    ramdisk-one None initrd lies places named lie = tt
+    ramdisk-one (Some file) None lies places named lie = absurd lies
+    ramdisk-one (Some file) (Some bytes) lies places named lie = first-one image machine config line_place zero_place file bytes places lies named lie
 
     extra-one : (has : Bool) (own : List DiskSector) → AreNamed machine (slot_to config.mode machine) own → AreAt image own (if has then Rattle.lilo_model.specs.Options.extra_bytes (record { fallback = unwrap_or mapped.section.fallback []; password = unwrap_or mapped.section.password [] }) ∷ [] else [])
         → FitsOptional (if has then Some (slot_to config.mode machine (place_of_sector (first ∷ own) 1)) else None)
-    extra-one false own named stand = tt
-    extra-one true [] named stand = absurd stand
-    extra-one true (place ∷ own) named stand = named.0.one
+    extra-one false own named lie = tt
+    extra-one true [] named lie = absurd lie
+    extra-one true (place ∷ own) named lie = named.0.one

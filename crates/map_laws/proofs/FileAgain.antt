@@ -1,6 +1,6 @@
 -- The sectors of a file on a volume, one after the other, are its content.
 use Rattle.std.proofs.Common.{◌≡◌, ◌≢◌, ◌≤◌, ℕ, zero, suc, ◌+◌, ◌*◌, ◌/◌, ◌%◌, ◌==◌, Bool, true, false, if◌then◌else◌, List, [], ◌∷◌, ◌++◌, map, length, take, replicate, None, Some, refl, sym, ap, ◌∙◌, arith, append_assoc, append-nil, length-append}
-use Rattle.std.specs.Prelude.{unwrap_or}
+use Rattle.std.specs.Prelude.{Option}
 use Rattle.std.specs.List.{concat, range_with_len}
 use Rattle.std.proofs.lemmas.Simd.{map-map}
 use Rattle.std.proofs.lemmas.Bool.Decides.{nat_tests}
@@ -11,7 +11,6 @@ use Rattle.lilo_model.specs.Slots.{Slot}
 use Rattle.lilo_model.specs.Section.{Listing, sectors_for, content_of, file_content, section}
 use Rattle.lilo_model.specs.MinixParts.{Volume, parts_of, sector_of, zone_bytes, blocks_for}
 use Rattle.lilo_model.specs.MinixNames.{zone_number, block, blocks, content}
-use Rattle.lilo_model.specs.Plan.{filled_places}
 use Rattle.lilo_model.specs.Planned.{sector_in_zone, inode_places}
 use Rattle.map_laws.specs.Shows.{whole}
 use Rattle.map_laws.proofs.SectionAgain.{Lists}
@@ -30,11 +29,16 @@ content_again image machine first chain places bytes lists is =
 
 -- ---- a file on a volume
 
--- the bytes of its sectors, of which the zero sector lies for holes
-module _ (volume : Volume) (image : Image) (number : ℕ) (zero_place : DiskSector) (zeros : bytes_at image zero_place ≡ replicate 512 0) where
+-- the bytes of a place, zeros for a hole
+abbrev pub held_bytes : Image → Option DiskSector → List ℕ
+held_bytes image None = replicate 512 0
+held_bytes image (Some place) = bytes_at image place
+
+-- the bytes of a file's sectors
+module _ (volume : Volume) (image : Image) (number : ℕ) where
   abbrev pub sector_bytes : ℕ → List ℕ
   sector_bytes index =
-      bytes_at image (unwrap_or (sector_in_zone volume.span (zone_number volume.layout (parts_of volume image) number (index / 2)) index) zero_place)
+      held_bytes image (sector_in_zone volume.span (zone_number volume.layout (parts_of volume image) number (index / 2)) index)
 
   both-halves : (index : ℕ) → sector_bytes (2 * index) ++ sector_bytes (2 * index + 1) ≡ block volume.layout (parts_of volume image) number index
   unfolding block parts_of
@@ -54,10 +58,10 @@ module _ (volume : Volume) (image : Image) (number : ℕ) (zero_place : DiskSect
       odd = omega arith
 
       by-zone : (zone : ℕ) (hole : Bool) → (zone == 0) ≡ hole
-          → bytes_at image (unwrap_or (if zone == 0 then None else Some (record { disk = volume.span.disk; sector = volume.span.start + (2 * zone + 0) })) zero_place)
-          ++ bytes_at image (unwrap_or (if zone == 0 then None else Some (record { disk = volume.span.disk; sector = volume.span.start + (2 * zone + 1) })) zero_place)
+          → held_bytes image (if zone == 0 then None else Some (record { disk = volume.span.disk; sector = volume.span.start + (2 * zone + 0) }))
+          ++ held_bytes image (if zone == 0 then None else Some (record { disk = volume.span.disk; sector = volume.span.start + (2 * zone + 1) }))
           ≡ zone_bytes (parts_of volume image) zone
-      by-zone zone true is = rw (is, zeros) refl
+      by-zone zone true is = rw is refl
       by-zone zone false is = rw (is) (ap (λ n. sector_of volume image n ++ sector_of volume image (2 * zone + 1)) (omega arith))
 
   -- the first sectors, one after the other
@@ -91,10 +95,10 @@ module _ (volume : Volume) (image : Image) (number : ℕ) (zero_place : DiskSect
         ap (λ n. length (sectors_to n)) next ∙ ap length (one-more count) ∙ length-append (sectors_to count) (sector_bytes count)
         ∙ ap (λ n. n + length (sector_bytes count)) (length-sectors count) ∙ ap (λ n. 512 * count + n) (long count) ∙ omega arith
 
-    take-front : (size : ℕ) (front back : List ℕ) → size ≤ length front → take size (front ++ back) ≡ take size front
-    take-front zero front back fits = refl
-    take-front (suc size) [] back fits = absurd (omega (arith, fits))
-    take-front (suc size) (byte ∷ front) back fits = ap (λ bytes. byte ∷ bytes) (take-front size front back (omega (arith, fits)))
+    take-prefix : (size : ℕ) (prefix suffix : List ℕ) → size ≤ length prefix → take size (prefix ++ suffix) ≡ take size prefix
+    take-prefix zero prefix suffix fits = refl
+    take-prefix (suc size) [] suffix fits = absurd (omega (arith, fits))
+    take-prefix (suc size) (byte ∷ prefix) suffix fits = ap (λ bytes. byte ∷ bytes) (take-prefix size prefix suffix (omega (arith, fits)))
 
     -- as many bytes of them as the file has are its first blocks'
     sectors-enough : (size : ℕ) → take size (sectors_to (sectors_for size)) ≡ take size (blocks (block volume.layout (parts_of volume image) number) (blocks_for size))
@@ -108,13 +112,12 @@ module _ (volume : Volume) (image : Image) (number : ℕ) (zero_place : DiskSect
             let other : 2 * blocks_for size ≢ sectors_for size = grind (arith, nat_tests) in
             let more : 2 * blocks_for size ≡ sectors_for size + 1 = omega (arith, other) in
             let size_fits : size ≤ length (sectors_to (sectors_for size)) = rw (length-sectors (sectors_for size)) (omega arith) in
-            sym (take-front size (sectors_to (sectors_for size)) (sector_bytes (sectors_for size)) size_fits)
+            sym (take-prefix size (sectors_to (sectors_for size)) (sector_bytes (sectors_for size)) size_fits)
             ∙ ap (take size) (sym (one-more (sectors_for size)) ∙ ap sectors_to (sym more) ∙ blocks-sectors (blocks_for size))
 
-    -- A file's sectors in order, the zero sector for holes, have its content.
-    pub file-sectors : take ((parts_of volume image).node number).size (concat (map (bytes_at image) (filled_places zero_place (inode_places volume (parts_of volume image) number)))) ≡ content volume.layout (parts_of volume image) number
+    -- A file's sectors in order, zeros for holes, have its content.
+    pub file-sectors : take ((parts_of volume image).node number).size (concat (map (held_bytes image) (inode_places volume (parts_of volume image) number))) ≡ content volume.layout (parts_of volume image) number
     unfolding inode_places content
     file-sectors =
         let size = ((parts_of volume image).node number).size in
-        ap (λ sectors. take size (concat sectors)) (ap (map (bytes_at image)) (map-map _ _ (range_with_len 0 (sectors_for size))) ∙ map-map _ _ (range_with_len 0 (sectors_for size)))
-        ∙ sectors-enough size
+        ap (λ sectors. take size (concat sectors)) (map-map _ _ (range_with_len 0 (sectors_for size))) ∙ sectors-enough size

@@ -72,12 +72,12 @@ slots-few machine config zero_place file = by config.compact
         length-map-to (place ∷ places) = ap suc (length-map-to places)
 
 -- no slots are reckoned where there is no sector, and never more than sectors
-slots-behind : (machine : Machine) (held : Option Slot) (slots : List (Option Slot)) → slots_after machine held slots ≤ length slots
-slots-behind machine held [] = omega arith
-slots-behind machine held (None ∷ slots) = let h = slots-behind machine None slots in omega (arith, h)
-slots-behind machine None (Some next ∷ slots) = let h = slots-behind machine (Some next) slots in omega (arith, h)
-slots-behind machine (Some slot) (Some next ∷ slots) =
-    by (could_be_one (machine.geometry_of slot.disk) slot next) (slots-behind machine (Some (record slot { count = slot.count + next.count })) slots) (slots-behind machine (Some next) slots)
+slots-after : (machine : Machine) (held : Option Slot) (slots : List (Option Slot)) → slots_after machine held slots ≤ length slots
+slots-after machine held [] = omega arith
+slots-after machine held (None ∷ slots) = let h = slots-after machine None slots in omega (arith, h)
+slots-after machine None (Some next ∷ slots) = let h = slots-after machine (Some next) slots in omega (arith, h)
+slots-after machine (Some slot) (Some next ∷ slots) =
+    by (could_be_one (machine.geometry_of slot.disk) slot next) (slots-after machine (Some (record slot { count = slot.count + next.count })) slots) (slots-after machine (Some next) slots)
   where
     by : (test : Bool) → slots_after machine (Some (record slot { count = slot.count + next.count })) slots ≤ length slots → slots_after machine (Some next) slots ≤ length slots
         → (if test then slots_after machine (Some (record slot { count = slot.count + next.count })) slots else 1 + slots_after machine (Some next) slots) ≤ suc (length slots)
@@ -100,7 +100,7 @@ slots-between machine config file some = by config.compact
     by : (compact : Bool) → (1 ≤ (if compact then slots_after machine None (map (option_map (slot_to config.mode machine)) file.places) else length file.places)) × ((if compact then slots_after machine None (map (option_map (slot_to config.mode machine)) file.places) else length file.places) ≤ length file.places)
     by true =
         let long = length-options (slot_to config.mode machine) file.places in
-        let h = slots-behind machine None (map (option_map (slot_to config.mode machine)) file.places) in
+        let h = slots-after machine None (map (option_map (slot_to config.mode machine)) file.places) in
         (some-slots machine (map (option_map (slot_to config.mode machine)) file.places) (omega (arith, long, some)), omega (arith, h, long))
     by false = (some, omega arith)
 
@@ -117,23 +117,23 @@ module _ (image : Image) (machine : Machine) (config : Config) (line_place zero_
       → AreNamed machine (slot_to config.mode machine) own → AreAt image own (file_sectors config machine zero_place file own)
       → file_content image machine (slot_to config.mode machine (place_of_sector own 0)) file.size (chain_for config machine file) ≡ whole bytes
   unfolding file_sectors
-  file-shown file bytes own lies named stand =
+  file-shown file bytes own lies named lie =
       let some : 1 ≤ length file.places = rw lies.count (omega (arith, lies.some)) in
-      by-chain (chain_for config machine file) (chain-is file) (slots-between machine config file some).0 own named stand
+      by-chain (chain_for config machine file) (chain-is file) (slots-between machine config file some).0 own named lie
     where
       by-chain : (chain : ℕ) → chain ≡ section_sectors (slots_for config machine file) → 1 ≤ slots_for config machine file → (own : List DiskSector) → AreNamed machine (slot_to config.mode machine) own
           → AreAt image own (chain_sectors (slot_to config.mode machine) chain (file_slots config machine zero_place file) (drop 1 own))
           → file_content image machine (slot_to config.mode machine (place_of_sector own 0)) file.size chain ≡ whole bytes
-      by-chain zero is some own named stand = absurd (omega (arith, is, some))
-      by-chain (suc more) is some [] named stand = absurd stand
-      by-chain (suc more) is some (here ∷ behind) named stand =
+      by-chain zero is some own named lie = absurd (omega (arith, is, some))
+      by-chain (suc more) is some [] named lie = absurd lie
+      by-chain (suc more) is some (here ∷ after) named lie =
           let to = slot_to config.mode machine in
           let places = filled_places zero_place file.places in
           let j = slots-joined machine config zero_place file lies.named in
           let size : length j.groups ≡ length (file_slots config machine zero_place file) = sym (length-groups-of j.groups) ∙ ap length j.slots_are in
           let most = slots-few machine config zero_place file in
           let few : length j.groups ≤ 63 * (more + 1) = omega (arith, size, most, is) in
-          let listed = section_again image machine to more j.groups here behind j.good few named (subst (λ slots. AreAt image (here ∷ behind) (chain_sectors to (suc more) slots behind)) (sym j.slots_are) stand) in
+          let listed = section_again image machine to more j.groups here after j.good few named (subst (λ slots. AreAt image (here ∷ after) (chain_sectors to (suc more) slots after)) (sym j.slots_are) lie) in
           let count : length (places_in j.groups) ≡ sectors_for (length bytes) = ap length j.places_are ∙ length-places zero_place file.places ∙ lies.count in
           let listed' : Lists places (section image machine (to here) (sectors_for (length bytes)) (suc more)) = subst (λ n. Lists places (section image machine (to here) n (suc more))) count (subst (λ places. Lists places (section image machine (to here) (length (places_in j.groups)) (suc more))) j.places_are listed) in
           ap (λ n. file_content image machine (to here) n (suc more)) lies.size
@@ -164,10 +164,10 @@ module _ (image : Image) (line_place : DiskSector) (new : List ℕ) where
   other-sectors [] none = refl
   other-sectors (place ∷ places) none = ap (λ bytes. bytes ∷ map (bytes_at (with_sector image line_place new)) places) (other-sector place none.0) ∙ ap (λ sectors. bytes_at image place ∷ sectors) (other-sectors places none.1)
 
-  pub stand-still : (places : List DiskSector) (sectors : List (List ℕ)) → IsNone line_place places → AreAt image places sectors → AreAt (with_sector image line_place new) places sectors
-  stand-still places [] none stand = tt
-  stand-still [] (bytes ∷ sectors) none stand = absurd stand
-  stand-still (place ∷ places) (bytes ∷ sectors) none stand = (other-sector place none.0 ∙ stand.0, stand-still places sectors none.1 stand.1)
+  pub lie-still : (places : List DiskSector) (sectors : List (List ℕ)) → IsNone line_place places → AreAt image places sectors → AreAt (with_sector image line_place new) places sectors
+  lie-still places [] none lie = tt
+  lie-still [] (bytes ∷ sectors) none lie = absurd lie
+  lie-still (place ∷ places) (bytes ∷ sectors) none lie = (other-sector place none.0 ∙ lie.0, lie-still places sectors none.1 lie.1)
 
   pub file-still : (machine : Machine) (config : Config) (zero_place : DiskSector) (file : MappedFile) (bytes : List ℕ) → FileLies image machine config line_place zero_place file bytes → FileLies (with_sector image line_place new) machine config line_place zero_place file bytes
   file-still machine config zero_place file bytes lies = record {

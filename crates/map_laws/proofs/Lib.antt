@@ -20,3 +20,5 @@ pub mod MeantMenu
 pub mod Lawful
 pub mod Planned
 pub mod Stays
+pub mod Lines
+pub mod Maximal

@@ -5,16 +5,16 @@ use Rattle.std.proofs.lemmas.List.{length-replicate}
 use Rattle.lilo_model.specs.Bytes.{part_of, filled_bytes}
 
 -- a part that begins after some bytes
-pub part-behind : (first others : List ℕ) (at n len : ℕ) → at ≡ length first + n → part_of (first ++ others) at len ≡ part_of others n len
-part-behind first others at n len is = ap (λ m. part_of (first ++ others) m len) is ∙ ap (take len) (drop-append-add first others n)
+pub part-after : (first others : List ℕ) (at n len : ℕ) → at ≡ length first + n → part_of (first ++ others) at len ≡ part_of others n len
+part-after first others at n len is = ap (λ m. part_of (first ++ others) m len) is ∙ ap (take len) (drop-append-add first others n)
 
 -- the first bytes of some
-pub part-front : (first others : List ℕ) (len : ℕ) → length first ≡ len → part_of (first ++ others) 0 len ≡ first
-part-front first others len long = subst (λ n. take n (first ++ others) ≡ first) long (take-append_seam first others)
+pub part-prefix : (first others : List ℕ) (len : ℕ) → length first ≡ len → part_of (first ++ others) 0 len ≡ first
+part-prefix first others len long = subst (λ n. take n (first ++ others) ≡ first) long (take-append_seam first others)
 
 -- bytes between others
 pub part-between : (first part others : List ℕ) (at len : ℕ) → length first ≡ at → length part ≡ len → part_of (first ++ (part ++ others)) at len ≡ part
-part-between first part others at len long size = part-behind first (part ++ others) at 0 len (sym long ∙ omega arith) ∙ part-front part others len size
+part-between first part others at len long size = part-after first (part ++ others) at 0 len (sym long ∙ omega arith) ∙ part-prefix part others len size
 
 -- bytes filled up to a length have it
 pub length-filled : (len : ℕ) (bytes : List ℕ) → length bytes ≤ len → length (filled_bytes len bytes) ≡ len

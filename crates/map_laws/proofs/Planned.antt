@@ -3,16 +3,18 @@ use Rattle.std.proofs.Common.{◌≡◌, ◌≢◌, ◌≤◌, ◌<◌, ℕ, Lis
 use Rattle.std.specs.Prelude.{IfSome, flat_map}
 use Rattle.std.proofs.lemmas.List.{length-take, length-take-le, length-drop}
 use Rattle.lilo_model.specs.Bytes.{part_of}
-use Rattle.lilo_model.specs.Disks.{Image, Machine}
+use Rattle.lilo_model.specs.Disks.{Image, Machine, Span, DiskSector}
+use Rattle.lilo_model.specs.Devices.{Device}
 use Rattle.lilo_model.specs.Conf.{Config}
+use Rattle.lilo_model.specs.DefaultLine.{DefaultLine}
 use Rattle.lilo_model.specs.ConfLawful.{names_of_section}
 use Rattle.lilo_model.specs.MinixParts.{Volume}
-use Rattle.lilo_model.specs.MinixNames.{names_in}
+use Rattle.lilo_model.specs.MinixNames.{names_in, IsSound}
 use Rattle.lilo_model.specs.Meant.{menu_of, meant}
 use Rattle.lilo_model.specs.Plan.{MappedSection, plan_names}
 use Rattle.lilo_model.specs.Planned.{code_in, planned}
-use Rattle.map_laws.specs.Lies.{TargetsLie}
-use Rattle.map_laws.specs.PlannedLies.{targets_for, PlannedLaw}
+use Rattle.map_laws.specs.Lies.{TargetsLie, MapLies}
+use Rattle.map_laws.specs.PlannedLies.{targets_for, PlannedLies, PlannedLaw}
 use Rattle.map_laws.proofs.Whole.{map_law}
 use Rattle.map_laws.proofs.MeantMenu.{menu-entries, menu-settings}
 use Rattle.map_laws.proofs.Lawful.{targets-lie, sections-lawful, planned-names, few-names, default-below}
@@ -37,14 +39,16 @@ code-long : (before : Image) (machine : Machine) (volume : Volume) (config : Con
 unfolding planned code_in
 code-long before machine volume config time = take-most 512 _
 
-pub planned_law : PlannedLaw
-unfolding meant menu_of planned plan_names
-planned_law before image machine volume span config time devices line p0 p1 p2 p3 p4 rest present keys memory sound s =
+-- it lies as a map whose menu is the configuration's
+pub map-lies : (before image : Image) (machine : Machine) (volume : Volume) (span : Span) (config : Config) (time : ℕ) (devices : Device → List ℕ) (line : DefaultLine) (p0 p1 p2 p3 p4 : DiskSector) (rest : List DiskSector) (present : List ℕ)
+    → IsSound volume before → PlannedLies before image machine volume span config time devices line p0 p1 p2 p3 p4 rest present
+    → MapLies image machine span (planned before machine volume config time) (menu_of config (names_in volume before) devices) (targets_for (names_in volume before) devices config.sections) line p0 p1 p2 p3 p4 rest present
+unfolding menu_of planned plan_names
+map-lies before image machine volume span config time devices line p0 p1 p2 p3 p4 rest present sound s =
     let targets = targets_for (names_in volume before) devices config.sections in
     let lie : TargetsLie image machine config p0 p4 (planned before machine volume config time).sections targets = targets-lie image machine config p0 p4 (planned before machine volume config time).sections targets (sections-lawful before machine volume config time s.lawful) s.files in
     let some : 1 ≤ length (plan_names (planned before machine volume config time)) = some-name (planned before machine volume config time).sections s.left in
-    map_law image machine span (planned before machine volume config time) (menu_of config (names_in volume before) devices) targets line p0 p1 p2 p3 p4 rest present keys memory
-    (record {
+    record {
       boot = s.boot;
       present_long = let long = s.present_long in part-long present long;
       code_long = code-long before machine volume config time;
@@ -64,4 +68,10 @@ planned_law before image machine volume span config time devices line p0 p1 p2 p
       targets_lie = lie;
       entries = menu-entries before machine volume sound config time devices;
       prompt_is = menu-settings before image machine volume sound config time devices p0 p4 lie;
-    })
+    }
+
+pub planned_law : PlannedLaw
+unfolding meant
+planned_law before image machine volume span config time devices line p0 p1 p2 p3 p4 rest present keys memory sound s =
+    map_law image machine span (planned before machine volume config time) (menu_of config (names_in volume before) devices) (targets_for (names_in volume before) devices config.sections) line p0 p1 p2 p3 p4 rest present keys memory
+    (map-lies before image machine volume span config time devices line p0 p1 p2 p3 p4 rest present sound s)

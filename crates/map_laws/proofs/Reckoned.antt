@@ -131,8 +131,8 @@ module _ (machine : Machine) where
     abbrev taken_by : Bool → Slot → Slot → List (Option Slot) → ℕ
     taken_by test slot next others = length (if test then joined_slots machine (longer slot next) (map (λ other. unwrap_or other hole) others) else slot ∷ joined_slots machine next (map (λ other. unwrap_or other hole) others))
 
-    abbrev behind_by : Bool → Slot → Slot → List (Option Slot) → ℕ
-    behind_by test slot next others = if test then slots_after machine (Some (longer slot next)) others else 1 + slots_after machine (Some next) others
+    abbrev after_by : Bool → Slot → Slot → List (Option Slot) → ℕ
+    after_by test slot next others = if test then slots_after machine (Some (longer slot next)) others else 1 + slots_after machine (Some next) others
 
     hole-taken : (others : List (Option Slot)) → Claims others → (slot next : Slot) (test : Bool) → taken_by test slot next others ≤ 2 + slots_after machine None others
     hole-taken others claims slot next true = let h = claims.none_held (longer slot next) in omega (arith, h)
@@ -142,13 +142,13 @@ module _ (machine : Machine) where
     none-taken others claims slot next true e = let h = claims.longer_held (longer slot next) next (next-shorter slot next e) in omega (arith, h)
     none-taken others claims slot next false e = let h = claims.shorter_held next next (shorter-self next) in omega (arith, h)
 
-    longer-taken : (others : List (Option Slot)) → Claims others → (slot short next : Slot) → Shorter short slot → (a b : Bool) → joins slot next ≡ a → joins short next ≡ b → taken_by a slot next others ≤ 2 + behind_by b short next others
+    longer-taken : (others : List (Option Slot)) → Claims others → (slot short next : Slot) → Shorter short slot → (a b : Bool) → joins slot next ≡ a → joins short next ≡ b → taken_by a slot next others ≤ 2 + after_by b short next others
     longer-taken others claims slot short next is true true e f = claims.longer_held (longer slot next) (longer short next) (shorter-both short slot next is)
     longer-taken others claims slot short next is true false e f = let g = shorter-can short slot next is e in cc
     longer-taken others claims slot short next is false true e f = let h = claims.shorter_held next (longer short next) (next-shorter short next f) in omega (arith, h)
     longer-taken others claims slot short next is false false e f = let h = claims.shorter_held next next (shorter-self next) in omega (arith, h)
 
-    shorter-taken : (others : List (Option Slot)) → Claims others → (slot long next : Slot) → Shorter slot long → (a b : Bool) → joins slot next ≡ a → joins long next ≡ b → taken_by a slot next others ≤ 1 + behind_by b long next others
+    shorter-taken : (others : List (Option Slot)) → Claims others → (slot long next : Slot) → Shorter slot long → (a b : Bool) → joins slot next ≡ a → joins long next ≡ b → taken_by a slot next others ≤ 1 + after_by b long next others
     shorter-taken others claims slot long next is true true e f = claims.shorter_held (longer slot next) (longer long next) (shorter-both slot long next is)
     shorter-taken others claims slot long next is true false e f = let h = claims.longer_held (longer slot next) next (next-shorter slot next e) in omega (arith, h)
     shorter-taken others claims slot long next is false true e f = let g = shorter-can slot long next is f in cc

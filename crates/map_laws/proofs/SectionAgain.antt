@@ -10,7 +10,7 @@ use Rattle.lilo_model.specs.Section.{SectionFault, Step, Reads, Names, Listing, 
 use Rattle.sector_address.specs.Whole.{IsSlot}
 use Rattle.sector_address.proofs.BytesLemmas.{encode_law}
 use Rattle.lilo_model.specs.Plan.{chain_sectors}
-use Rattle.map_laws.proofs.Parts.{part-front, part-between, length-filled}
+use Rattle.map_laws.proofs.Parts.{part-prefix, part-between, length-filled}
 use Rattle.map_laws.specs.Lies.{IsOneSlot, IsNamed, AreNamed}
 use Rattle.lilo_model.specs.Lays.{AreAt}
 use Rattle.map_laws.proofs.SlotAgain.{length-slot}
@@ -51,11 +51,11 @@ parts-eights bytes at (suc count) =
     ap (λ parts. part_of bytes (8 * at) 8 ∷ parts) (parts-eights bytes (at + 1) count ∙ ap (eights count) (sym (drop-eight bytes at)))
 
 -- the bytes of a slot before others
-slot-front : (slot : Slot) (others : List ℕ) → take 8 (slot_bytes slot ++ others) ≡ slot_bytes slot
-slot-front slot others = part-front (slot_bytes slot) others 8 (length-slot slot)
+slot-prefix : (slot : Slot) (others : List ℕ) → take 8 (slot_bytes slot ++ others) ≡ slot_bytes slot
+slot-prefix slot others = part-prefix (slot_bytes slot) others 8 (length-slot slot)
 
-slot-behind : (slot : Slot) (others : List ℕ) → drop 8 (slot_bytes slot ++ others) ≡ others
-slot-behind slot others = subst (λ n. drop n (slot_bytes slot ++ others) ≡ others) (length-slot slot) (drop-append_seam (slot_bytes slot) others)
+slot-after : (slot : Slot) (others : List ℕ) → drop 8 (slot_bytes slot ++ others) ≡ others
+slot-after slot others = subst (λ n. drop n (slot_bytes slot ++ others) ≡ others) (length-slot slot) (drop-append_seam (slot_bytes slot) others)
 
 -- the steps at slots and the zeros after them
 zeros-read : (machine : Machine) (place count zeros : ℕ) (tail : List ℕ) → 8 * count ≤ zeros → slots_steps machine place (eights count (replicate zeros 0 ++ tail)) ≡ []
@@ -72,8 +72,8 @@ slots-read machine (group ∷ groups) place (suc count) zeros tail are few fits 
     let others = concat (map slot_bytes (slots_in groups)) ++ (replicate zeros 0 ++ tail) in
     let assoc = append_assoc (slot_bytes group.slot) (concat (map slot_bytes (slots_in groups))) (replicate zeros 0 ++ tail) in
     ap (λ bytes. slots_steps machine place (take 8 bytes ∷ eights count (drop 8 bytes))) assoc
-    ∙ ap (λ bytes. slots_steps machine place (bytes ∷ eights count (drop 8 (slot_bytes group.slot ++ others)))) (slot-front group.slot others)
-    ∙ ap (λ bytes. slots_steps machine place (slot_bytes group.slot ∷ eights count bytes)) (slot-behind group.slot others)
+    ∙ ap (λ bytes. slots_steps machine place (bytes ∷ eights count (drop 8 (slot_bytes group.slot ++ others)))) (slot-prefix group.slot others)
+    ∙ ap (λ bytes. slots_steps machine place (slot_bytes group.slot ∷ eights count bytes)) (slot-after group.slot others)
     ∙ ap (λ found. slot_steps_then machine place found (slots_steps machine (place + 1) (eights count others))) (encode_law group.slot are.0.whole)
     ∙ ap (λ steps. steps ++ slots_steps machine (place + 1) (eights count others)) are.0.steps
     ∙ ap (λ steps. map Names group.places ++ steps) (slots-read machine groups (place + 1) count zeros tail are.1 (omega (arith, few)) (omega (arith, fits)))
@@ -130,10 +130,10 @@ StepsList places steps = (given : ℕ) → Lists places (listing_of given (lengt
 lists-none : (steps : List Step) → StepsList [] steps
 lists-none steps given = record { all = refl; good = refl }
 
-lists-behind : (front back : List DiskSector) (steps : List Step) → StepsList back steps → StepsList (front ++ back) (map Names front ++ steps)
-lists-behind [] back steps lists given = lists given
-lists-behind (place ∷ front) back steps lists given =
-    let h = lists-behind front back steps lists (given + 1) in
+lists-after : (prefix suffix : List DiskSector) (steps : List Step) → StepsList suffix steps → StepsList (prefix ++ suffix) (map Names prefix ++ steps)
+lists-after [] suffix steps lists given = lists given
+lists-after (place ∷ prefix) suffix steps lists given =
+    let h = lists-after prefix suffix steps lists (given + 1) in
     record { all = ap (λ places. place ∷ places) h.all; good = h.good }
 
 lists-reads : (places : List DiskSector) (place : DiskSector) (steps : List Step) → StepsList places steps → StepsList places (Reads place ∷ steps)
@@ -142,15 +142,15 @@ lists-reads (first ∷ places) place steps lists given = record { all = (lists g
 
 -- ---- a chain
 
-are-front : (machine : Machine) (count : ℕ) (groups : List Group) → AreGroups machine groups → AreGroups machine (take count groups)
-are-front machine zero groups are = tt
-are-front machine (suc count) [] are = tt
-are-front machine (suc count) (group ∷ groups) are = (are.0, are-front machine count groups are.1)
+are-prefix : (machine : Machine) (count : ℕ) (groups : List Group) → AreGroups machine groups → AreGroups machine (take count groups)
+are-prefix machine zero groups are = tt
+are-prefix machine (suc count) [] are = tt
+are-prefix machine (suc count) (group ∷ groups) are = (are.0, are-prefix machine count groups are.1)
 
-are-back : (machine : Machine) (count : ℕ) (groups : List Group) → AreGroups machine groups → AreGroups machine (drop count groups)
-are-back machine zero groups are = are
-are-back machine (suc count) [] are = tt
-are-back machine (suc count) (group ∷ groups) are = are-back machine count groups are.1
+are-suffix : (machine : Machine) (count : ℕ) (groups : List Group) → AreGroups machine groups → AreGroups machine (drop count groups)
+are-suffix machine zero groups are = are
+are-suffix machine (suc count) [] are = tt
+are-suffix machine (suc count) (group ∷ groups) are = are-suffix machine count groups are.1
 
 places-cut : (count : ℕ) (groups : List Group) → places_in groups ≡ places_in (take count groups) ++ places_in (drop count groups)
 places-cut zero groups = refl
@@ -158,46 +158,46 @@ places-cut (suc count) [] = refl
 places-cut (suc count) (group ∷ groups) =
     ap (λ places. group.places ++ places) (places-cut count groups) ∙ sym (append_assoc group.places (places_in (take count groups)) (places_in (drop count groups)))
 
-slots-front : (count : ℕ) (groups : List Group) → take count (slots_in groups) ≡ slots_in (take count groups)
-slots-front zero groups = refl
-slots-front (suc count) [] = refl
-slots-front (suc count) (group ∷ groups) = ap (λ slots. group.slot ∷ slots) (slots-front count groups)
+slots-prefix : (count : ℕ) (groups : List Group) → take count (slots_in groups) ≡ slots_in (take count groups)
+slots-prefix zero groups = refl
+slots-prefix (suc count) [] = refl
+slots-prefix (suc count) (group ∷ groups) = ap (λ slots. group.slot ∷ slots) (slots-prefix count groups)
 
-slots-back : (count : ℕ) (groups : List Group) → drop count (slots_in groups) ≡ slots_in (drop count groups)
-slots-back zero groups = refl
-slots-back (suc count) [] = refl
-slots-back (suc count) (group ∷ groups) = slots-back count groups
+slots-suffix : (count : ℕ) (groups : List Group) → drop count (slots_in groups) ≡ slots_in (drop count groups)
+slots-suffix zero groups = refl
+slots-suffix (suc count) [] = refl
+slots-suffix (suc count) (group ∷ groups) = slots-suffix count groups
 
-few-front : (count : ℕ) (groups : List Group) → length (take count groups) ≤ count
-few-front zero groups = omega arith
-few-front (suc count) [] = omega arith
-few-front (suc count) (group ∷ groups) = let h = few-front count groups in omega (arith, h)
+few-prefix : (count : ℕ) (groups : List Group) → length (take count groups) ≤ count
+few-prefix zero groups = omega arith
+few-prefix (suc count) [] = omega arith
+few-prefix (suc count) (group ∷ groups) = let h = few-prefix count groups in omega (arith, h)
 
 module _ (image : Image) (machine : Machine) (to : DiskSector → Slot) (chain : ℕ) where
   -- the steps at a section sector list its slots' places, and then those after it
-  sector-lists : (number : ℕ) (groups : List Group) (here : DiskSector) (link : Option Slot) (back : List DiskSector) (follow : Result (Option Slot) SectionFault → List Step)
+  sector-lists : (number : ℕ) (groups : List Group) (here : DiskSector) (link : Option Slot) (suffix : List DiskSector) (follow : Result (Option Slot) SectionFault → List Step)
       → AreGroups machine groups → length groups ≤ 63 → IsNamed machine to here → bytes_at image here ≡ section_bytes (slots_in groups) link
-      → StepsList back (follow (link_of number (slot_at (optional_bytes link))))
-      → StepsList (places_in groups ++ back) (sector_steps image machine number follow (place_at machine (to here) 0))
-  sector-lists number groups here link back follow are few named lies lists =
+      → StepsList suffix (follow (link_of number (slot_at (optional_bytes link))))
+      → StepsList (places_in groups ++ suffix) (sector_steps image machine number follow (place_at machine (to here) 0))
+  sector-lists number groups here link suffix follow are few named lies lists =
       rw (named.names, lies, sector-read machine groups (number * 64) link are few, link-read number groups link few)
-      (lists-reads (places_in groups ++ back) here (map Names (places_in groups) ++ follow (link_of number (slot_at (optional_bytes link))))
-      (lists-behind (places_in groups) back (follow (link_of number (slot_at (optional_bytes link)))) lists))
+      (lists-reads (places_in groups ++ suffix) here (map Names (places_in groups) ++ follow (link_of number (slot_at (optional_bytes link))))
+      (lists-after (places_in groups) suffix (follow (link_of number (slot_at (optional_bytes link)))) lists))
 
   link-of : (number : ℕ) (slot : Slot) → IsOneSlot slot → link_of number (slot_at (optional_bytes (Some slot))) ≡ Ok (Some slot)
   link-of number slot one = rw (encode_law slot one.whole, one.one) refl
 
-  chain-lists : (more number : ℕ) (groups : List Group) (here : DiskSector) (behind : List DiskSector)
-      → AreGroups machine groups → length groups ≤ 63 * (more + 1) → AreNamed machine to (here ∷ behind)
-      → AreAt image (here ∷ behind) (chain_sectors to (suc more) (slots_in groups) behind)
+  chain-lists : (more number : ℕ) (groups : List Group) (here : DiskSector) (after : List DiskSector)
+      → AreGroups machine groups → length groups ≤ 63 * (more + 1) → AreNamed machine to (here ∷ after)
+      → AreAt image (here ∷ after) (chain_sectors to (suc more) (slots_in groups) after)
       → StepsList (places_in groups) (chain_steps image machine chain number (suc more) (to here))
   unfolding slot_at is_zero
-  chain-lists zero number groups here behind are few named stand =
-      let front = take 63 groups in
+  chain-lists zero number groups here after are few named lie =
+      let prefix = take 63 groups in
       subst (λ places. StepsList places (chain_steps image machine chain number 1 (to here))) (sym (places-cut 63 groups))
-      (sector-lists number front here None (places_in (drop 63 groups)) (link_steps (chain_steps image machine chain (number + 1) zero)) (are-front machine 63 groups are) (few-front 63 groups) named.0
-      (stand.0 ∙ ap (λ slots. section_bytes slots None) (slots-front 63 groups))
-      (none-behind (drop 63 groups) (drop-all 63 groups (omega (arith, few)))))
+      (sector-lists number prefix here None (places_in (drop 63 groups)) (link_steps (chain_steps image machine chain (number + 1) zero)) (are-prefix machine 63 groups are) (few-prefix 63 groups) named.0
+      (lie.0 ∙ ap (λ slots. section_bytes slots None) (slots-prefix 63 groups))
+      (none-after (drop 63 groups) (drop-all 63 groups (omega (arith, few)))))
     where
       drop-all : (count : ℕ) (groups : List Group) → length groups ≤ count → drop count groups ≡ []
       drop-all zero [] few = refl
@@ -205,30 +205,30 @@ module _ (image : Image) (machine : Machine) (to : DiskSector → Slot) (chain :
       drop-all (suc count) [] few = refl
       drop-all (suc count) (group ∷ groups) few = drop-all count groups (omega (arith, few))
 
-      none-behind : (groups : List Group) → groups ≡ [] → StepsList (places_in groups) []
-      none-behind groups is = rw is (lists-none [])
-  chain-lists (suc more) number groups here [] are few named stand = absurd stand.1
-  chain-lists (suc more) number groups here (next ∷ behind) are few named stand =
-      let front = take 63 groups in
-      let back = drop 63 groups in
+      none-after : (groups : List Group) → groups ≡ [] → StepsList (places_in groups) []
+      none-after groups is = rw is (lists-none [])
+  chain-lists (suc more) number groups here [] are few named lie = absurd lie.1
+  chain-lists (suc more) number groups here (next ∷ after) are few named lie =
+      let prefix = take 63 groups in
+      let suffix = drop 63 groups in
       subst (λ places. StepsList places (chain_steps image machine chain number (suc (suc more)) (to here))) (sym (places-cut 63 groups))
-      (sector-lists number front here (Some (to next)) (places_in back) (link_steps (chain_steps image machine chain (number + 1) (suc more))) (are-front machine 63 groups are) (few-front 63 groups) named.0
-      (stand.0 ∙ ap (λ slots. section_bytes slots (Some (to next))) (slots-front 63 groups))
+      (sector-lists number prefix here (Some (to next)) (places_in suffix) (link_steps (chain_steps image machine chain (number + 1) (suc more))) (are-prefix machine 63 groups are) (few-prefix 63 groups) named.0
+      (lie.0 ∙ ap (λ slots. section_bytes slots (Some (to next))) (slots-prefix 63 groups))
       (rw (link-of number (to next) named.1.0.one)
-      (chain-lists more (number + 1) back next behind (are-back machine 63 groups are) (few-back 63 groups (63 * (more + 1)) (omega (arith, few))) named.1
-      (subst (λ slots. AreAt image (next ∷ behind) (chain_sectors to (suc more) slots behind)) (slots-back 63 groups) stand.1))))
+      (chain-lists more (number + 1) suffix next after (are-suffix machine 63 groups are) (few-suffix 63 groups (63 * (more + 1)) (omega (arith, few))) named.1
+      (subst (λ slots. AreAt image (next ∷ after) (chain_sectors to (suc more) slots after)) (slots-suffix 63 groups) lie.1))))
     where
-      few-back : (count : ℕ) (groups : List Group) (most : ℕ) → length groups ≤ count + most → length (drop count groups) ≤ most
-      few-back zero groups most few = omega (arith, few)
-      few-back (suc count) [] most few = omega arith
-      few-back (suc count) (group ∷ groups) most few = few-back count groups most (omega (arith, few))
+      few-suffix : (count : ℕ) (groups : List Group) (most : ℕ) → length groups ≤ count + most → length (drop count groups) ≤ most
+      few-suffix zero groups most few = omega (arith, few)
+      few-suffix (suc count) [] most few = omega arith
+      few-suffix (suc count) (group ∷ groups) most few = few-suffix count groups most (omega (arith, few))
 
 -- A section whose sectors lie where they are to lie lists the places of its slots, and nothing is refused.
 pub section_again :
-    (image : Image) (machine : Machine) (to : DiskSector → Slot) (more : ℕ) (groups : List Group) (here : DiskSector) (behind : List DiskSector)
-    → AreGroups machine groups → length groups ≤ 63 * (more + 1) → AreNamed machine to (here ∷ behind)
-    → AreAt image (here ∷ behind) (chain_sectors to (suc more) (slots_in groups) behind)
+    (image : Image) (machine : Machine) (to : DiskSector → Slot) (more : ℕ) (groups : List Group) (here : DiskSector) (after : List DiskSector)
+    → AreGroups machine groups → length groups ≤ 63 * (more + 1) → AreNamed machine to (here ∷ after)
+    → AreAt image (here ∷ after) (chain_sectors to (suc more) (slots_in groups) after)
     → Lists (places_in groups) (section image machine (to here) (length (places_in groups)) (suc more))
 unfolding section
-section_again image machine to more groups here behind are few named stand =
-    chain-lists image machine to (suc more) more 0 groups here behind are few named stand 0
+section_again image machine to more groups here after are few named lie =
+    chain-lists image machine to (suc more) more 0 groups here after are few named lie 0

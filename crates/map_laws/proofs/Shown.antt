@@ -32,11 +32,11 @@ start_of (Err reason) = record { outcome = Refused reason; shown = error_text re
 first_two_there : (bytes : List ℕ) → nat_lt (length bytes) (min (length bytes) 1024) ≡ false
 first_two_there bytes = grind arith
 
-take-front : (first others : List ℕ) → length first ≡ 512 → take 512 (first ++ others) ≡ first
-take-front first others long = subst (λ n. take n (first ++ others) ≡ first) long (take-append_seam first others)
+take-prefix : (first others : List ℕ) → length first ≡ 512 → take 512 (first ++ others) ≡ first
+take-prefix first others long = subst (λ n. take n (first ++ others) ≡ first) long (take-append_seam first others)
 
-drop-behind : (first others : List ℕ) (n : ℕ) → length first ≡ 512 → drop (512 + n) (first ++ others) ≡ drop n others
-drop-behind first others n long = subst (λ m. drop (m + n) (first ++ others) ≡ drop n others) long (drop-append-add first others n)
+drop-after : (first others : List ℕ) (n : ℕ) → length first ≡ 512 → drop (512 + n) (first ++ others) ≡ drop n others
+drop-after first others n long = subst (λ m. drop (m + n) (first ++ others) ≡ drop n others) long (drop-append-add first others n)
 
 module _ (image : Image) (machine : Machine) (entry : Descriptor) (picked : Picked) (memory : ℕ) where
   kernel-shown : (bytes : List ℕ) (initrd : Option (List ℕ)) (middle : List ℕ) (video : Option ℕ)
@@ -75,11 +75,11 @@ module _ (image : Image) (machine : Machine) (entry : Descriptor) (picked : Pick
       → start_of (entry_ending image machine entry picked middle memory) ≡ started (System sector table) entry.name picked memory
   unfolding entry_ending handed_ending started
   system-shown sector None middle shows =
-      rw (shows.other, shows.has_table, shows.main) (ap (λ bytes. record { outcome = Handed; shown = []; written = record { address = 0x7C00; bytes = bytes } ∷ [] }) shows.front)
+      rw (shows.other, shows.has_table, shows.main) (ap (λ bytes. record { outcome = Handed; shown = []; written = record { address = 0x7C00; bytes = bytes } ∷ [] }) shows.prefix)
   system-shown sector (Some table) middle shows =
       rw (shows.other, shows.has_table, shows.main)
-      (ap (λ bytes. record { outcome = Handed; shown = []; written = record { address = 0x7BE; bytes = part_of shows.bytes 958 64 } ∷ (record { address = 0x7C00; bytes = bytes } ∷ []) }) shows.front
-      ∙ ap (λ bytes. record { outcome = Handed; shown = []; written = record { address = 0x7BE; bytes = bytes } ∷ (record { address = 0x7C00; bytes = sector } ∷ []) }) shows.back)
+      (ap (λ bytes. record { outcome = Handed; shown = []; written = record { address = 0x7BE; bytes = part_of shows.bytes 958 64 } ∷ (record { address = 0x7C00; bytes = bytes } ∷ []) }) shows.prefix
+      ∙ ap (λ bytes. record { outcome = Handed; shown = []; written = record { address = 0x7BE; bytes = bytes } ∷ (record { address = 0x7C00; bytes = sector } ∷ []) }) shows.suffix)
 
   -- what an entry of the menu starts
   target-shown : (target : Target) → ShowsTarget image machine entry target
@@ -93,17 +93,17 @@ texts-joined : (a b c d e : List ℕ) → (a ++ b ++ c ++ d) ++ e ≡ a ++ b ++ 
 texts-joined a b c d e = simp append_assoc
 
 -- a boot by its end is that by its start
-texts-behind : (b c d e f : List ℕ) → (b ++ c ++ d ++ e) ++ f ≡ b ++ c ++ d ++ e ++ f
-texts-behind b c d e f = simp append_assoc
+texts-after : (b c d e f : List ℕ) → (b ++ c ++ d ++ e) ++ f ≡ b ++ c ++ d ++ e ++ f
+texts-after b c d e f = simp append_assoc
 
 ended-start : (name : List ℕ) (decision : Decision) (ending : Result Ending Reason)
     → ended_boot (codes "LILO\n" ++ decision.shown ++ codes "Loading " ++ name ++ codes "\n") decision.line decision.left ending
     ≡ started_boot name decision (start_of ending)
 ended-start name decision (Ok ending) =
     ap (λ shown. record { outcome = ending.outcome; shown = codes "LILO\n" ++ shown; line = Some decision.line; written = ending.written; left = decision.left })
-    (sym (append-nil (decision.shown ++ codes "Loading " ++ name ++ codes "\n")) ∙ texts-behind decision.shown (codes "Loading ") name (codes "\n") [])
+    (sym (append-nil (decision.shown ++ codes "Loading " ++ name ++ codes "\n")) ∙ texts-after decision.shown (codes "Loading ") name (codes "\n") [])
 ended-start name decision (Err reason) =
-    ap (λ shown. record { outcome = Refused reason; shown = codes "LILO\n" ++ shown; line = Some decision.line; written = []; left = decision.left }) (texts-behind decision.shown (codes "Loading ") name (codes "\n") (error_text reason))
+    ap (λ shown. record { outcome = Refused reason; shown = codes "LILO\n" ++ shown; line = Some decision.line; written = []; left = decision.left }) (texts-after decision.shown (codes "Loading ") name (codes "\n") (error_text reason))
 
 module _ (image : Image) (machine : Machine) (boot : BootSector) (line_place : DiskSector) (line_at : place_at machine boot.line 0 ≡ Ok line_place) where
   -- what an entry shows, it shows in the image with the new default line
@@ -114,7 +114,7 @@ module _ (image : Image) (machine : Machine) (boot : BootSector) (line_place : D
     where
       by-line : (same : Bool) → ShowsTarget (line_written image new same (Ok line_place)) machine entry meant.target
       by-line true = shows.now
-      by-line false = shows.behind new
+      by-line false = shows.after new
 
   chosen-shown : (entry : Descriptor) (meant : MenuEntry) (line : DefaultLine) (picked : Picked) (decision : Decision) (memory : ℕ)
       → ShowsEntry image machine line_place entry meant

@@ -12,10 +12,10 @@ use Rattle.map_laws.specs.Lies.{FileLies, OptionalLies, TargetLies, TargetsLie}
 use Rattle.map_laws.specs.MapStays.{file_sectors_of, section_places, fixed_places, MapStaysLaw}
 
 module _ (image c : Image) (machine : Machine) (config : Config) (line_place zero_place : DiskSector) where
-  stand-same : (places : List DiskSector) (sectors : List (List ℕ)) → Same image c places → AreAt image places sectors → AreAt c places sectors
-  stand-same places [] same stand = tt
-  stand-same [] (bytes ∷ sectors) same stand = absurd stand
-  stand-same (place ∷ places) (bytes ∷ sectors) same stand = (same.0 ∙ stand.0, stand-same places sectors same.1 stand.1)
+  lie-same : (places : List DiskSector) (sectors : List (List ℕ)) → Same image c places → AreAt image places sectors → AreAt c places sectors
+  lie-same places [] same lie = tt
+  lie-same [] (bytes ∷ sectors) same lie = absurd lie
+  lie-same (place ∷ places) (bytes ∷ sectors) same lie = (same.0 ∙ lie.0, lie-same places sectors same.1 lie.1)
 
   file-same : (file : MappedFile) (bytes : List ℕ) → Same image c (filled_places zero_place file.places) → FileLies image machine config line_place zero_place file bytes → FileLies c machine config line_place zero_place file bytes
   file-same file bytes same s = record {
@@ -42,7 +42,7 @@ module _ (image c : Image) (machine : Machine) (config : Config) (line_place zer
       (s.0, s.1, s.2, file-same mapped.main bytes (same-front image c main ramdisk same) s.3, optional-same mapped.initrd initrd (same-back image c main ramdisk same) s.4)
   target-same mapped (System sector table) same s =
       let main = filled_places zero_place mapped.main.places in
-      (s.0, s.1, s.2, record { bytes = s.3.bytes; lies = file-same mapped.main s.3.bytes (same-front image c main (file_sectors_of zero_place mapped.initrd) same) s.3.lies; long = s.3.long; front = s.3.front; back = s.3.back })
+      (s.0, s.1, s.2, record { bytes = s.3.bytes; lies = file-same mapped.main s.3.bytes (same-front image c main (file_sectors_of zero_place mapped.initrd) same) s.3.lies; long = s.3.long; prefix = s.3.prefix; suffix = s.3.suffix })
 
   targets-same : (sections : List MappedSection) (targets : List Target) → Same image c (Rattle.std.specs.Prelude.flat_map (section_places zero_place) sections) → TargetsLie image machine config line_place zero_place sections targets → TargetsLie c machine config line_place zero_place sections targets
   targets-same [] [] same s = tt
@@ -55,16 +55,16 @@ module _ (image c : Image) (machine : Machine) (config : Config) (line_place zer
 
 pub map_stays_law : MapStaysLaw
 map_stays_law image c machine span plan menu targets line other p0 p1 p2 p3 p4 rest present s all is =
-    let behind = p1 ∷ (p2 ∷ (p3 ∷ (p4 ∷ rest))) in
+    let after = p1 ∷ (p2 ∷ (p3 ∷ (p4 ∷ rest))) in
     let files = file_sectors_of p4 plan.message ++ Rattle.std.specs.Prelude.flat_map (section_places p4) plan.sections in
-    let same = same-from_all image c (fixed_places span plan p4 behind) all in
-    let same_files = same-back image c behind files same.1 in
+    let same = same-from_all image c (fixed_places span plan p4 after) all in
+    let same_files = same-back image c after files same.1 in
     record {
       boot = same.0 ∙ s.boot;
       present_long = s.present_long;
       code_long = s.code_long;
       line_is = is;
-      lies = stand-same image c machine plan.config p0 p4 behind (drop 1 (Rattle.lilo_model.specs.Plan.plan_sectors plan machine (p0 ∷ behind))) (same-front image c behind files same.1) s.lies;
+      lies = lie-same image c machine plan.config p0 p4 after (drop 1 (Rattle.lilo_model.specs.Plan.plan_sectors plan machine (p0 ∷ after))) (same-front image c after files same.1) s.lies;
       named = s.named;
       apart = s.apart;
       time = s.time;

@@ -6,7 +6,7 @@ use Rattle.std.proofs.lemmas.List.{drop-drop}
 use Rattle.lilo_model.specs.Bytes.{part_of, filled_bytes}
 use Rattle.lilo_model.specs.Table.{Descriptor, first_below, same_name, repeats, breaks, entry_name, entry_bytes, descriptor_of, descriptor_bytes, descriptors_of, table_at}
 use Rattle.lilo_model.specs.Plan.{sectors_of_table}
-use Rattle.map_laws.proofs.Parts.{part-behind, part-front}
+use Rattle.map_laws.proofs.Parts.{part-after, part-prefix}
 use Rattle.map_laws.proofs.EntryAgain.{FitsEntry, EntryAgain, entry_again, length-entry}
 
 -- ---- entries, each 64 bytes
@@ -37,11 +37,11 @@ entries-at [] tail index entry fit is = cc
 entries-at (first ∷ entries) tail zero entry fit is =
     let same : first ≡ entry = cc in
     ap (λ bytes. part_of bytes 0 64) (append_assoc (descriptor_bytes first) (flat_map descriptor_bytes entries) tail)
-    ∙ part-front (descriptor_bytes first) (flat_map descriptor_bytes entries ++ tail) 64 (length-entry first fit.0.name) ∙ ap descriptor_bytes same
+    ∙ part-prefix (descriptor_bytes first) (flat_map descriptor_bytes entries ++ tail) 64 (length-entry first fit.0.name) ∙ ap descriptor_bytes same
 entries-at (first ∷ entries) tail (suc index) entry fit is =
     let long = length-entry first fit.0.name in
     ap (λ bytes. part_of bytes (64 * suc index) 64) (append_assoc (descriptor_bytes first) (flat_map descriptor_bytes entries) tail)
-    ∙ part-behind (descriptor_bytes first) (flat_map descriptor_bytes entries ++ tail) (64 * suc index) (64 * index) 64 (omega (arith, long))
+    ∙ part-after (descriptor_bytes first) (flat_map descriptor_bytes entries ++ tail) (64 * suc index) (64 * index) 64 (omega (arith, long))
     ∙ entries-at entries tail index entry fit.1 is
 
 take-none : (m : ℕ) → take {A = ℕ} m [] ≡ []
@@ -143,11 +143,11 @@ module _ (entries : List Descriptor) (fit : FitEntries entries) (have : HaveName
       rw (bytes-at index below, (again-at index below).good, none-below (same_name (sectors_of_table entries) index) index (λ other less. not-same index other below less)) refl
 
   -- the descriptors that are read, up to a number
-  front-of : (index : ℕ) → index ≤ length entries → descriptors_of (sectors_of_table entries) index ≡ take index entries
-  front-of zero below = refl
-  front-of (suc index) below =
+  prefix-of : (index : ℕ) → index ≤ length entries → descriptors_of (sectors_of_table entries) index ≡ take index entries
+  prefix-of zero below = refl
+  prefix-of (suc index) below =
       let less : index < length entries = omega (arith, below) in
-      ap (λ front. front ++ (descriptor_of (entry_bytes (sectors_of_table entries) index) ∷ [])) (front-of index (omega (arith, below)))
+      ap (λ prefix. prefix ++ (descriptor_of (entry_bytes (sectors_of_table entries) index) ∷ [])) (prefix-of index (omega (arith, below)))
       ∙ ap (λ bytes. take index entries ++ (descriptor_of bytes ∷ [])) (bytes-at index less)
       ∙ ap (λ entry. take index entries ++ (entry ∷ [])) (again-at index less).is
       ∙ take-more entries index (entry-there entries index less).0 (entry-there entries index less).1
@@ -155,15 +155,15 @@ module _ (entries : List Descriptor) (fit : FitEntries entries) (have : HaveName
       take-more : (entries : List Descriptor) (index : ℕ) (entry : Descriptor) → entry_of_list entries index ≡ Some entry → take index entries ++ (entry ∷ []) ≡ take (suc index) entries
       take-more [] index entry is = cc
       take-more (first ∷ entries) zero entry is = let same : entry ≡ first = cc in ap (λ entry. entry ∷ []) same
-      take-more (first ∷ entries) (suc index) entry is = ap (λ front. first ∷ front) (take-more entries index entry is)
+      take-more (first ∷ entries) (suc index) entry is = ap (λ prefix. first ∷ prefix) (take-more entries index entry is)
 
   -- a table that is written is read again
   pub table_again : table_at (length entries) (sectors_of_table entries) ≡ Ok entries
   unfolding table_at
   table_again =
-      rw (none-below (breaks (sectors_of_table entries)) (length entries) keeps, front-of (length entries) (omega arith))
+      rw (none-below (breaks (sectors_of_table entries)) (length entries) keeps, prefix-of (length entries) (omega arith))
       (ap Ok (take-length entries))
     where
       take-length : (entries : List Descriptor) → take (length entries) entries ≡ entries
       take-length [] = refl
-      take-length (entry ∷ entries) = ap (λ front. entry ∷ front) (take-length entries)
+      take-length (entry ∷ entries) = ap (λ prefix. entry ∷ prefix) (take-length entries)

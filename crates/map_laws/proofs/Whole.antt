@@ -21,7 +21,7 @@ use Rattle.map_laws.specs.Lies.{AreNamed, IsNone, OptionalLies, IsFitSection, Is
 use Rattle.lilo_model.specs.Lays.{AreAt}
 use Rattle.map_laws.proofs.TableAgain as table
 use Rattle.map_laws.proofs.TableAgain.{FitEntries, HaveNames}
-use Rattle.map_laws.proofs.Entries.{stand-front, stand-back, named-drop, none-drop, length-file, length-optional, EntryShown, section-read, slot-read}
+use Rattle.map_laws.proofs.Entries.{lie-prefix, lie-suffix, named-drop, none-drop, length-file, length-optional, EntryShown, section-read, slot-read}
 use Rattle.map_laws.proofs.Parts.{length-filled}
 use Rattle.map_laws.proofs.BootAgain.{FitsMessage, FitsBoot, boot_again}
 use Rattle.map_laws.proofs.Files.{file-shown, chain-is, slots-between}
@@ -87,64 +87,64 @@ module _ (image : Image) (machine : Machine) (config : Config) (line_place zero_
   one-section : (mapped : MappedSection) (target : Target) (own : List DiskSector) (names : List (List ℕ)) → IsFitSection mapped.section → TargetLies image machine config line_place zero_place mapped target
       → AreNamed machine to own → IsNone line_place own → AreAt image own (section_sectors_at config machine zero_place mapped own)
       → AllShown image machine line_place (map (descriptor_for config machine mapped own) names) (map (menu_entry mapped.section target) names)
-  one-section mapped target own [] lawful lies named none stand = tt
-  one-section mapped target own (name ∷ names) lawful lies named none stand =
-      (section-read image machine config line_place zero_place mapped target own name lawful lies named none stand, one-section mapped target own names lawful lies named none stand)
+  one-section mapped target own [] lawful lies named none lie = tt
+  one-section mapped target own (name ∷ names) lawful lies named none lie =
+      (section-read image machine config line_place zero_place mapped target own name lawful lies named none lie, one-section mapped target own names lawful lies named none lie)
 
   one-fits : (mapped : MappedSection) (target : Target) (own : List DiskSector) (names others : List (List ℕ)) → IsFitSection mapped.section → TargetLies image machine config line_place zero_place mapped target → AreNames (names ++ others)
       → AreNamed machine to own → AreAt image own (section_sectors_at config machine zero_place mapped own) → (entries : List Descriptor) → (AreNames others → FitEntries entries)
       → FitEntries (map (descriptor_for config machine mapped own) names ++ entries)
-  one-fits mapped target own [] others lawful lies are named stand entries fit = fit are
-  one-fits mapped target own (name ∷ names) others lawful lies are named stand entries fit =
-      (entry-bytes-fit image machine config line_place zero_place mapped target own name lawful lies are.0 named stand, one-fits mapped target own names others lawful lies are.2 named stand entries fit)
+  one-fits mapped target own [] others lawful lies are named lie entries fit = fit are
+  one-fits mapped target own (name ∷ names) others lawful lies are named lie entries fit =
+      (entry-bytes-fit image machine config line_place zero_place mapped target own name lawful lies are.0 named lie, one-fits mapped target own names others lawful lies are.2 named lie entries fit)
 
   -- the sectors of the sections after one lie after it
-  section-behind : (mapped : MappedSection) (own : List DiskSector) (others : List (List ℕ)) → AreAt image own (section_sectors_at config machine zero_place mapped own ++ others) → AreAt image (places_after config machine mapped own) others
+  section-after : (mapped : MappedSection) (own : List DiskSector) (others : List (List ℕ)) → AreAt image own (section_sectors_at config machine zero_place mapped own ++ others) → AreAt image (places_after config machine mapped own) others
   unfolding section_sectors_at
-  section-behind mapped [] others stand = absurd stand
-  section-behind mapped (first ∷ own) others stand =
+  section-after mapped [] others lie = absurd lie
+  section-after mapped (first ∷ own) others lie =
       let all = first ∷ own in
       let extras = extra_sectors mapped.section in
       let main = main_places mapped.section all in
       let ramdisk = initrd_places config machine mapped all in
       let mains = file_sectors config machine zero_place mapped.main main in
       let ramdisks = optional_sectors config machine zero_place mapped.initrd ramdisk in
-      let regrouped : (extras ++ (mains ++ ramdisks)) ++ others ≡ extras ++ (mains ++ (ramdisks ++ others)) = append_assoc extras (mains ++ ramdisks) others ∙ ap (λ back. extras ++ back) (append_assoc mains ramdisks others) in
-      let stand' = subst (AreAt image own) regrouped stand.1 in
-      let behind = stand-back image own extras (mains ++ (ramdisks ++ others)) stand' in
-      let behind' = subst (λ n. AreAt image (drop n main) (ramdisks ++ others)) (length-file config machine zero_place mapped.main main) (stand-back image main mains (ramdisks ++ others) behind) in
-      subst (λ n. AreAt image (drop n ramdisk) others) (length-optional config machine zero_place mapped.initrd ramdisk) (stand-back image ramdisk ramdisks others behind')
+      let regrouped : (extras ++ (mains ++ ramdisks)) ++ others ≡ extras ++ (mains ++ (ramdisks ++ others)) = append_assoc extras (mains ++ ramdisks) others ∙ ap (λ suffix. extras ++ suffix) (append_assoc mains ramdisks others) in
+      let lie' = subst (AreAt image own) regrouped lie.1 in
+      let after = lie-suffix image own extras (mains ++ (ramdisks ++ others)) lie' in
+      let after' = subst (λ n. AreAt image (drop n main) (ramdisks ++ others)) (length-file config machine zero_place mapped.main main) (lie-suffix image main mains (ramdisks ++ others) after) in
+      subst (λ n. AreAt image (drop n ramdisk) others) (length-optional config machine zero_place mapped.initrd ramdisk) (lie-suffix image ramdisk ramdisks others after')
 
-  named-behind : (mapped : MappedSection) (own : List DiskSector) → AreNamed machine to own → AreNamed machine to (places_after config machine mapped own)
-  named-behind mapped own named = named-drop machine to (optional_chain config machine mapped.initrd) (initrd_places config machine mapped own) (named-drop machine to (chain_for config machine mapped.main) (main_places mapped.section own) (named-drop machine to (length (extra_sectors mapped.section)) (drop 1 own) (named-drop machine to 1 own named)))
+  named-after : (mapped : MappedSection) (own : List DiskSector) → AreNamed machine to own → AreNamed machine to (places_after config machine mapped own)
+  named-after mapped own named = named-drop machine to (optional_chain config machine mapped.initrd) (initrd_places config machine mapped own) (named-drop machine to (chain_for config machine mapped.main) (main_places mapped.section own) (named-drop machine to (length (extra_sectors mapped.section)) (drop 1 own) (named-drop machine to 1 own named)))
 
-  none-behind : (mapped : MappedSection) (own : List DiskSector) → IsNone line_place own → IsNone line_place (places_after config machine mapped own)
-  none-behind mapped own none = none-drop line_place (optional_chain config machine mapped.initrd) (initrd_places config machine mapped own) (none-drop line_place (chain_for config machine mapped.main) (main_places mapped.section own) (none-drop line_place (length (extra_sectors mapped.section)) (drop 1 own) (none-drop line_place 1 own none)))
+  none-after : (mapped : MappedSection) (own : List DiskSector) → IsNone line_place own → IsNone line_place (places_after config machine mapped own)
+  none-after mapped own none = none-drop line_place (optional_chain config machine mapped.initrd) (initrd_places config machine mapped own) (none-drop line_place (chain_for config machine mapped.main) (main_places mapped.section own) (none-drop line_place (length (extra_sectors mapped.section)) (drop 1 own) (none-drop line_place 1 own none)))
 
   pub sections-shown : (sections : List MappedSection) (targets : List Target) (own : List DiskSector) → TargetsLie image machine config line_place zero_place sections targets
       → AreNamed machine to own → IsNone line_place own → AreAt image own (sections_sectors config machine zero_place sections own)
       → AllShown image machine line_place (sections_entries config machine sections own) (entries_for sections targets)
-  sections-shown [] [] own lies named none stand = tt
-  sections-shown [] (target ∷ targets) own lies named none stand = absurd lies
-  sections-shown (mapped ∷ sections) [] own lies named none stand = absurd lies
-  sections-shown (mapped ∷ sections) (target ∷ targets) own lies named none stand =
-      let behind = places_after config machine mapped own in
-      let others = sections_sectors config machine zero_place sections behind in
-      shown-join image machine line_place (map (descriptor_for config machine mapped own) (names_of_section mapped.section)) (map (menu_entry mapped.section target) (names_of_section mapped.section)) (sections_entries config machine sections behind) (entries_for sections targets)
-      (one-section mapped target own (names_of_section mapped.section) lies.0 lies.1 named none (stand-front image own (section_sectors_at config machine zero_place mapped own) others stand))
-      (sections-shown sections targets behind lies.2 (named-behind mapped own named) (none-behind mapped own none) (section-behind mapped own others stand))
+  sections-shown [] [] own lies named none lie = tt
+  sections-shown [] (target ∷ targets) own lies named none lie = absurd lies
+  sections-shown (mapped ∷ sections) [] own lies named none lie = absurd lies
+  sections-shown (mapped ∷ sections) (target ∷ targets) own lies named none lie =
+      let after = places_after config machine mapped own in
+      let others = sections_sectors config machine zero_place sections after in
+      shown-join image machine line_place (map (descriptor_for config machine mapped own) (names_of_section mapped.section)) (map (menu_entry mapped.section target) (names_of_section mapped.section)) (sections_entries config machine sections after) (entries_for sections targets)
+      (one-section mapped target own (names_of_section mapped.section) lies.0 lies.1 named none (lie-prefix image own (section_sectors_at config machine zero_place mapped own) others lie))
+      (sections-shown sections targets after lies.2 (named-after mapped own named) (none-after mapped own none) (section-after mapped own others lie))
 
   pub sections-fit : (sections : List MappedSection) (targets : List Target) (own : List DiskSector) → TargetsLie image machine config line_place zero_place sections targets → AreNames (flat_map (λ (mapped : MappedSection). names_of_section mapped.section) sections)
       → AreNamed machine to own → AreAt image own (sections_sectors config machine zero_place sections own)
       → FitEntries (sections_entries config machine sections own)
-  sections-fit [] [] own lies are named stand = tt
-  sections-fit [] (target ∷ targets) own lies are named stand = absurd lies
-  sections-fit (mapped ∷ sections) [] own lies are named stand = absurd lies
-  sections-fit (mapped ∷ sections) (target ∷ targets) own lies are named stand =
-      let behind = places_after config machine mapped own in
-      let others = sections_sectors config machine zero_place sections behind in
-      one-fits mapped target own (names_of_section mapped.section) (flat_map (λ (mapped : MappedSection). names_of_section mapped.section) sections) lies.0 lies.1 are named (stand-front image own (section_sectors_at config machine zero_place mapped own) others stand) (sections_entries config machine sections behind)
-      (λ are'. sections-fit sections targets behind lies.2 are' (named-behind mapped own named) (section-behind mapped own others stand))
+  sections-fit [] [] own lies are named lie = tt
+  sections-fit [] (target ∷ targets) own lies are named lie = absurd lies
+  sections-fit (mapped ∷ sections) [] own lies are named lie = absurd lies
+  sections-fit (mapped ∷ sections) (target ∷ targets) own lies are named lie =
+      let after = places_after config machine mapped own in
+      let others = sections_sectors config machine zero_place sections after in
+      one-fits mapped target own (names_of_section mapped.section) (flat_map (λ (mapped : MappedSection). names_of_section mapped.section) sections) lies.0 lies.1 are named (lie-prefix image own (section_sectors_at config machine zero_place mapped own) others lie) (sections_entries config machine sections after)
+      (λ are'. sections-fit sections targets after lies.2 are' (named-after mapped own named) (section-after mapped own others lie))
 
 -- ---- names
 
@@ -164,10 +164,10 @@ names-of-section config machine mapped own (name ∷ names) = ap (λ names. name
 pub names-of-entries : (config : Config) (machine : Machine) (sections : List MappedSection) (own : List DiskSector) → map (λ (entry : Descriptor). entry.name) (sections_entries config machine sections own) ≡ flat_map (λ (mapped : MappedSection). names_of_section mapped.section) sections
 names-of-entries config machine [] own = refl
 names-of-entries config machine (mapped ∷ sections) own =
-    let behind = places_after config machine mapped own in
-    map-append (λ (entry : Descriptor). entry.name) (map (descriptor_for config machine mapped own) (names_of_section mapped.section)) (sections_entries config machine sections behind)
-    ∙ ap (λ names. names ++ map (λ (entry : Descriptor). entry.name) (sections_entries config machine sections behind)) (names-of-section config machine mapped own (names_of_section mapped.section))
-    ∙ ap (λ names. names_of_section mapped.section ++ names) (names-of-entries config machine sections behind)
+    let after = places_after config machine mapped own in
+    map-append (λ (entry : Descriptor). entry.name) (map (descriptor_for config machine mapped own) (names_of_section mapped.section)) (sections_entries config machine sections after)
+    ∙ ap (λ names. names ++ map (λ (entry : Descriptor). entry.name) (sections_entries config machine sections after)) (names-of-section config machine mapped own (names_of_section mapped.section))
+    ∙ ap (λ names. names_of_section mapped.section ++ names) (names-of-entries config machine sections after)
 
 -- ---- the whole map
 
@@ -182,35 +182,35 @@ module _ (image : Image) (machine : Machine) (span : Span) (plan : Plan) (menu :
   abbrev places : List DiskSector
   places = p0 ∷ (p1 ∷ (p2 ∷ (p3 ∷ (p4 ∷ rest))))
 
-  abbrev behind : List DiskSector
-  behind = sections_places plan machine places
+  abbrev after : List DiskSector
+  after = sections_places plan machine places
 
   abbrev entries : List Descriptor
-  entries = sections_entries config machine plan.sections behind
+  entries = sections_entries config machine plan.sections after
 
   abbrev message_sectors : List (List ℕ)
   message_sectors = optional_sectors config machine p4 plan.message rest
 
   abbrev other_sectors : List (List ℕ)
-  other_sectors = sections_sectors config machine p4 plan.sections behind
+  other_sectors = sections_sectors config machine p4 plan.sections after
 
-  all-stand : AreAt image (p1 ∷ (p2 ∷ (p3 ∷ (p4 ∷ rest)))) (sectors_of_table entries ++ (replicate 512 0 ∷ (message_sectors ++ other_sectors)))
+  all-lie : AreAt image (p1 ∷ (p2 ∷ (p3 ∷ (p4 ∷ rest)))) (sectors_of_table entries ++ (replicate 512 0 ∷ (message_sectors ++ other_sectors)))
   unfolding plan_sectors plan_entries sectors_after
-  all-stand = s.lies
+  all-lie = s.lies
 
-  table-stands : (bytes_at image p1 ∷ (bytes_at image p2 ∷ (bytes_at image p3 ∷ []))) ≡ sectors_of_table entries
+  table-lies : (bytes_at image p1 ∷ (bytes_at image p2 ∷ (bytes_at image p3 ∷ []))) ≡ sectors_of_table entries
   unfolding sectors_of_table
-  table-stands = rw (all-stand.0, all-stand.1.0, all-stand.1.1.0) refl
+  table-lies = rw (all-lie.0, all-lie.1.0, all-lie.1.1.0) refl
 
-  rest-stand : AreAt image rest (message_sectors ++ other_sectors)
+  rest-lie : AreAt image rest (message_sectors ++ other_sectors)
   unfolding sectors_of_table
-  rest-stand = all-stand.1.1.1.1
+  rest-lie = all-lie.1.1.1.1
 
-  message-stand : AreAt image rest message_sectors
-  message-stand = stand-front image rest message_sectors other_sectors rest-stand
+  message-lie : AreAt image rest message_sectors
+  message-lie = lie-prefix image rest message_sectors other_sectors rest-lie
 
-  sections-stand : AreAt image behind other_sectors
-  sections-stand = subst (λ n. AreAt image (drop n rest) other_sectors) (length-optional config machine p4 plan.message rest) (stand-back image rest message_sectors other_sectors rest-stand)
+  sections-lie : AreAt image after other_sectors
+  sections-lie = subst (λ n. AreAt image (drop n rest) other_sectors) (length-optional config machine p4 plan.message rest) (lie-suffix image rest message_sectors other_sectors rest-lie)
 
   rest-named : AreNamed machine goes rest
   rest-named = s.named.1.1.1.1.1
@@ -218,25 +218,25 @@ module _ (image : Image) (machine : Machine) (span : Span) (plan : Plan) (menu :
   rest-none : IsNone p0 rest
   rest-none = s.apart.1.1.1.1
 
-  behind-named : AreNamed machine goes behind
-  behind-named = named-drop machine goes (optional_chain config machine plan.message) rest rest-named
+  after-named : AreNamed machine goes after
+  after-named = named-drop machine goes (optional_chain config machine plan.message) rest rest-named
 
-  behind-none : IsNone p0 behind
-  behind-none = none-drop p0 (optional_chain config machine plan.message) rest rest-none
+  after-none : IsNone p0 after
+  after-none = none-drop p0 (optional_chain config machine plan.message) rest rest-none
 
   shown : AllShown image machine p0 entries (entries_for plan.sections targets)
-  shown = sections-shown image machine config p0 p4 plan.sections targets behind s.targets_lie behind-named behind-none sections-stand
+  shown = sections-shown image machine config p0 p4 plan.sections targets after s.targets_lie after-named after-none sections-lie
 
   names-are : map (λ (entry : Descriptor). entry.name) entries ≡ plan_names plan
   unfolding plan_names
-  names-are = names-of-entries config machine plan.sections behind
+  names-are = names-of-entries config machine plan.sections after
 
   count-is : length entries ≡ length (plan_names plan)
   count-is = sym (length-map entries (λ (entry : Descriptor). entry.name)) ∙ ap length names-are
 
   fit : FitEntries entries
   unfolding plan_names
-  fit = sections-fit image machine config p0 p4 plan.sections targets behind s.targets_lie s.names behind-named sections-stand
+  fit = sections-fit image machine config p0 p4 plan.sections targets after s.targets_lie s.names after-named sections-lie
 
   table-read : table_at (length (plan_names plan)) (sectors_of_table entries) ≡ Ok entries
   table-read =
@@ -250,15 +250,15 @@ module _ (image : Image) (machine : Machine) (span : Span) (plan : Plan) (menu :
 
   message-fits : (file : Option MappedFile) (bytes : Option (List ℕ)) → OptionalLies image machine config p0 p4 file bytes → IfSome bytes (λ bytes. length bytes ≤ 65535) → AreAt image rest (optional_sectors config machine p4 file rest)
       → FitsMessage (option_map (λ (file : MappedFile). goes (place_of_sector rest 0)) file) (unwrap_or (option_map (λ (file : MappedFile). file.size) file) 0) (optional_chain config machine file)
-  message-fits None bytes lies few stand = (refl, refl)
-  message-fits (Some file) None lies few stand = absurd lies
-  message-fits (Some file) (Some bytes) lies few stand =
+  message-fits None bytes lies few lie = (refl, refl)
+  message-fits (Some file) None lies few lie = absurd lies
+  message-fits (Some file) (Some bytes) lies few lie =
       let size = lies.size in
       let some = lies.some in
       let count = lies.count in
       let chain = chain-is image machine config p0 p4 file in
       let most = (slots-between machine config file (omega (arith, count, some))).1 in
-      (first-one image machine config p0 p4 file bytes rest lies rest-named stand, omega (arith, size, some), omega (arith, size, few), chain-some image machine config p0 p4 file bytes lies, omega (arith, chain, count, few, most))
+      (first-one image machine config p0 p4 file bytes rest lies rest-named lie, omega (arith, size, some), omega (arith, size, few), chain-some image machine config p0 p4 file bytes lies, omega (arith, chain, count, few, most))
 
   boot-fits : FitsBoot said
   unfolding plan_boot
@@ -272,7 +272,7 @@ module _ (image : Image) (machine : Machine) (span : Span) (plan : Plan) (menu :
     default = s.default;
     line = s.named.0.one;
     zero_one = s.named.1.1.1.1.0.one;
-    message = message-fits plan.message menu.message s.message s.message_few message-stand;
+    message = message-fits plan.message menu.message s.message s.message_few message-lie;
     one = goes p1;
     two = goes p2;
     three = goes p3;
@@ -282,7 +282,7 @@ module _ (image : Image) (machine : Machine) (span : Span) (plan : Plan) (menu :
     third = s.named.1.1.1.0.one;
   }
 
-  boot-read : boot_at (image span.disk span.start) ≡ Ok said
+  pub boot-read : boot_at (image span.disk span.start) ≡ Ok said
   unfolding plan_boot_sector
   boot-read =
       ap boot_at s.boot ∙ boot_again said (filled_bytes 512 plan.code) present boot-fits
@@ -299,7 +299,7 @@ module _ (image : Image) (machine : Machine) (span : Span) (plan : Plan) (menu :
   sectors-read : map_sectors image machine said ≡ Ok read-sectors
   unfolding map_sectors plan_boot read-sectors
   sectors-read =
-      rw (slot-read image machine goes p0 (bytes_at image p0) s.named.0 refl, slot-read image machine goes p1 (bytes_at image p1) s.named.1.0 refl, slot-read image machine goes p2 (bytes_at image p2) s.named.1.1.0 refl, slot-read image machine goes p3 (bytes_at image p3) s.named.1.1.1.0 refl, table-stands, table-read, extras-read image machine p0 entries (entries_for plan.sections targets) shown) refl
+      rw (slot-read image machine goes p0 (bytes_at image p0) s.named.0 refl, slot-read image machine goes p1 (bytes_at image p1) s.named.1.0 refl, slot-read image machine goes p2 (bytes_at image p2) s.named.1.1.0 refl, slot-read image machine goes p3 (bytes_at image p3) s.named.1.1.1.0 refl, table-lies, table-read, extras-read image machine p0 entries (entries_for plan.sections targets) shown) refl
 
   read-map : GoodMap
   read-map = record { line = line; entries = entries; passwords = passwords_of image machine p0 (entries_for plan.sections targets) }
@@ -314,14 +314,14 @@ module _ (image : Image) (machine : Machine) (span : Span) (plan : Plan) (menu :
 
   message-read : message_of image machine said ≡ option_map whole menu.message
   unfolding message_of plan_boot
-  message-read = by-message plan.message menu.message s.message message-stand
+  message-read = by-message plan.message menu.message s.message message-lie
     where
       by-message : (file : Option MappedFile) (bytes : Option (List ℕ)) → OptionalLies image machine config p0 p4 file bytes → AreAt image rest (optional_sectors config machine p4 file rest)
           → option_map (λ slot. file_content image machine slot (unwrap_or (option_map (λ (file : MappedFile). file.size) file) 0) (optional_chain config machine file)) (option_map (λ (file : MappedFile). goes (place_of_sector rest 0)) file) ≡ option_map whole bytes
-      by-message None None lies stand = refl
-      by-message None (Some bytes) lies stand = absurd lies
-      by-message (Some file) None lies stand = absurd lies
-      by-message (Some file) (Some bytes) lies stand = ap Some (file-shown image machine config p0 p4 file bytes rest lies rest-named stand)
+      by-message None None lies lie = refl
+      by-message None (Some bytes) lies lie = absurd lies
+      by-message (Some file) None lies lie = absurd lies
+      by-message (Some file) (Some bytes) lies lie = ap Some (file-shown image machine config p0 p4 file bytes rest lies rest-named lie)
 
   settings-read : settings_of said ≡ menu.settings
   unfolding settings_of plan_boot

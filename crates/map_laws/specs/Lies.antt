@@ -69,8 +69,8 @@ pub record SystemLies (image : Image) (machine : Machine) (config : Config) (lin
   pub bytes : List ℕ
   pub lies : FileLies image machine config line_place zero_place file bytes
   pub long : length bytes ≡ (if is_some table then 1024 else 512)
-  pub front : part_of bytes 0 512 ≡ sector
-  pub back : IfSome table (λ table. part_of bytes 958 64 ≡ part_of table 446 64)
+  pub prefix : part_of bytes 0 512 ≡ sector
+  pub suffix : IfSome table (λ table. part_of bytes 958 64 ≡ part_of table 446 64)
 
 -- the files of a section's target lie
 abbrev pub TargetLies : Image → Machine → Config → DiskSector → DiskSector → MappedSection → Target → Type 0

@@ -17,9 +17,9 @@ abbrev pub section_places : DiskSector → MappedSection → List DiskSector
 section_places zero_place mapped = filled_places zero_place mapped.main.places ++ file_sectors_of zero_place mapped.initrd
 
 abbrev pub fixed_places : Span → Plan → DiskSector → List DiskSector → List DiskSector
-fixed_places span plan zero_place behind =
+fixed_places span plan zero_place after =
     record { disk = span.disk; sector = span.start }
-    ∷ (behind ++ (file_sectors_of zero_place plan.message ++ flat_map (section_places zero_place) plan.sections))
+    ∷ (after ++ (file_sectors_of zero_place plan.message ++ flat_map (section_places zero_place) plan.sections))
 
 -- where these sectors stay, and the line's sector has a line, the map lies
 abbrev pub MapStaysLaw : Type 0

@@ -31,9 +31,9 @@ pub record ShowsSystem (image : Image) (machine : Machine) (entry : Descriptor) 
   pub has_table : entry_has entry table_flag ≡ is_some table
   pub bytes : List ℕ
   pub main : main_of image machine entry ≡ whole bytes
-  pub front : part_of bytes 0 512 ≡ sector
+  pub prefix : part_of bytes 0 512 ≡ sector
   -- of the table's sector only the table itself counts: the sector may be the boot sector
-  pub back : IfSome table (λ table. part_of bytes 958 64 ≡ part_of table 446 64)
+  pub suffix : IfSome table (λ table. part_of bytes 958 64 ≡ part_of table 446 64)
 
 abbrev pub ShowsTarget : Image → Machine → Descriptor → Target → Type 0
 ShowsTarget image machine entry (Kernel bytes initrd middle video) = ShowsKernel image machine entry bytes initrd video
@@ -49,7 +49,7 @@ pub record ShowsEntry (image : Image) (machine : Machine) (line_place : DiskSect
   pub name : entry.name ≡ meant.listed.name
   pub middle : middle_of image machine entry ≡ Ok (target_middle meant.target)
   pub now : ShowsTarget image machine entry meant.target
-  pub behind : (line : DefaultLine) → ShowsTarget (with_sector image line_place (line_bytes line)) machine entry meant.target
+  pub after : (line : DefaultLine) → ShowsTarget (with_sector image line_place (line_bytes line)) machine entry meant.target
 
 abbrev pub ShowsEntries : Image → Machine → DiskSector → List Descriptor → List MenuEntry → Type 0
 ShowsEntries image machine line_place [] [] = Unit {0}

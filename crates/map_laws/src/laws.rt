@@ -1,5 +1,8 @@
 // What a boot of a planned map does.
+ghost use Rattle.map_laws.specs.Compact.{CompactLaw};
+ghost use Rattle.map_laws.specs.Files.{FileLaw, OptionalFileLaw};
 ghost use Rattle.map_laws.specs.Lies.{MapLaw};
+ghost use Rattle.map_laws.specs.Lines.{LinesLaw};
 ghost use Rattle.map_laws.specs.MapStays.{MapStaysLaw};
 ghost use Rattle.map_laws.specs.PlannedLies.{PlannedLaw};
 ghost use Rattle.map_laws.specs.Shows.{ShowsLaw};
@@ -23,4 +26,25 @@ pub fn planned_map_boots_as_meant()
 /// A planned map still lies at its places where only other sectors, and the default line, are written.
 pub fn planned_map_stays()
     ensures { MapStaysLaw }
+{}
+
+/// It boots as is meant with each other default line that its sector may say.
+pub fn planned_map_boots_with_each_line()
+    ensures { LinesLaw }
+{}
+
+/// No two neighbours of the slots that `compact` makes could be one.
+pub fn compact_slots_are_apart()
+    ensures { CompactLaw }
+{}
+
+/// A named file whose sectors have slots lies where it is mapped from, with its content, in each image where they are as
+/// they were.
+pub fn kept_file_lies()
+    ensures { FileLaw }
+{}
+
+/// A file that may be absent or empty is mapped where it counts for what is meant, and has as many bytes.
+pub fn optional_file_is_mapped_where_it_counts()
+    ensures { OptionalFileLaw }
 {}

@@ -4,6 +4,7 @@
 mod laws;
 
 pub use laws::{
-    planned_map_boots_as_its_menu, planned_map_boots_as_meant, planned_map_stays,
-    shown_menu_is_booted,
+    compact_slots_are_apart, kept_file_lies, optional_file_is_mapped_where_it_counts,
+    planned_map_boots_as_its_menu, planned_map_boots_as_meant, planned_map_boots_with_each_line,
+    planned_map_stays, shown_menu_is_booted,
 };

@@ -27,7 +27,12 @@ use Rattle.lilo_model.specs.Slots.{has_ranges, has_address, is_slot, is_one_slot
 use Rattle.lilo_model.specs.Table.{is_set, entry_name, is_printable, is_name, has_flags, has_video, has_length, has_main, has_initrd, has_extra, is_entry, descriptor_of, entry_bytes, same_name, repeats, breaks, table_at, descriptor_bytes}
 use Rattle.model_cases.specs.Sparse.{hex, disks_of, on, typed, waited}
 use Rattle.model_cases.specs.Volumes.{with_sectors}
-use Rattle.model_cases.specs.PlanFixtures.{conf_r21, conf_r27, conf_r33, conf_r45, conf_r51, conf_r9, disk_many, machine_many, volume_many}
+use Rattle.model_cases.specs.PlanFixtures.{conf_full, conf_r21, conf_r27, conf_r33, conf_r45, conf_r51, conf_r9, disk_full, disk_many, machine_full, machine_many, volume_full, volume_many}
+
+-- compact, a message, an initrd, and two other systems, one with the table of the boot device
+pub boots_compact_a_message_an_initrd_and_two_other_systems_one_with_the_table_of_the_boot_device : whole_boot (with_sectors (disks_of disk_full) (record { disk = 0; sector = 0 } ∷ (on 0 (96 ∷ 97 ∷ 98 ∷ 99 ∷ 100 ∷ 101 ∷ 102 ∷ 103 ∷ 104 ∷ 105 ∷ 106 ∷ 107 ∷ 108 ∷ 109 ∷ []))) (plan_boot_sector (planned (disks_of disk_full) machine_full volume_full conf_full 305419896) machine_full (on 0 (96 ∷ 97 ∷ 98 ∷ 99 ∷ 100 ∷ 101 ∷ 102 ∷ 103 ∷ 104 ∷ 105 ∷ 106 ∷ 107 ∷ 108 ∷ 109 ∷ [])) (disks_of disk_full 0 0) ∷ plan_sectors (planned (disks_of disk_full) machine_full volume_full conf_full 305419896) machine_full (on 0 (96 ∷ 97 ∷ 98 ∷ 99 ∷ 100 ∷ 101 ∷ 102 ∷ 103 ∷ 104 ∷ 105 ∷ 106 ∷ 107 ∷ 108 ∷ 109 ∷ [])))) machine_full (record { disk = 0; start = 0; count = 4096 }) (typed (codes "dos\n")) 16777216 ≡ meant conf_full (names_in volume_full (disks_of disk_full)) (devices_in (disks_of disk_full) machine_full) Empty (typed (codes "dos\n")) 16777216
+unfolding number16 number32 is_zero has_ranges has_address is_slot is_one_slot chs_of address_of slot_of some_slot slot_at slot_bytes to_chs to_lba sector_at sectors_of place_at slot_make could_be_one named_device entry_at entries_of table_entries is_link is_plain link_of logical_of listed linked_sector chain_entries chain_tables partitions_of numbered_span span_of disk_name last_partition partition_name device_name devices_of named_devices device_at disk_number device_number kind_of super_of super_checks super_in super_at with_counts super_bytes v1_inode v2_inode inode_of inode_at v1_inode_bytes v2_inode_bytes inode_bytes kept_inode inode_place bit with_bit parts_of volume_at number_in follow pointer_by inside follow_at zone_at block_at content_at entry_of entries_in minixentries_entry_at find_entry entries_at is_dots components child find_path file_block file_at zone_number block content entry first_named lookup reached thing names names_in IsSound child_path path_of link_at section file_content section_bytes is_bootable has_signature has_options has_names has_slots has_no_message has_whole_message has_message has_zeros is_whole timeout_of table_slots boot_of boot_at field_bytes merged_sector is_set entry_name is_printable is_name has_flags has_video has_length has_main has_initrd has_extra is_entry descriptor_of entry_bytes same_name repeats breaks table_at descriptor_bytes options_at extra_at options_bytes extra_bytes is_line line_of line_at line_bytes is_same_line setup_of version_of header_of header_at fit_checks plan_memory replaced_fields patch command_line written_by place kernel_fit course_of words_of meaning foreign_boot slot_bytes_at map_sectors present_line good_map listed_entries settings_of message_of middle_of image_with_line handed_ending main_of loaded_ending kernel_ending entry_ending chosen_boot decision_at opening_at prompted_boot map_boot whole_boot names_of_section names_of_config started menu_decision menu_boot file_of middle_text target_of menu_entries menu_of meant slot_to slots_for chain_for file_slots file_sectors section_sectors_at flags_of descriptor_for plan_entries sectors_of_table sectors_after plan_sectors map_size plan_names plan_boot plan_boot_sector devices_in inode_places mapped_inode file_inode mapped_section code_in planned
+boots_compact_a_message_an_initrd_and_two_other_systems_one_with_the_table_of_the_boot_device = refl
 
 -- by chance 9
 pub boots_by_chance_9 : whole_boot (with_sectors (disks_of disk_many) (record { disk = 0; sector = 0 } ∷ (on 0 (190 ∷ 191 ∷ 192 ∷ 193 ∷ 194 ∷ 195 ∷ 196 ∷ 197 ∷ []))) (plan_boot_sector (planned (disks_of disk_many) machine_many volume_many conf_r9 8) machine_many (on 0 (190 ∷ 191 ∷ 192 ∷ 193 ∷ 194 ∷ 195 ∷ 196 ∷ 197 ∷ [])) (disks_of disk_many 0 0) ∷ plan_sectors (planned (disks_of disk_many) machine_many volume_many conf_r9 8) machine_many (on 0 (190 ∷ 191 ∷ 192 ∷ 193 ∷ 194 ∷ 195 ∷ 196 ∷ 197 ∷ [])))) machine_many (record { disk = 0; start = 0; count = 4096 }) (typed (codes "win lock\n") ++ waited 1 ++ typed (hex 2 0x3f15) ++ waited 4 ++ typed (hex 4 0x77696e15)) 2097152 ≡ meant conf_r9 (names_in volume_many (disks_of disk_many)) (devices_in (disks_of disk_many) machine_many) Empty (typed (codes "win lock\n") ++ waited 1 ++ typed (hex 2 0x3f15) ++ waited 4 ++ typed (hex 4 0x77696e15)) 2097152

@@ -13,7 +13,12 @@ use Rattle.lilo_model.specs.MinixFindNames.{child_path, path_of}
 use Rattle.lilo_model.specs.Place.{command_line, written_by, place, kernel_fit}
 use Rattle.lilo_model.specs.Reason.{Idle, Header}
 use Rattle.model_cases.specs.Sparse.{hex, piece, file, typed, waited}
-use Rattle.model_cases.specs.PlanFixtures.{conf_r50, conf_r51, conf_r52, conf_r53, conf_r54, conf_r55, conf_r56, conf_r57, devices_many, names_many}
+use Rattle.model_cases.specs.PlanFixtures.{conf_r49, conf_r50, conf_r51, conf_r52, conf_r53, conf_r54, conf_r55, conf_r56, devices_many, names_many}
+
+-- by chance 49
+pub meant_by_chance_49 : (meant conf_r49 names_many devices_many (Kept (codes "old")) (typed (hex 5 0x6162087f6c)) 16777216 ≡ record { outcome = Loaded (record { real = record { address = 0x90000; size = 1024 }; protected = record { address = 0x100000; size = 576 }; initrd = None; line = record { address = 0x99800; size = 38 } }); shown = (codes "LILO\nLoading old\n"); line = Some (Kept (codes "old")); written = (record { address = 0x90000; bytes = (file 1024 (piece 497 (hex 1 0x01) ∷ piece 510 (hex 10 0x55aa0000486472530602) ∷ piece 528 (hex 2 0x0281) ∷ piece 549 (hex 11 0x96000000980900ffffff37) ∷ piece 568 (hex 1 0xff) ∷ [])) } ∷ record { address = 0x100000; bytes = (file 576 (piece 0 (replicate 576 5) ∷ [])) } ∷ record { address = 0x99800; bytes = (file 38 (piece 0 (codes "auto BOOT_IMAGE=old rw root=801 quiet") ∷ [])) } ∷ []); left = (typed (hex 5 0x6162087f6c)) }) × (meant conf_r49 names_many devices_many Empty (waited 1 ++ typed (hex 6 0x6162087f6c15) ++ waited 1 ++ typed (hex 6 0x6162630d090d)) 1073741824 ≡ record { outcome = Loaded (record { real = record { address = 0x90000; size = 1024 }; protected = record { address = 0x100000; size = 576 }; initrd = None; line = record { address = 0x99800; size = 31 } }); shown = (codes "LILO\nLoading x2\n"); line = Some Empty; written = (record { address = 0x90000; bytes = (file 1024 (piece 497 (hex 1 0x01) ∷ piece 510 (hex 10 0x55aa0000486472530602) ∷ piece 528 (hex 2 0x0281) ∷ piece 549 (hex 11 0x96000000980900ffffff37) ∷ piece 568 (hex 1 0xff) ∷ [])) } ∷ record { address = 0x100000; bytes = (file 576 (piece 0 (replicate 576 5) ∷ [])) } ∷ record { address = 0x99800; bytes = (file 31 (piece 0 (codes "auto BOOT_IMAGE=x2 rw root=803") ∷ [])) } ∷ []); left = (waited 1 ++ typed (hex 6 0x6162087f6c15) ++ waited 1 ++ typed (hex 6 0x6162630d090d)) })
+unfolding number16 number32 is_zero components child find_path file_block file_at child_path path_of names_of_section names_of_config started menu_decision menu_boot file_of middle_text target_of menu_entries menu_of meant setup_of version_of header_of header_at fit_checks plan_memory replaced_fields patch command_line written_by place kernel_fit course_of words_of meaning
+meant_by_chance_49 = (refl, refl)
 
 -- by chance 50
 pub meant_by_chance_50 : (meant conf_r50 names_many devices_many (Kept (codes "gone")) (waited 4 ++ typed (hex 8 0x6e6f6e650d616263)) 2097152 ≡ record { outcome = Refused Idle; shown = (codes "LILO\nHello\nthere\nboot: none\nNo such image.\nboot: abc"); line = Some (Kept (codes "gone")); written = []; left = [] }) × (meant conf_r50 names_many devices_many Empty (waited 60 ++ typed (hex 13 0x6c696e75782073696e676c650d)) 1073741824 ≡ record { outcome = Loaded (record { real = record { address = 0x90000; size = 1024 }; protected = record { address = 0x100000; size = 3077 }; initrd = (Some (record { address = 0x37fff000; size = 1500 })); line = record { address = 0x99800; size = 21 } }); shown = (codes "LILO\nLoading win2\n"); line = Some (Kept (codes "win2")); written = (record { address = 0x90000; bytes = (file 1024 (piece 497 (hex 1 0x01) ∷ piece 510 (hex 10 0x55aa0000486472530602) ∷ piece 528 (hex 2 0x0281) ∷ piece 537 (hex 5 0xf0ff37dc05) ∷ piece 549 (hex 11 0x96000000980900ffffff37) ∷ piece 568 (hex 1 0xff) ∷ [])) } ∷ record { address = 0x100000; bytes = (file 3077 (piece 0 (replicate 1024 7) ∷ piece 2048 (replicate 1029 7) ∷ [])) } ∷ record { address = 0x37fff000; bytes = (file 1500 (piece 0 (replicate 1500 17) ∷ [])) } ∷ record { address = 0x99800; bytes = (file 21 (piece 0 (codes "auto BOOT_IMAGE=win2") ∷ [])) } ∷ []); left = (waited 40 ++ typed (hex 13 0x6c696e75782073696e676c650d)) })
@@ -49,8 +54,3 @@ meant_by_chance_55 = (refl, refl)
 pub meant_by_chance_56 : (meant conf_r56 names_many devices_many Empty [] 16777216 ≡ record { outcome = Refused Idle; shown = (codes "LILO\nboot: "); line = Some Empty; written = []; left = [] }) × (meant conf_r56 names_many devices_many Empty (typed (hex 3 0x783215) ++ waited 4 ++ typed (codes "win\n")) 1073741824 ≡ record { outcome = Loaded (record { real = record { address = 0x90000; size = 1024 }; protected = record { address = 0x100000; size = 576 }; initrd = None; line = record { address = 0x99800; size = 21 } }); shown = (codes "LILO\nboot: x2\nboot: win\nLoading win\n"); line = Some (Kept (codes "win")); written = (record { address = 0x90000; bytes = (file 1024 (piece 497 (hex 1 0x01) ∷ piece 510 (hex 10 0x55aa0000486472530602) ∷ piece 528 (hex 2 0x0281) ∷ piece 549 (hex 11 0x96000000980900ffffff37) ∷ piece 568 (hex 1 0xff) ∷ [])) } ∷ record { address = 0x100000; bytes = (file 576 (piece 0 (replicate 576 5) ∷ [])) } ∷ record { address = 0x99800; bytes = (file 21 (piece 0 (codes "BOOT_IMAGE=win quiet") ∷ [])) } ∷ []); left = [] })
 unfolding number16 number32 is_zero components child find_path file_block file_at child_path path_of names_of_section names_of_config started menu_decision menu_boot file_of middle_text target_of menu_entries menu_of meant setup_of version_of header_of header_at fit_checks plan_memory replaced_fields patch command_line written_by place kernel_fit course_of words_of meaning
 meant_by_chance_56 = (refl, refl)
-
--- by chance 57
-pub meant_by_chance_57 : (meant conf_r57 names_many devices_many Empty (typed (hex 9 0x616263156f6c640d3f)) 16777216 ≡ record { outcome = Loaded (record { real = record { address = 0x90000; size = 1024 }; protected = record { address = 0x10000; size = 5 }; initrd = None; line = record { address = 0x99800; size = 24 } }); shown = (codes "LILO\nboot: abc\nboot: old\nLoading old\n"); line = Some Empty; written = (record { address = 0x90000; bytes = (file 1024 (piece 32 (hex 4 0x3fa30098) ∷ piece 497 (hex 1 0x01) ∷ piece 510 (hex 2 0x55aa) ∷ piece 556 (hex 4 0xffffff37) ∷ piece 568 (hex 1 0xff) ∷ [])) } ∷ record { address = 0x10000; bytes = (file 5 (piece 0 (codes "HELLO") ∷ [])) } ∷ record { address = 0x99800; bytes = (file 24 (piece 0 (codes "BOOT_IMAGE=old root=801") ∷ [])) } ∷ []); left = (typed (hex 1 0x3f)) }) × (meant conf_r57 names_many devices_many (Once (codes "win2 w")) (waited 60 ++ typed (hex 2 0x090d)) 16777216 ≡ record { outcome = Loaded (record { real = record { address = 0x90000; size = 2560 }; protected = record { address = 0x100000; size = 5 }; initrd = None; line = record { address = 0x99800; size = 25 } }); shown = (codes "LILO\nboot: \nLoading linux\n"); line = Some (Kept (codes "linux")); written = (record { address = 0x90000; bytes = (file 2560 (piece 510 (hex 10 0x55aa0000486472530602) ∷ piece 528 (hex 2 0x0281) ∷ piece 549 (hex 11 0x96000000980900ffffff37) ∷ piece 568 (hex 1 0xff) ∷ [])) } ∷ record { address = 0x100000; bytes = (file 5 (piece 0 (codes "PMODE") ∷ [])) } ∷ record { address = 0x99800; bytes = (file 25 (piece 0 (codes "auto BOOT_IMAGE=linux rw") ∷ [])) } ∷ []); left = (waited 55 ++ typed (hex 2 0x090d)) })
-unfolding number16 number32 is_zero components child find_path file_block file_at child_path path_of names_of_section names_of_config started menu_decision menu_boot file_of middle_text target_of menu_entries menu_of meant setup_of version_of header_of header_at fit_checks plan_memory replaced_fields patch command_line written_by place kernel_fit course_of words_of meaning
-meant_by_chance_57 = (refl, refl)

@@ -4,7 +4,7 @@ use Rattle.lilo_model.specs.Boot.{Loaded}
 use Rattle.lilo_model.specs.Bytes.{number16, number32, is_zero}
 use Rattle.lilo_model.specs.Choice.{course_of}
 use Rattle.lilo_model.specs.ConfLawful.{names_of_section, names_of_config}
-use Rattle.lilo_model.specs.DefaultLine.{Empty, Kept}
+use Rattle.lilo_model.specs.DefaultLine.{Empty, Once, Kept}
 use Rattle.lilo_model.specs.Header.{setup_of, version_of, header_of, header_at, fit_checks, plan_memory, replaced_fields, patch}
 use Rattle.lilo_model.specs.LineWords.{words_of, meaning}
 use Rattle.lilo_model.specs.Meant.{started, menu_decision, menu_boot, file_of, middle_text, target_of, menu_entries, menu_of, meant}
@@ -12,7 +12,12 @@ use Rattle.lilo_model.specs.MinixFind.{components, child, find_path, file_block,
 use Rattle.lilo_model.specs.MinixFindNames.{child_path, path_of}
 use Rattle.lilo_model.specs.Place.{command_line, written_by, place, kernel_fit}
 use Rattle.model_cases.specs.Sparse.{hex, piece, file, typed, waited}
-use Rattle.model_cases.specs.PlanFixtures.{conf_r58, conf_r59, conf_r60, devices_many, names_many}
+use Rattle.model_cases.specs.PlanFixtures.{conf_r57, conf_r58, conf_r59, conf_r60, devices_many, names_many}
+
+-- by chance 57
+pub meant_by_chance_57 : (meant conf_r57 names_many devices_many Empty (typed (hex 9 0x616263156f6c640d3f)) 16777216 ≡ record { outcome = Loaded (record { real = record { address = 0x90000; size = 1024 }; protected = record { address = 0x10000; size = 5 }; initrd = None; line = record { address = 0x99800; size = 24 } }); shown = (codes "LILO\nboot: abc\nboot: old\nLoading old\n"); line = Some Empty; written = (record { address = 0x90000; bytes = (file 1024 (piece 32 (hex 4 0x3fa30098) ∷ piece 497 (hex 1 0x01) ∷ piece 510 (hex 2 0x55aa) ∷ piece 556 (hex 4 0xffffff37) ∷ piece 568 (hex 1 0xff) ∷ [])) } ∷ record { address = 0x10000; bytes = (file 5 (piece 0 (codes "HELLO") ∷ [])) } ∷ record { address = 0x99800; bytes = (file 24 (piece 0 (codes "BOOT_IMAGE=old root=801") ∷ [])) } ∷ []); left = (typed (hex 1 0x3f)) }) × (meant conf_r57 names_many devices_many (Once (codes "win2 w")) (waited 60 ++ typed (hex 2 0x090d)) 16777216 ≡ record { outcome = Loaded (record { real = record { address = 0x90000; size = 2560 }; protected = record { address = 0x100000; size = 5 }; initrd = None; line = record { address = 0x99800; size = 25 } }); shown = (codes "LILO\nboot: \nLoading linux\n"); line = Some (Kept (codes "linux")); written = (record { address = 0x90000; bytes = (file 2560 (piece 510 (hex 10 0x55aa0000486472530602) ∷ piece 528 (hex 2 0x0281) ∷ piece 549 (hex 11 0x96000000980900ffffff37) ∷ piece 568 (hex 1 0xff) ∷ [])) } ∷ record { address = 0x100000; bytes = (file 5 (piece 0 (codes "PMODE") ∷ [])) } ∷ record { address = 0x99800; bytes = (file 25 (piece 0 (codes "auto BOOT_IMAGE=linux rw") ∷ [])) } ∷ []); left = (waited 55 ++ typed (hex 2 0x090d)) })
+unfolding number16 number32 is_zero components child find_path file_block file_at child_path path_of names_of_section names_of_config started menu_decision menu_boot file_of middle_text target_of menu_entries menu_of meant setup_of version_of header_of header_at fit_checks plan_memory replaced_fields patch command_line written_by place kernel_fit course_of words_of meaning
+meant_by_chance_57 = (refl, refl)
 
 -- by chance 58
 pub meant_by_chance_58 : (meant conf_r58 names_many devices_many (Kept (codes "gone")) [] 16777216 ≡ record { outcome = Loaded (record { real = record { address = 0x90000; size = 1024 }; protected = record { address = 0x100000; size = 576 }; initrd = None; line = record { address = 0x99800; size = 20 } }); shown = (codes "LILO\nLoading win\n"); line = Some (Kept (codes "win")); written = (record { address = 0x90000; bytes = (file 1024 (piece 497 (hex 1 0x01) ∷ piece 510 (hex 10 0x55aa0000486472530602) ∷ piece 528 (hex 2 0x0281) ∷ piece 549 (hex 11 0x96000000980900ffffff37) ∷ piece 568 (hex 1 0xff) ∷ [])) } ∷ record { address = 0x100000; bytes = (file 576 (piece 0 (replicate 576 5) ∷ [])) } ∷ record { address = 0x99800; bytes = (file 20 (piece 0 (codes "auto BOOT_IMAGE=win") ∷ [])) } ∷ []); left = [] }) × (meant conf_r58 names_many devices_many Empty (waited 60 ++ typed (hex 9 0x77696e206c6f636b0d) ++ waited 4 ++ typed (codes "win lock\n") ++ waited 1 ++ typed (hex 6 0x6162087f6c0d)) 1073741824 ≡ record { outcome = Loaded (record { real = record { address = 0x90000; size = 1024 }; protected = record { address = 0x100000; size = 576 }; initrd = None; line = record { address = 0x99800; size = 20 } }); shown = (codes "LILO\nLoading win\n"); line = Some (Kept (codes "win")); written = (record { address = 0x90000; bytes = (file 1024 (piece 497 (hex 1 0x01) ∷ piece 510 (hex 10 0x55aa0000486472530602) ∷ piece 528 (hex 2 0x0281) ∷ piece 549 (hex 11 0x96000000980900ffffff37) ∷ piece 568 (hex 1 0xff) ∷ [])) } ∷ record { address = 0x100000; bytes = (file 576 (piece 0 (replicate 576 5) ∷ [])) } ∷ record { address = 0x99800; bytes = (file 20 (piece 0 (codes "auto BOOT_IMAGE=win") ∷ [])) } ∷ []); left = (waited 40 ++ typed (hex 9 0x77696e206c6f636b0d) ++ waited 4 ++ typed (codes "win lock\n") ++ waited 1 ++ typed (hex 6 0x6162087f6c0d)) })

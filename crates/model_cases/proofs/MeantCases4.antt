@@ -13,7 +13,12 @@ use Rattle.lilo_model.specs.MinixFindNames.{child_path, path_of}
 use Rattle.lilo_model.specs.Place.{command_line, written_by, place, kernel_fit}
 use Rattle.lilo_model.specs.Reason.{Idle, Header}
 use Rattle.model_cases.specs.Sparse.{hex, piece, file, typed, waited}
-use Rattle.model_cases.specs.PlanFixtures.{conf_r2, conf_r3, conf_r4, conf_r5, conf_r6, conf_r7, conf_r8, conf_r9, devices_many, names_many}
+use Rattle.model_cases.specs.PlanFixtures.{conf_r1, conf_r2, conf_r3, conf_r4, conf_r5, conf_r6, conf_r7, conf_r8, devices_many, names_many}
+
+-- by chance 1
+pub meant_by_chance_1 : (meant conf_r1 names_many devices_many Empty (waited 1 ++ typed (hex 1 0x15)) 2097152 ≡ record { outcome = Refused Idle; shown = (codes "LILO\nboot: \nboot: "); line = Some Empty; written = []; left = [] }) × (meant conf_r1 names_many devices_many (Once (codes "a w")) [] 1048576 ≡ record { outcome = Refused (Header (NoRoom 1049152 1048576)); shown = (codes "LILO\nLoading a\nError\n"); line = Some (Kept (codes "a w")); written = []; left = [] })
+unfolding number16 number32 is_zero components child find_path file_block file_at child_path path_of names_of_section names_of_config started menu_decision menu_boot file_of middle_text target_of menu_entries menu_of meant setup_of version_of header_of header_at fit_checks plan_memory replaced_fields patch command_line written_by place kernel_fit course_of words_of meaning
+meant_by_chance_1 = (refl, refl)
 
 -- by chance 2
 pub meant_by_chance_2 : (meant conf_r2 names_many devices_many (Kept (codes "win")) (waited 4 ++ typed (hex 2 0x3f0d)) 2097152 ≡ record { outcome = Loaded (record { real = record { address = 0x90000; size = 1024 }; protected = record { address = 0x100000; size = 576 }; initrd = None; line = record { address = 0x99800; size = 32 } }); shown = (codes "LILO\nLoading win\n"); line = Some (Kept (codes "win")); written = (record { address = 0x90000; bytes = (file 1024 (piece 497 (hex 1 0x01) ∷ piece 510 (hex 10 0x55aa0000486472530602) ∷ piece 528 (hex 2 0x0281) ∷ piece 549 (hex 11 0x96000000980900ffffff37) ∷ piece 568 (hex 1 0xff) ∷ [])) } ∷ record { address = 0x100000; bytes = (file 576 (piece 0 (replicate 576 5) ∷ [])) } ∷ record { address = 0x99800; bytes = (file 32 (piece 0 (codes "auto BOOT_IMAGE=win ro root=801") ∷ [])) } ∷ []); left = (waited 4 ++ typed (hex 2 0x3f0d)) }) × (meant conf_r2 names_many devices_many (Once (codes "win2 w")) (typed (hex 6 0x3f0a6162630a) ++ waited 60 ++ typed (hex 10 0x77696e32206c6f636b0d)) 1073741824 ≡ record { outcome = Loaded (record { real = record { address = 0x90000; size = 1024 }; protected = record { address = 0x100000; size = 576 }; initrd = None; line = record { address = 0x99800; size = 35 } }); shown = (codes "LILO\nLoading win2\n"); line = Some Empty; written = (record { address = 0x90000; bytes = (file 1024 (piece 497 (hex 1 0x01) ∷ piece 510 (hex 10 0x55aa0000486472530602) ∷ piece 528 (hex 2 0x0281) ∷ piece 549 (hex 11 0x96000000980900ffffff37) ∷ piece 568 (hex 1 0xff) ∷ [])) } ∷ record { address = 0x100000; bytes = (file 576 (piece 0 (replicate 576 5) ∷ [])) } ∷ record { address = 0x99800; bytes = (file 35 (piece 0 (codes "auto BOOT_IMAGE=win2 ro root=801 w") ∷ [])) } ∷ []); left = (typed (hex 6 0x3f0a6162630a) ++ waited 60 ++ typed (hex 10 0x77696e32206c6f636b0d)) })
@@ -49,8 +54,3 @@ meant_by_chance_7 = (refl, refl)
 pub meant_by_chance_8 : (meant conf_r8 names_many devices_many Empty (waited 4 ++ typed (hex 4 0x15616263) ++ waited 1 ++ typed (codes "none\n")) 1048576 ≡ record { outcome = Refused Idle; shown = (codes "LILO\nboot: \nboot: abcnone\nNo such image.\nboot: "); line = Some Empty; written = []; left = [] }) × (meant conf_r8 names_many devices_many Empty (waited 4 ++ typed (codes "tux\n")) 1073741824 ≡ record { outcome = Refused Idle; shown = (codes "LILO\nboot: tux\nNo such image.\nboot: "); line = Some Empty; written = []; left = [] })
 unfolding number16 number32 is_zero components child find_path file_block file_at child_path path_of names_of_section names_of_config started menu_decision menu_boot file_of middle_text target_of menu_entries menu_of meant setup_of version_of header_of header_at fit_checks plan_memory replaced_fields patch command_line written_by place kernel_fit course_of words_of meaning
 meant_by_chance_8 = (refl, refl)
-
--- by chance 9
-pub meant_by_chance_9 : (meant conf_r9 names_many devices_many (Kept (codes "win")) (typed (codes "win lock\n") ++ waited 1 ++ typed (hex 2 0x3f15) ++ waited 4 ++ typed (hex 4 0x77696e15)) 2097152 ≡ record { outcome = Loaded (record { real = record { address = 0x90000; size = 2560 }; protected = record { address = 0x100000; size = 5 }; initrd = (Some (record { address = 0x1ff000; size = 1500 })); line = record { address = 0x99800; size = 15 } }); shown = (codes "LILO\nboot: win lock\nLoading win\n"); line = Some (Kept (codes "win")); written = (record { address = 0x90000; bytes = (file 2560 (piece 506 (hex 14 0x0103000055aa0000486472530602) ∷ piece 528 (hex 2 0x0281) ∷ piece 537 (hex 5 0xf01f00dc05) ∷ piece 549 (hex 11 0x96000000980900ffffff37) ∷ piece 568 (hex 1 0xff) ∷ [])) } ∷ record { address = 0x100000; bytes = (file 5 (piece 0 (codes "PMODE") ∷ [])) } ∷ record { address = 0x1ff000; bytes = (file 1500 (piece 0 (replicate 1500 17) ∷ [])) } ∷ record { address = 0x99800; bytes = (file 15 (piece 0 (codes "BOOT_IMAGE=win") ∷ [])) } ∷ []); left = (waited 1 ++ typed (hex 2 0x3f15) ++ waited 4 ++ typed (hex 4 0x77696e15)) }) × (meant conf_r9 names_many devices_many (Once (codes "win w")) [] 2097152 ≡ record { outcome = Loaded (record { real = record { address = 0x90000; size = 2560 }; protected = record { address = 0x100000; size = 5 }; initrd = (Some (record { address = 0x1ff000; size = 1500 })); line = record { address = 0x99800; size = 22 } }); shown = (codes "LILO\nLoading win\n"); line = Some Empty; written = (record { address = 0x90000; bytes = (file 2560 (piece 506 (hex 14 0x0103000055aa0000486472530602) ∷ piece 528 (hex 2 0x0281) ∷ piece 537 (hex 5 0xf01f00dc05) ∷ piece 549 (hex 11 0x96000000980900ffffff37) ∷ piece 568 (hex 1 0xff) ∷ [])) } ∷ record { address = 0x100000; bytes = (file 5 (piece 0 (codes "PMODE") ∷ [])) } ∷ record { address = 0x1ff000; bytes = (file 1500 (piece 0 (replicate 1500 17) ∷ [])) } ∷ record { address = 0x99800; bytes = (file 22 (piece 0 (codes "auto BOOT_IMAGE=win w") ∷ [])) } ∷ []); left = [] })
-unfolding number16 number32 is_zero components child find_path file_block file_at child_path path_of names_of_section names_of_config started menu_decision menu_boot file_of middle_text target_of menu_entries menu_of meant setup_of version_of header_of header_at fit_checks plan_memory replaced_fields patch command_line written_by place kernel_fit course_of words_of meaning
-meant_by_chance_9 = (refl, refl)

@@ -1,6 +1,6 @@
 -- Cases of the model, written by tools/plan_cases.py: what a boot does as configurations say.
 use Rattle.std.proofs.Common.{◌≡◌, ◌∷◌, ◌++◌, [], codes, replicate, None, Some, refl}
-use Rattle.lilo_model.specs.Boot.{Loaded, Handed, Refused}
+use Rattle.lilo_model.specs.Boot.{Loaded, Refused}
 use Rattle.lilo_model.specs.Bytes.{number16, number32, is_zero}
 use Rattle.lilo_model.specs.Choice.{course_of}
 use Rattle.lilo_model.specs.ConfLawful.{names_of_section, names_of_config}
@@ -13,7 +13,12 @@ use Rattle.lilo_model.specs.MinixFindNames.{child_path, path_of}
 use Rattle.lilo_model.specs.Place.{command_line, written_by, place, kernel_fit}
 use Rattle.lilo_model.specs.Reason.{Idle, Header}
 use Rattle.model_cases.specs.Sparse.{hex, piece, file, typed, waited}
-use Rattle.model_cases.specs.PlanFixtures.{conf_r26, conf_r27, conf_r28, conf_r29, conf_r30, conf_r31, conf_r32, conf_r33, devices_many, names_many}
+use Rattle.model_cases.specs.PlanFixtures.{conf_r25, conf_r26, conf_r27, conf_r28, conf_r29, conf_r30, conf_r31, conf_r32, devices_many, names_many}
+
+-- by chance 25
+pub meant_by_chance_25 : (meant conf_r25 names_many devices_many (Once (codes "old w")) (typed (hex 4 0x61626315)) 16777216 ≡ record { outcome = Loaded (record { real = record { address = 0x90000; size = 1024 }; protected = record { address = 0x100000; size = 576 }; initrd = None; line = record { address = 0x99800; size = 31 } }); shown = (codes "LILO\nLoading old\n"); line = Some (Kept (codes "old w")); written = (record { address = 0x90000; bytes = (file 1024 (piece 497 (hex 1 0x01) ∷ piece 506 (hex 14 0x0103000055aa0000486472530602) ∷ piece 528 (hex 2 0x0281) ∷ piece 549 (hex 11 0x96000000980900ffffff37) ∷ piece 568 (hex 1 0xff) ∷ [])) } ∷ record { address = 0x100000; bytes = (file 576 (piece 0 (replicate 576 5) ∷ [])) } ∷ record { address = 0x99800; bytes = (file 31 (piece 0 (codes "auto BOOT_IMAGE=old root=801 w") ∷ [])) } ∷ []); left = (typed (hex 4 0x61626315)) }) × (meant conf_r25 names_many devices_many (Once (codes "old w")) [] 1048576 ≡ record { outcome = Refused (Header (NoRoom 1049152 1048576)); shown = (codes "LILO\nLoading old\nError\n"); line = Some (Kept (codes "old w")); written = []; left = [] })
+unfolding number16 number32 is_zero components child find_path file_block file_at child_path path_of names_of_section names_of_config started menu_decision menu_boot file_of middle_text target_of menu_entries menu_of meant setup_of version_of header_of header_at fit_checks plan_memory replaced_fields patch command_line written_by place kernel_fit course_of words_of meaning
+meant_by_chance_25 = (refl, refl)
 
 -- by chance 26
 pub meant_by_chance_26 : (meant conf_r26 names_many devices_many (Kept (codes "gone")) [] 1073741824 ≡ record { outcome = Loaded (record { real = record { address = 0x90000; size = 1024 }; protected = record { address = 0x100000; size = 3077 }; initrd = (Some (record { address = 0x37fff000; size = 1500 })); line = record { address = 0x99800; size = 23 } }); shown = (codes "LILO\nLoading x2\n"); line = Some (Kept (codes "x2")); written = (record { address = 0x90000; bytes = (file 1024 (piece 497 (hex 1 0x01) ∷ piece 506 (hex 14 0x0500000055aa0000486472530602) ∷ piece 528 (hex 2 0x0281) ∷ piece 537 (hex 5 0xf0ff37dc05) ∷ piece 549 (hex 11 0x96000000980900ffffff37) ∷ piece 568 (hex 1 0xff) ∷ [])) } ∷ record { address = 0x100000; bytes = (file 3077 (piece 0 (replicate 1024 7) ∷ piece 2048 (replicate 1029 7) ∷ [])) } ∷ record { address = 0x37fff000; bytes = (file 1500 (piece 0 (replicate 1500 17) ∷ [])) } ∷ record { address = 0x99800; bytes = (file 23 (piece 0 (codes "auto BOOT_IMAGE=x2 x y") ∷ [])) } ∷ []); left = [] }) × (meant conf_r26 names_many devices_many (Kept (codes "x2")) (waited 60 ++ typed (hex 2 0x090a)) 1073741824 ≡ record { outcome = Loaded (record { real = record { address = 0x90000; size = 1024 }; protected = record { address = 0x100000; size = 3077 }; initrd = (Some (record { address = 0x37fff000; size = 1500 })); line = record { address = 0x99800; size = 23 } }); shown = (codes "LILO\nLoading x2\n"); line = Some (Kept (codes "x2")); written = (record { address = 0x90000; bytes = (file 1024 (piece 497 (hex 1 0x01) ∷ piece 506 (hex 14 0x0500000055aa0000486472530602) ∷ piece 528 (hex 2 0x0281) ∷ piece 537 (hex 5 0xf0ff37dc05) ∷ piece 549 (hex 11 0x96000000980900ffffff37) ∷ piece 568 (hex 1 0xff) ∷ [])) } ∷ record { address = 0x100000; bytes = (file 3077 (piece 0 (replicate 1024 7) ∷ piece 2048 (replicate 1029 7) ∷ [])) } ∷ record { address = 0x37fff000; bytes = (file 1500 (piece 0 (replicate 1500 17) ∷ [])) } ∷ record { address = 0x99800; bytes = (file 23 (piece 0 (codes "auto BOOT_IMAGE=x2 x y") ∷ [])) } ∷ []); left = (waited 60 ++ typed (hex 2 0x090a)) })
@@ -49,8 +54,3 @@ meant_by_chance_31 = (refl, refl)
 pub meant_by_chance_32 : (meant conf_r32 names_many devices_many (Once (codes "x2 w")) (typed (codes "none\n")) 2097152 ≡ record { outcome = Refused Idle; shown = (codes "LILO\nboot: none\nNo such image.\nboot: "); line = Some (Once (codes "x2 w")); written = []; left = [] }) × (meant conf_r32 names_many devices_many (Kept (codes "x2")) (waited 60 ++ typed (hex 4 0x7475780d)) 2097152 ≡ record { outcome = Loaded (record { real = record { address = 0x90000; size = 1024 }; protected = record { address = 0x100000; size = 3077 }; initrd = (Some (record { address = 0x1ff000; size = 1500 })); line = record { address = 0x99800; size = 28 } }); shown = (codes "LILO\nLoading x2\n"); line = Some (Kept (codes "x2")); written = (record { address = 0x90000; bytes = (file 1024 (piece 497 (hex 1 0x01) ∷ piece 510 (hex 10 0x55aa0000486472530602) ∷ piece 528 (hex 2 0x0281) ∷ piece 537 (hex 5 0xf01f00dc05) ∷ piece 549 (hex 11 0x96000000980900ffffff37) ∷ piece 568 (hex 1 0xff) ∷ [])) } ∷ record { address = 0x100000; bytes = (file 3077 (piece 0 (replicate 1024 7) ∷ piece 2048 (replicate 1029 7) ∷ [])) } ∷ record { address = 0x1ff000; bytes = (file 1500 (piece 0 (replicate 1500 17) ∷ [])) } ∷ record { address = 0x99800; bytes = (file 28 (piece 0 (codes "auto BOOT_IMAGE=x2 root=301") ∷ [])) } ∷ []); left = (waited 59 ++ typed (hex 4 0x7475780d)) })
 unfolding number16 number32 is_zero components child find_path file_block file_at child_path path_of names_of_section names_of_config started menu_decision menu_boot file_of middle_text target_of menu_entries menu_of meant setup_of version_of header_of header_at fit_checks plan_memory replaced_fields patch command_line written_by place kernel_fit course_of words_of meaning
 meant_by_chance_32 = (refl, refl)
-
--- by chance 33
-pub meant_by_chance_33 : (meant conf_r33 names_many devices_many (Once (codes "x2 w")) (waited 60 ++ typed (hex 13 0x6c696e75782073696e676c6515)) 2097152 ≡ record { outcome = Loaded (record { real = record { address = 0x90000; size = 1024 }; protected = record { address = 0x100000; size = 5 }; initrd = None; line = record { address = 0x99800; size = 25 } }); shown = (codes "LILO\nLoading x2\n"); line = Some Empty; written = (record { address = 0x90000; bytes = (file 1024 (piece 497 (hex 1 0x01) ∷ piece 506 (hex 14 0x0500000055aa0000486472530602) ∷ piece 528 (hex 2 0x0281) ∷ piece 549 (hex 11 0x96000000980900ffffff37) ∷ piece 568 (hex 1 0xff) ∷ [])) } ∷ record { address = 0x100000; bytes = (file 5 (piece 0 (codes "HELLO") ∷ [])) } ∷ record { address = 0x99800; bytes = (file 25 (piece 0 (codes "auto BOOT_IMAGE=x2 x y w") ∷ [])) } ∷ []); left = (waited 60 ++ typed (hex 13 0x6c696e75782073696e676c6515)) }) × (meant conf_r33 names_many devices_many (Once (codes "a w")) (waited 4 ++ typed (codes "\n") ++ waited 1 ++ typed (hex 5 0x783215090a)) 1048576 ≡ record { outcome = Handed; shown = (codes "LILO\nLoading a\n"); line = Some Empty; written = (record { address = 0x7c00; bytes = (file 512 (piece 3 (codes "WIN") ∷ piece 510 (hex 2 0x55aa) ∷ [])) } ∷ []); left = (waited 4 ++ typed (codes "\n") ++ waited 1 ++ typed (hex 5 0x783215090a)) })
-unfolding number16 number32 is_zero components child find_path file_block file_at child_path path_of names_of_section names_of_config started menu_decision menu_boot file_of middle_text target_of menu_entries menu_of meant setup_of version_of header_of header_at fit_checks plan_memory replaced_fields patch command_line written_by place kernel_fit course_of words_of meaning
-meant_by_chance_33 = (refl, refl)

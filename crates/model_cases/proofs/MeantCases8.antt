@@ -1,6 +1,6 @@
 -- Cases of the model, written by tools/plan_cases.py: what a boot does as configurations say.
 use Rattle.std.proofs.Common.{◌≡◌, ◌∷◌, ◌++◌, [], codes, replicate, None, Some, refl}
-use Rattle.lilo_model.specs.Boot.{Loaded, Refused}
+use Rattle.lilo_model.specs.Boot.{Loaded, Handed, Refused}
 use Rattle.lilo_model.specs.Bytes.{number16, number32, is_zero}
 use Rattle.lilo_model.specs.Choice.{course_of}
 use Rattle.lilo_model.specs.ConfLawful.{names_of_section, names_of_config}
@@ -13,7 +13,12 @@ use Rattle.lilo_model.specs.MinixFindNames.{child_path, path_of}
 use Rattle.lilo_model.specs.Place.{command_line, written_by, place, kernel_fit}
 use Rattle.lilo_model.specs.Reason.{Idle, Header}
 use Rattle.model_cases.specs.Sparse.{hex, piece, file, typed, waited}
-use Rattle.model_cases.specs.PlanFixtures.{conf_r34, conf_r35, conf_r36, conf_r37, conf_r38, conf_r39, conf_r40, conf_r41, devices_many, names_many}
+use Rattle.model_cases.specs.PlanFixtures.{conf_r33, conf_r34, conf_r35, conf_r36, conf_r37, conf_r38, conf_r39, conf_r40, devices_many, names_many}
+
+-- by chance 33
+pub meant_by_chance_33 : (meant conf_r33 names_many devices_many (Once (codes "x2 w")) (waited 60 ++ typed (hex 13 0x6c696e75782073696e676c6515)) 2097152 ≡ record { outcome = Loaded (record { real = record { address = 0x90000; size = 1024 }; protected = record { address = 0x100000; size = 5 }; initrd = None; line = record { address = 0x99800; size = 25 } }); shown = (codes "LILO\nLoading x2\n"); line = Some Empty; written = (record { address = 0x90000; bytes = (file 1024 (piece 497 (hex 1 0x01) ∷ piece 506 (hex 14 0x0500000055aa0000486472530602) ∷ piece 528 (hex 2 0x0281) ∷ piece 549 (hex 11 0x96000000980900ffffff37) ∷ piece 568 (hex 1 0xff) ∷ [])) } ∷ record { address = 0x100000; bytes = (file 5 (piece 0 (codes "HELLO") ∷ [])) } ∷ record { address = 0x99800; bytes = (file 25 (piece 0 (codes "auto BOOT_IMAGE=x2 x y w") ∷ [])) } ∷ []); left = (waited 60 ++ typed (hex 13 0x6c696e75782073696e676c6515)) }) × (meant conf_r33 names_many devices_many (Once (codes "a w")) (waited 4 ++ typed (codes "\n") ++ waited 1 ++ typed (hex 5 0x783215090a)) 1048576 ≡ record { outcome = Handed; shown = (codes "LILO\nLoading a\n"); line = Some Empty; written = (record { address = 0x7c00; bytes = (file 512 (piece 3 (codes "WIN") ∷ piece 510 (hex 2 0x55aa) ∷ [])) } ∷ []); left = (waited 4 ++ typed (codes "\n") ++ waited 1 ++ typed (hex 5 0x783215090a)) })
+unfolding number16 number32 is_zero components child find_path file_block file_at child_path path_of names_of_section names_of_config started menu_decision menu_boot file_of middle_text target_of menu_entries menu_of meant setup_of version_of header_of header_at fit_checks plan_memory replaced_fields patch command_line written_by place kernel_fit course_of words_of meaning
+meant_by_chance_33 = (refl, refl)
 
 -- by chance 34
 pub meant_by_chance_34 : (meant conf_r34 names_many devices_many (Kept (codes "old")) (waited 4) 1048576 ≡ record { outcome = Refused (Header (NoRoom 1049152 1048576)); shown = (codes "LILO\nLoading linux\nError\n"); line = Some (Kept (codes "old2")); written = []; left = (waited 4) }) × (meant conf_r34 names_many devices_many (Kept (codes "gone")) (waited 1 ++ typed (hex 1 0x3f) ++ waited 1 ++ typed (codes "old2\n")) 16777216 ≡ record { outcome = Loaded (record { real = record { address = 0x90000; size = 1024 }; protected = record { address = 0x100000; size = 576 }; initrd = (Some (record { address = 0xfff000; size = 700 })); line = record { address = 0x99800; size = 24 } }); shown = (codes "LILO\nLoading linux\n"); line = Some (Kept (codes "old2")); written = (record { address = 0x90000; bytes = (file 1024 (piece 497 (hex 1 0x01) ∷ piece 506 (hex 14 0xfdff000055aa0000486472530602) ∷ piece 528 (hex 2 0x0281) ∷ piece 537 (hex 5 0xf0ff00bc02) ∷ piece 549 (hex 11 0x96000000980900ffffff37) ∷ piece 568 (hex 1 0xff) ∷ [])) } ∷ record { address = 0x100000; bytes = (file 576 (piece 0 (replicate 576 5) ∷ [])) } ∷ record { address = 0xfff000; bytes = (file 700 (piece 0 (replicate 700 165) ∷ [])) } ∷ record { address = 0x99800; bytes = (file 24 (piece 0 (codes "auto BOOT_IMAGE=linux a") ∷ [])) } ∷ []); left = (waited 1 ++ typed (hex 1 0x3f) ++ waited 1 ++ typed (codes "old2\n")) })
@@ -49,8 +54,3 @@ meant_by_chance_39 = (refl, refl)
 pub meant_by_chance_40 : (meant conf_r40 names_many devices_many Empty (typed (hex 5 0x6e6f6e650d)) 2097152 ≡ record { outcome = Refused Idle; shown = (codes "LILO\nHello\nthere\nboot: none\nNo such image.\nboot: "); line = Some Empty; written = []; left = [] }) × (meant conf_r40 names_many devices_many (Kept (codes "a2")) (typed (codes "none") ++ waited 4 ++ typed (hex 1 0x09)) 1048576 ≡ record { outcome = Refused (Header (NoRoom 1051653 1048576)); shown = (codes "LILO\nLoading a2\nError\n"); line = Some (Kept (codes "a")); written = []; left = (typed (codes "none") ++ waited 4 ++ typed (hex 1 0x09)) })
 unfolding number16 number32 is_zero components child find_path file_block file_at child_path path_of names_of_section names_of_config started menu_decision menu_boot file_of middle_text target_of menu_entries menu_of meant setup_of version_of header_of header_at fit_checks plan_memory replaced_fields patch command_line written_by place kernel_fit course_of words_of meaning
 meant_by_chance_40 = (refl, refl)
-
--- by chance 41
-pub meant_by_chance_41 : (meant conf_r41 names_many devices_many (Kept (codes "gone")) (typed (hex 8 0x74757815090a3f0a)) 1073741824 ≡ record { outcome = Loaded (record { real = record { address = 0x90000; size = 1024 }; protected = record { address = 0x100000; size = 576 }; initrd = (Some (record { address = 0x37fff000; size = 700 })); line = record { address = 0x99800; size = 22 } }); shown = (codes "LILO\nboot: tux\nboot: \nwin\na\nboot: \nLoading a\n"); line = Some (Kept (codes "win")); written = (record { address = 0x90000; bytes = (file 1024 (piece 497 (hex 1 0x01) ∷ piece 506 (hex 14 0x0103000055aa0000486472530602) ∷ piece 528 (hex 2 0x0281) ∷ piece 537 (hex 5 0xf0ff37bc02) ∷ piece 549 (hex 11 0x96000000980900ffffff37) ∷ piece 568 (hex 1 0xff) ∷ [])) } ∷ record { address = 0x100000; bytes = (file 576 (piece 0 (replicate 576 5) ∷ [])) } ∷ record { address = 0x37fff000; bytes = (file 700 (piece 0 (replicate 700 165) ∷ [])) } ∷ record { address = 0x99800; bytes = (file 22 (piece 0 (codes "BOOT_IMAGE=a root=301") ∷ [])) } ∷ []); left = (typed (hex 2 0x3f0a)) }) × (meant conf_r41 names_many devices_many (Kept (codes "a")) (typed (hex 2 0x6115)) 1048576 ≡ record { outcome = Refused Idle; shown = (codes "LILO\nboot: a\nboot: "); line = Some (Kept (codes "a")); written = []; left = [] })
-unfolding number16 number32 is_zero components child find_path file_block file_at child_path path_of names_of_section names_of_config started menu_decision menu_boot file_of middle_text target_of menu_entries menu_of meant setup_of version_of header_of header_at fit_checks plan_memory replaced_fields patch command_line written_by place kernel_fit course_of words_of meaning
-meant_by_chance_41 = (refl, refl)

@@ -13,7 +13,12 @@ use Rattle.lilo_model.specs.MinixFindNames.{child_path, path_of}
 use Rattle.lilo_model.specs.Place.{command_line, written_by, place, kernel_fit}
 use Rattle.lilo_model.specs.Reason.{Idle}
 use Rattle.model_cases.specs.Sparse.{hex, piece, file, typed, waited}
-use Rattle.model_cases.specs.PlanFixtures.{conf_r42, conf_r43, conf_r44, conf_r45, conf_r46, conf_r47, conf_r48, conf_r49, devices_many, names_many}
+use Rattle.model_cases.specs.PlanFixtures.{conf_r41, conf_r42, conf_r43, conf_r44, conf_r45, conf_r46, conf_r47, conf_r48, devices_many, names_many}
+
+-- by chance 41
+pub meant_by_chance_41 : (meant conf_r41 names_many devices_many (Kept (codes "gone")) (typed (hex 8 0x74757815090a3f0a)) 1073741824 ≡ record { outcome = Loaded (record { real = record { address = 0x90000; size = 1024 }; protected = record { address = 0x100000; size = 576 }; initrd = (Some (record { address = 0x37fff000; size = 700 })); line = record { address = 0x99800; size = 22 } }); shown = (codes "LILO\nboot: tux\nboot: \nwin\na\nboot: \nLoading a\n"); line = Some (Kept (codes "win")); written = (record { address = 0x90000; bytes = (file 1024 (piece 497 (hex 1 0x01) ∷ piece 506 (hex 14 0x0103000055aa0000486472530602) ∷ piece 528 (hex 2 0x0281) ∷ piece 537 (hex 5 0xf0ff37bc02) ∷ piece 549 (hex 11 0x96000000980900ffffff37) ∷ piece 568 (hex 1 0xff) ∷ [])) } ∷ record { address = 0x100000; bytes = (file 576 (piece 0 (replicate 576 5) ∷ [])) } ∷ record { address = 0x37fff000; bytes = (file 700 (piece 0 (replicate 700 165) ∷ [])) } ∷ record { address = 0x99800; bytes = (file 22 (piece 0 (codes "BOOT_IMAGE=a root=301") ∷ [])) } ∷ []); left = (typed (hex 2 0x3f0a)) }) × (meant conf_r41 names_many devices_many (Kept (codes "a")) (typed (hex 2 0x6115)) 1048576 ≡ record { outcome = Refused Idle; shown = (codes "LILO\nboot: a\nboot: "); line = Some (Kept (codes "a")); written = []; left = [] })
+unfolding number16 number32 is_zero components child find_path file_block file_at child_path path_of names_of_section names_of_config started menu_decision menu_boot file_of middle_text target_of menu_entries menu_of meant setup_of version_of header_of header_at fit_checks plan_memory replaced_fields patch command_line written_by place kernel_fit course_of words_of meaning
+meant_by_chance_41 = (refl, refl)
 
 -- by chance 42
 pub meant_by_chance_42 : (meant conf_r42 names_many devices_many (Once (codes "old w")) [] 1073741824 ≡ record { outcome = Loaded (record { real = record { address = 0x90000; size = 1024 }; protected = record { address = 0x100000; size = 5 }; initrd = (Some (record { address = 0x37fff000; size = 1500 })); line = record { address = 0x99800; size = 22 } }); shown = (codes "LILO\nLoading old\n"); line = Some (Kept (codes "old w")); written = (record { address = 0x90000; bytes = (file 1024 (piece 497 (hex 1 0x01) ∷ piece 510 (hex 10 0x55aa0000486472530602) ∷ piece 528 (hex 2 0x0281) ∷ piece 537 (hex 5 0xf0ff37dc05) ∷ piece 549 (hex 11 0x96000000980900ffffff37) ∷ piece 568 (hex 1 0xff) ∷ [])) } ∷ record { address = 0x100000; bytes = (file 5 (piece 0 (codes "HELLO") ∷ [])) } ∷ record { address = 0x37fff000; bytes = (file 1500 (piece 0 (replicate 1500 17) ∷ [])) } ∷ record { address = 0x99800; bytes = (file 22 (piece 0 (codes "auto BOOT_IMAGE=old w") ∷ [])) } ∷ []); left = [] }) × (meant conf_r42 names_many devices_many (Kept (codes "a")) (typed (hex 1 0x15)) 2097152 ≡ record { outcome = Loaded (record { real = record { address = 0x90000; size = 1024 }; protected = record { address = 0x100000; size = 5 }; initrd = None; line = record { address = 0x99800; size = 38 } }); shown = (codes "LILO\nLoading a\n"); line = Some (Kept (codes "a")); written = (record { address = 0x90000; bytes = (file 1024 (piece 497 (hex 1 0x01) ∷ piece 510 (hex 10 0x55aa0000486472530602) ∷ piece 528 (hex 2 0x0281) ∷ piece 549 (hex 11 0x96000000980900ffffff37) ∷ piece 568 (hex 1 0xff) ∷ [])) } ∷ record { address = 0x100000; bytes = (file 5 (piece 0 (codes "HELLO") ∷ [])) } ∷ record { address = 0x99800; bytes = (file 38 (piece 0 (codes "auto BOOT_IMAGE=a root=801 mem=64M  y") ∷ [])) } ∷ []); left = (typed (hex 1 0x15)) })
@@ -49,8 +54,3 @@ meant_by_chance_47 = (refl, refl)
 pub meant_by_chance_48 : (meant conf_r48 names_many devices_many (Once (codes "old w")) (waited 60 ++ typed (codes "\noldnone")) 1048576 ≡ record { outcome = Loaded (record { real = record { address = 0x90000; size = 1024 }; protected = record { address = 0x10000; size = 5 }; initrd = None; line = record { address = 0x99800; size = 29 } }); shown = (codes "LILO\nLoading old\n"); line = Some Empty; written = (record { address = 0x90000; bytes = (file 1024 (piece 32 (hex 4 0x3fa30098) ∷ piece 497 (hex 1 0x01) ∷ piece 510 (hex 2 0x55aa) ∷ piece 556 (hex 4 0xffffff37) ∷ piece 568 (hex 1 0xff) ∷ [])) } ∷ record { address = 0x10000; bytes = (file 5 (piece 0 (codes "HELLO") ∷ [])) } ∷ record { address = 0x99800; bytes = (file 29 (piece 0 (codes "auto BOOT_IMAGE=old single w") ∷ [])) } ∷ []); left = (waited 60 ++ typed (codes "\noldnone")) }) × (meant conf_r48 names_many devices_many Empty (waited 4 ++ typed (hex 9 0x6f6c64206c6f636b15)) 1048576 ≡ record { outcome = Refused Idle; shown = (codes "LILO\nHello\nthere\nboot: old lock\nboot: "); line = Some Empty; written = []; left = [] })
 unfolding number16 number32 is_zero components child find_path file_block file_at child_path path_of names_of_section names_of_config started menu_decision menu_boot file_of middle_text target_of menu_entries menu_of meant setup_of version_of header_of header_at fit_checks plan_memory replaced_fields patch command_line written_by place kernel_fit course_of words_of meaning
 meant_by_chance_48 = (refl, refl)
-
--- by chance 49
-pub meant_by_chance_49 : (meant conf_r49 names_many devices_many (Kept (codes "old")) (typed (hex 5 0x6162087f6c)) 16777216 ≡ record { outcome = Loaded (record { real = record { address = 0x90000; size = 1024 }; protected = record { address = 0x100000; size = 576 }; initrd = None; line = record { address = 0x99800; size = 38 } }); shown = (codes "LILO\nLoading old\n"); line = Some (Kept (codes "old")); written = (record { address = 0x90000; bytes = (file 1024 (piece 497 (hex 1 0x01) ∷ piece 510 (hex 10 0x55aa0000486472530602) ∷ piece 528 (hex 2 0x0281) ∷ piece 549 (hex 11 0x96000000980900ffffff37) ∷ piece 568 (hex 1 0xff) ∷ [])) } ∷ record { address = 0x100000; bytes = (file 576 (piece 0 (replicate 576 5) ∷ [])) } ∷ record { address = 0x99800; bytes = (file 38 (piece 0 (codes "auto BOOT_IMAGE=old rw root=801 quiet") ∷ [])) } ∷ []); left = (typed (hex 5 0x6162087f6c)) }) × (meant conf_r49 names_many devices_many Empty (waited 1 ++ typed (hex 6 0x6162087f6c15) ++ waited 1 ++ typed (hex 6 0x6162630d090d)) 1073741824 ≡ record { outcome = Loaded (record { real = record { address = 0x90000; size = 1024 }; protected = record { address = 0x100000; size = 576 }; initrd = None; line = record { address = 0x99800; size = 31 } }); shown = (codes "LILO\nLoading x2\n"); line = Some Empty; written = (record { address = 0x90000; bytes = (file 1024 (piece 497 (hex 1 0x01) ∷ piece 510 (hex 10 0x55aa0000486472530602) ∷ piece 528 (hex 2 0x0281) ∷ piece 549 (hex 11 0x96000000980900ffffff37) ∷ piece 568 (hex 1 0xff) ∷ [])) } ∷ record { address = 0x100000; bytes = (file 576 (piece 0 (replicate 576 5) ∷ [])) } ∷ record { address = 0x99800; bytes = (file 31 (piece 0 (codes "auto BOOT_IMAGE=x2 rw root=803") ∷ [])) } ∷ []); left = (waited 1 ++ typed (hex 6 0x6162087f6c15) ++ waited 1 ++ typed (hex 6 0x6162630d090d)) })
-unfolding number16 number32 is_zero components child find_path file_block file_at child_path path_of names_of_section names_of_config started menu_decision menu_boot file_of middle_text target_of menu_entries menu_of meant setup_of version_of header_of header_at fit_checks plan_memory replaced_fields patch command_line written_by place kernel_fit course_of words_of meaning
-meant_by_chance_49 = (refl, refl)

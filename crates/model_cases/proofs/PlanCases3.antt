@@ -20,7 +20,7 @@ use Rattle.lilo_model.specs.Section.{link_at, section, file_content, section_byt
 use Rattle.lilo_model.specs.Slots.{has_ranges, has_address, is_slot, is_one_slot, chs_of, address_of, slot_of, some_slot, slot_at, slot_bytes, to_chs, to_lba, sector_at, sectors_of, place_at, slot_make, could_be_one}
 use Rattle.lilo_model.specs.Table.{is_set, entry_name, is_printable, is_name, has_flags, has_video, has_length, has_main, has_initrd, has_extra, is_entry, descriptor_of, entry_bytes, same_name, repeats, breaks, table_at, descriptor_bytes}
 use Rattle.model_cases.specs.Sparse.{hex, piece, file, disks_of, on}
-use Rattle.model_cases.specs.PlanFixtures.{conf_link, conf_other, conf_own_table, conf_r3, conf_two_chain, conf_v1_short, conf_v2_short, conf_whole, disk_link, disk_many, disk_other, disk_own_table, disk_two_chain, disk_v1_short, disk_v2_short, disk_whole, machine_link, machine_many, machine_other, machine_own_table, machine_two_chain, machine_v1_short, machine_v2_short, machine_whole, volume_link, volume_many, volume_other, volume_own_table, volume_two_chain, volume_v1_short, volume_v2_short, volume_whole}
+use Rattle.model_cases.specs.PlanFixtures.{conf_full, conf_link, conf_other, conf_own_table, conf_two_chain, conf_v1_short, conf_v2_short, conf_whole, disk_full, disk_link, disk_other, disk_own_table, disk_two_chain, disk_v1_short, disk_v2_short, disk_whole, machine_full, machine_link, machine_other, machine_own_table, machine_two_chain, machine_v1_short, machine_v2_short, machine_whole, volume_full, volume_link, volume_other, volume_own_table, volume_two_chain, volume_v1_short, volume_v2_short, volume_whole}
 
 -- two other systems
 pub plan_two_other_systems : (plan_sectors (planned (disks_of disk_other) machine_other volume_other conf_other 305419896) machine_other (on 0 (94 ∷ 95 ∷ 96 ∷ 97 ∷ 98 ∷ 99 ∷ 100 ∷ 101 ∷ 102 ∷ 103 ∷ 104 ∷ 105 ∷ 106 ∷ [])) ≡ (file 512 (piece 0 (codes "LINE") ∷ [])) ∷ (file 512 (piece 0 (codes "linux") ∷ piece 16 (hex 39 0x4000000005040000bc020000038001006300000003800100640000000380010065000000010001) ∷ piece 64 (codes "dos") ∷ piece 80 (hex 1 0x81) ∷ piece 85 (hex 1 0x04) ∷ piece 92 (hex 13 0x03800100660000000380010067) ∷ piece 116 (hex 1 0x01) ∷ piece 128 (codes "hdb1") ∷ piece 144 (hex 1 0x03) ∷ piece 149 (hex 1 0x02) ∷ piece 156 (hex 13 0x0380010068000000038001006a) ∷ piece 180 (hex 13 0x01000000038001006900000077) ∷ piece 208 (hex 1 0x03) ∷ piece 213 (hex 1 0x02) ∷ piece 220 (hex 13 0x0380010068000000038001006a) ∷ piece 244 (hex 9 0x010000000380010069) ∷ [])) ∷ (file 512 []) ∷ (file 512 []) ∷ (file 512 []) ∷ (file 512 (piece 0 (hex 1 0x0c) ∷ piece 8 (codes " ro root=301") ∷ [])) ∷ (file 512 (piece 0 (hex 21 0x038001005200000003800100530000000380010054) ∷ [])) ∷ (file 512 (piece 0 (hex 13 0x03800100560000000380010057) ∷ [])) ∷ (file 512 []) ∷ (file 512 (piece 0 (hex 3 0x038101) ∷ piece 8 (hex 3 0x038101) ∷ [])) ∷ (file 512 []) ∷ (file 512 (piece 2 (hex 1 0x01) ∷ piece 480 (codes "x") ∷ [])) ∷ (file 512 (piece 0 (hex 5 0x038101003f) ∷ [])) ∷ []) × (plan_boot_sector (planned (disks_of disk_other) machine_other volume_other conf_other 305419896) machine_other (on 0 (94 ∷ 95 ∷ 96 ∷ 97 ∷ 98 ∷ 99 ∷ 100 ∷ 101 ∷ 102 ∷ 103 ∷ 104 ∷ 105 ∷ 106 ∷ [])) (disks_of disk_other 0 0) ≡ file 512 (piece 0 (hex 19 0xeb7e4c494c4f01007856341201000000ffff04) ∷ piece 24 (hex 13 0x038001005e0000000380010062) ∷ piece 48 (hex 21 0x038001005f00000003800100600000000380010061) ∷ piece 128 (replicate 312 144) ∷ piece 450 (hex 10 0x8100000040000000c00f) ∷ piece 510 (hex 2 0x55aa) ∷ [])) × (map_size (planned (disks_of disk_other) machine_other volume_other conf_other 305419896) machine_other ≡ 13)
@@ -57,7 +57,7 @@ pub plan_a_volume_on_its_own_partition_boots : (plan_sectors (planned (disks_of 
 unfolding number16 number32 is_zero has_ranges has_address is_slot is_one_slot chs_of address_of slot_of some_slot slot_at slot_bytes to_chs to_lba sector_at sectors_of place_at slot_make could_be_one named_device entry_at entries_of table_entries is_link is_plain link_of logical_of listed linked_sector chain_entries chain_tables partitions_of numbered_span span_of disk_name last_partition partition_name device_name devices_of named_devices device_at disk_number device_number kind_of super_of super_checks super_in super_at with_counts super_bytes v1_inode v2_inode inode_of inode_at v1_inode_bytes v2_inode_bytes inode_bytes kept_inode inode_place bit with_bit parts_of volume_at number_in follow pointer_by inside follow_at zone_at block_at content_at entry_of entries_in minixentries_entry_at find_entry entries_at is_dots components child find_path file_block file_at zone_number block content entry first_named lookup reached thing names names_in IsSound child_path path_of link_at section file_content section_bytes is_bootable has_signature has_options has_names has_slots has_no_message has_whole_message has_message has_zeros is_whole timeout_of table_slots boot_of boot_at field_bytes merged_sector is_set entry_name is_printable is_name has_flags has_video has_length has_main has_initrd has_extra is_entry descriptor_of entry_bytes same_name repeats breaks table_at descriptor_bytes options_at extra_at options_bytes extra_bytes is_line line_of line_at line_bytes is_same_line names_of_section names_of_config started menu_decision menu_boot file_of middle_text target_of menu_entries menu_of meant slot_to slots_for chain_for file_slots file_sectors section_sectors_at flags_of descriptor_for plan_entries sectors_of_table sectors_after plan_sectors map_size plan_names plan_boot plan_boot_sector devices_in inode_places mapped_inode file_inode mapped_section code_in planned
 plan_a_volume_on_its_own_partition_boots = (refl, refl, refl)
 
--- by chance 3
-pub plan_by_chance_3 : (plan_sectors (planned (disks_of disk_many) machine_many volume_many conf_r3 2) machine_many (on 0 (190 ∷ 191 ∷ 192 ∷ 193 ∷ 194 ∷ 195 ∷ 196 ∷ 197 ∷ 198 ∷ 199 ∷ 200 ∷ [])) ≡ (file 512 (piece 0 (codes "LINE") ∷ [])) ∷ (file 512 (piece 0 (codes "old") ∷ piece 16 (hex 6 0x120000000504) ∷ piece 28 (hex 15 0x0180010008000300018001000a0003) ∷ piece 52 (hex 17 0x0100000001800100090003006c696e7578) ∷ piece 84 (hex 2 0xe880) ∷ piece 92 (hex 15 0x018001000b000300018001000c0003) ∷ piece 116 (hex 1 0x01) ∷ [])) ∷ (file 512 []) ∷ (file 512 []) ∷ (file 512 []) ∷ (file 512 (piece 0 (hex 7 0x018001001c0001) ∷ [])) ∷ (file 512 (piece 0 (hex 1 0x03) ∷ piece 8 (codes " ro") ∷ [])) ∷ (file 512 (piece 0 (hex 7 0x030003006f6c64) ∷ piece 480 (codes "abc") ∷ [])) ∷ (file 512 (piece 0 (hex 7 0x01800300140001) ∷ [])) ∷ (file 512 []) ∷ (file 512 (piece 0 (hex 15 0x018008003800010001803900010002) ∷ [])) ∷ []) × (plan_boot_sector (planned (disks_of disk_many) machine_many volume_many conf_r3 2) machine_many (on 0 (190 ∷ 191 ∷ 192 ∷ 193 ∷ 194 ∷ 195 ∷ 196 ∷ 197 ∷ 198 ∷ 199 ∷ 200 ∷ [])) (disks_of disk_many 0 0) ≡ file 512 (piece 0 (hex 71 0xeb7e4c494c4f01000200000001000000050002000c0001000180010002000300018001000600030001800100070003000180010003000300018001000400030001800100050003) ∷ piece 128 (replicate 312 144) ∷ piece 450 (hex 10 0x8100000040000000c00f) ∷ piece 510 (hex 2 0x55aa) ∷ [])) × (map_size (planned (disks_of disk_many) machine_many volume_many conf_r3 2) machine_many ≡ 11)
+-- compact, a message, an initrd, and two other systems, one with the table of the boot device
+pub plan_compact_a_message_an_initrd_and_two_other_systems_one_with_the_table_of_the_boot_device : (plan_sectors (planned (disks_of disk_full) machine_full volume_full conf_full 305419896) machine_full (on 0 (96 ∷ 97 ∷ 98 ∷ 99 ∷ 100 ∷ 101 ∷ 102 ∷ 103 ∷ 104 ∷ 105 ∷ 106 ∷ 107 ∷ 108 ∷ 109 ∷ [])) ≡ (file 512 (piece 0 (codes "LINE") ∷ [])) ∷ (file 512 (piece 0 (codes "linux") ∷ piece 16 (hex 49 0x4200000005040000bc0200000380010066000000038001006800000003800100690000000100010003800100670000006c) ∷ piece 80 (hex 51 0x4200000005040000bc020000038001006600000003800100680000000380010069000000010001000380010067000000646f73) ∷ piece 144 (hex 1 0x81) ∷ piece 149 (hex 1 0x04) ∷ piece 156 (hex 13 0x038001006a000000038001006b) ∷ piece 180 (hex 1 0x01) ∷ piece 192 (codes "win") ∷ piece 208 (hex 1 0x01) ∷ piece 213 (hex 1 0x02) ∷ piece 220 (hex 13 0x038001006c000000038001006d) ∷ piece 244 (hex 1 0x01) ∷ [])) ∷ (file 512 []) ∷ (file 512 []) ∷ (file 512 []) ∷ (file 512 (piece 0 (hex 5 0x038001005a) ∷ [])) ∷ (file 512 (piece 0 (hex 1 0x0c) ∷ piece 8 (codes " ro root=301") ∷ [])) ∷ (file 512 (piece 2 (hex 1 0x03) ∷ piece 480 (codes "tux") ∷ [])) ∷ (file 512 (piece 0 (hex 5 0x0380030052) ∷ [])) ∷ (file 512 (piece 0 (hex 5 0x0380020056) ∷ [])) ∷ (file 512 []) ∷ (file 512 (piece 0 (hex 3 0x038101) ∷ piece 8 (hex 3 0x038001) ∷ [])) ∷ (file 512 []) ∷ (file 512 (piece 0 (hex 5 0x038101003f) ∷ [])) ∷ []) × (plan_boot_sector (planned (disks_of disk_full) machine_full volume_full conf_full 305419896) machine_full (on 0 (96 ∷ 97 ∷ 98 ∷ 99 ∷ 100 ∷ 101 ∷ 102 ∷ 103 ∷ 104 ∷ 105 ∷ 106 ∷ 107 ∷ 108 ∷ 109 ∷ [])) (disks_of disk_full 0 0) ≡ file 512 (piece 0 (hex 69 0xeb7e4c494c4f010078563412010000003200040006000100038001006000000003800100640000000380010065000000038001006100000003800100620000000380010063) ∷ piece 128 (replicate 312 144) ∷ piece 450 (hex 10 0x8100000040000000c00f) ∷ piece 510 (hex 2 0x55aa) ∷ [])) × (map_size (planned (disks_of disk_full) machine_full volume_full conf_full 305419896) machine_full ≡ 14)
 unfolding number16 number32 is_zero has_ranges has_address is_slot is_one_slot chs_of address_of slot_of some_slot slot_at slot_bytes to_chs to_lba sector_at sectors_of place_at slot_make could_be_one named_device entry_at entries_of table_entries is_link is_plain link_of logical_of listed linked_sector chain_entries chain_tables partitions_of numbered_span span_of disk_name last_partition partition_name device_name devices_of named_devices device_at disk_number device_number kind_of super_of super_checks super_in super_at with_counts super_bytes v1_inode v2_inode inode_of inode_at v1_inode_bytes v2_inode_bytes inode_bytes kept_inode inode_place bit with_bit parts_of volume_at number_in follow pointer_by inside follow_at zone_at block_at content_at entry_of entries_in minixentries_entry_at find_entry entries_at is_dots components child find_path file_block file_at zone_number block content entry first_named lookup reached thing names names_in IsSound child_path path_of link_at section file_content section_bytes is_bootable has_signature has_options has_names has_slots has_no_message has_whole_message has_message has_zeros is_whole timeout_of table_slots boot_of boot_at field_bytes merged_sector is_set entry_name is_printable is_name has_flags has_video has_length has_main has_initrd has_extra is_entry descriptor_of entry_bytes same_name repeats breaks table_at descriptor_bytes options_at extra_at options_bytes extra_bytes is_line line_of line_at line_bytes is_same_line names_of_section names_of_config started menu_decision menu_boot file_of middle_text target_of menu_entries menu_of meant slot_to slots_for chain_for file_slots file_sectors section_sectors_at flags_of descriptor_for plan_entries sectors_of_table sectors_after plan_sectors map_size plan_names plan_boot plan_boot_sector devices_in inode_places mapped_inode file_inode mapped_section code_in planned
-plan_by_chance_3 = (refl, refl, refl)
+plan_compact_a_message_an_initrd_and_two_other_systems_one_with_the_table_of_the_boot_device = (refl, refl, refl)

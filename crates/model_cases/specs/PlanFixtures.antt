@@ -647,6 +647,30 @@ names_whole = things_at (named ((codes "boot") ∷ []) Directory ∷ named ((cod
 abbrev pub devices_whole : Device → List ℕ
 devices_whole = sectors_of_devices []
 
+-- compact, a message, an initrd, and two other systems, one with the table of the boot device
+abbrev pub conf_full : Config
+conf_full = record { boot = (Some (record { disk = 0; partition = 0 })); map = (codes "/boot/map"); install = (Some (codes "/boot/boot.b")); backup = None; force_backup = None; compact = true; mode = Lba32Mode; default_name = (Some (codes "linux")); delay = 0; timeout = (Some 50); prompt = true; message = (Some (codes "/boot/msg")); disks = []; sections = ((record { other = None; path = (codes "/boot/vmlinuz"); label = (codes "linux"); alias = (Some (codes "l")); initrd = (Some (codes "/boot/initrd")); root = (Some 769); mount = ReadOnlyMount; append = None; literal = None; vga = None; password = (Some (codes "tux")); restricted = false; optional = false; lock = false; fallback = None; table = None; line = 10 }) ∷ (record { other = (Some (record { disk = 1; partition = 0 })); path = (codes "/dev/hdb"); label = (codes "dos"); alias = None; initrd = None; root = None; mount = Unsaid; append = None; literal = None; vga = None; password = None; restricted = false; optional = false; lock = false; fallback = None; table = (Some (record { disk = 0; partition = 0 })); line = 17 }) ∷ (record { other = (Some (record { disk = 1; partition = 1 })); path = (codes "/dev/hdb1"); label = (codes "win"); alias = None; initrd = None; root = None; mount = Unsaid; append = None; literal = None; vga = None; password = None; restricted = false; optional = false; lock = false; fallback = None; table = None; line = 20 }) ∷ []) }
+
+-- its disks
+abbrev pub disk_full : List Patch
+disk_full = (disk_systems ++ (patch_at 0 68 1 (hex 1 0x01) ∷ patch_at 0 70 1 (hex 1 0x03) ∷ patch_at 0 72 36 (hex 1 0xc0) ∷ patch_at 0 72 196 (hex 1 0x06) ∷ patch_at 0 72 224 (hex 5 0xa481000001) ∷ patch_at 0 72 237 (hex 2 0x010e) ∷ patch_at 0 78 160 (hex 5 0x07006d7367) ∷ patch_at 0 80 64 (hex 1 0x08) ∷ patch_at 0 90 0 (codes "Hello\n") ∷ patch_at 0 92 0 (codes "#") ∷ []))
+
+-- their machine
+abbrev pub machine_full : Machine
+machine_full = machine_of (disk_with 4096 16 63 ∷ disk_with 2000 4 17 ∷ [])
+
+-- the volume
+abbrev pub volume_full : Volume
+volume_full = record { span = record { disk = 0; start = 64; count = 4032 }; layout = record { kind = V1Long; inodes = 64; zones = 2016; imap = 1; zmap = 1; first = 6; max_size = 268966912; state = 1 } }
+
+-- what has a name on it
+abbrev pub names_full : Names
+names_full = things_at (named ((codes "boot") ∷ []) Directory ∷ named ((codes "boot.b") ∷ (codes "boot") ∷ []) (File (file 512 (piece 0 (replicate 512 144) ∷ []))) ∷ named ((codes "initrd") ∷ (codes "boot") ∷ []) (File (file 700 (piece 0 (replicate 700 165) ∷ []))) ∷ named ((codes "msg") ∷ (codes "boot") ∷ []) (File (file 6 (piece 0 (codes "Hello\n") ∷ []))) ∷ named ((codes "vmlinuz") ∷ (codes "boot") ∷ []) (File (file 1029 (piece 497 (hex 1 0x01) ∷ piece 510 (hex 10 0x55aa0000486472530602) ∷ piece 529 (hex 1 0x01) ∷ piece 556 (hex 4 0xffffff37) ∷ piece 568 (hex 1 0xff) ∷ piece 1024 (codes "HELLO") ∷ []))) ∷ named ((codes "etc") ∷ []) Directory ∷ named ((codes "lilo.conf") ∷ (codes "etc") ∷ []) (File (file 1 (piece 0 (codes "#") ∷ []))) ∷ [])
+
+-- the first sectors of devices
+abbrev pub devices_full : Device → List ℕ
+devices_full = sectors_of_devices (sector_of_device (record { disk = 0; partition = 0 }) (file 512 (piece 450 (hex 10 0x8100000040000000c00f) ∷ piece 510 (hex 2 0x55aa) ∷ [])) ∷ sector_of_device (record { disk = 1; partition = 0 }) (file 512 (piece 3 (codes "DOS") ∷ piece 446 (hex 14 0x80010203060506073f000000e803) ∷ piece 510 (hex 2 0x55aa) ∷ [])) ∷ sector_of_device (record { disk = 1; partition = 1 }) (file 512 (piece 3 (codes "WIN") ∷ piece 510 (hex 2 0x55aa) ∷ [])) ∷ [])
+
 -- its disks
 abbrev pub disk_many : List Patch
 disk_many = disk_more

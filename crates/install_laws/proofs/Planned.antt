@@ -1,0 +1,17 @@
+-- An image where what was planned lies means what the configuration does.
+use Rattle.lilo_model.specs.DefaultLine.{Empty}
+use Rattle.map_laws.proofs.Planned.{planned_law}
+use Rattle.map_laws.proofs.Lines.{lines_law}
+use Rattle.install_laws.specs.Planned.{MeansLaw}
+
+pub means_law : MeansLaw
+means_law before c machine volume span config time devices p0 p1 p2 p3 p4 rest present sound s elsewhere =
+    let lines = lines_law before c machine volume span config time devices Empty p0 p1 p2 p3 p4 rest present sound s elsewhere in
+    record {
+      boot = lines.names.boot;
+      says = lines.names.says;
+      named = lines.names.named;
+      line_is = s.line_is;
+      empty = λ keys memory. planned_law before c machine volume span config time devices Empty p0 p1 p2 p3 p4 rest present keys memory sound s;
+      each_line = λ bytes line is keys memory. lines.boots bytes line keys memory is;
+    }

@@ -1,0 +1,4 @@
+mod LiesCases1
+mod LiesCases2
+mod LiesCases3
+mod LiesCases4

@@ -1,6 +1,6 @@
 -- How the prompt goes on with one key. The rules are this project's own; the texts, and the keys that edit a line,
 -- follow LILO's manners.
-use Rattle.std.specs.Prelude.{ℕ, suc, ◌-◌, List, [], ◌∷◌, ◌++◌, Bool, true, false, not, ◌&&◌, ◌==◌, nat_le, if◌then◌else◌, Option, None, Some, is_none, unwrap_or, slice_get, codes}
+use Rattle.std.specs.Prelude.{◌≡◌, ℕ, suc, ◌-◌, List, [], ◌∷◌, ◌++◌, Bool, true, false, not, ◌&&◌, ◌||◌, ◌==◌, nat_le, if◌then◌else◌, Option, None, Some, is_none, unwrap_or, slice_get, codes}
 use Rattle.std.specs.Option.{option_map, option_and_then}
 use Rattle.lilo_model.specs.DefaultLine.{line_text}
 use Rattle.lilo_model.specs.Prompt.{ListedEntry}
@@ -300,3 +300,26 @@ words_in _ = []
 abbrev pub lock_line_in : State → List ℕ
 lock_line_in (Decided chosen) = chosen.lock_line
 lock_line_in _ = []
+
+-- ---- when more keys are wanted
+
+-- whether a key finishes a line or a password, asks for the names, or completes a wait; silence always does
+abbrev pub tells : State → heard.Key → Bool
+tells (Delaying wait) (keys.Byte byte) = is_enter_key byte || is_list_key byte
+tells (Timing wait) (keys.Byte byte) = is_enter_key byte || is_list_key byte
+tells (Typing text first) (keys.Byte byte) = is_enter_key byte || (first && is_list_key byte)
+tells (Asking question) (keys.Byte byte) = is_enter_key byte
+tells (Delaying wait) keys.Tick = nat_le wait 1
+tells (Timing wait) keys.Tick = nat_le wait 1
+tells (Typing text first) keys.Tick = false
+tells (Asking question) keys.Tick = suc question.quiet == most_quiet_ticks
+tells _ _ = true
+
+-- whether an answer is that more keys are wanted
+abbrev pub wants_more : Answer → Bool
+wants_more answers.More = true
+wants_more _ = false
+
+-- More keys are wanted exactly as long as no line or password is finished, no names are asked for and no wait is over.
+abbrev pub MoreLaw : Type 0
+MoreLaw = (setup : Setup) (state : State) (key : heard.Key) → wants_more (key_step setup state key).said.answer ≡ not (tells state key)

@@ -21,6 +21,6 @@ mod word;
 
 pub use entry::{Choice, Settings};
 pub use key::Key;
-pub use laws::keys_one_by_one;
+pub use laws::{comes_to_the_choice, keys_one_by_one, more_is_wanted, opens_at_the_opening};
 pub use prompt::Prompt;
 pub use reply::{Answer, Picked, Reply};

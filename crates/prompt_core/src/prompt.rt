@@ -1,8 +1,8 @@
 // A prompt.
-ghost use Rattle.std.specs.Prelude.{◌≡◌, ◌≤◌, [], length};
+ghost use Rattle.std.specs.Prelude.{◌≡◌, ◌≤◌};
 ghost use Rattle.lilo_model.specs.DefaultLine.{line_text};
 ghost use Rattle.boot_map.specs.View.{line_view};
-ghost use Rattle.prompt_core.specs.Steps.{key_step, lock_line_in, start_step, words_in};
+ghost use Rattle.prompt_core.specs.Steps.{Over, key_step, lock_line_in, start_step, words_in};
 ghost use Rattle.prompt_core.specs.View.{said_of, setup_of};
 
 use crate::entry::{Choice, Settings};
@@ -46,7 +46,8 @@ impl Prompt {
     /// A prompt that is not yet shown.
     pub fn new(settings: Settings, choices: ArrayVec<Choice, 48>, line: &DefaultLine) -> Prompt
         requires { settings.capacity ≤ 470 }
-        ensures { result.setup ≡ setup_of settings choices.items (line_text (line_view line.now)) }
+        ensures setup { result.setup ≡ setup_of settings choices.items (line_text (line_view line.now)) }
+        ensures state { result.state ≡ Over }
     {
         Prompt {
             settings,

@@ -1,30 +1,297 @@
-use crate::{Answer, Choice, Key, Prompt, Settings};
+use crate::{Answer, Choice, Key, Picked, Prompt, Reply, Settings};
 use arrayvec::ArrayVec;
 use boot_map::DefaultLine;
+use std::alloc::{AllocError, Global};
+use std::process::Abort;
+use std::test::Fail;
 
-#[test]
-fn a_line_is_typed(rt: HostRuntime) {
-    let mut choices: ArrayVec<Choice, 48> = ArrayVec::new();
-    let mut name: ArrayVec<u8, 15> = ArrayVec::new();
-    name.push(b'x');
-    choices.push(Choice {
-        name,
+/// What a prompt comes to that is told keys, with silence behind them.
+#[derive(Drop)]
+struct Run {
+    /// All that was shown, with a message `<M>` and the names where the prompt's caller puts them.
+    text: Vec<u8>,
+    answer: Answer,
+    words: Vec<u8>,
+    lock_line: Vec<u8>,
+    /// How many keys were taken.
+    taken: usize,
+}
+
+/// The entries `linux`, whose password `tux` is asked with words only, and `dos`.
+fn entries(rt: &impl Abort) -> ArrayVec<Choice, 48> {
+    let mut choices = ArrayVec::new();
+    let linux = Choice {
+        name: ArrayVec::try_from(b"linux".as_slice())
+            .ok()
+            .expect(rt, "a name"),
+        password: Some(
+            ArrayVec::try_from(b"tux".as_slice())
+                .ok()
+                .expect(rt, "a password"),
+        ),
+        restricted: true,
+    };
+    let dos = Choice {
+        name: ArrayVec::try_from(b"dos".as_slice())
+            .ok()
+            .expect(rt, "a name"),
         password: None,
         restricted: false,
-    });
-    let settings = Settings {
-        prompt: true,
-        delay: 0,
-        timeout: None,
+    };
+    choices.try_push(linux).ok().expect(rt, "room");
+    choices.try_push(dos).ok().expect(rt, "room");
+    choices
+}
+
+fn settings(prompt: bool, delay: u16, timeout: Option<u16>) -> Settings {
+    Settings {
+        prompt,
+        delay,
+        timeout,
         default_entry: 0,
         capacity: 255,
+    }
+}
+
+/// Where the first or the last prompt begins in a text.
+fn prompt_at(text: &[u8], last: bool) -> usize {
+    let mut found = text.len();
+    for place in 0..text.len() {
+        if text[place..].starts_with(b"boot: ") && (last || found == text.len()) {
+            found = place;
+        }
+    }
+    found
+}
+
+/// Shows a reply, with the message and the names at their places.
+fn show(text: &mut Vec<u8>, reply: &Reply) -> Result<(), AllocError> {
+    let shown = reply.show.as_slice();
+    for place in 0..shown.len() {
+        if reply.opened && place == prompt_at(shown, false) {
+            text.extend_from_slice(b"<M>")?;
+        }
+        if reply.answer == Answer::List && place == prompt_at(shown, true) {
+            text.extend_from_slice(b"linux\ndos\n")?;
+        }
+        text.push(shown[place])?;
+    }
+    Ok(())
+}
+
+/// Tells a prompt keys, with 0x16 for a tick and silence behind them.
+fn tell(alloc: Global, mut prompt: Prompt, keys: &[u8]) -> Result<Run, AllocError> {
+    let mut text = Vec::new(alloc);
+    let mut taken = 0;
+    let mut reply = prompt.start();
+    for key in 0..keys.len() + 4 {
+        show(&mut text, &reply)?;
+        match reply.answer {
+            Answer::Chosen(_) | Answer::Idle => break,
+            _ => {}
+        }
+        reply = prompt.feed(match keys.get(key) {
+            Some(0x16) => Key::Tick,
+            Some(byte) => Key::Byte(*byte),
+            None => Key::Silence,
+        });
+        taken = (key + 1).min(keys.len());
+    }
+    Ok(Run {
+        text,
+        answer: reply.answer,
+        words: prompt.words().to_vec(alloc)?,
+        lock_line: prompt.lock_line().to_vec(alloc)?,
+        taken,
+    })
+}
+
+/// A choice without a lock.
+fn chosen(entry: u16, automatic: bool, vga: Option<u16>) -> Answer {
+    Answer::Chosen(Picked {
+        entry,
+        automatic,
+        lock: false,
+        vga,
+    })
+}
+
+#[test]
+fn prompts_are_told_keys(rt: HostRuntime) -> Result<(), Fail> {
+    let idle = Answer::Idle;
+    let asks = settings(true, 0, None);
+    let cases: [(Settings, &[u8], &[u8], Answer, &[u8], usize); 14] = [
+        (asks, b"", b"<M>boot: ", idle, b"", 0),
+        (
+            settings(true, 0, Some(2)),
+            b"",
+            b"<M>boot: \n",
+            chosen(0, true, None),
+            b"",
+            0,
+        ),
+        (
+            settings(true, 0, Some(2)),
+            b"\x16\x16x",
+            b"<M>boot: \n",
+            chosen(0, true, None),
+            b"",
+            2,
+        ),
+        (
+            settings(false, 0, None),
+            b"x",
+            b"",
+            chosen(0, true, None),
+            b"",
+            0,
+        ),
+        (
+            settings(false, 3, None),
+            b"\x16\x16x",
+            b"<M>boot: x",
+            idle,
+            b"",
+            3,
+        ),
+        (
+            settings(false, 3, None),
+            b"\x16\x16\x16x",
+            b"",
+            chosen(0, true, None),
+            b"",
+            3,
+        ),
+        (
+            settings(false, 3, None),
+            b"\t",
+            b"<M>boot: \nlinux\ndos\nboot: ",
+            idle,
+            b"",
+            1,
+        ),
+        (
+            asks,
+            b"linux\n",
+            b"<M>boot: linux\n",
+            chosen(0, false, None),
+            b"",
+            6,
+        ),
+        (
+            asks,
+            b"\tdos\r!",
+            b"<M>boot: \nlinux\ndos\nboot: dos\n",
+            chosen(1, false, None),
+            b"",
+            5,
+        ),
+        (
+            asks,
+            b"x\x08?\x15dos  a vga=ask b\n",
+            b"<M>boot: x\x08 \x08?\nboot: dos  a vga=ask b\n",
+            chosen(1, false, Some(0xFFFD)),
+            b"a b",
+            21,
+        ),
+        (
+            asks,
+            b"none\n",
+            b"<M>boot: none\nNo such image.\nboot: ",
+            idle,
+            b"",
+            5,
+        ),
+        (
+            asks,
+            b"linux single\ntux\n",
+            b"<M>boot: linux single\nPassword: \n",
+            chosen(0, false, None),
+            b"single",
+            17,
+        ),
+        (
+            asks,
+            b"linux single\nabc\n",
+            b"<M>boot: linux single\nPassword: \nSorry.\nboot: ",
+            idle,
+            b"",
+            17,
+        ),
+        (
+            asks,
+            b"linux single\ntux",
+            b"<M>boot: linux single\nPassword: \nboot: ",
+            idle,
+            b"",
+            16,
+        ),
+    ];
+    for (settings, keys, text, answer, words, taken) in cases {
+        let run = tell(
+            rt.alloc(),
+            Prompt::new(settings, entries(&rt), &DefaultLine::Empty),
+            keys,
+        )?;
+        assert_eq!(rt; run.text.as_slice(), text);
+        assert_eq!(rt; run.answer, answer);
+        assert_eq!(rt; run.words.as_slice(), words);
+        assert_eq!(rt; run.taken, taken);
+    }
+    Ok(())
+}
+
+#[test]
+fn a_lock_line_keeps_the_video_mode(rt: HostRuntime) -> Result<(), Fail> {
+    let line = DefaultLine::Once(
+        ArrayVec::try_from(b"dos lock  vga=5 ro".as_slice())
+            .ok()
+            .ok_or("a line")?,
+    );
+    let run = tell(
+        rt.alloc(),
+        Prompt::new(settings(true, 0, None), entries(&rt), &line),
+        b"",
+    )?;
+    assert_eq!(rt; run.lock_line.as_slice(), b"dos vga=5 ro".as_slice());
+    assert_eq!(rt; run.words.as_slice(), b"ro".as_slice());
+    let picked = Picked {
+        entry: 1,
+        automatic: true,
+        lock: true,
+        vga: Some(5),
     };
-    let mut prompt = Prompt::new(settings, choices, &DefaultLine::Empty);
-    let reply = prompt.start();
-    assert_eq!(rt; reply.answer, Answer::More);
-    assert_eq!(rt; reply.show.as_slice(), b"boot: ".as_slice());
-    let _ = prompt.feed(Key::Byte(b'x'));
-    let reply = prompt.feed(Key::Byte(b'\n'));
-    assert_eq!(rt; reply.show.as_slice(), b"\n".as_slice());
-    assert_eq!(rt; prompt.lock_line(), b"x".as_slice());
+    assert_eq!(rt; run.answer, Answer::Chosen(picked));
+    Ok(())
+}
+
+#[test]
+fn a_password_is_waited_for(rt: HostRuntime) -> Result<(), Fail> {
+    let mut keys = b"linux a\n".to_vec(rt.alloc())?;
+    for _ in 0..600 {
+        keys.push(0x16)?;
+    }
+    keys.extend_from_slice(b"dos\n")?;
+    let prompt = Prompt::new(settings(true, 0, None), entries(&rt), &DefaultLine::Empty);
+    let run = tell(rt.alloc(), prompt, keys.as_slice())?;
+    assert_eq!(rt;
+        run.text.as_slice(),
+        b"<M>boot: linux a\nPassword: \nboot: dos\n".as_slice()
+    );
+    assert_eq!(rt; run.answer, chosen(1, false, None));
+    Ok(())
+}
+
+#[test]
+fn a_line_is_cut_at_its_capacity(rt: HostRuntime) -> Result<(), Fail> {
+    let mut keys = b"dos ".to_vec(rt.alloc())?;
+    for _ in 0..100_000 {
+        keys.push(b'x')?;
+    }
+    keys.push(b'\n')?;
+    let prompt = Prompt::new(settings(true, 0, None), entries(&rt), &DefaultLine::Empty);
+    let run = tell(rt.alloc(), prompt, keys.as_slice())?;
+    assert_eq!(rt; run.words.len(), 251);
+    assert_eq!(rt; run.lock_line.len(), 255);
+    Ok(())
 }

@@ -2,7 +2,7 @@
 use Rattle.std.specs.Prelude.{◌≡◌, ◌≢◌, ◌<◌, ℕ, ◌+◌, ◌/◌, ◌%◌, ◌^◌, ◌≤◌, List, length}
 use Rattle.lilo_model.specs.Bytes.{with_part}
 use Rattle.lilo_model.specs.Disks.{Image, with_sector}
-use Rattle.lilo_model.specs.MinixLayout.{Super, numbers_in_zone, number_size, entry_size, zone_sector}
+use Rattle.lilo_model.specs.MinixLayout.{Kind, Super, numbers_in_zone, number_size, entry_size, zone_sector}
 use Rattle.lilo_model.specs.MinixParts.{Volume, Pointer, sector_of, parts_of}
 use Rattle.lilo_model.specs.MinixNames.{pointer, IsSound}
 use Rattle.minix_beside_laws.specs.Beside.{IsDataZone}
@@ -11,6 +11,7 @@ use Rattle.minix_entry_laws.specs.Only.{zone_of_entry}
 use Rattle.minix_growth_laws.specs.Grows.{below, Deeper}
 use Rattle.minix_growth_laws.specs.Changes.{MayHook, HasNumber}
 use Rattle.minix_zone_bytes_laws.specs.Part.{HasZonePart, PartIsWritten, number_bytes, offset_of_number, offset_in_block, IsPast}
+use Rattle.minix_zone_bytes_laws.specs.Sample.{CanGrow}
 
 -- other bytes in a part of a zone are a change of that zone alone
 abbrev pub PartLaw : Type 0
@@ -56,3 +57,9 @@ SeenPastLaw =
     → IsSound volume old → IsPast volume.layout (parts_of volume old) directory place → length bytes ≡ entry_size volume.layout.kind
     → HasZonePart volume old image (zone_of_entry volume.layout (parts_of volume old) directory place) (offset_in_block volume.layout place) bytes
     → SeenAsIn volume old image
+
+-- ---- a sample
+
+-- there are sound parts on which a directory may grow in each way
+abbrev pub GrowthSampleLaw : Type 0
+GrowthSampleLaw = (kind : Kind) → CanGrow kind

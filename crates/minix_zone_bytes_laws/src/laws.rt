@@ -1,5 +1,12 @@
 // What a part of one zone with other bytes does to a sound Minix volume.
-ghost use Rattle.minix_zone_bytes_laws.specs.Laws.{NumberBytesLaw, PartLaw, SeenNumberLaw, SeenPastLaw, WritePartLaw};
+ghost use Rattle.minix_zone_bytes_laws.specs.Laws.{
+  GrowthSampleLaw,
+  NumberBytesLaw,
+  PartLaw,
+  SeenNumberLaw,
+  SeenPastLaw,
+  WritePartLaw,
+};
 
 /// Other bytes in a part of a zone that lies in one sector are a change of that zone alone.
 pub fn written_part_changes_one_zone()
@@ -24,4 +31,9 @@ pub fn number_bytes_are_unseen()
 /// Nor any bytes at a place past a directory's size.
 pub fn bytes_past_the_size_are_unseen()
     ensures { SeenPastLaw }
+{}
+
+/// There are sound parts on which a directory may grow in each way.
+pub fn directory_may_grow_in_each_way()
+    ensures { GrowthSampleLaw }
 {}

@@ -1,23 +1,28 @@
 -- Other bytes of an entry are a change of that entry alone.
-use Rattle.std.proofs.Common.{◌≡◌, ◌≢◌, ℕ, ◌+◌, ◌*◌, ◌/◌, ◌%◌, ◌<◌, ◌≤◌, ◌==◌, ◌&&◌, ◌⊎◌, Bool, true, false, List, ◌++◌, length, refl, sym, ◌∙◌, ap, subst, arith, eq-eqb, length-append, inl, inr}
+use Rattle.std.proofs.Common.{◌≡◌, ◌≢◌, ℕ, ◌+◌, ◌*◌, ◌/◌, ◌%◌, ◌<◌, ◌≤◌, ◌==◌, ◌&&◌, ◌⊎◌, Bool, true, false, List, length, refl, sym, ◌∙◌, ap, subst, arith, eq-eqb, inl, inr}
 use Rattle.std.proofs.lemmas.Bool.{eqb-true, ne_eqb}
 use Rattle.lilo_model.specs.Bytes.{part_of, with_part}
 use Rattle.lilo_model.specs.Disks.{Image}
-use Rattle.lilo_model.specs.MinixLayout.{entry_size, reach, table_start, super_at, inode_of, inode_size, inode_place, zone_sector, super_sector}
-use Rattle.lilo_model.specs.MinixParts.{Parts, Volume, Pointer, sector_of, bit, inode_mark_sector, zone_bit, zone_mark_sector, has_zones, block_pointer, zone_bytes, parts_of}
+use Rattle.lilo_model.specs.MinixLayout.{entry_size, reach, super_at}
+use Rattle.lilo_model.specs.MinixParts.{Parts, Volume, Pointer, has_zones, block_pointer, zone_bytes, parts_of}
 use Rattle.lilo_model.specs.MinixEntries.{entry_of, entry_in, entries_per_block, places}
 use Rattle.lilo_model.specs.MinixNames.{zone_number, block, entry, Sound, HasSound, IsSound}
 use Rattle.minix_laws.proofs.Pointers.{pointer_law}
-use Rattle.minix_beside_laws.specs.Beside.{NamedIn, RefersIn}
-use Rattle.minix_beside_laws.proofs.Laid.{Laid, laid, mark-below, zone_mark-below, place-below}
-use Rattle.minix_beside_laws.proofs.Replaced.{length-with_part, part-other}
+use Rattle.minix_beside_laws.specs.Beside.{IsDataZone, NamedIn, RefersIn}
+use Rattle.minix_beside_laws.proofs.Replaced.{part-other}
 use Rattle.minix_entry_laws.specs.Only.{zone_of_entry, ChangesOnlyEntry, KeepsInode}
 use Rattle.minix_entry_laws.specs.Comes.{IsFit}
+use Rattle.minix_zone_bytes_laws.specs.Part.{HasZonePart, PartIsWritten}
+use Rattle.minix_zone_bytes_laws.proofs.Part.{part_law}
 use Rattle.minix_entry_bytes_laws.specs.Written.{place_of_entry, place_in, IsPlaced, HasEntryBytes, EntryIsWritten}
 use Rattle.minix_entry_bytes_laws.specs.Laws.{WrittenLaw, WriteEntryLaw}
 use Rattle.minix_sees_laws.proofs.Inode.{same-node, directory-zones, pointer-same}
 use Rattle.minix_entry_laws.proofs.Only.{directory-refers, above-kept}
-use Rattle.minix_entry_laws.proofs.Blocks.{entry-fits, entry-in_sector, some-entry, index-below, place-known, block-below, entries-apart, part-same, halves}
+use Rattle.minix_entry_laws.proofs.Blocks.{entry-fits, entry-in_sector, some-entry, index-below, place-known, block-below, entries-apart, part-same}
+
+closed : (volume : Volume) (image : Image) → HasSound volume image → IsSound volume image
+unfolding IsSound
+closed volume image sound = sound
 
 module _ (volume : Volume) (old image : Image) (directory place : ℕ) (bytes : List ℕ) (sound : HasSound volume old) (placed : IsPlaced volume old directory place) (written : HasEntryBytes volume old image directory place bytes) where
   abbrev Was : Parts
@@ -38,9 +43,6 @@ module _ (volume : Volume) (old image : Image) (directory place : ℕ) (bytes : 
   abbrev Index : ℕ
   Index = place % entries_per_block volume.layout.kind
 
-  lies : Laid volume.layout
-  lies = laid (sector_of volume old super_sector) volume.span.count volume.layout sound.super
-
   -- the pointer to the entry's block
   abbrev Here : Pointer
   Here = block_pointer volume.layout.kind (place / entries_per_block volume.layout.kind)
@@ -57,82 +59,37 @@ module _ (volume : Volume) (old image : Image) (directory place : ℕ) (bytes : 
   offset-below : Size * Index < 1024
   offset-below = let some : 0 < Size = some-entry volume.layout.kind in omega (arith, offset-fits, some)
 
-  -- the entry's sector is one of the zone's two
-  sector-is : (place_in volume old directory place).sector ≡ zone_sector Zone + Size * Index / 512
+  -- ---- the part of the zone
+
+  has-part : HasZonePart volume old image Zone (Size * Index) bytes
   unfolding place_of_entry
-  sector-is = refl
+  has-part = record {
+    below = offset-below;
+    inside = let low : Size * Index % 512 + Size ≤ 512 = entry-in_sector volume.layout.kind Index (index-below volume.layout.kind place) in omega (arith, low, written.long);
+    here = written.here;
+    others = written.others;
+  }
 
-  at-is : (place_in volume old directory place).at ≡ Size * Index % 512
-  unfolding place_of_entry
-  at-is = refl
-
-  half : Size * Index / 512 < 2
-  half = omega (arith, offset-below)
-
-  -- ---- what stands elsewhere
-
-  before : (sector : ℕ) → sector < 2 * volume.layout.first → sector_of volume image sector ≡ sector_of volume old sector
-  before sector low = written.others sector (omega (arith, low, lies.first)) (λ e. absurd (omega (arith, low, e, sector-is, range.0)))
-
-  other-zone : (zone : ℕ) → zone < volume.layout.zones → zone ≢ Zone → (sector : ℕ) → (sector ≡ zone_sector zone) ⊎ (sector ≡ zone_sector zone + 1) → sector_of volume image sector ≡ sector_of volume old sector
-  other-zone zone inside apart sector (inl first) = written.others sector (omega (arith, inside, first)) (λ e. apart (omega (arith, first, e, sector-is, half)))
-  other-zone zone inside apart sector (inr last) = written.others sector (omega (arith, inside, last)) (λ e. apart (omega (arith, last, e, sector-is, half)))
+  part : PartIsWritten volume old image Zone (Size * Index) bytes
+  part = part_law volume old image Zone (Size * Index) bytes (closed volume old sound) range has-part
 
   node-kept : (number : ℕ) → 0 < number → number ≤ volume.layout.inodes → Now.node number ≡ Was.node number
-  unfolding parts_of
-  node-kept number some low =
-      let inside : (inode_place volume.layout number).sector < 2 * volume.layout.first = place-below volume.layout lies number some low in
-      ap (λ sector. inode_of volume.layout.kind (part_of sector (inode_place volume.layout number).at (inode_size volume.layout.kind))) (before (inode_place volume.layout number).sector inside)
+  node-kept number some low = part.change.nodes number (some, low)
 
-  mark-kept : (number : ℕ) → number ≤ volume.layout.inodes → Now.has_inode number ≡ Was.has_inode number
-  unfolding parts_of
-  mark-kept number low =
-      let inside : inode_mark_sector number < 4 + 2 * volume.layout.imap = mark-below volume.layout lies number low in
-      ap (λ sector. bit sector (number % 4096)) (before (inode_mark_sector number) (omega (arith, inside, lies.table)))
-
-  zone_mark-kept : (zone : ℕ) → zone < volume.layout.zones → Now.has_zone zone ≡ Was.has_zone zone
-  unfolding parts_of
-  zone_mark-kept zone low =
-      let inside : zone_mark_sector volume.layout zone < 2 * table_start volume.layout = zone_mark-below volume.layout lies zone low in
-      ap (λ sector. bit sector (zone_bit volume.layout zone % 4096)) (before (zone_mark_sector volume.layout zone) (omega (arith, inside, lies.table)))
-
-  zone-kept : (zone : ℕ) → zone < volume.layout.zones → zone ≢ Zone → Now.zone zone ≡ Was.zone zone
-  unfolding parts_of
-  zone-kept zone inside apart =
-      ap (λ first. first ++ sector_of volume image (zone_sector zone + 1)) (other-zone zone inside apart (zone_sector zone) (inl refl))
-      ∙ ap (λ last. sector_of volume old (zone_sector zone) ++ last) (other-zone zone inside apart (zone_sector zone + 1) (inr refl))
+  zone-kept : (zone : ℕ) → IsDataZone volume.layout zone → zone ≢ Zone → Now.zone zone ≡ Was.zone zone
+  zone-kept = part.change.others
 
   node-named : (number : ℕ) → NamedIn volume old number → Now.node number ≡ Was.node number
-  node-named number named = let low = sound.parts.in_range number named in node-kept number low.0 low.1
+  node-named number named = part.change.nodes number (sound.parts.in_range number named)
 
   zones-named : (number : ℕ) (at : Pointer) (zone : ℕ) → RefersIn volume old number at zone → zone ≢ Zone → Now.zone zone ≡ Was.zone zone
-  zones-named number at zone refers apart = zone-kept zone (sound.parts.zone_range number at zone refers).1 apart
-
-  -- ---- the entry's zone
-
-  sectors-long : (sector : ℕ) → sector < 2 * volume.layout.zones → length (sector_of volume old sector) ≡ 512
-  sectors-long = sound.whole
+  zones-named number at zone refers apart = part.change.others zone (sound.parts.zone_range number at zone refers) apart
 
   zone-is : Now.zone Zone ≡ with_part (Was.zone Zone) (Size * Index) bytes
-  unfolding parts_of place_of_entry
-  zone-is = halves (sector_of volume old) (sector_of volume image) (zone_sector Zone) (Size * Index) bytes
-      (sectors-long (zone_sector Zone) (omega (arith, range.1)))
-      offset-below
-      (let inside : Size * Index % 512 + Size ≤ 512 = entry-in_sector volume.layout.kind Index (index-below volume.layout.kind place) in omega (arith, inside, written.long))
-      written.here
-      (λ sector one apart. written.others sector (zone-sectors sector one) apart)
-    where
-      zone-sectors : (sector : ℕ) → (sector ≡ zone_sector Zone) ⊎ (sector ≡ zone_sector Zone + 1) → sector < 2 * volume.layout.zones
-      zone-sectors sector (inl first) = omega (arith, first, range.1)
-      zone-sectors sector (inr last) = omega (arith, last, range.1)
+  zone-is = part.change.here
 
   zone-long : length (Was.zone Zone) ≡ 1024
-  unfolding parts_of
-  zone-long =
-      length-append (sector_of volume old (zone_sector Zone)) (sector_of volume old (zone_sector Zone + 1))
-      ∙ (let low = sectors-long (zone_sector Zone) (omega (arith, range.1)) in
-      let high = sectors-long (zone_sector Zone + 1) (omega (arith, range.1)) in
-      omega (arith, low, high))
+  zone-long = part.long
 
   inside : Size * Index + length bytes ≤ length (Was.zone Zone)
   inside = omega (arith, offset-fits, zone-long, written.long)
@@ -233,36 +190,25 @@ module _ (volume : Volume) (old image : Image) (directory place : ℕ) (bytes : 
   only = record {
     change = record { named = placed.named; is = placed.is; below = placed.below; node = node-named directory placed.named; others = others };
     nodes = node-named;
-    marks = λ number named. mark-kept number (sound.parts.in_range number named).1;
+    marks = λ number named. part.change.marks number (sound.parts.in_range number named);
     zones = zones-named;
-    zone_marks = λ number at zone refers. zone_mark-kept zone (sound.parts.zone_range number at zone refers).1;
+    zone_marks = λ number at zone refers. part.change.zone_marks zone (sound.parts.zone_range number at zone refers);
   }
 
   kept : (number : ℕ) → IsFit volume.layout Was number → number ≢ directory → KeepsInode volume.layout Was Now number
   kept number fit apart = record {
     node = node-kept number fit.range.0 fit.range.1;
-    mark = mark-kept number fit.range.1;
-    zones = λ at zone to. zone-kept zone (fit.zone_range at zone to).1 (λ same.
+    mark = part.change.marks number fit.range;
+    zones = λ at zone to. zone-kept zone (fit.zone_range at zone to) (λ same.
         apart (fit.apart directory at Here zone to (subst (RefersIn volume old directory Here) (sym same) refers-here)));
-    zone_marks = λ at zone to. zone_mark-kept zone (fit.zone_range at zone to).1;
+    zone_marks = λ at zone to. part.change.zone_marks zone (fit.zone_range at zone to);
   }
-
-  whole-by : (sector : ℕ) → sector < 2 * volume.layout.zones → (here : Bool) → (sector == (place_in volume old directory place).sector) ≡ here → length (sector_of volume image sector) ≡ 512
-  whole-by sector below true here =
-      let same : sector ≡ (place_in volume old directory place).sector = eqb-true sector (place_in volume old directory place).sector here in
-      let long : length (sector_of volume old (place_in volume old directory place).sector) ≡ 512 = ap (λ n. length (sector_of volume old n)) (sym same) ∙ sound.whole sector below in
-      let fits : (place_in volume old directory place).at + length bytes ≤ length (sector_of volume old (place_in volume old directory place).sector) =
-      let in_sector : Size * Index % 512 + Size ≤ 512 = entry-in_sector volume.layout.kind Index (index-below volume.layout.kind place) in
-      omega (arith, in_sector, long, at-is, written.long) in
-      ap (λ n. length (sector_of volume image n)) same
-      ∙ (ap length written.here ∙ (length-with_part (sector_of volume old (place_in volume old directory place).sector) (place_in volume old directory place).at bytes fits ∙ long))
-  whole-by sector below false here = ap length (written.others sector below (λ e. let t = eq-eqb sector (place_in volume old directory place).sector e in cc)) ∙ sound.whole sector below
 
   sound-image : Sound volume.layout Now → IsSound volume image
   unfolding IsSound
   sound-image parts = record {
-    super = ap (λ sector. super_at sector volume.span.count) (before super_sector (omega (arith, lies.table))) ∙ sound.super;
-    whole = λ sector below. whole-by sector below _ refl;
+    super = ap (λ sector. super_at sector volume.span.count) part.sectors.super ∙ sound.super;
+    whole = part.sectors.whole;
     parts = parts;
   }
 

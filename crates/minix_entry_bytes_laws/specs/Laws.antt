@@ -8,8 +8,9 @@ use Rattle.lilo_model.specs.MinixEntries.{entry_with, entry_of}
 use Rattle.lilo_model.specs.MinixNames.{Directory, thing, IsSound}
 use Rattle.minix_sees_laws.specs.Sees.{SeenAsIn}
 use Rattle.minix_sees_laws.specs.Tree.{HasTreeWith, HasTreeMoved}
-use Rattle.minix_entry_laws.specs.Enter.{MayStand, DirectoryMayStand, MayEnter, MayRemove, MayRename, IsOnlyName, IsLeft}
+use Rattle.minix_entry_laws.specs.Enter.{MayStand, DirectoryMayStand, MayEnter, MayRemove, MayRename, HasLinkMore, IsOnlyName, IsLeft}
 use Rattle.minix_entry_bytes_laws.specs.Written.{entry_bytes, FitsEntry, place_in, IsPlaced, HasEntryBytes, EntryIsWritten}
+use Rattle.minix_entry_bytes_laws.specs.Replaced.{ReplacesBytes, ReplacedIn}
 use Rattle.minix_entry_bytes_laws.specs.Still.{StandsAsIn}
 use Rattle.minix_entry_bytes_laws.specs.Sample.{CanEnter}
 
@@ -112,6 +113,24 @@ RedirectLastBytesLaw =
     → IsOnlyName volume.layout (parts_of volume old) (name ∷ outer) former
     → MayStand volume.layout (parts_of volume old) number → number ≢ former
     → IsLeft volume.layout (parts_of volume image) former
+
+-- ---- links that may be taken back
+
+-- once an entry is free, its inode's links may be lowered by one
+abbrev pub RemoveLowerBytesLaw : Type 0
+RemoveLowerBytesLaw =
+    (volume : Volume) (old image : Image) (outer : List (List ℕ)) (directory place number : ℕ) (name bytes : List ℕ)
+    → IsSound volume old → IsPlaced volume old directory place → HasEntryBytes volume old image directory place bytes
+    → (entry_of volume.layout.kind bytes).inode ≡ 0
+    → MayRemove volume.layout (parts_of volume old) outer directory place number name
+    → HasLinkMore volume.layout (parts_of volume old) (parts_of volume image) number
+
+-- a name replaces another by the bytes of two entries
+abbrev pub ReplaceBytesLaw : Type 0
+ReplaceBytesLaw =
+    (volume : Volume) (old mid new : Image) (outer : List (List ℕ)) (directory to_place from_place former number : ℕ) (to from bytes free : List ℕ)
+    → IsSound volume old → ReplacesBytes volume old mid new outer directory to_place from_place former number to from bytes free
+    → ReplacedIn volume old mid new outer former number to from
 
 -- ---- writes that no name sees
 

@@ -7,7 +7,9 @@ ghost use Rattle.minix_entry_bytes_laws.specs.Laws.{
   RedirectLastBytesLaw,
   RemoveBytesLaw,
   RemoveLastBytesLaw,
+  RemoveLowerBytesLaw,
   RenameBytesLaw,
+  ReplaceBytesLaw,
   SampleLaw,
   StillLaw,
   WriteEntryLaw,
@@ -72,4 +74,14 @@ pub fn bytes_of_a_redirected_last_name_leave_an_inode()
 /// What may be done to entries may be done after writes that no name sees.
 pub fn what_may_be_done_still_may()
     ensures { StillLaw }
+{}
+
+/// Once an entry is free by its bytes, the links of its inode may be lowered by one.
+pub fn bytes_of_a_free_entry_leave_a_link()
+    ensures { RemoveLowerBytesLaw }
+{}
+
+/// A name replaces another by the bytes of two entries, both leading to the one inode in between.
+pub fn bytes_of_two_entries_replace_a_name()
+    ensures { ReplaceBytesLaw }
 {}

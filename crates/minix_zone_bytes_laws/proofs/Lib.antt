@@ -1,0 +1,4 @@
+pub mod Part
+pub mod Numbers
+pub mod Unseen
+pub mod Sample

@@ -1,0 +1,3 @@
+pub mod Part
+pub mod Sample
+pub mod Laws

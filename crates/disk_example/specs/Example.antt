@@ -1,5 +1,5 @@
 -- What an interrupted update may leave.
-use Rattle.std.specs.Prelude.{◌≡◌, ◌⊎◌, ℕ, List, length}
+use Rattle.std.specs.Prelude.{◌≡◌, ◌≢◌, ◌⊎◌, ℕ, List, [], ◌∷◌, length, Contains}
 use Rattle.disk_trait.specs.Past.{Image, with_sector}
 use Rattle.disk_trait.specs.Range.{SameOutside, IsWritten}
 
@@ -15,6 +15,15 @@ IsWithOrWithout old disk sector bytes c = (c ≡ old) ⊎ (c ≡ with_sector old
 -- what boots is that of before, or what is meant, and the same of the two whatever is typed
 abbrev pub BootsAsBeforeOr : (Image → List ℕ → ℕ) → Image → (List ℕ → ℕ) → Image → Type 0
 BootsAsBeforeOr boots before meant c = (boots c ≡ boots before) ⊎ (boots c ≡ meant)
+
+-- an image with the same bytes in some sectors of a disk
+abbrev pub filled : ℕ → List ℕ → List ℕ → Image → Image
+filled disk [] bytes image = image
+filled disk (sector ∷ places) bytes image = filled disk places bytes (with_sector image disk sector bytes)
+
+-- a sector is none of some sectors of a disk
+abbrev pub IsNoneOf : ℕ → List ℕ → ℕ → ℕ → Type 0
+IsNoneOf disk places d s = (d ≢ disk) ⊎ ¬ Contains places s
 
 -- what boots from an image doesn't depend on some neighbouring sectors
 abbrev pub IsFreeOf : (Image → List ℕ → ℕ) → Image → ℕ → ℕ → ℕ → Type 0

@@ -1,12 +1,14 @@
 //! Updates of disks that a stop may interrupt, in the words of moments.
 #![tactic(auto)]
 
-ghost use Rattle.std.specs.Prelude.{◌≡◌, ◌⊎◌, ◌<◌, ◌≤◌, ℕ, List, length, EachIndex, slice_index, OnOk, IsErrOf};
+ghost use Rattle.std.specs.Prelude.{◌≡◌, ◌⊎◌, ◌<◌, ◌≤◌, ℕ, List, length, EachIndex, SomeIndex, slice_index, OnOk, IsErrOf};
 ghost use Rattle.disk_trait.specs.Past.{Image, with_sector};
 ghost use Rattle.disk_trait.specs.Moments.{IsTold, now, MayLeave, IsQuiet, LeavesOnly};
-ghost use Rattle.disk_trait.specs.Cause.{Rose, HasCause};
-ghost use Rattle.disk_trait.specs.Range.{IsPastEnd, HasRangeCause, SameOutside, IsWritten};
-ghost use Rattle.disk_example.specs.Example.{IsOldFirstOrBoth, IsWithOrWithout, BootsAsBeforeOr, IsFreeOf, BringsAbout};
+ghost use Rattle.disk_trait.specs.Cause.{Rose};
+ghost use Rattle.disk_trait.specs.Calls.{HasCauseOf, HasRangeCauseOf};
+ghost use Rattle.disk_trait.specs.NotWritten.{NotWritten};
+ghost use Rattle.disk_trait.specs.Range.{IsPastEnd, SameOutside, IsWritten};
+ghost use Rattle.disk_example.specs.Example.{IsOldFirstOrBoth, IsWithOrWithout, BootsAsBeforeOr, filled, IsNoneOf, IsFreeOf, BringsAbout};
 
 use disk_trait::{DiskFault, Disks, flush, write, write_and_flush, write_range};
 use sector_parts::Sector;
@@ -43,8 +45,7 @@ pub fn stage<D: Disks>(
     sectors: &[Sector],
 ) -> Result<(), DiskFault>
     requires { IsQuiet (D.past disks.old) }
-    ensures cause { HasRangeCause (D.size_of disks.old disk) start (length sectors.now)
-        (D.faults disks.old) (D.faults disks.new) result }
+    ensures cause { HasRangeCauseOf D.Disks disks.old disks.new disk start (length sectors.now) result }
     ensures any_moment { LeavesOnly (D.past disks.old) (D.past disks.new)
         (SameOutside disk start (length sectors.now) (now (D.past disks.old))) }
     ensures size { D.size_of disks.new ≡ D.size_of disks.old }
@@ -64,7 +65,7 @@ pub fn commit<D: Disks>(
     from: &Sector,
 ) -> Result<(), DiskFault>
     requires { IsQuiet (D.past disks.old) }
-    ensures cause { HasCause (D.size_of disks.old disk) sector (D.faults disks.old) (D.faults disks.new) result }
+    ensures cause { HasCauseOf D.Disks disks.old disks.new disk sector result }
     ensures any_moment { LeavesOnly (D.past disks.old) (D.past disks.new)
         (IsWithOrWithout (now (D.past disks.old)) disk sector from.now) }
     ensures committed { IsTold (D.past disks.old)
@@ -92,6 +93,12 @@ pub fn fill<D: Disks, B: Boot>(
     requires quiet { IsQuiet (D.past disks.old) }
     requires free { EachIndex places.now (λ k. (c : Image) → B.boots (with_sector c disk (slice_index places.now k) from.now) ≡ B.boots c) }
     ensures failed { IsErrOf result DiskFault.Failed → Rose (D.faults disks.old) (D.faults disks.new) }
+    ensures out_of_range { IsErrOf result DiskFault.OutOfRange
+        → SomeIndex places.now (λ k. D.size_of disks.old disk ≤ slice_index places.now k) }
+    ensures in_range { OnOk result (EachIndex places.now (λ k. slice_index places.now k < D.size_of disks.old disk)) }
+    ensures filled { IsTold (D.past disks.old)
+        → OnOk result (now (D.past disks.new) ≡ filled disk places.now from.now (now (D.past disks.old))) }
+    ensures others { (d s : ℕ) → IsNoneOf disk places.now d s → NotWritten (D.past disks.old) (D.past disks.new) d s }
     ensures any_moment { LeavesOnly (D.past disks.old) (D.past disks.new) (λ c. B.boots c ≡ B.boots (now (D.past disks.old))) }
     ensures quiet { OnOk result (IsQuiet (D.past disks.new)) }
 {

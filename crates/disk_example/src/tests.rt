@@ -1,4 +1,4 @@
-ghost use Rattle.std.specs.Prelude.{◌≡◌, [], IfOk, Some};
+ghost use Rattle.std.specs.Prelude.{◌≡◌, [], IfOk, Some, slice_index_or};
 ghost use Rattle.disk_trait.specs.MemDisks.{past_in};
 ghost use Rattle.disk_trait.specs.Moments.{IsQuiet};
 
@@ -28,6 +28,27 @@ fn stage_and_commit(disks: &mut MemDisks) -> Result<(), DiskFault>
 {
     stage(disks, 0, 4, &[[7; 512], [8; 512]])?;
     commit(disks, 0, 0, &[9; 512])
+}
+
+// What boots is the first byte of sector 0, whatever is typed.
+struct FirstByte;
+
+impl Boot for FirstByte {
+    ghost boots = { λ image keys. slice_index_or (image 0 0) 0 0 };
+}
+
+// Fills two sectors of which the boot knows nothing.
+fn fill_two(disks: &mut MemDisks) -> Result<(), DiskFault>
+    requires { IsQuiet (Some (past_in disks.old)) }
+{
+    fill::<MemDisks, FirstByte>(disks, 0, &[2, 5], &[7; 512])
+}
+
+// Stages two sectors of which the boot knows nothing, and then writes the one that it reads.
+fn install_two(disks: &mut MemDisks) -> Result<(), DiskFault>
+    requires { IsQuiet (Some (past_in disks.old)) }
+{
+    install::<MemDisks, FirstByte>(disks, 0, 4, &[[7; 512], [8; 512]], 0, &[9; 512])
 }
 
 // The first byte of each of three sectors, as a reader finds it.
@@ -97,6 +118,39 @@ fn the_commit_waits_for_what_is_staged(rt: HostRuntime) -> Result<(), Fail> {
     ] {
         assert_eq!(rt;
             left(alloc, &disks, prefix, [4, 5, 0])?,
+            wanted,
+            "after {prefix} events"
+        );
+    }
+    Ok(())
+}
+
+#[test]
+fn what_boots_stays_or_is_as_meant(rt: HostRuntime) -> Result<(), Fail> {
+    let alloc = rt.alloc();
+    let mut disks = zero_disk(alloc)?;
+    assert!(rt; fill_two(&mut disks).is_ok());
+    for (prefix, wanted) in [
+        (1, [[0, 0, 0], [0, 7, 0]]),
+        (2, [[0, 0, 0], [0, 7, 7]]),
+        (3, [[0, 7, 7], [0, 7, 7]]),
+    ] {
+        assert_eq!(rt;
+            left(alloc, &disks, prefix, [0, 2, 5])?,
+            wanted,
+            "after {prefix} events"
+        );
+    }
+    let mut disks = zero_disk(alloc)?;
+    assert!(rt; install_two(&mut disks).is_ok());
+    for (prefix, wanted) in [
+        (2, [[0, 0, 0], [0, 7, 8]]),
+        (3, [[0, 7, 8], [0, 7, 8]]),
+        (4, [[0, 7, 8], [9, 7, 8]]),
+        (5, [[9, 7, 8], [9, 7, 8]]),
+    ] {
+        assert_eq!(rt;
+            left(alloc, &disks, prefix, [0, 4, 5])?,
             wanted,
             "after {prefix} events"
         );

@@ -13,7 +13,7 @@ use Rattle.lilo_model.specs.Meant.{filled_file}
 use Rattle.lilo_model.specs.Plan.{MappedFile, MappedSection, plan_sectors, sectors_of_table}
 use Rattle.lilo_model.specs.Planned.{optional_file, mapped_section, devices_in, planned}
 use Rattle.lilo_model.specs.PlanRefusal.{NoImagesLeft, MessageTooLong, each_passes, if_there, file_check, section_check, default_check, left_check, file_checks, disk_check, message_limit, message_check, mapped_check, held_checks, mapped_file_check, mapped_address_check, address_checks, plan_at}
-use Rattle.map_laws.specs.Accepted.{HasZeros, AcceptedLaw}
+use Rattle.map_laws.specs.Accepted.{HasZeros, AcceptedLiesLaw, AcceptedLiesLaw, AcceptedLaw}
 use Rattle.map_laws.proofs.Accepted.{both-pass, required, all-pass, not-ok, places_law, optional-lies}
 use Rattle.map_laws.proofs.AcceptedSections.{files-lie, all-ready}
 use Rattle.map_laws.proofs.MeantFiles.{optional_file_law}
@@ -31,9 +31,9 @@ few (Some file) (Some bytes) same is =
 some-left : (sections : List MappedSection) → left_check sections ≡ Ok tt → sections ≢ []
 some-left sections is none = not-ok NoImagesLeft tt (ap left_check (sym none) ∙ is)
 
-pub accepted_law : AcceptedLaw
+pub accepted_lies_law : AcceptedLiesLaw
 unfolding plan_at file_checks held_checks address_checks planned plan_sectors sectors_of_table
-accepted_law before image machine volume span config time line p0 p1 p2 p3 p4 rest present keys memory sound a w =
+accepted_lies_law before image machine volume span config time line p0 p1 p2 p3 p4 rest present sound a w =
     let plan = planned before machine volume config time in
     let parts = parts_of volume before in
     let sections = flat_map (mapped_section before machine volume) config.sections in
@@ -55,8 +55,7 @@ accepted_law before image machine volume span config time line p0 p1 p2 p3 p4 re
     let named = places_law machine config (p0 ∷ (p1 ∷ (p2 ∷ (p3 ∷ (p4 ∷ rest))))) a.has.geometries a.inside a.own in
     let z : HasZeros image machine config p0 p4 = record { named = (named.1.1.1.1.0, tt); other = w.apart.1.1.1.0; zeros = w.lies.1.1.1.0 } in
     let ready = all-ready before image machine volume span config p0 p4 sound a.has z a.sizes a.devices w.whole sections (all-pass (mapped_address_check config machine) sections sent.2) (all-pass (mapped_check before volume span) sections short.2) w.sections in
-    planned_law before image machine volume span config time (devices_in before machine) line p0 p1 p2 p3 p4 rest present keys memory sound
-    (record {
+    record {
       lawful = a.lawful;
       time_fits = a.time_fits;
       present_long = w.present_long;
@@ -70,4 +69,9 @@ accepted_law before image machine volume span config time line p0 p1 p2 p3 p4 re
       message = optional-lies before image machine volume config p0 p4 options.Message sound a.has z a.sizes config.message sent.1 w.message;
       files = files-lie before image machine volume span config p0 p4 sound a.has z a.sizes a.devices w.whole config.sections (recursion_from_All _ config.sections a.lawful.sections)
           (all-pass (λ (section : ConfSection). section_check before machine volume section section.other) config.sections each.1) ready;
-    })
+    }
+
+pub accepted_law : AcceptedLaw
+accepted_law before image machine volume span config time line p0 p1 p2 p3 p4 rest present keys memory sound a w =
+    planned_law before image machine volume span config time (devices_in before machine) line p0 p1 p2 p3 p4 rest present keys memory sound
+    (accepted_lies_law before image machine volume span config time line p0 p1 p2 p3 p4 rest present sound a w)

@@ -21,6 +21,7 @@ use Rattle.lilo_model.specs.Planned.{devices_in, mapped_inode, optional_file, pl
 use Rattle.lilo_model.specs.PlanRefusal.{if_there, mapped_file_check, own_places_check, plan_at}
 use Rattle.map_laws.specs.Lies.{AreNamed, IsNone, FileLies, OptionalLies}
 use Rattle.map_laws.specs.Files.{IsKept}
+use Rattle.map_laws.specs.PlannedLies.{PlannedLies}
 
 -- a place is a sector of one of the four disks
 pub record IsInside (machine : Machine) (place : DiskSector) : Type 0 where
@@ -117,7 +118,16 @@ pub record IsWritten (before image : Image) (machine : Machine) (volume : Volume
   pub message : IsOptionalLeft before image p0 (planned before machine volume config time).message
   pub sections : AllByRecursion (λ mapped. IsSectionLeft before image p0 mapped mapped.section.other) (planned before machine volume config time).sections
 
--- what is accepted by one image on a sound volume and written in another boots as the configuration and its files mean
+-- what is accepted by one image on a sound volume and written in another lies there as planned
+abbrev pub AcceptedLiesLaw : Type 0
+AcceptedLiesLaw =
+    (before image : Image) (machine : Machine) (volume : Volume) (span : Span) (config : Config) (time : ℕ) (line : DefaultLine) (p0 p1 p2 p3 p4 : DiskSector) (rest : List DiskSector) (present : List ℕ)
+    → IsSound volume before
+    → IsAccepted before machine volume span config time (p0 ∷ (p1 ∷ (p2 ∷ (p3 ∷ (p4 ∷ rest)))))
+    → IsWritten before image machine volume span config time line p0 p1 p2 p3 p4 rest present
+    → PlannedLies before image machine volume span config time (devices_in before machine) line p0 p1 p2 p3 p4 rest present
+
+-- and so it boots as the configuration and its files mean
 abbrev pub AcceptedLaw : Type 0
 AcceptedLaw =
     (before image : Image) (machine : Machine) (volume : Volume) (span : Span) (config : Config) (time : ℕ) (line : DefaultLine) (p0 p1 p2 p3 p4 : DiskSector) (rest : List DiskSector) (present : List ℕ) (keys : List Key) (memory : ℕ)

@@ -2,6 +2,7 @@
 ghost use Rattle.map_laws.specs.Accepted.{
   AcceptedFileLaw,
   AcceptedLaw,
+  AcceptedLiesLaw,
   AcceptedOptionalLaw,
   PlacesLaw,
 };
@@ -73,4 +74,9 @@ pub fn accepted_file_lies()
 /// So does one that may be absent or empty.
 pub fn accepted_optional_file_lies()
     ensures { AcceptedOptionalLaw }
+{}
+
+/// And what they accept lies as planned, so that the other laws hold of it too.
+pub fn accepted_plan_lies()
+    ensures { AcceptedLiesLaw }
 {}

@@ -22,3 +22,7 @@ pub mod Planned
 pub mod Stays
 pub mod Lines
 pub mod Maximal
+pub mod Accepted
+pub mod AcceptedKernels
+pub mod AcceptedSections
+pub mod AcceptedWhole

@@ -59,7 +59,7 @@ module _ (volume : Volume) (image : Image) (sound : IsSound volume image) where
         by true = refl
         by false = refl
 
-    in-range : (index zone : ℕ) → zone_number volume.layout parts number (index / 2) ≡ zone → zone ≢ 0 → zone < volume.layout.zones
+    pub in-range : (index zone : ℕ) → zone_number volume.layout parts number (index / 2) ≡ zone → zone ≢ 0 → zone < volume.layout.zones
     unfolding zone_number IsSound
     in-range index zone is some =
         let to : PointsTo volume.layout parts number (block_pointer volume.layout.kind (index / 2)) zone = record { kind = zones-of (is_directory (parts.node number)) (is_file (parts.node number)) (is_link (parts.node number)) is_regular; place = is_pointer-block volume.layout.kind (index / 2); is = is; some = some } in
@@ -121,7 +121,7 @@ file_law before image machine volume config line_place zero_place number sound k
 -- ---- files that may be absent or empty
 
 -- the inode of a path's file has a name
-inode-named : (volume : Volume) (image : Image) (sound : IsSound volume image) (text : List ℕ) (number : ℕ) → file_inode volume (parts_of volume image) text ≡ Some number
+pub inode-named : (volume : Volume) (image : Image) (sound : IsSound volume image) (text : List ℕ) (number : ℕ) → file_inode volume (parts_of volume image) text ≡ Some number
     → Named volume.layout (parts_of volume image) number × (is_file ((parts_of volume image).node number) ≡ true)
 unfolding file_inode
 inode-named volume image sound text number is = by-found (find volume.layout (parts_of volume image) text) (path_of (names_in volume image) true text) (find_law volume image sound true text) is

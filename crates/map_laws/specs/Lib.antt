@@ -1,3 +1,4 @@
+pub mod Accepted
 pub mod Compact
 pub mod Files
 pub mod Lies

@@ -1,4 +1,11 @@
 // What a boot of a planned map does.
+ghost use Rattle.map_laws.specs.Accepted.{
+  AcceptedFileLaw,
+  AcceptedLaw,
+  AcceptedLiesLaw,
+  AcceptedOptionalLaw,
+  PlacesLaw,
+};
 ghost use Rattle.map_laws.specs.Compact.{CompactLaw};
 ghost use Rattle.map_laws.specs.Files.{FileLaw, OptionalFileLaw};
 ghost use Rattle.map_laws.specs.Lies.{MapLaw};
@@ -47,4 +54,29 @@ pub fn kept_file_lies()
 /// A file that may be absent or empty is mapped where it counts for what is meant, and has as many bytes.
 pub fn optional_file_is_mapped_where_it_counts()
     ensures { OptionalFileLaw }
+{}
+
+/// What the checks of a plan accept on a sound volume, once it is written, boots as the configuration and its files mean.
+pub fn accepted_plan_boots_as_meant()
+    ensures { AcceptedLaw }
+{}
+
+/// Places that are accepted for a map have slots that name them.
+pub fn accepted_places_have_slots()
+    ensures { PlacesLaw }
+{}
+
+/// A file that is accepted lies where its sectors are left as they were.
+pub fn accepted_file_lies()
+    ensures { AcceptedFileLaw }
+{}
+
+/// So does one that may be absent or empty.
+pub fn accepted_optional_file_lies()
+    ensures { AcceptedOptionalLaw }
+{}
+
+/// And what they accept lies as planned, so that the other laws hold of it too.
+pub fn accepted_plan_lies()
+    ensures { AcceptedLiesLaw }
 {}

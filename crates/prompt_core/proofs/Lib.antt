@@ -1,6 +1,7 @@
 pub mod DecidedLemmas
 pub mod GatherLemmas
 pub mod MoreLemmas
+pub mod PartsLemmas
 pub mod RunLemmas
 pub mod StartLemmas
 pub mod WordLemmas

@@ -22,21 +22,28 @@ pub data Mark : Type 0 where
 abbrev pub text_marks : List ℕ → List Mark
 text_marks text = map Shown text
 
--- where the first prompt in a text begins
-abbrev pub first_prompt : List ℕ → Option ℕ
-first_prompt [] = None
-first_prompt (byte ∷ text) = if starts_with nat_eq (byte ∷ text) prompt_text then Some 0 else option_map suc (first_prompt text)
+-- whether a text begins with the prompt
+abbrev pub begins_prompt : List ℕ → Bool
+begins_prompt text = starts_with nat_eq text prompt_text
 
--- the later of two places in a text
-abbrev pub later_place : Option ℕ → Option ℕ → Option ℕ
-later_place (Some place) other = Some (suc place)
-later_place None other = other
+-- where the first prompt in a text begins, or the text's end
+abbrev pub first_prompt : List ℕ → ℕ
+first_prompt [] = 0
+first_prompt (byte ∷ text) = if begins_prompt (byte ∷ text) then 0 else suc (first_prompt text)
+
+-- a place that was found behind a byte, or else the byte's own where that is one
+abbrev pub later_place : Option ℕ → Bool → Option ℕ
+later_place (Some place) here = Some (suc place)
+later_place None here = if here then Some 0 else None
 
 -- where the last prompt in a text begins
-abbrev pub last_prompt : List ℕ → Option ℕ
-last_prompt [] = None
-last_prompt (byte ∷ text) =
-    later_place (last_prompt text) (if starts_with nat_eq (byte ∷ text) prompt_text then Some 0 else None)
+abbrev pub last_found : List ℕ → Option ℕ
+last_found [] = None
+last_found (byte ∷ text) = later_place (last_found text) (begins_prompt (byte ∷ text))
+
+-- where the last prompt in a text begins, or the text's end
+abbrev pub last_prompt : List ℕ → ℕ
+last_prompt text = unwrap_or (last_found text) (length text)
 
 -- a text with another at a place
 abbrev pub inserted : List ℕ → ℕ → List ℕ → List ℕ
@@ -44,7 +51,7 @@ inserted text place other = take place text ++ (other ++ drop place text)
 
 -- a text with the names directly before its last prompt, where they are listed
 abbrev pub with_names : List ListedEntry → Answer → List ℕ → List ℕ
-with_names entries answers.List text = inserted text (unwrap_or (last_prompt text) (length text)) (listing entries)
+with_names entries answers.List text = inserted text (last_prompt text) (listing entries)
 with_names entries _ text = text
 
 -- a text with the message's place directly before its first prompt
@@ -56,8 +63,23 @@ message_marks entries answer left place text =
 abbrev pub said_marks : List ListedEntry → List Key → Said → List Mark
 said_marks entries left said =
     if said.opened
-    then message_marks entries said.answer left (unwrap_or (first_prompt said.show) (length said.show)) said.show
+    then message_marks entries said.answer left (first_prompt said.show) said.show
     else text_marks (with_names entries said.answer said.show)
+
+-- the names, where they are listed
+abbrev pub listed : List ListedEntry → Answer → List ℕ
+listed entries answers.List = listing entries
+listed entries _ = []
+
+-- the message's place, where the prompt opens
+abbrev pub opened_at : Bool → List Key → List Mark
+opened_at true left = Opened left ∷ []
+opened_at false left = []
+
+-- what is shown by three texts, with the message between the first two and the names between the last two
+abbrev pub parts_marks : List ListedEntry → List Key → Said → List ℕ → List ℕ → List ℕ → List Mark
+parts_marks entries left said before middle rest =
+    text_marks before ++ (opened_at said.opened left ++ text_marks (middle ++ (listed entries said.answer ++ rest)))
 
 -- ---- a list of keys
 

@@ -43,40 +43,31 @@ fn entries(rt: &impl Abort) -> ArrayVec<Choice, 48> {
     choices
 }
 
-fn settings(prompt: bool, delay: u16, timeout: Option<u16>) -> Settings {
-    Settings {
+/// A prompt with these entries: whether it is shown without a key, its delay and its timeout.
+fn prompt_of(rt: &impl Abort, waits: (bool, u16, Option<u16>), line: &DefaultLine) -> Prompt {
+    let (prompt, delay, timeout) = waits;
+    let settings = Settings {
         prompt,
         delay,
         timeout,
         default_entry: 0,
         capacity: 255,
-    }
-}
-
-/// Where the first or the last prompt begins in a text.
-fn prompt_at(text: &[u8], last: bool) -> usize {
-    let mut found = text.len();
-    for place in 0..text.len() {
-        if text[place..].starts_with(b"boot: ") && (last || found == text.len()) {
-            found = place;
-        }
-    }
-    found
+    };
+    Prompt::new(settings, entries(rt), line)
 }
 
 /// Shows a reply, with the message and the names at their places.
 fn show(text: &mut Vec<u8>, reply: &Reply) -> Result<(), AllocError> {
-    let shown = reply.show.as_slice();
-    for place in 0..shown.len() {
-        if reply.opened && place == prompt_at(shown, false) {
-            text.extend_from_slice(b"<M>")?;
-        }
-        if reply.answer == Answer::List && place == prompt_at(shown, true) {
-            text.extend_from_slice(b"linux\ndos\n")?;
-        }
-        text.push(shown[place])?;
+    let parts = reply.parts();
+    text.extend_from_slice(parts.before)?;
+    if reply.opened {
+        text.extend_from_slice(b"<M>")?;
     }
-    Ok(())
+    text.extend_from_slice(parts.middle)?;
+    if reply.answer == Answer::List {
+        text.extend_from_slice(b"linux\ndos\n")?;
+    }
+    text.extend_from_slice(parts.rest)
 }
 
 /// Tells a prompt keys, with 0x16 for a tick and silence behind them.
@@ -119,11 +110,11 @@ fn chosen(entry: u16, automatic: bool, vga: Option<u16>) -> Answer {
 #[test]
 fn prompts_are_told_keys(rt: HostRuntime) -> Result<(), Fail> {
     let idle = Answer::Idle;
-    let asks = settings(true, 0, None);
-    let cases: [(Settings, &[u8], &[u8], Answer, &[u8], usize); 14] = [
+    let asks = (true, 0, None);
+    let cases: [((bool, u16, Option<u16>), &[u8], &[u8], Answer, &[u8], usize); 14] = [
         (asks, b"", b"<M>boot: ", idle, b"", 0),
         (
-            settings(true, 0, Some(2)),
+            (true, 0, Some(2)),
             b"",
             b"<M>boot: \n",
             chosen(0, true, None),
@@ -131,31 +122,17 @@ fn prompts_are_told_keys(rt: HostRuntime) -> Result<(), Fail> {
             0,
         ),
         (
-            settings(true, 0, Some(2)),
+            (true, 0, Some(2)),
             b"\x16\x16x",
             b"<M>boot: \n",
             chosen(0, true, None),
             b"",
             2,
         ),
+        ((false, 0, None), b"x", b"", chosen(0, true, None), b"", 0),
+        ((false, 3, None), b"\x16\x16x", b"<M>boot: x", idle, b"", 3),
         (
-            settings(false, 0, None),
-            b"x",
-            b"",
-            chosen(0, true, None),
-            b"",
-            0,
-        ),
-        (
-            settings(false, 3, None),
-            b"\x16\x16x",
-            b"<M>boot: x",
-            idle,
-            b"",
-            3,
-        ),
-        (
-            settings(false, 3, None),
+            (false, 3, None),
             b"\x16\x16\x16x",
             b"",
             chosen(0, true, None),
@@ -163,7 +140,7 @@ fn prompts_are_told_keys(rt: HostRuntime) -> Result<(), Fail> {
             3,
         ),
         (
-            settings(false, 3, None),
+            (false, 3, None),
             b"\t",
             b"<M>boot: \nlinux\ndos\nboot: ",
             idle,
@@ -227,12 +204,8 @@ fn prompts_are_told_keys(rt: HostRuntime) -> Result<(), Fail> {
             16,
         ),
     ];
-    for (settings, keys, text, answer, words, taken) in cases {
-        let run = tell(
-            rt.alloc(),
-            Prompt::new(settings, entries(&rt), &DefaultLine::Empty),
-            keys,
-        )?;
+    for (waits, keys, text, answer, words, taken) in cases {
+        let run = tell(rt.alloc(), prompt_of(&rt, waits, &DefaultLine::Empty), keys)?;
         assert_eq!(rt; run.text.as_slice(), text);
         assert_eq!(rt; run.answer, answer);
         assert_eq!(rt; run.words.as_slice(), words);
@@ -248,11 +221,7 @@ fn a_lock_line_keeps_the_video_mode(rt: HostRuntime) -> Result<(), Fail> {
             .ok()
             .ok_or("a line")?,
     );
-    let run = tell(
-        rt.alloc(),
-        Prompt::new(settings(true, 0, None), entries(&rt), &line),
-        b"",
-    )?;
+    let run = tell(rt.alloc(), prompt_of(&rt, (true, 0, None), &line), b"")?;
     assert_eq!(rt; run.lock_line.as_slice(), b"dos vga=5 ro".as_slice());
     assert_eq!(rt; run.words.as_slice(), b"ro".as_slice());
     let picked = Picked {
@@ -272,7 +241,7 @@ fn a_password_is_waited_for(rt: HostRuntime) -> Result<(), Fail> {
         keys.push(0x16)?;
     }
     keys.extend_from_slice(b"dos\n")?;
-    let prompt = Prompt::new(settings(true, 0, None), entries(&rt), &DefaultLine::Empty);
+    let prompt = prompt_of(&rt, (true, 0, None), &DefaultLine::Empty);
     let run = tell(rt.alloc(), prompt, keys.as_slice())?;
     assert_eq!(rt;
         run.text.as_slice(),
@@ -289,7 +258,7 @@ fn a_line_is_cut_at_its_capacity(rt: HostRuntime) -> Result<(), Fail> {
         keys.push(b'x')?;
     }
     keys.push(b'\n')?;
-    let prompt = Prompt::new(settings(true, 0, None), entries(&rt), &DefaultLine::Empty);
+    let prompt = prompt_of(&rt, (true, 0, None), &DefaultLine::Empty);
     let run = tell(rt.alloc(), prompt, keys.as_slice())?;
     assert_eq!(rt; run.words.len(), 251);
     assert_eq!(rt; run.lock_line.len(), 255);

@@ -1,9 +1,9 @@
 #!/usr/bin/env python3
 """Writes the cases of what configurations mean and plan, from plan_cases.json beside it, as theorems that the check
 computes: crates/model_cases/proofs/Meant*, Plan*, Boots*, Refused* and NamesCases*.antt, and the disks, volumes and
-configurations that they begin with: crates/model_cases/specs/PlanFixtures.antt. Of some it writes that the premises of
-the law on planned maps are met: crates/map_cases/proofs/LiesCases*.antt. With --check it writes nothing, and fails where
-a file isn't as it would be written.
+configurations that they begin with: crates/model_cases/specs/PlanFixtures.antt. Of some it writes that the premises
+of the law on planned maps are met: crates/map_cases/proofs/LiesCases*.antt. With --check it writes nothing, and fails
+where a file isn't as it would be written.
 
 Bytes are hexadecimal in the data, a run of equal ones as the byte, `*` and its length, and parts are joined by `+`. A
 disk is a base with changes, each of them disk, sector, offset and bytes.
@@ -24,7 +24,8 @@ A_FILE = 8              # theorems a file
 LAWS = CRATE.parent / 'map_cases' / 'proofs'
 FIXED = set()           # the names of what the cases begin with
 MODULES = {'TreeFault': 'MinixFind', 'SetupFault': 'Header', 'AddressFault': 'Slots', 'TableFault': 'Partitions'}
-ALIASES = {'MinixFind': 'trees', 'Header': 'headers', 'Slots': 'slots', 'Partitions': 'tables', 'ConfOptions': 'options'}
+ALIASES = {'MinixFind': 'trees', 'Header': 'headers', 'Slots': 'slots', 'Partitions': 'tables',
+           'ConfOptions': 'options'}
 TREES = ['MinixLayout', 'MinixParts', 'MinixEntries', 'MinixFind', 'MinixNames', 'MinixFindNames']
 DISKS = ['Bytes', 'Slots', 'Partitions', 'Devices'] + TREES
 MAPS = ['Section', 'BootSector', 'Table', 'Options', 'LineSector']
@@ -35,7 +36,8 @@ FILES = {
     'Meant': ['Bytes', 'MinixFind', 'MinixFindNames', 'ConfLawful', 'Meant'] + KERNELS + LINES,
     'Plan': DISKS + MAPS + ['ConfLawful', 'Meant', 'Plan', 'Planned'],
     'Boots': DISKS + MAPS + KERNELS + LINES + ['Boot', 'ConfLawful', 'Meant', 'Plan', 'Planned'],
-    'Lies': DISKS + MAPS + ['ConfLawful', 'Meant', 'Plan', 'Planned', 'Conf', 'ConfJudge', 'ConfOptions', 'ConfSettings', 'ConfTokens', 'ConfValues'],
+    'Lies': DISKS + MAPS + ['ConfLawful', 'Meant', 'Plan', 'Planned', 'Conf', 'ConfJudge', 'ConfOptions',
+                            'ConfSettings', 'ConfTokens', 'ConfValues'],
     'Refused': DISKS + ['BootSector', 'ConfLawful', 'Meant', 'Plan', 'Planned', 'PlanRefusal', 'ConfOptions'] + KERNELS,
     'Names': DISKS + ['BootSector', 'NamePlaces', 'Apart', 'Settled'],
 }
@@ -49,8 +51,8 @@ OTHERS = {
     'Std': ['true', 'false', 'codes', 'replicate', 'None', 'Some', 'Ok', 'Err'],
     'Header': SETUP,
     'Boot': ['Loaded', 'Handed', 'Refused'], 'Reason': ['Idle', 'Header'], 'DefaultLine': ['Empty', 'Once', 'Kept'],
-    'PlanRefusal': ['Missing', 'NoImagesLeft', 'Address', 'TooManySlots', 'GeometryDiffers', 'OtherIsBoot', 'NoSignature',
-                    'MessageTooLong', 'Table', 'Tree', 'plan_status'],
+    'PlanRefusal': ['Missing', 'NoImagesLeft', 'Address', 'TooManySlots', 'GeometryDiffers', 'OtherIsBoot',
+                    'NoSignature', 'MessageTooLong', 'Table', 'Tree', 'plan_status'],
 }
 HELPERS = {
     'Sparse': ['hex', 'piece', 'patch_at', 'file', 'disks_of', 'disk_with', 'machine_of', 'on', 'typed', 'waited'],
@@ -88,7 +90,9 @@ def patches(items):
 
 def disks(item):
     base, changes = item
-    return patches(changes) if base is None else '(disk_%s ++ %s)' % (base, patches(changes)) if changes else 'disk_' + base
+    if base is None:
+        return patches(changes)
+    return '(disk_%s ++ %s)' % (base, patches(changes)) if changes else 'disk_' + base
 
 
 def volume(item):
@@ -108,7 +112,8 @@ def thing(item):
 
 
 def names(items):
-    return 'things_at %s' % listed(['named %s %s' % (listed([text(part) for part in path]), thing(what)) for path, what in items])
+    return 'things_at %s' % listed(
+        ['named %s %s' % (listed([text(part) for part in path]), thing(what)) for path, what in items])
 
 
 def devices(items):
@@ -164,14 +169,15 @@ def refusal(item):
 
 def scenario(case):
     """The names of what a case begins with: its own configuration, and disks that may be another's."""
-    others = {word: '%s_%s' % (word, case.get('uses', case['name'])) for word in ['disk', 'machine', 'names', 'devices', 'volume']}
-    return dict(others, conf='conf_' + case['name'])
+    words = ['disk', 'machine', 'names', 'devices', 'volume']
+    return dict({word: '%s_%s' % (word, case.get('uses', case['name'])) for word in words}, conf='conf_' + case['name'])
 
 
 def meant(case):
     fields = scenario(case)
-    return [('meant %s %s %s %s %s %d' % (fields['conf'], fields['names'], fields['devices'], line(one['line']),
-                                          keys(one['keys']), one['memory']), boot(one['gives'])) for one in case['meant']]
+    return [('meant %s %s %s %s %s %d' % (
+        fields['conf'], fields['names'], fields['devices'], line(one['line']), keys(one['keys']), one['memory']),
+             boot(one['gives'])) for one in case['meant']]
 
 
 def planned(case):
@@ -180,60 +186,78 @@ def planned(case):
         fields['disk'], fields['machine'], fields['volume'], fields['conf'], case['plan']['time'])
 
 
+def at_places(case):
+    """What is planned, its machine, and the places of its sectors."""
+    return '%s %s %s' % (planned(case), scenario(case)['machine'], sectors(case['plan']['places']))
+
+
+def boot_sector(case):
+    disk, start, _ = case['plan']['span']
+    return 'plan_boot_sector %s (disks_of %s %d %d)' % (at_places(case), scenario(case)['disk'], disk, start)
+
+
+def installed(case):
+    """The disks with what was planned."""
+    disk, start, _ = case['plan']['span']
+    places = '(record { disk = %d; sector = %d } ∷ %s)' % (disk, start, sectors(case['plan']['places']))
+    return 'with_sectors (disks_of %s) %s (%s ∷ plan_sectors %s)' % (
+        scenario(case)['disk'], places, boot_sector(case), at_places(case))
+
+
 def plan(case):
-    fields, what = scenario(case), case['plan']
-    places, disk, start = sectors(what['places']), what['span'][0], what['span'][1]
-    return [('plan_sectors %s %s %s' % (planned(case), fields['machine'], places), listed([content(one) for one in what['sectors']])[1:-1]),
-            ('plan_boot_sector %s %s %s (disks_of %s %d %d)' % (planned(case), fields['machine'], places, fields['disk'], disk, start),
-             content(what['boot'])[1:-1]),
-            ('map_size %s %s' % (planned(case), fields['machine']), str(len(what['sectors'])))]
+    what = case['plan']
+    return [('plan_sectors ' + at_places(case), listed([content(one) for one in what['sectors']])[1:-1]),
+            (boot_sector(case), content(what['boot'])[1:-1]),
+            ('map_size %s %s' % (planned(case), scenario(case)['machine']), str(len(what['sectors'])))]
 
 
 def boots(case):
-    fields, what = scenario(case), case['plan']
-    places, (disk, start, count) = sectors(what['places']), what['span']
-    image = '(with_sectors (disks_of %s) (record { disk = %d; sector = %d } ∷ %s) (plan_boot_sector %s %s %s (disks_of %s %d %d) ∷ plan_sectors %s %s %s))' % (
-        fields['disk'], disk, start, places, planned(case), fields['machine'], places, fields['disk'], disk, start,
-        planned(case), fields['machine'], places)
-    span = '(record { disk = %d; start = %d; count = %d })' % (disk, start, count)
-    return [('whole_boot %s %s %s %s %d' % (image, fields['machine'], span, keys(one['keys']), one['memory']),
-             'meant %s (names_in %s (disks_of %s)) (devices_in (disks_of %s) %s) Empty %s %d' % (
-                 fields['conf'], fields['volume'], fields['disk'], fields['disk'], fields['machine'], keys(one['keys']), one['memory']))
+    fields, span = scenario(case), model_cases.span(case['plan']['span'])
+    disks_there = '(disks_of %s)' % fields['disk']
+    named = '(names_in %s %s) (devices_in %s %s)' % (fields['volume'], disks_there, disks_there, fields['machine'])
+    begun = 'whole_boot (%s) %s %s' % (installed(case), fields['machine'], span)
+    return [('%s %s %d' % (begun, keys(one['keys']), one['memory']),
+             'meant %s %s Empty %s %d' % (fields['conf'], named, keys(one['keys']), one['memory']))
             for one in case['boots']]
 
 
 def placed(case):
-    return '(disks_of %s) %s %s' % (disks(case['disks']), model_cases.machine(case['machine']), '(%s)' % volume(case['volume']))
+    return '(disks_of %s) %s (%s)' % (
+        disks(case['disks']), model_cases.machine(case['machine']), volume(case['volume']))
 
 
 def refused(case):
     given = 'plan_at %s %s %s 0' % (placed(case), model_cases.span(case['span']), conf_cases.config(case['config']))
     if case['gives'] is None:
-        return [('is_ok (%s)' % given, 'true')]
+        return [passes(given)]
     fault = refusal(case['gives'])
     return [(given, 'Err (%s)' % fault), ('plan_status (%s)' % fault, str(case['status'])),
             ('plan_text (%s)' % fault, text(case['text'].split(': ', 1)[1].encode('latin-1').hex()))]
 
 
+def passes(given):
+    return 'is_ok (%s)' % given, 'true'
+
+
 def apart(case):
     config, boot_device = conf_cases.config(case['config']), conf_cases.device(case['config']['boot'])
     checks = 'apart_checks %s %s %s' % (placed(case), config, boot_device)
-    first = ('is_ok (%s)' % checks, 'true') if case['apart'] is None else (checks, 'Err %s' % conf_cases.option(case['apart']))
-    given = 'own_names (names_in (%s) (disks_of %s)) %s %s (is_foreign (disks_of %s 0 0))' % (
+    names_there = 'own_names (names_in (%s) (disks_of %s)) %s %s (is_foreign (disks_of %s 0 0))' % (
         volume(case['volume']), disks(case['disks']), config, boot_device, disks(case['disks']))
-    if case['path'] is None:
-        second = ('is_ok (%s)' % given, 'true')
-    else:
+    first, second = passes(checks), passes(names_there)
+    if case['apart'] is not None:
+        first = checks, 'Err %s' % conf_cases.option(case['apart'])
+    if case['path'] is not None:
         path, kind, numbers = case['path']
         fault = 'trees.%s' % ' '.join([kind] + [str(number) for number in numbers])
-        second = (given, 'Err (record { path = %s; fault = %s })' % (conf_cases.text(path), fault))
+        second = names_there, 'Err (record { path = %s; fault = %s })' % (conf_cases.text(path), fault)
     return [first, second]
 
 
 # That a planned map lies: the premises of the law on what it boots.
 
-SLOT = ('record { one = record { whole = record { disk = omega arith; some = omega arith; few = omega arith; address = lit< tt }; '
-        'one = refl }; names = refl }')
+SLOT = ('record { one = record { whole = record { disk = omega arith; some = omega arith; few = omega arith; '
+        'address = lit< tt }; one = refl }; names = refl }')
 
 
 def nested(terms):
@@ -246,8 +270,8 @@ def others(count):
 
 
 def file_lies(count):
-    return ('record { size = refl; some = lit≤ tt; few = lit< tt; slots = lit≤ tt; count = refl; named = %s; apart = %s; lies = refl }'
-            % (nested([SLOT] * count), others(count)))
+    return ('record { size = refl; some = lit≤ tt; few = lit< tt; slots = lit≤ tt; count = refl; named = %s; '
+            'apart = %s; lies = refl }' % (nested([SLOT] * count), others(count)))
 
 
 def target_lies(item, image):
@@ -260,35 +284,42 @@ def target_lies(item, image):
         bytes_there, file_lies(count), 'refl' if item['table'] else 'tt')
 
 
-def lies(case, name):
-    """The theorem that one case's map lies, and its proof."""
-    fields, what, given = scenario(case), case['plan'], case['lies']
-    places, (disk, start, count) = what['places'], what['span']
-    image = 'image_' + case['name']
-    made = '(with_sectors (disks_of %s) (record { disk = %d; sector = %d } ∷ %s) (plan_boot_sector %s %s %s (disks_of %s %d %d) ∷ plan_sectors %s %s %s))' % (
-        fields['disk'], disk, start, sectors(places), planned(case), fields['machine'], sectors(places), fields['disk'], disk, start,
-        planned(case), fields['machine'], sectors(places))
-    place = ['(record { disk = %d; sector = %d })' % tuple(one) for one in places]
-    span = '(record { disk = %d; start = %d; count = %d })' % (disk, start, count)
-    statement = 'PlannedLies (disks_of %s) %s %s %s %s %s %d (devices_in (disks_of %s) %s) Empty %s %s (disks_of %s %d %d)' % (
-        fields['disk'], image, fields['machine'], fields['volume'], span, fields['conf'], what['time'], fields['disk'],
-        fields['machine'], ' '.join(place[:5]), listed(place[5:]), fields['disk'], disk, start)
-    terms = ['lit≤ tt, %s' % target_lies(one, image) for one in given['sections']]
-    files = 'tt'
-    for term in reversed(terms):
-        files = '(%s, %s)' % (term, files)
+def files_lie(sections, image):
+    term = 'tt'
+    for one in reversed(sections):
+        term = '(lit≤ tt, %s, %s)' % (target_lies(one, image), term)
+    return term
+
+
+def lies_proof(case, image):
+    given, count = case['lies'], len(case['plan']['places'])
     message = 'tt' if given['message'] is None else file_lies(given['message'])
-    proof = ('record {\n  lawful = lawful_law %s %s refl;\n  time_fits = lit< tt;\n  present_long = refl;\n  boot = refl;\n'
-             '  line_is = refl;\n'
-             '  lies = %s;\n  named = %s;\n  apart = %s;\n  left = λ none. no-section _ _ none;\n  message_few = %s;\n  message = %s;\n  files = %s;\n}') % (
-        conf_cases.text(given['text']), fields['conf'], nested(['refl'] * (len(places) - 1)), nested([SLOT] * len(places)),
-        others(len(places) - 1), 'tt' if given['message'] is None else 'lit≤ tt', message, files)
-    return ['', '-- the disks with what was planned', 'abbrev %s : Image' % image, '%s = %s' % (image, made[1:-1]), '',
-            '-- ' + case['shows'], 'pub %s : %s' % (name, statement), None, '%s = %s' % (name, proof)]
+    fields = [
+        ('lawful', 'lawful_law %s %s refl' % (conf_cases.text(given['text']), scenario(case)['conf'])),
+        ('time_fits', 'lit< tt'), ('present_long', 'refl'), ('boot', 'refl'), ('line_is', 'refl'),
+        ('lies', nested(['refl'] * (count - 1))), ('named', nested([SLOT] * count)), ('apart', others(count - 1)),
+        ('left', 'λ none. no-section _ _ none'), ('message_few', 'tt' if given['message'] is None else 'lit≤ tt'),
+        ('message', message), ('files', files_lie(given['sections'], image))]
+    return 'record {\n%s}' % ''.join('  %s = %s;\n' % field for field in fields)
+
+
+def lies(case, name):
+    """The theorem that one case's map lies, and its proof; the line of what is unfolded stands between."""
+    fields, what, image = scenario(case), case['plan'], 'image_' + case['name']
+    disks_there = '(disks_of %s)' % fields['disk']
+    place = ['(record { disk = %d; sector = %d })' % tuple(one) for one in what['places']]
+    statement = 'PlannedLies %s %s %s %s %s %s %d (devices_in %s %s) Empty %s %s (disks_of %s %d %d)' % (
+        disks_there, image, fields['machine'], fields['volume'], model_cases.span(what['span']), fields['conf'],
+        what['time'], disks_there, fields['machine'], ' '.join(place[:5]), listed(place[5:]), fields['disk'],
+        what['span'][0], what['span'][1])
+    return ['', '-- the disks with what was planned', 'abbrev %s : Image' % image, '%s = %s' % (image, installed(case)),
+            '', '-- ' + case['shows'], 'pub %s : %s' % (name, statement), None,
+            '%s = %s' % (name, lies_proof(case, image))]
 
 
 LIES_HEAD = '''-- The premises of the law on what planned maps boot are met, written by tools/plan_cases.py.
-use Rattle.std.proofs.Common.{◌≡◌, ◌≢◌, ◌==◌, List, [], ◌∷◌, ◌++◌, map, length, None, Some, true, false, codes, replicate, refl, ap, arith, lit<, lit≤}
+use Rattle.std.proofs.Common.{◌≡◌, ◌≢◌, ◌==◌, List, [], ◌∷◌, ◌++◌, map, length, None, Some, true, false}
+use Rattle.std.proofs.Common.{codes, replicate, refl, ap, arith, lit<, lit≤}
 use Rattle.std.specs.List.{concat}
 use Rattle.std.specs.Fmt.{digits}
 use Rattle.std.proofs.lemmas.Bool.Decides.{nat_tests}
@@ -320,7 +351,7 @@ def lies_text(case):
 # Files.
 
 def unfolded(kind):
-    """The definitions that a proof of this kind has to unfold, by file; one whose name another file has gets a second."""
+    """The definitions that a proof of this kind has to unfold, by file; one whose name is taken gets another."""
     found, seen = {}, {word for words in HELPERS.values() for word in words}
     for name in dict.fromkeys(FILES[kind]):
         words = re.findall(r'^unfoldable pub (\w+)', (SPECS / (name + '.antt')).read_text(), re.M)
@@ -329,32 +360,42 @@ def unfolded(kind):
     return found
 
 
+SPECIAL = {'Conf': ['Unsaid', 'ReadOnlyMount', 'ReadWriteMount'], 'Slots': ['ChsMode', 'LinearMode', 'Lba32Mode'],
+           'MinixLayout': ['V1Short', 'V1Long', 'V2Short', 'V2Long']}
+
+
+def opened(kind, words):
+    """The names of the model that are taken, by file."""
+    taken = {name: [word if word == own else '%s as %s' % (word, own) for word, own in found]
+             for name, found in unfolded(kind).items()}
+    for source in (OTHERS, SPECIAL):
+        for name, others_there in source.items():
+            if name != 'Std':
+                taken[name] = taken.get(name, []) + [word for word in others_there if word in words]
+    if kind == 'Refused' and 'headers_of' in words:
+        taken['PlanRefusal'].append('Header as headers_of')
+    return taken
+
+
 def imports(kind, terms, fixed):
     both = ' '.join(terms)
     words = words_in(terms)
     common = ['◌≡◌'] + [name for sign, name in (('∷', '◌∷◌'), ('++', '◌++◌'), ('[]', '[]')) if sign in both]
-    rows = ['use Rattle.std.proofs.Common.{%s}' % ', '.join(common + [word for word in OTHERS['Std'] if word in words] + ['refl'])]
+    common += [word for word in OTHERS['Std'] if word in words] + ['refl']
+    rows = ['use Rattle.std.proofs.Common.{%s}' % ', '.join(common)]
     if 'is_ok' in words:
         rows.append('use Rattle.std.specs.Prelude.{is_ok}')
     if kind == 'Refused':
         rows.append('use Rattle.std.specs.Fmt.{digits}')
-    taken = {name: [word if word == own else '%s as %s' % (word, own) for word, own in found] for name, found in unfolded(kind).items()}
-    for name, others in OTHERS.items():
-        if name != 'Std':
-            taken[name] = taken.get(name, []) + [word for word in others if word in words]
-    if kind == 'Refused' and 'headers_of' in words:
-        taken['PlanRefusal'].append('Header as headers_of')
-    rows += ['use Rattle.lilo_model.specs.%s.{%s}' % (name, ', '.join(taken[name])) for name in sorted(taken) if taken[name]]
-    rows += ['use Rattle.lilo_model.specs.%s as %s' % (name, alias) for name, alias in ALIASES.items() if alias + '.' in both]
+    taken = opened(kind, words)
+    rows += ['use Rattle.lilo_model.specs.%s.{%s}' % (name, ', '.join(taken[name])) for name in sorted(taken)
+             if taken[name]]
+    rows += ['use Rattle.lilo_model.specs.%s as %s' % (name, alias) for name, alias in ALIASES.items()
+             if alias + '.' in both]
     for name, helpers in HELPERS.items():
         used = [word for word in helpers if word in words]
         if used:
             rows.append('use Rattle.model_cases.specs.%s.{%s}' % (name, ', '.join(used)))
-    for name, special in (('Conf', ['Unsaid', 'ReadOnlyMount', 'ReadWriteMount']), ('Slots', ['ChsMode', 'LinearMode', 'Lba32Mode']),
-                          ('MinixLayout', ['V1Short', 'V1Long', 'V2Short', 'V2Long'])):
-        used = [word for word in special if word in words]
-        if used:
-            rows.append('use Rattle.lilo_model.specs.%s.{%s}' % (name, ', '.join(used)))
     used = sorted(words & fixed)
     return rows + (['use Rattle.model_cases.specs.PlanFixtures.{%s}' % ', '.join(used)] if used else [])
 
@@ -366,7 +407,8 @@ def named(kind, shows, seen):
 
 
 def file_text(kind, theorems, fixed):
-    unfolding = ' '.join([own for found in unfolded(kind).values() for _, own in found] + (['digits'] if kind == 'Refused' else []))
+    unfolding = ' '.join([own for found in unfolded(kind).values() for _, own in found])
+    unfolding += ' digits' if kind == 'Refused' else ''
     rows = ['-- Cases of the model, written by tools/plan_cases.py: %s.' % TITLES[kind]]
     rows += imports(kind, [side for _, _, pairs in theorems for pair in pairs for side in pair], fixed)
     for name, shows, pairs in theorems:
@@ -441,7 +483,8 @@ def main(arguments):
     files = {CRATE / 'specs' / 'PlanFixtures.antt': begun}
     for kind, theorems in all_theorems(data):
         for part, at in enumerate(range(0, len(theorems), A_FILE), 1):
-            files[CRATE / 'proofs' / ('%sCases%d.antt' % (kind, part))] = file_text(kind, theorems[at:at + A_FILE], fixed)
+            path = CRATE / 'proofs' / ('%sCases%d.antt' % (kind, part))
+            files[path] = file_text(kind, theorems[at:at + A_FILE], fixed)
     FIXED.update(fixed)
     for part, case in enumerate([case for case in data['plans'] if 'lies' in case], 1):
         files[LAWS / ('LiesCases%d.antt' % part)] = lies_text(case)

@@ -1,8 +1,10 @@
 -- An image where what was planned lies means what the configuration does.
 use Rattle.lilo_model.specs.DefaultLine.{Empty}
+use Rattle.lilo_model.specs.Planned.{devices_in}
+use Rattle.map_laws.proofs.AcceptedWhole.{accepted_lies_law}
 use Rattle.map_laws.proofs.Planned.{planned_law}
 use Rattle.map_laws.proofs.Lines.{lines_law}
-use Rattle.install_laws.specs.Planned.{MeansLaw}
+use Rattle.install_laws.specs.Planned.{MeansLaw, AcceptedMeansLaw}
 
 pub means_law : MeansLaw
 means_law before c machine volume span config time devices p0 p1 p2 p3 p4 rest present sound s elsewhere =
@@ -15,3 +17,8 @@ means_law before c machine volume span config time devices p0 p1 p2 p3 p4 rest p
       empty = λ keys memory. planned_law before c machine volume span config time devices Empty p0 p1 p2 p3 p4 rest present keys memory sound s;
       each_line = λ bytes line is keys memory. lines.boots bytes line keys memory is;
     }
+
+pub accepted_means_law : AcceptedMeansLaw
+accepted_means_law before c machine volume span config time p0 p1 p2 p3 p4 rest present sound a w elsewhere =
+    means_law before c machine volume span config time (devices_in before machine) p0 p1 p2 p3 p4 rest present sound
+    (accepted_lies_law before c machine volume span config time Empty p0 p1 p2 p3 p4 rest present sound a w) elsewhere

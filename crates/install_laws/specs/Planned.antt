@@ -1,5 +1,5 @@
 -- What an installation has to bring about for its commit: once the boot sector is written, what it planned lies.
-use Rattle.std.specs.Prelude.{◌≢◌, ℕ, List}
+use Rattle.std.specs.Prelude.{◌≢◌, ℕ, List, ◌∷◌}
 use Rattle.lilo_model.specs.Disks.{Image, Machine, Span, DiskSector}
 use Rattle.lilo_model.specs.Devices.{Device}
 use Rattle.lilo_model.specs.Conf.{Config}
@@ -7,6 +7,8 @@ use Rattle.lilo_model.specs.DefaultLine.{Empty}
 use Rattle.lilo_model.specs.MinixParts.{Volume}
 use Rattle.lilo_model.specs.MinixNames.{names_in, IsSound}
 use Rattle.lilo_model.specs.Meant.{meant}
+use Rattle.lilo_model.specs.Planned.{devices_in}
+use Rattle.map_laws.specs.Accepted.{IsAccepted, IsWritten}
 use Rattle.map_laws.specs.PlannedLies.{PlannedLies}
 use Rattle.install_laws.specs.Headline.{Means}
 
@@ -18,3 +20,13 @@ MeansLaw =
     → PlannedLies before c machine volume span config time devices Empty p0 p1 p2 p3 p4 rest present
     → p0 ≢ record { disk = span.disk; sector = span.start }
     → Means machine span p0 (meant config (names_in volume before) devices) c
+
+-- and so does one where what the checks of a plan accept is written, with an empty default line
+abbrev pub AcceptedMeansLaw : Type 0
+AcceptedMeansLaw =
+    (before c : Image) (machine : Machine) (volume : Volume) (span : Span) (config : Config) (time : ℕ) (p0 p1 p2 p3 p4 : DiskSector) (rest : List DiskSector) (present : List ℕ)
+    → IsSound volume before
+    → IsAccepted before machine volume span config time (p0 ∷ (p1 ∷ (p2 ∷ (p3 ∷ (p4 ∷ rest)))))
+    → IsWritten before c machine volume span config time Empty p0 p1 p2 p3 p4 rest present
+    → p0 ≢ record { disk = span.disk; sector = span.start }
+    → Means machine span p0 (meant config (names_in volume before) (devices_in before machine)) c

@@ -1,6 +1,6 @@
 // What follows of the promises of an installation's steps.
 ghost use Rattle.install_laws.specs.Headline.{HeadlineLaw};
-ghost use Rattle.install_laws.specs.Planned.{MeansLaw};
+ghost use Rattle.install_laws.specs.Planned.{AcceptedMeansLaw, MeansLaw};
 ghost use Rattle.install_laws.specs.Writes.{OutsideLaw, SparesLaw};
 
 /// At every moment of an installation whose steps promise what is stated, a stop leaves what boots as before or as is
@@ -13,6 +13,11 @@ pub fn stop_leaves_what_boots_as_before_or_as_meant()
 /// it boots so, and with each other default line too.
 pub fn planned_map_means_its_configuration()
     ensures { MeansLaw }
+{}
+
+/// So does an image where what the checks of a plan accept on a sound volume is written.
+pub fn accepted_plan_means_its_configuration()
+    ensures { AcceptedMeansLaw }
 {}
 
 /// A run that writes only where a writer of files may spares the sectors of a Clear map that its chosen zones avoid.

@@ -5,6 +5,7 @@
 mod laws;
 
 pub use laws::{
-    clear_map_is_spared, planned_map_means_its_configuration,
-    stop_leaves_what_boots_as_before_or_as_meant, write_outside_keeps_a_volume,
+    accepted_plan_means_its_configuration, clear_map_is_spared,
+    planned_map_means_its_configuration, stop_leaves_what_boots_as_before_or_as_meant,
+    write_outside_keeps_a_volume,
 };

@@ -1,5 +1,6 @@
 -- The premises of the law on what planned maps boot are met, written by tools/plan_cases.py.
-use Rattle.std.proofs.Common.{◌≡◌, ◌≢◌, ◌==◌, List, [], ◌∷◌, length, false, codes, refl, ap, arith, lit<, lit≤}
+use Rattle.std.proofs.Common.{◌≡◌, ◌≢◌, ◌==◌, List, [], ◌∷◌, length, false}
+use Rattle.std.proofs.Common.{codes, refl, ap, arith, lit<, lit≤}
 use Rattle.std.specs.Fmt.{digits}
 use Rattle.std.proofs.lemmas.Bool.Decides.{nat_tests}
 use Rattle.lilo_model.specs.Disks.{Image, DiskSector}

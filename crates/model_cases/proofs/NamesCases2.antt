@@ -4,23 +4,21 @@ use Rattle.std.specs.Prelude.{is_ok}
 use Rattle.lilo_model.specs.Apart.{names_pair, is_apart_path, apart_checks}
 use Rattle.lilo_model.specs.BootSector.{is_bootable, has_signature, has_options, has_names, has_slots, has_no_message, has_whole_message, has_message, has_zeros, is_whole, timeout_of, table_slots, boot_of, boot_at, field_bytes, merged_sector}
 use Rattle.lilo_model.specs.Bytes.{number16, number32, is_zero}
+use Rattle.lilo_model.specs.Conf.{ReadOnlyMount}
 use Rattle.lilo_model.specs.Devices.{disk_name, last_partition, partition_name, device_name, devices_of, named_devices, device_at, disk_number, device_number}
 use Rattle.lilo_model.specs.MinixEntries.{entry_of, entries_in, entry_at as minixentries_entry_at, find_entry, entries_at, is_dots}
 use Rattle.lilo_model.specs.MinixFind.{components, child, find_path, file_block, file_at}
 use Rattle.lilo_model.specs.MinixFindNames.{child_path, path_of}
-use Rattle.lilo_model.specs.MinixLayout.{kind_of, super_of, super_checks, super_in, super_at, with_counts, super_bytes, v1_inode, v2_inode, inode_of, inode_at, v1_inode_bytes, v2_inode_bytes, inode_bytes, kept_inode, inode_place}
+use Rattle.lilo_model.specs.MinixLayout.{kind_of, super_of, super_checks, super_in, super_at, with_counts, super_bytes, v1_inode, v2_inode, inode_of, inode_at, v1_inode_bytes, v2_inode_bytes, inode_bytes, kept_inode, inode_place, V1Long}
 use Rattle.lilo_model.specs.MinixNames.{zone_number, block, content, entry, first_named, lookup, reached, thing, names, names_in, IsSound}
 use Rattle.lilo_model.specs.MinixParts.{bit, with_bit, parts_of, volume_at, number_in, follow, pointer_by, inside, follow_at, zone_at, block_at, content_at}
 use Rattle.lilo_model.specs.NamePlaces.{name_path, default_backup, backup_path}
 use Rattle.lilo_model.specs.Partitions.{named_device, entry_at, entries_of, table_entries, is_link, is_plain, link_of, logical_of, listed, linked_sector, chain_entries, chain_tables, partitions_of, numbered_span, span_of}
 use Rattle.lilo_model.specs.Settled.{is_foreign, replaceable_name, own_names}
-use Rattle.lilo_model.specs.Slots.{has_ranges, has_address, is_slot, is_one_slot, chs_of, address_of, slot_of, some_slot, slot_at, slot_bytes, to_chs, to_lba, sector_at, sectors_of, place_at, slot_make, could_be_one}
+use Rattle.lilo_model.specs.Slots.{has_ranges, has_address, is_slot, is_one_slot, chs_of, address_of, slot_of, some_slot, slot_at, slot_bytes, to_chs, to_lba, sector_at, sectors_of, place_at, slot_make, could_be_one, Lba32Mode}
 use Rattle.lilo_model.specs.MinixFind as trees
 use Rattle.lilo_model.specs.ConfOptions as options
 use Rattle.model_cases.specs.Sparse.{hex, patch_at, disks_of, disk_with, machine_of}
-use Rattle.lilo_model.specs.Conf.{ReadOnlyMount}
-use Rattle.lilo_model.specs.Slots.{Lba32Mode}
-use Rattle.lilo_model.specs.MinixLayout.{V1Long}
 use Rattle.model_cases.specs.PlanFixtures.{disk_files}
 
 -- the code is a link to map

@@ -11,7 +11,7 @@ use Rattle.lilo_model.specs.Reason.{section_reason}
 use Rattle.map_section.specs.Reader.{Ask, Slot, Sector, First, Done, ReaderState, begun, next_of, fed, turns_left}
 use Rattle.map_section.specs.Run.{listed_place, listed_slot, listed_sector, listed_answer, run_reader}
 use Rattle.map_section.proofs.RunLemmas.{section_law}
-use Rattle.loader_core.specs.Reading.{Why, Unbuilt, Because, Reading, ended_reading, reading_place, reading_named, reading_sector, reading_answer, reading_turns, reading_ahead, FileRest, file_today}
+use Rattle.section_loader.specs.Reading.{Why, Unbuilt, Because, Reading, ended_reading, reading_place, reading_named, reading_sector, reading_answer, reading_turns, reading_ahead, FileRest, file_today}
 
 -- a list goes on behind a front
 abbrev pub GoesOn : {X : Type 0} → List X → List X → Type 0

@@ -12,10 +12,10 @@ use Rattle.lilo_model.specs.Section.{sectors_for}
 use Rattle.sector_address.specs.declared.slot.Slot.{Slot}
 use Rattle.bios_model.specs.Machine.{sector_bytes_at}
 use Rattle.map_section.specs.Reader.{ReaderState}
-use Rattle.loader_core.specs.declared.outcome.Halt.{Halt}
-use Rattle.loader_core.specs.declared.outcome.Halt.TheVariants.{Device, Refused}
-use Rattle.loader_core.specs.Reading.{Reading, reading_place, reading_slot, reading_sector, reading_ahead, rest_of, rest_behind}
-use Rattle.loader_core.specs.File.{Turns, FindsSector, Reads}
+use Rattle.section_loader.specs.declared.reason.Halt.{Halt}
+use Rattle.section_loader.specs.declared.reason.Halt.TheVariants.{Device, Refused}
+use Rattle.section_loader.specs.Reading.{Reading, reading_place, reading_slot, reading_sector, reading_ahead, rest_of, rest_behind}
+use Rattle.section_loader.specs.File.{Turns, FindsSector, Reads}
 
 -- a turn at which a section sector is fed
 pub fed_turn :

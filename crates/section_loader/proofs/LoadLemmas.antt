@@ -5,8 +5,8 @@ use Rattle.std.proofs.Math.Path.{fun_ext}
 use Rattle.std.proofs.lemmas.List.{get_or_append_left, get_or-append_right}
 use Rattle.std.proofs.lemmas.Grind.{common_steps}
 use Rattle.lilo_model.specs.Place.{Memory, with_bytes}
-use Rattle.loader_core.specs.Reading.{FileRest, rest_behind}
-use Rattle.loader_core.specs.Load.{IsCut, IsLoaded}
+use Rattle.section_loader.specs.Reading.{FileRest, rest_behind}
+use Rattle.section_loader.specs.Load.{IsCut, IsLoaded}
 
 joined_at :
     (memory : Memory) (at address : ℕ) (one other : List ℕ)

@@ -6,7 +6,7 @@ use Rattle.lilo_model.specs.Slots.{place_at}
 use Rattle.lilo_model.specs.Section.{SectionFault}
 use Rattle.map_section.specs.Reader.{Ask, Slot, Sector, First, Done, ReaderState, next_of, fed, turns_left, AnswerTakesTurn}
 use Rattle.map_section.proofs.TurnLemmas.{next_takes}
-use Rattle.loader_core.specs.Reading.{Reading, reading_slot, reading_sector, reading_answer, reading_turns, reading_ahead}
+use Rattle.section_loader.specs.Reading.{Reading, reading_slot, reading_sector, reading_answer, reading_turns, reading_ahead}
 
 sector_same :
     (image : Image) (behind behind' : ReaderState → Reading) (state : ReaderState)

@@ -1,20 +1,22 @@
 -- What the steps of reading a file give.
 use Rattle.std.specs.Prelude.{◌≡◌, ◌⊎◌, ◌<◌, ◌≤◌, ◌-◌, ℕ, List, [], take, Option, None, Some, Result, Ok, Err, IsErr}
+use Rattle.disk_trait.specs.declared.disks.Disks.{Ghosts}
 use Rattle.lilo_model.specs.Disks.{Image, Machine, DiskSector}
 use Rattle.lilo_model.specs.Slots as slots
 use Rattle.lilo_model.specs.Slots.{place_at}
 use Rattle.lilo_model.specs.Section.{sectors_for}
 use Rattle.lilo_model.specs.Reason.{NotFound}
 use Rattle.bios_model.specs.Machine.{sector_bytes_at}
+use Rattle.sector_address.specs.Machine.{OnDisks}
 use Rattle.sector_address.specs.View.{slot_view}
 use Rattle.sector_address.specs.declared.slot.Slot.{Slot}
 use Rattle.map_section.specs.Reader.{ReaderState, fed, turns_left}
-use Rattle.loader_core.specs.declared.outcome.Reason.TheVariants as variants
-use Rattle.loader_core.specs.declared.outcome.Halt.{Halt}
-use Rattle.loader_core.specs.declared.outcome.Halt.TheVariants.{Device, Refused}
-use Rattle.loader_core.specs.declared.file.FileReader.{FileReader}
-use Rattle.loader_core.specs.Reading.{Because, Reading, ended_reading, reading_slot, reading_sector, FileRest, rest_ahead, rest_behind}
-use Rattle.loader_core.specs.View.{reason_view}
+use Rattle.section_loader.specs.declared.reason.Reason.TheVariants as variants
+use Rattle.section_loader.specs.declared.reason.Halt.{Halt}
+use Rattle.section_loader.specs.declared.reason.Halt.TheVariants.{Device, Refused}
+use Rattle.section_loader.specs.declared.file.FileReader.{FileReader}
+use Rattle.section_loader.specs.Reading.{Because, Reading, ended_reading, reading_slot, reading_sector, FileRest, rest_ahead, rest_behind}
+use Rattle.section_loader.specs.View.{reason_view}
 
 -- as many sectors are needed as the bytes that are left take, and the first section sector has a slot of its own
 pub record IsCounted (file : FileReader) : Type 0 where
@@ -24,6 +26,10 @@ pub record IsCounted (file : FileReader) : Type 0 where
 -- what is left of a file
 abbrev pub rest_in : Image → Machine → FileReader → FileRest
 rest_in image machine file = rest_ahead image machine (slot_view file.first) file.left file.section
+
+-- a fact about what was left of a file and what is left now, where the disks tell their past
+abbrev pub OnFile : {D : Type 0} → Ghosts D → D → FileReader → FileReader → (FileRest → FileRest → Type 0) → Type 0
+OnFile g disks old new P = OnDisks g disks (λ now machine. P (rest_in now machine old) (rest_in now machine new))
 
 -- how many sectors are needed behind a turn, and that fewer turns are left
 abbrev pub Counts : Option Slot → ReaderState → ReaderState → Type 0

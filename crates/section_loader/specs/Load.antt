@@ -2,10 +2,10 @@
 use Rattle.std.specs.Prelude.{◌≡◌, ◌⊎◌, ◌≤◌, ◌<◌, ◌%◌, ℕ, List, length, Some, Result, Ok, Err}
 use Rattle.lilo_model.specs.Bytes.{filled_bytes}
 use Rattle.lilo_model.specs.Place.{Memory, with_bytes}
-use Rattle.loader_core.specs.declared.outcome.Halt.{Halt}
-use Rattle.loader_core.specs.declared.outcome.Halt.TheVariants.{Device, Refused}
-use Rattle.loader_core.specs.Reading.{FileRest, rest_behind}
-use Rattle.loader_core.specs.View.{reason_view}
+use Rattle.section_loader.specs.declared.reason.Halt.{Halt}
+use Rattle.section_loader.specs.declared.reason.Halt.TheVariants.{Device, Refused}
+use Rattle.section_loader.specs.Reading.{FileRest, rest_behind}
+use Rattle.section_loader.specs.View.{reason_view}
 
 -- some bytes of a file end with a sector or with the file
 pub record IsCut (size left : ℕ) : Type 0 where

@@ -1,20 +1,20 @@
 // A file that is read sector by sector, along its section.
 ghost use Rattle.std.specs.Prelude.{◌≡◌, ◌<◌, ◌≤◌, ◌-◌, None, min, IfOk, OnOk, OnErr, IsErrOf};
-ghost use Rattle.disk_trait.specs.Past.{Told, SameDisks};
-ghost use Rattle.disk_trait.specs.Cause.{Rose};
 ghost use Rattle.lilo_model.specs.Disks.{Image, Machine};
 ghost use Rattle.lilo_model.specs.Slots.{place_at};
 ghost use Rattle.lilo_model.specs.Section.{sectors_for};
 ghost use Rattle.lilo_model.specs.Reason.{section_reason};
-ghost use Rattle.bios_model.specs.Machine.{machine_of};
+ghost use Rattle.sector_address.specs.Machine.{OnDisks};
+ghost use Rattle.bios_model.specs.Reads.{OnlyReads};
 ghost use Rattle.sector_address.specs.View.{slot_view};
 ghost use Rattle.map_section.specs.Reader.{IsAsking};
 ghost use Rattle.map_section.specs.View.{section_fault_view};
-ghost use Rattle.loader_core.specs.Reading.{Because, reading_ahead, file_today};
-ghost use Rattle.loader_core.specs.View.{reason_view};
-ghost use Rattle.loader_core.specs.File.{IsCounted, rest_in, Counts, Turns, Names, Yields, IsFed, FindsSector, Reads, ReadsOne};
+ghost use Rattle.section_loader.specs.Reading.{Because, reading_ahead, file_today};
+ghost use Rattle.section_loader.specs.View.{reason_view};
+ghost use Rattle.section_loader.specs.File.{IsCounted, rest_in, Counts, Turns, Names, OnFile};
+ghost use Rattle.section_loader.specs.File.{Yields, IsFed, FindsSector, Reads, ReadsOne};
 
-use crate::outcome::{Halt, Reason};
+use crate::reason::{Halt, Reason};
 use bios_model::{BiosFault, read_slot};
 use disk_trait::Disks;
 use map_section::{Ask, SectionFault, SectionReader};
@@ -26,7 +26,7 @@ const SECTOR: u32 = 512;
 
 /// A file that is read from its first sector on. Each of its sectors is read once, and each section sector too.
 #[derive(Drop)]
-pub(crate) struct FileReader {
+pub struct FileReader {
     // The slot of the first section sector.
     pub(crate) first: Slot,
     // The bytes that are left.
@@ -36,7 +36,7 @@ pub(crate) struct FileReader {
 
 impl FileReader {
     /// A file of `length` bytes, whose section has at most `chain` sectors from the one at a slot on.
-    pub(crate) fn new(first: &Slot, length: u32, chain: u16) -> FileReader
+    pub fn new(first: &Slot, length: u32, chain: u16) -> FileReader
         requires { first.now.count ≡ 1 }
         ensures counted { IsCounted result }
         ensures left { result.left ≡ length }
@@ -52,17 +52,14 @@ impl FileReader {
 
     /// Reads the next sector of the file, and tells how many of its bytes are the file's: 512, or fewer at the
     /// file's end, and 0 behind it, where nothing is read.
-    pub(crate) fn next<D: Disks>(&mut self, disks: &mut D, into: &mut Sector) -> Result<usize, Halt>
+    pub fn next<D: Disks>(&mut self, disks: &mut D, into: &mut Sector) -> Result<usize, Halt>
         requires { IsCounted self.old }
         ensures counted { OnOk result (IsCounted self.new) }
         ensures size { IfOk result (λ size. size ≡ min 512 self.old.left) }
         ensures left { IfOk result (λ size. self.new.left ≡ self.old.left - size) }
         ensures some { OnErr result (0 < self.old.left) }
-        ensures bytes { Told (D.past disks.old) (λ now. let machine = machine_of (D.size_of disks.old) (D.geometry_of disks.old) in
-            Yields result (rest_in now machine self.old) into.new (rest_in now machine self.new)) }
-        ensures same { SameDisks D.past D.size_of D.count_of D.geometry_of disks.old disks.new }
-        ensures later { D.faults disks.old ≤ D.faults disks.new }
-        ensures device { IsErrOf result Halt.Device → Rose (D.faults disks.old) (D.faults disks.new) }
+        ensures bytes { OnFile D.Disks disks.old self.old self.new (λ old new. Yields result old into.new new) }
+        ensures reads { OnlyReads D.Disks disks.old disks.new (IsErrOf result Halt.Device) }
     {
         if self.left == 0 {
             return Ok(0);
@@ -82,13 +79,11 @@ impl FileReader {
         ensures left { self.new.left ≡ self.old.left }
         ensures first { self.new.first ≡ self.old.first }
         ensures needed { IfOk result (λ slot. self.new.section.needed ≡ self.old.section.needed - slot.count) }
-        ensures named { Told (D.past disks.old) (λ now. let machine = machine_of (D.size_of disks.old) (D.geometry_of disks.old) in
+        ensures named { OnDisks D.Disks disks.old (λ now machine.
             Names machine (sectors_for self.old.left) result
             (reading_ahead now machine (slot_view self.old.first) (sectors_for self.old.left) self.old.section)
             (λ wanted. reading_ahead now machine (slot_view self.old.first) wanted self.new.section)) }
-        ensures same { SameDisks D.past D.size_of D.count_of D.geometry_of disks.old disks.new }
-        ensures later { D.faults disks.old ≤ D.faults disks.new }
-        ensures device { IsErrOf result Halt.Device → Rose (D.faults disks.old) (D.faults disks.new) }
+        ensures reads { OnlyReads D.Disks disks.old disks.new (IsErrOf result Halt.Device) }
     {
         loop {
             if let Some(slot) = self.turn(disks)? {
@@ -104,13 +99,11 @@ impl FileReader {
         ensures left { self.new.left ≡ self.old.left }
         ensures first { self.new.first ≡ self.old.first }
         ensures counts { IfOk result (λ slot. Counts slot self.old.section self.new.section) }
-        ensures turn { Told (D.past disks.old) (λ now. let machine = machine_of (D.size_of disks.old) (D.geometry_of disks.old) in
+        ensures turn { OnDisks D.Disks disks.old (λ now machine.
             Turns machine (sectors_for self.old.left) result
             (reading_ahead now machine (slot_view self.old.first) (sectors_for self.old.left) self.old.section)
             (λ wanted. reading_ahead now machine (slot_view self.old.first) wanted self.new.section)) }
-        ensures same { SameDisks D.past D.size_of D.count_of D.geometry_of disks.old disks.new }
-        ensures later { D.faults disks.old ≤ D.faults disks.new }
-        ensures device { IsErrOf result Halt.Device → Rose (D.faults disks.old) (D.faults disks.new) }
+        ensures reads { OnlyReads D.Disks disks.old disks.new (IsErrOf result Halt.Device) }
     {
         match self.section.next() {
             Ok(Ask::Slot(slot)) => Ok(Some(slot)),
@@ -131,11 +124,9 @@ impl FileReader {
         ensures left { self.new.left ≡ self.old.left }
         ensures first { self.new.first ≡ self.old.first }
         ensures fed { IfOk result (λ slot. (slot ≡ None) × IsFed self.old.section self.new.section) }
-        ensures found { Told (D.past disks.old) (λ now. let machine = machine_of (D.size_of disks.old) (D.geometry_of disks.old) in
+        ensures found { OnDisks D.Disks disks.old (λ now machine.
             FindsSector now result (place_at machine (slot_view link.now) 0) self.old.section self.new.section) }
-        ensures same { SameDisks D.past D.size_of D.count_of D.geometry_of disks.old disks.new }
-        ensures later { D.faults disks.old ≤ D.faults disks.new }
-        ensures device { IsErrOf result Halt.Device → Rose (D.faults disks.old) (D.faults disks.new) }
+        ensures reads { OnlyReads D.Disks disks.old disks.new (IsErrOf result Halt.Device) }
     {
         let mut sector = [0; 512];
         read_one(disks, link, &mut sector)?;
@@ -157,12 +148,10 @@ fn reason_of(fault: SectionFault) -> Reason
 
 /// Reads the one sector that a slot names. A slot of more sectors isn't followed yet.
 fn read_sector<D: Disks>(disks: &mut D, slot: &Slot, into: &mut Sector) -> Result<(), Halt>
-    ensures sector { Told (D.past disks.old) (λ now. let machine = machine_of (D.size_of disks.old) (D.geometry_of disks.old) in
+    ensures sector { OnDisks D.Disks disks.old (λ now machine.
         Reads now machine (slot_view slot.now) result into.new) }
     ensures one { OnOk result (slot.now.count ≡ 1) }
-    ensures same { SameDisks D.past D.size_of D.count_of D.geometry_of disks.old disks.new }
-    ensures later { D.faults disks.old ≤ D.faults disks.new }
-    ensures device { IsErrOf result Halt.Device → Rose (D.faults disks.old) (D.faults disks.new) }
+    ensures reads { OnlyReads D.Disks disks.old disks.new (IsErrOf result Halt.Device) }
 {
     if slot.count != 1 {
         return Err(Halt::Refused(Reason::Unbuilt));
@@ -171,13 +160,11 @@ fn read_sector<D: Disks>(disks: &mut D, slot: &Slot, into: &mut Sector) -> Resul
 }
 
 /// Reads the first sector that a slot names.
-pub(crate) fn read_one<D: Disks>(disks: &mut D, slot: &Slot, into: &mut Sector) -> Result<(), Halt>
+pub fn read_one<D: Disks>(disks: &mut D, slot: &Slot, into: &mut Sector) -> Result<(), Halt>
     requires { slot.now.count ≡ 1 }
-    ensures sector { Told (D.past disks.old) (λ now. let machine = machine_of (D.size_of disks.old) (D.geometry_of disks.old) in
+    ensures sector { OnDisks D.Disks disks.old (λ now machine.
         ReadsOne now machine (slot_view slot.now) result into.new) }
-    ensures same { SameDisks D.past D.size_of D.count_of D.geometry_of disks.old disks.new }
-    ensures later { D.faults disks.old ≤ D.faults disks.new }
-    ensures device { IsErrOf result Halt.Device → Rose (D.faults disks.old) (D.faults disks.new) }
+    ensures reads { OnlyReads D.Disks disks.old disks.new (IsErrOf result Halt.Device) }
 {
     match read_slot(disks, slot, 0, into) {
         Ok(()) => Ok(()),

@@ -1,18 +1,18 @@
 -- Each sector goes behind those before it.
 use Rattle.std.proofs.Common.{◌≡◌, take, length, arith, rules}
 use Rattle.std.proofs.lemmas.List.{length-take-le}
-use Rattle.bios_model.specs.Machine.{machine_of}
+use Rattle.sector_address.specs.Machine.{machine_of}
 use Rattle.bios_model.specs.Memory.{memory_of}
-use Rattle.loader_core.specs.File.{rest_in}
-use Rattle.loader_core.proofs.LoadLemmas.{load_more, cut_less, cut_more}
+use Rattle.section_loader.specs.File.{rest_in}
+use Rattle.section_loader.proofs.LoadLemmas.{load_more, cut_less, cut_more}
 use Rattle.disk_trait.proofs.ToldLemmas.{told_both}
-use Rattle.loader_core.proofs.load.load_bytes.Goals as goal
+use Rattle.section_loader.proofs.load.load_bytes.Goals as goal
 
 pub loop-done-preserved : goal.loop-done-preserved
 loop-done-preserved g c =
     let same = c.loop-done.invariant.same in
     let read = rw (same.same_past, same.same_size, same.same_geometry) at c.in_ok-read.ensures.bytes in
-    let machine = machine_of (g.D.Disks.size_of c.args.disks.now) (g.D.Disks.geometry_of c.args.disks.now) in
+    let machine = machine_of g.D.Disks c.args.disks.now in
     let size = c.in_ok-read.read in
     let long : length (take size c.next.new.into) ≡ size = length-take-le size c.next.new.into (omega (arith, c.in_ok-read.ensures.size, c.next.array_long)) in
     record {

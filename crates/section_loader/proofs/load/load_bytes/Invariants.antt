@@ -1,16 +1,16 @@
 -- What was read so far stands in memory.
 use Rattle.std.proofs.Common.{◌≡◌, ◌≤◌, ◌-◌, ◌+◌, length}
 use Rattle.disk_trait.specs.Past.{Told, SameDisks}
-use Rattle.bios_model.specs.Machine.{machine_of}
+use Rattle.sector_address.specs.Machine.{machine_of}
 use Rattle.bios_model.specs.Memory.{memory_of}
-use Rattle.loader_core.specs.File.{IsCounted, rest_in}
-use Rattle.loader_core.specs.Load.{IsCut, IsLoaded}
-use Rattle.loader_core.proofs.load.load_bytes.Given as goal
+use Rattle.section_loader.specs.File.{IsCounted, rest_in}
+use Rattle.section_loader.specs.Load.{IsCut, IsLoaded}
+use Rattle.section_loader.proofs.load.load_bytes.Given as goal
 
 abbrev pub invariant-loop-done : goal.invariant-loop-done
 invariant-loop-done g l =
     let disks = g.D.Disks in
-    let machine = machine_of (disks.size_of l.fn.disks) (disks.geometry_of l.fn.disks) in
+    let machine = machine_of disks l.fn.disks in
     record {
       loaded : Told (disks.past l.fn.disks) (λ now. IsLoaded l.done l.at (rest_in now machine l.fn.file) (memory_of l.fn.ram) (rest_in now machine l.file) (memory_of l.ram));
       done : l.done ≤ l.size;

@@ -1,7 +1,7 @@
 use Rattle.std.proofs.Common.{◌≡◌, refl, arith}
 use Rattle.lilo_model.specs.Section.{sectors_for}
-use Rattle.loader_core.specs.Reading.{file_today}
-use Rattle.loader_core.proofs.file.FileReader.new.Goals as goal
+use Rattle.section_loader.specs.Reading.{file_today}
+use Rattle.section_loader.proofs.file.FileReader.new.Goals as goal
 
 pub returns-clause-rest : goal.returns-clause-rest
 unfolding file_today

@@ -1,18 +1,18 @@
 -- A sector that was read stands before what is left.
 use Rattle.std.proofs.Common.{◌<◌, arith}
-use Rattle.bios_model.specs.Machine.{machine_of}
+use Rattle.sector_address.specs.Machine.{machine_of}
 use Rattle.sector_address.specs.View.{slot_view}
 use Rattle.lilo_model.specs.Section.{sectors_for}
-use Rattle.loader_core.specs.Reading.{reading_ahead}
-use Rattle.loader_core.proofs.FileLemmas.{read_rest, read_found}
+use Rattle.section_loader.specs.Reading.{reading_ahead}
+use Rattle.section_loader.proofs.FileLemmas.{read_rest, read_found}
 use Rattle.disk_trait.proofs.ToldLemmas.{told_both}
-use Rattle.loader_core.proofs.file.FileReader.next.Goals as goal
+use Rattle.section_loader.proofs.file.FileReader.next.Goals as goal
 
 pub returns-clause-bytes : goal.returns-clause-bytes
 returns-clause-bytes g c =
-    let same = c.in_ok-slot.ensures.same in
+    let same = c.in_ok-slot.ensures.reads.same in
     let read = rw (same.same_past, same.same_size, same.same_geometry) at c.in_ok-read_sector.ensures.sector in
-    let machine = machine_of (g.D.Disks.size_of c.args.disks.now) (g.D.Disks.geometry_of c.args.disks.now) in
+    let machine = machine_of g.D.Disks c.args.disks.now in
     let first = slot_view c.args.self.now.first in
     let left = c.args.self.now.left in
     let slot = slot_view c.in_ok-slot.slot in

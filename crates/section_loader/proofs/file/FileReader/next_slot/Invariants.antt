@@ -2,17 +2,17 @@
 use Rattle.std.proofs.Common.{◌≡◌, ◌≤◌}
 use Rattle.disk_trait.specs.Past.{Told, SameDisks}
 use Rattle.lilo_model.specs.Section.{sectors_for}
-use Rattle.bios_model.specs.Machine.{machine_of}
+use Rattle.sector_address.specs.Machine.{machine_of}
 use Rattle.sector_address.specs.View.{slot_view}
 use Rattle.map_section.specs.Reader.{turns_left}
-use Rattle.loader_core.specs.Reading.{reading_ahead}
-use Rattle.loader_core.specs.File.{IsCounted}
-use Rattle.loader_core.proofs.file.FileReader.next_slot.Given as goal
+use Rattle.section_loader.specs.Reading.{reading_ahead}
+use Rattle.section_loader.specs.File.{IsCounted}
+use Rattle.section_loader.proofs.file.FileReader.next_slot.Given as goal
 
 abbrev pub invariant-loop-slot : goal.invariant-loop-slot
 invariant-loop-slot g l =
     let disks = g.D.Disks in
-    let machine = machine_of (disks.size_of l.fn.disks) (disks.geometry_of l.fn.disks) in
+    let machine = machine_of disks l.fn.disks in
     let first = slot_view l.fn.self.first in
     let wanted = sectors_for l.fn.self.left in
     record {

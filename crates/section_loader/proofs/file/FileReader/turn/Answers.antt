@@ -1,13 +1,13 @@
 -- What is read where a reader stands is what its answer says.
 use Rattle.std.proofs.Common.{◌∙◌, ap, sym, Some}
 use Rattle.lilo_model.specs.Section.{sectors_for}
-use Rattle.bios_model.specs.Machine.{machine_of}
+use Rattle.sector_address.specs.Machine.{machine_of}
 use Rattle.sector_address.specs.View.{slot_view}
-use Rattle.loader_core.specs.Reading.{ended_reading}
-use Rattle.loader_core.proofs.ReadingLemmas.{ahead_by}
-use Rattle.loader_core.proofs.FileLemmas.{fed_turn}
+use Rattle.section_loader.specs.Reading.{ended_reading}
+use Rattle.section_loader.proofs.ReadingLemmas.{ahead_by}
+use Rattle.section_loader.proofs.FileLemmas.{fed_turn}
 use Rattle.disk_trait.proofs.ToldLemmas.{told_all, told_map}
-use Rattle.loader_core.proofs.file.FileReader.turn.Goals as goal
+use Rattle.section_loader.proofs.file.FileReader.turn.Goals as goal
 
 pub returns-in-Ok-Slot-clause-turn : goal.returns-in-Ok-Slot-clause-turn
 returns-in-Ok-Slot-clause-turn g c = told_all _ _ (λ now.
@@ -22,7 +22,7 @@ returns-in-Err-clause-turn g c = told_all _ _ (λ now.
 
 pub returns-in-Ok-Sector-clause-turn : goal.returns-in-Ok-Sector-clause-turn
 returns-in-Ok-Sector-clause-turn g c = told_map _ _ _
-    (λ now found. fed_turn now (machine_of (g.D.Disks.size_of c.args.disks.now) (g.D.Disks.geometry_of c.args.disks.now)) (slot_view c.args.self.now.first) (sectors_for c.args.self.now.left) c.args.self.now.section c.next.new.self c.feed.new.self.section (slot_view c.in-Ok-Sector.link) c.feed.result
+    (λ now found. fed_turn now (machine_of g.D.Disks c.args.disks.now) (slot_view c.args.self.now.first) (sectors_for c.args.self.now.left) c.args.self.now.section c.next.new.self c.feed.new.self.section (slot_view c.in-Ok-Sector.link) c.feed.result
     (ahead_by now _ (slot_view c.args.self.now.first) (sectors_for c.args.self.now.left) c.args.self.now.section
     c.next.new.self _ (rw c.in-Ok-Sector.field-0-is at c.in-Ok-Sector.ensures.answer) c.in-Ok-Sector.ensures.state)
     (λ slot is. let fed = rw is at c.feed.ensures.fed in cc)
@@ -31,7 +31,7 @@ returns-in-Ok-Sector-clause-turn g c = told_map _ _ _
 
 pub returns-in-Ok-First-clause-turn : goal.returns-in-Ok-First-clause-turn
 returns-in-Ok-First-clause-turn g c = told_map _ _ _
-    (λ now found. fed_turn now (machine_of (g.D.Disks.size_of c.args.disks.now) (g.D.Disks.geometry_of c.args.disks.now)) (slot_view c.args.self.now.first) (sectors_for c.args.self.now.left) c.args.self.now.section c.next.new.self c.feed-in-Ok-First.new.self.section (slot_view c.args.self.now.first) c.feed-in-Ok-First.result
+    (λ now found. fed_turn now (machine_of g.D.Disks c.args.disks.now) (slot_view c.args.self.now.first) (sectors_for c.args.self.now.left) c.args.self.now.section c.next.new.self c.feed-in-Ok-First.new.self.section (slot_view c.args.self.now.first) c.feed-in-Ok-First.result
     (ahead_by now _ (slot_view c.args.self.now.first) (sectors_for c.args.self.now.left) c.args.self.now.section
     c.next.new.self _ (rw c.in-Ok-First.field-0-is at c.in-Ok-First.ensures.answer) c.in-Ok-First.ensures.state)
     (λ slot is. let fed = rw is at c.feed-in-Ok-First.ensures.fed in cc)

@@ -1,19 +1,14 @@
--- The disks of the modelled PC, and the sectors that a slot names on them.
+-- The sectors that slots name on the disks of the modelled PC.
 use Rattle.std.specs.Prelude.{◌≡◌, ◌≤◌, ℕ, List, map, Result, Ok, Err}
-use Rattle.disk_trait.specs.declared.geometry.Geometry.{Geometry}
-use Rattle.lilo_model.specs.Disks.{Image, Machine, bytes_at}
+use Rattle.lilo_model.specs.Disks.{Image, Machine, DiskSector, bytes_at}
 use Rattle.lilo_model.specs.Checks.{◌>>=◌, with_fault, each}
 use Rattle.lilo_model.specs.Slots as slots
 use Rattle.lilo_model.specs.Slots.{Slot, AddressFault, place_at}
 use Rattle.lilo_model.specs.Boot.{slot_bytes_at}
-use Rattle.sector_address.specs.View.{geometry_view}
+use Rattle.sector_address.specs.View.{slot_view}
 use Rattle.sector_address.specs.declared.slot.Slot as declared
 use Rattle.bios_model.specs.declared.bios.BiosFault.{BiosFault}
 use Rattle.bios_model.specs.declared.bios.BiosFault.TheVariants.{NotFound, Timeout, KeysFault, OutsideRam}
-
--- disks of these sizes and geometries, as the model has them
-abbrev pub machine_of : (ℕ → ℕ) → (ℕ → Geometry) → Machine
-machine_of size geometry = record { size_of = size; geometry_of = λ disk. geometry_view (geometry disk) }
 
 -- the bytes of the sector that a slot names at an index
 abbrev pub sector_bytes_at : Image → Machine → Slot → ℕ → Result (List ℕ) AddressFault
@@ -27,6 +22,10 @@ HasSector slot = 1 ≤ slot.count
 abbrev pub slots_bytes_at : Image → Machine → List Slot → Result (List (List ℕ)) AddressFault
 slots_bytes_at image machine some =
     with_fault (λ fault. slots.NotFound) (each (map (slot_bytes_at image machine) some))
+
+-- the first sector that each of some slots names, unless one names none
+abbrev pub first_places : Machine → List declared.Slot → Result (List DiskSector) AddressFault
+first_places machine some = each (map (λ slot. place_at machine (slot_view slot) 0) some)
 
 -- what was read is what the slots name, unless a disk failed
 abbrev pub Reads : {A : Type 0} → Result (Unit {0}) BiosFault → A → Result A AddressFault → Type 0

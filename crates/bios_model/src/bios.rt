@@ -1,13 +1,14 @@
 // The BIOS: disks that are read by slots, and keys.
-ghost use Rattle.std.specs.Prelude.{◌≡◌, ◌<◌, ◌≤◌, ◌↔◌, length, map, All, Ok, IsErr, IsErrOf, OnOk, OnErr};
-ghost use Rattle.disk_trait.specs.Past.{Told, SameDisks};
+ghost use Rattle.std.specs.Prelude.{◌≡◌, ◌<◌, ◌≤◌, ◌↔◌, length, map, All, Ok, IsOk, IsErr, IsErrOf, OnOk, OnErr};
+ghost use Rattle.disk_trait.specs.Past.{SameDisks};
 ghost use Rattle.disk_trait.specs.Cause.{Rose};
 ghost use Rattle.lilo_model.specs.Checks.{with_fault};
 ghost use Rattle.lilo_model.specs.Slots as slots;
 ghost use Rattle.lilo_model.specs.Slots.{place_at};
 ghost use Rattle.lilo_model.specs.Boot.{slot_bytes_at};
 ghost use Rattle.sector_address.specs.View.{slot_view};
-ghost use Rattle.bios_model.specs.Machine.{machine_of, sector_bytes_at, HasSector, slots_bytes_at, Reads};
+ghost use Rattle.sector_address.specs.Machine.{machine_of, OnDisks};
+ghost use Rattle.bios_model.specs.Machine.{sector_bytes_at, HasSector, slots_bytes_at, first_places, Reads};
 
 use disk_trait::{DiskFault, Disks};
 use sector_address::Slot;
@@ -41,15 +42,13 @@ impl<'d, D: Disks, I: Source> Bios<'d, D, I> {
         requires { index < slot.now.count }
 
         // What is read.
-        ensures sector { OnOk result (Told (D.past self.old.disks.now) (λ now. sector_bytes_at now
-            (machine_of (D.size_of self.old.disks.now) (D.geometry_of self.old.disks.now))
-            (slot_view slot.now) index ≡ Ok into.new)) }
+        ensures sector { OnOk result (OnDisks D.Disks self.old.disks.now (λ now machine.
+            sector_bytes_at now machine (slot_view slot.now) index ≡ Ok into.new)) }
         ensures refused { OnErr result (into.new ≡ into.old) }
 
         // When it is refused.
-        ensures not_found { IsErrOf result BiosFault.NotFound ↔ IsErr (place_at
-            (machine_of (D.size_of self.old.disks.now) (D.geometry_of self.old.disks.now))
-            (slot_view slot.now) index) }
+        ensures not_found { IsErrOf result BiosFault.NotFound
+            ↔ IsErr (place_at (machine_of D.Disks self.old.disks.now) (slot_view slot.now) index) }
         ensures uncounted { IsErrOf result BiosFault.NotFound
             → D.faults self.new.disks.now ≡ D.faults self.old.disks.now }
         ensures timeout { IsErrOf result BiosFault.Timeout
@@ -80,14 +79,13 @@ pub fn read_slot<D: Disks>(
     requires { index < slot.now.count }
 
     // What is read.
-    ensures sector { OnOk result (Told (D.past disks.old) (λ now. sector_bytes_at now
-        (machine_of (D.size_of disks.old) (D.geometry_of disks.old)) (slot_view slot.now) index
-        ≡ Ok into.new)) }
+    ensures sector { OnOk result (OnDisks D.Disks disks.old (λ now machine.
+        sector_bytes_at now machine (slot_view slot.now) index ≡ Ok into.new)) }
     ensures refused { OnErr result (into.new ≡ into.old) }
 
     // When it is refused.
-    ensures not_found { IsErrOf result BiosFault.NotFound ↔ IsErr (place_at
-        (machine_of (D.size_of disks.old) (D.geometry_of disks.old)) (slot_view slot.now) index) }
+    ensures not_found { IsErrOf result BiosFault.NotFound
+        ↔ IsErr (place_at (machine_of D.Disks disks.old) (slot_view slot.now) index) }
     ensures uncounted { IsErrOf result BiosFault.NotFound → D.faults disks.new ≡ D.faults disks.old }
     ensures timeout { IsErrOf result BiosFault.Timeout → Rose (D.faults disks.old) (D.faults disks.new) }
     ensures no_keys { IsErrOf result BiosFault.KeysFault → ⊥ }
@@ -117,10 +115,13 @@ pub fn read_slots<D: Disks>(
     requires slots { All HasSector slots.now }
 
     // What is read.
-    ensures sectors { Told (D.past disks.old) (λ now. Reads result into.new
-        (slots_bytes_at now (machine_of (D.size_of disks.old) (D.geometry_of disks.old)) (map slot_view slots.now))) }
+    ensures sectors { OnDisks D.Disks disks.old (λ now machine.
+        Reads result into.new (slots_bytes_at now machine (map slot_view slots.now))) }
+    ensures found { OnOk result (IsOk (first_places (machine_of D.Disks disks.old) slots.now)) }
 
     // When it is refused.
+    ensures not_found { IsErrOf result BiosFault.NotFound
+        → IsErr (first_places (machine_of D.Disks disks.old) slots.now) }
     ensures timeout { IsErrOf result BiosFault.Timeout → Rose (D.faults disks.old) (D.faults disks.new) }
     ensures no_keys { IsErrOf result BiosFault.KeysFault → ⊥ }
     ensures no_memory { IsErrOf result BiosFault.OutsideRam → ⊥ }
@@ -139,8 +140,11 @@ pub fn read_slots<D: Disks>(
 #[tactic(auto, unfolding(lilo_model::specs::Boot::slot_bytes_at))]
 fn read_first<D: Disks>(disks: &mut D, slot: &Slot, into: &mut Sector) -> Result<(), BiosFault>
     requires { HasSector slot.now }
-    ensures sector { Told (D.past disks.old) (λ now. Reads result into.new
-        (with_fault (λ _. slots.NotFound) (slot_bytes_at now (machine_of (D.size_of disks.old) (D.geometry_of disks.old)) (slot_view slot.now)))) }
+    ensures sector { OnDisks D.Disks disks.old (λ now machine.
+        Reads result into.new (with_fault (λ _. slots.NotFound) (slot_bytes_at now machine (slot_view slot.now)))) }
+    ensures found { OnOk result (IsOk (place_at (machine_of D.Disks disks.old) (slot_view slot.now) 0)) }
+    ensures not_found { IsErrOf result BiosFault.NotFound
+        → IsErr (place_at (machine_of D.Disks disks.old) (slot_view slot.now) 0) }
     ensures timeout { IsErrOf result BiosFault.Timeout → Rose (D.faults disks.old) (D.faults disks.new) }
     ensures no_keys { IsErrOf result BiosFault.KeysFault → ⊥ }
     ensures no_memory { IsErrOf result BiosFault.OutsideRam → ⊥ }

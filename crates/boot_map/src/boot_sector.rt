@@ -1,5 +1,7 @@
 ghost use Rattle.std.specs.Prelude.{◌≡◌, ◌<◌, ◌≤◌, true, length, map, All, IfSome, IfOk};
-ghost use Rattle.lilo_model.specs.BootSector.{has_signature, has_options, has_names, has_slots, has_no_message, has_whole_message, has_message, has_zeros, is_whole, timeout_of, table_slots, boot_of, boot_at};
+ghost use Rattle.lilo_model.specs.BootSector.{has_signature, has_options, has_names, has_slots, has_no_message};
+ghost use Rattle.lilo_model.specs.BootSector.{has_whole_message, has_message, has_zeros, is_whole, timeout_of};
+ghost use Rattle.lilo_model.specs.BootSector.{table_slots, boot_of, boot_at};
 ghost use Rattle.lilo_model.specs.Checks.{seen};
 ghost use Rattle.sector_address.specs.View.{slot_view};
 ghost use Rattle.boot_map.specs.View.{boot_view, map_fault_view};

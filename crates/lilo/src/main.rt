@@ -2,7 +2,8 @@
 //!
 //! An IMAGE is `path`, `path:heads:sectors`, or `-` for an absent disk; the images are disks 0 to 3.
 //! Without `--` every word is an image. All text goes to standard output, faults included, and the exit
-//! status is that of the words, 1 for one that isn't UTF-8, 14 for an image that can't be used, or 13 for want of memory.
+//! status is that of the words, 1 for one that isn't UTF-8, 14 for an image that can't be used, or 13 where
+//! memory doesn't suffice.
 #![tactic(auto)]
 
 mod image;
@@ -10,7 +11,7 @@ mod image;
 use disk_trait::{Disks, FileDisks};
 use host_parts::moment;
 use image::open_image;
-use lilo_run::{Ram, lilo};
+use lilo_run::{Ram, boots, lilo};
 use std::alloc::AllocError;
 use std::fs::File;
 use std::process::ExitCode;
@@ -18,8 +19,11 @@ use std::{env, io};
 use stream_trait::{StdSink, StdSource, Words};
 use thiserror::Error;
 
-/// The memory of the modelled PC, in bytes.
+/// The memory of the modelled PC where a part boots, in bytes.
 const MEMORY: u32 = 16_777_216;
+
+/// Its memory where none does: the least that there is, since it is written with zeros and nothing looks at it.
+const LEAST_MEMORY: u32 = 1_048_576;
 
 /// The most disks that a BIOS numbers here.
 const DISKS: u8 = 4;
@@ -60,7 +64,8 @@ fn run(rt: &HostRuntime) -> Result<u8, Fault> {
     sort_arguments(rt, &mut disks, &mut words)?;
     let mut keys = StdSource::new(rt.stdin());
     let mut out = StdSink::new(rt.stdout());
-    let mut ram = Ram::new(alloc, MEMORY)?;
+    let memory = if boots(&words) { MEMORY } else { LEAST_MEMORY };
+    let mut ram = Ram::new(alloc, memory)?;
     let now = moment(rt);
     Ok(lilo(
         alloc, &words, &mut disks, &mut keys, &mut out, &mut ram, now,

@@ -13,8 +13,8 @@ use Rattle.loader_core.specs.Kernel.{regions_in}
 use Rattle.stream_trait.specs.Shows.{SinkState, Shows, ShowsOne}
 use Rattle.loader_core.specs.Start.{Reports, result_of}
 use Rattle.loader_core.specs.Today.{Report, boot_today}
-use Rattle.loader_core.specs.View.{reason_view}
-use Rattle.loader_core.specs.declared.outcome.Reason.{Reason}
+use Rattle.section_loader.specs.View.{reason_view}
+use Rattle.section_loader.specs.declared.reason.Reason.{Reason}
 use Rattle.loader_core.specs.declared.outcome.Outcome.TheVariants as outcomes
 use Rattle.stream_trait.proofs.ShowsLemmas.{shows_join}
 use Rattle.lilo_run.specs.Dump as dumps

@@ -10,7 +10,7 @@ use Rattle.lilo_model.specs.Prompt.{Key}
 use Rattle.lilo_model.specs.Refusal.{DeviceFault}
 use Rattle.lilo_model.specs.Verdict.{Verdict, dump_text, verdict_of, verdict_behind, boot_text, boot_verdict}
 use Rattle.loader_core.specs.Laws.{EndsSo, IsReported}
-use Rattle.loader_core.specs.Reading.{Why, Unbuilt, Because}
+use Rattle.section_loader.specs.Reading.{Why, Unbuilt, Because}
 use Rattle.loader_core.specs.Today.{boot_today, standing_line}
 use Rattle.loader_core.proofs.TodayLemmas.{today_law}
 use Rattle.lilo_run.specs.Laws.{IsUnbuiltAt, IsBootRun, BootVerdictLaw}

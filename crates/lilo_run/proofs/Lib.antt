@@ -2,5 +2,6 @@ pub mod ConfLemmas
 pub mod DumpLemmas
 pub mod EffectLemmas
 pub mod LawLemmas
+pub mod MemoryLemmas
 pub mod RunLemmas
 pub mod TellLemmas

@@ -1,7 +1,9 @@
 -- The loop over the parts of a run.
 use Rattle.std.proofs.Common.{◌≡◌, ◌≤◌, ◌<◌, ◌≢◌, ◌∙◌, ◌==◌, ◌⊎◌, ◌+◌, ◌-◌, ℕ, inl, inr, Bool, true, false, cond, ◌||◌, List, [], ◌∷◌, ◌++◌, map, Option, None, Some, Err, codes, IfSome, IsTrue, refl, sym, subst, arith}
 use Rattle.std.proofs.lemmas.Bool.{eqb-true, false≢true}
-use Rattle.disk_trait.specs.Past.{Image, Past, Told, SameDisks}
+use Rattle.disk_trait.specs.Past.{Image, SameDisks}
+use Rattle.disk_trait.specs.declared.disks.Disks.{Ghosts}
+use Rattle.sector_address.specs.Machine.{OnDisks}
 use Rattle.lilo_model.specs.Disks.{Machine}
 use Rattle.lilo_model.specs.Place.{Memory}
 use Rattle.lilo_model.specs.Words as words
@@ -66,10 +68,11 @@ pub continues_last :
     (effect : Part → Effect) (all rest behind : List Part) (part : Part) (own status : ℕ) (m0 m1 m2 : Memory)
     (s0 s1 s2 : SinkState)
     → Continues effect all rest m0 m1 s0 s1 → rest ≡ part ∷ behind → Does (effect part) own m1 m2 s1 s2
-    → IsTrue (is_part_status own) → status ≡ answer_of own s2.failed → status ≢ 0 → Runs (map effect all) status m0 m2 s0 s2
-continues_last effect all rest behind part own status m0 m1 m2 s0 s1 s2 goes is does known answer some =
+    → IsTrue (is_part_status own) → status ≡ answer_of own s2.failed → status ≢ 0 → ((effect part).boots ≡ false → m2 ≡ m1)
+    → Runs (map effect all) status m0 m2 s0 s2
+continues_last effect all rest behind part own status m0 m1 m2 s0 s1 s2 goes is does known answer some quiet =
     goes status m2 s2
-    (rw is (inl (record { own = own; does = does; answer = answer; some = some; own_not_12 = not_12 own known })))
+    (rw is (inl (record { own = own; does = does; answer = answer; some = some; own_not_12 = not_12 own known; quiet = quiet })))
 
 -- a status that the sink doesn't change
 pub own_status : (own known : ℕ) (failed : Bool) → answer_of own failed ≡ known → known ≢ 12 → own ≡ known
@@ -161,15 +164,9 @@ stays_more all rest behind part old mid new stays is quiet none =
 
 -- what is told of disks that stayed the same was told of them before
 pub told_same :
-    {D G : Type 0} (past : D → Option Past) (size_of : D → ℕ → ℕ) (count_of : D → ℕ) (geometry_of : D → ℕ → G)
-    (old mid : D) → SameDisks past size_of count_of geometry_of old mid
-    → (P : Image → (ℕ → ℕ) → (ℕ → G) → Type 0)
-    → Told (past mid) (λ now. P now (size_of mid) (geometry_of mid))
-    → Told (past old) (λ now. P now (size_of old) (geometry_of old))
-told_same past size_of count_of geometry_of old mid same P told =
-    let by_size = subst (λ size. Told (past mid) (λ now. P now size (geometry_of mid))) same.same_size told in
-    let by_geometry = subst (λ geometry. Told (past mid) (λ now. P now (size_of old) geometry)) same.same_geometry by_size in
-    subst (λ p. Told p (λ now. P now (size_of old) (geometry_of old))) same.same_past by_geometry
+    {D : Type 0} (g : Ghosts D) (old mid : D) → SameDisks g.past g.size_of g.count_of g.geometry_of old mid
+    → (P : Image → Machine → Type 0) → OnDisks g mid P → OnDisks g old P
+told_same g old mid same P told = rw (same.same_past, same.same_size, same.same_geometry) at told
 
 -- ---- words that are no run
 
@@ -192,4 +189,5 @@ usage_runs now machine size words wrong memory old new is shown =
       answer = refl;
       some = λ zero. omega (arith, zero);
       own_not_12 = λ twelve. omega (arith, twelve);
+      quiet = λ none. refl;
     }))

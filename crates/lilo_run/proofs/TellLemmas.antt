@@ -105,6 +105,7 @@ runs_tell (part ∷ parts) status m0 m1 old new before early fine (inl ends) =
       ends.some,
       tells_before part status old.taken new.taken before old.faults new.faults early (end_tells part status m0 m1 old new ends fine),
       end_placed part status m0 m1 old new ends,
+      ends.quiet,
     )
 runs_tell (part ∷ parts) status m0 m1 old new before early fine (inr (mid, shown, done, whole, runs)) =
     let later = done.shown.later in

@@ -15,8 +15,8 @@ use Rattle.lilo_run.specs.declared.conf.ConfHalt.{ConfHalt}
 use Rattle.lilo_run.specs.declared.conf.ConfHalt.TheVariants.{File, Text}
 use Rattle.lilo_model.specs.Refusal as model
 use Rattle.lilo_model.specs.Verdict.{Verdict, verdict_of}
-use Rattle.loader_core.specs.Reading.{Why, Unbuilt, Because}
-use Rattle.loader_core.specs.View.{reason_view}
+use Rattle.section_loader.specs.Reading.{Why, Unbuilt, Because}
+use Rattle.section_loader.specs.View.{reason_view}
 use Rattle.lilo_run.specs.declared.refusal.PlaceFault.{PlaceFault}
 use Rattle.lilo_run.specs.declared.refusal.PlaceFault.TheVariants.{NoDisk, NoPartition, BadTable}
 use Rattle.lilo_run.specs.declared.refusal.Halt.{Halt}

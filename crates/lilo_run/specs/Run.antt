@@ -1,8 +1,12 @@
 -- How what was done stands to what the definitions give.
-use Rattle.std.specs.Prelude.{◌≡◌, ◌≢◌, ◌⊎◌, ℕ, ◌==◌, Bool, false, List, [], ◌∷◌, ◌++◌, Option, Result, Ok, Err}
+use Rattle.std.specs.Prelude.{◌≡◌, ◌≢◌, ◌⊎◌, ℕ, ◌==◌, Bool, false, List, [], ◌∷◌, ◌++◌, length, Option, Result, Ok, Err}
 use Rattle.std.specs.List.{list_any}
 use Rattle.std.specs.Option.{option_map}
 use Rattle.disk_trait.specs.declared.disks.Span.{Span}
+use Rattle.disk_trait.specs.declared.disks.Disks.{Ghosts}
+use Rattle.disk_trait.specs.Past.{Told}
+use Rattle.sector_address.specs.Machine.{machine_of}
+use Rattle.bios_model.specs.Memory.{memory_of}
 use Rattle.lilo_model.specs.Disks as disks
 use Rattle.lilo_model.specs.Place.{Memory, memory_after}
 use Rattle.lilo_model.specs.Refusal as model
@@ -11,17 +15,19 @@ use Rattle.boot_map.specs.declared.map_fault.MapFault.TheVariants as maps
 use Rattle.mbr_table.specs.View.{span_view}
 use Rattle.mbr_table.specs.declared.table_fault.TableFault.{TableFault}
 use Rattle.mbr_table.specs.declared.table_fault.TableFault.TheVariants as faults
-use Rattle.loader_core.specs.Reading.{Why, Unbuilt, Because}
-use Rattle.loader_core.specs.declared.outcome.Reason.TheVariants as reasons
+use Rattle.section_loader.specs.Reading.{Why, Unbuilt, Because}
+use Rattle.section_loader.specs.declared.reason.Reason.TheVariants as reasons
 use Rattle.stream_trait.specs.Fault.{Rose}
-use Rattle.stream_trait.specs.Shows.{SinkState, Shows, ShowsOne, Prints, PrintsOne, answer_of}
+use Rattle.stream_trait.specs.Shows.{SinkState, Shows, ShowsOne, Prints, PrintsOne, answer_of, sink_of}
+use Rattle.stream_trait.specs.declared.shown.Shown.{Shown}
+use Rattle.stream_trait.specs.declared.sink.Sink as sinks
 use Rattle.stream_trait.specs.Sink.{TakesFront}
-use Rattle.loader_core.specs.View.{reason_view}
+use Rattle.section_loader.specs.View.{reason_view}
 use Rattle.lilo_run.specs.declared.refusal.Halt.{Halt}
 use Rattle.lilo_run.specs.declared.refusal.Halt.TheVariants.{Device, NotBuilt, NoPlace, NotOurs, Boot}
 use Rattle.lilo_run.specs.declared.refusal.PlaceFault.TheVariants as variants
 use Rattle.lilo_run.specs.Refusal.{place_fault_view}
-use Rattle.lilo_run.specs.Verdict.{Effect, run_verdict}
+use Rattle.lilo_run.specs.Verdict.{Effect, effects_of, run_verdict}
 
 -- ---- a reader
 
@@ -84,6 +90,16 @@ abbrev pub Does : Effect → ℕ → Memory → Memory → SinkState → SinkSta
 Does effect status memory memory' old new =
     IsDone effect status memory memory' old new ⊎ (IsFailed 8 effect.failures status old new ⊎ IsFailed 13 effect.starved status old new)
 
+-- the same of what disks hold, where they tell their past: by the memory and the sink before it and after it
+abbrev pub DoesOn : {D O : Type 0} → Ghosts D → sinks.Ghosts O → D → ℕ → List ℕ × Shown O → List ℕ × Shown O → (disks.Image → disks.Machine → ℕ → Effect) → Type 0
+DoesOn g o disks status old new effect =
+    Told (g.past disks) (λ now. Does (effect now (machine_of g disks) (length old.0)) status (memory_of old.0) (memory_of new.0) (sink_of o old.1) (sink_of o new.1))
+
+-- the same of a command that leaves this memory alone
+abbrev pub DoesBeside : {D O : Type 0} → Ghosts D → sinks.Ghosts O → D → Memory → ℕ → Shown O → Shown O → (disks.Image → disks.Machine → Effect) → Type 0
+DoesBeside g o disks memory status old new effect =
+    Told (g.past disks) (λ now. Does (effect now (machine_of g disks)) status memory memory (sink_of o old) (sink_of o new))
+
 -- ---- a run
 
 -- A run ended at a part, with a status other than 0: the part's own, or 12 where that is 0 and its text wasn't shown.
@@ -94,6 +110,8 @@ pub record EndsAt (part : Effect) (status : ℕ) (memory memory' : Memory) (old 
   pub some : status ≢ 0
   -- no part has 12 of its own
   pub own_not_12 : own ≢ 12
+  -- only a boot changes memory
+  pub quiet : part.boots ≡ false → memory' ≡ memory
 
 -- The parts run in order until one answers other than 0, and that status is the answer: each before it was done with 0,
 -- and its text was shown whole.
@@ -103,6 +121,15 @@ Runs (part ∷ parts) status memory memory' old new =
     EndsAt part status memory memory' old new
     ⊎ ((mid : Memory) × (shown : SinkState) × IsDone part 0 memory mid old shown × (shown.failed ≡ false)
     × Runs parts status mid memory' shown new)
+
+-- the same, by the memory and the sink before them and after them
+abbrev pub RunsAll : {O : Type 0} → sinks.Ghosts O → List Effect → ℕ → List ℕ × Shown O → List ℕ × Shown O → Type 0
+RunsAll o parts status old new = Runs parts status (memory_of old.0) (memory_of new.0) (sink_of o old.1) (sink_of o new.1)
+
+-- a fact about what the parts of words do over what disks hold, with a memory of so many bytes, where the disks tell
+-- their past
+abbrev pub OnParts : {D : Type 0} → Ghosts D → D → ℕ → List (List ℕ) → (List Effect → Type 0) → Type 0
+OnParts g disks memory words P = Told (g.past disks) (λ now. P (effects_of now (machine_of g disks) memory words))
 
 -- ---- the whole
 
@@ -130,13 +157,20 @@ abbrev pub taken_behind : Option (List ℕ) → List ℕ → Option (List ℕ)
 taken_behind old text = option_map (λ taken. taken ++ text) old
 
 -- Parts in order told their texts: those that answer 0 whole, and then the one that answers otherwise, at which the run
--- ends. Memory has what they put there, where the status is 0 or 12.
+-- ends. Memory has what they put there where the status is 0 or 12, and what the parts before it put there where the
+-- part at which the run ended doesn't boot.
 abbrev pub TellsRun : List Effect → ℕ → Memory → Memory → Option (List ℕ) → Option (List ℕ) → ℕ → ℕ → Type 0
 TellsRun [] status memory memory' old new before now = (status ≡ 0) × (memory' ≡ memory) × (new ≡ old)
 TellsRun (part ∷ parts) status memory memory' old new before now =
-    ((status ≢ 0) × Tells part status old new before now × (status ≡ 12 → memory' ≡ memory_after memory part.written))
+    ((status ≢ 0) × Tells part status old new before now × (status ≡ 12 → memory' ≡ memory_after memory part.written)
+    × (part.boots ≡ false → memory' ≡ memory))
     ⊎ ((part.verdict.status ≡ 0)
     × TellsRun parts status (memory_after memory part.written) memory' (taken_behind old part.verdict.text) new before now)
+
+-- the same, by the memory and the sink before them and after them
+abbrev pub TellsAll : {O : Type 0} → sinks.Ghosts O → List Effect → ℕ → List ℕ × O → List ℕ × O → Type 0
+TellsAll o parts status old new =
+    TellsRun parts status (memory_of old.0) (memory_of new.0) (o.taken old.1) (o.taken new.1) (o.faults old.1) (o.faults new.1)
 
 -- whether a part that reads no configuration may end with this status
 abbrev pub is_plain_status : ℕ → Bool

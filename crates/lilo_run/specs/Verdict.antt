@@ -12,7 +12,7 @@ use Rattle.lilo_model.specs.Refusal as refusals
 use Rattle.lilo_model.specs.Verdict.{Verdict, verdict_of, verdict_behind, query_verdict, start_check, region_text, told_regions}
 use Rattle.lilo_model.specs.Words as words
 use Rattle.lilo_model.specs.Words.{Command, Part, run_at, usage_text}
-use Rattle.loader_core.specs.Reading.{Why}
+use Rattle.section_loader.specs.Reading.{Why}
 use Rattle.loader_core.specs.Today.{Report, boot_today}
 use Rattle.lilo_run.specs.Refusal.{not_built, device_failed, no_memory, why_verdict}
 
@@ -26,15 +26,17 @@ pub record Effect : Type 0 where
   pub starved : List (List ℕ)
   -- what it puts into memory where its status is 0
   pub written : List Written
+  -- whether it boots: no other command changes memory
+  pub boots : Bool
 
 -- a command that only answers and prints
 abbrev pub plain_effect : Verdict → List (List ℕ) → Effect
-plain_effect verdict failures = record { verdict = verdict; failures = failures; starved = []; written = [] }
+plain_effect verdict failures = record { verdict = verdict; failures = failures; starved = []; written = []; boots = false }
 
 -- one that reads a configuration first, which takes memory
 abbrev pub conf_effect : Verdict → Effect
 conf_effect verdict =
-    record { verdict = verdict; failures = device_failed.text ∷ []; starved = no_memory.text ∷ []; written = [] }
+    record { verdict = verdict; failures = device_failed.text ∷ []; starved = no_memory.text ∷ []; written = []; boots = false }
 
 -- ---- a command
 
@@ -71,13 +73,14 @@ report_effect dump report = record {
   failures = map failed_behind report.device;
   starved = [];
   written = end_written report.result;
+  boots = true;
 }
 
 -- `boot`, with `--dump` or without, in a memory of so many bytes
 unfoldable pub boot_effect : Image → Machine → ℕ → Bool → Result Span refusals.DeviceFault → Effect
 boot_effect now machine memory dump (Ok span) = report_effect dump (boot_today now machine span memory)
 boot_effect now machine memory dump (Err fault) =
-    plain_effect (verdict_of (Err (refusals.Device fault))) (device_failed.text ∷ [])
+    record (plain_effect (verdict_of (Err (refusals.Device fault))) (device_failed.text ∷ [])) { boots = true }
 
 -- what is answered and printed of a configuration whose part isn't built: it is read, and then the part is told so
 abbrev pub unbuilt_behind : Result Device refusals.Refusal → Verdict
@@ -158,6 +161,11 @@ is_boot _ = false
 -- whether one of some parts boots
 unfoldable pub has_boot : List Part → Bool
 has_boot parts = list_any (λ part. is_boot part.command) parts
+
+-- whether words are a run of which a part boots
+abbrev pub run_boots : Result (List Part) (Option ℕ) → Bool
+run_boots (Ok parts) = has_boot parts
+run_boots (Err wrong) = false
 
 -- whether a command reads a configuration
 abbrev pub reads_conf : Command → Bool

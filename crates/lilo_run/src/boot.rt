@@ -1,17 +1,14 @@
 // A boot from a device, and what is told of the memory behind it.
-ghost use Rattle.std.specs.Prelude.{◌≡◌, ◌≤◌, ◌<◌, [], ◌∷◌, length, IfSome, IsTrue};
-ghost use Rattle.disk_trait.specs.Past.{Told, SameDisks};
-ghost use Rattle.disk_trait.specs.Cause.{Rose};
-ghost use Rattle.bios_model.specs.Machine.{machine_of};
-ghost use Rattle.bios_model.specs.Memory.{memory_of};
+ghost use Rattle.std.specs.Prelude.{◌≡◌, ◌<◌, [], ◌∷◌, length, IfSome, IsTrue};
 ghost use Rattle.mbr_table.specs.View.{device_view, span_view};
-ghost use Rattle.stream_trait.specs.Shows.{Shows, state_of, HasFailed};
+ghost use Rattle.stream_trait.specs.Shows.{Shows, sink_of, HasFailed};
 ghost use Rattle.loader_core.specs.Today.{boot_today};
 ghost use Rattle.setup_header.specs.Words.{LiesIn};
 ghost use Rattle.lilo_run.specs.Dump.{regions_of, boot_sector_in};
-ghost use Rattle.lilo_run.specs.Run.{Does, is_plain_status};
+ghost use Rattle.lilo_run.specs.Run.{is_plain_status, DoesOn};
 ghost use Rattle.lilo_model.specs.ConfVerdict.{place_at};
 ghost use Rattle.lilo_run.specs.Verdict.{early_at, boot_effect, report_effect, regions_text};
+ghost use Rattle.bios_model.specs.Reads.{OnlyReadsBios};
 
 use crate::dump::{dump_memory, dump_sector};
 use crate::place::find_device;
@@ -32,19 +29,13 @@ pub(crate) fn boot_device<D: Disks, I: Source, O: Sink>(
     ram: &mut Ram,
     out: &mut Shown<'_, O>,
 ) -> u8
-    ensures does { Told (D.past bios.old.disks.now) (λ now. let machine = machine_of (D.size_of bios.old.disks.now) (D.geometry_of bios.old.disks.now) in
-        Does (boot_effect now machine (length ram.old) dump (place_at now machine (device_view device))) result (memory_of ram.old) (memory_of ram.new)
-        (state_of (O.taken out.old.out.now) (O.faults out.old.out.now) out.old.failed) (state_of (O.taken out.new.out.now) (O.faults out.new.out.now) out.new.failed)) }
+    ensures does { DoesOn D.Disks O.Sink bios.old.disks.now result (ram.old, out.old) (ram.new, out.new)
+        (λ now machine memory. boot_effect now machine memory dump (place_at now machine (device_view device))) }
     ensures early { IfSome (early_at (D.size_of bios.old.disks.now) (device_view device)) (λ status. result ≡ status) }
     ensures known { IsTrue (is_plain_status result) }
-    ensures device { result ≡ 8 → Rose (D.faults bios.old.disks.now) (D.faults bios.new.disks.now) }
-    ensures later { D.faults bios.old.disks.now ≤ D.faults bios.new.disks.now }
-    ensures sink { HasFailed (state_of (O.taken out.old.out.now) (O.faults out.old.out.now) out.old.failed) (state_of (O.taken out.new.out.now) (O.faults out.new.out.now) out.new.failed) }
+    ensures sink { HasFailed (sink_of O.Sink out.old) (sink_of O.Sink out.new) }
     ensures memory { length ram.new ≡ length ram.old }
-    ensures same { SameDisks D.past D.size_of D.count_of D.geometry_of bios.old.disks.now bios.new.disks.now }
-    ensures keys { bios.new.keys.now ≡ bios.old.keys.now }
-    ensures same_disks_reference { bios.new.disks.ghost_name ≡ bios.old.disks.ghost_name }
-    ensures same_keys_reference { bios.new.keys.ghost_name ≡ bios.old.keys.ghost_name }
+    ensures reads { OnlyReadsBios D.Disks bios.old bios.new (result ≡ 8) }
     ensures same_reference { out.new.out.ghost_name ≡ out.old.out.ghost_name }
 {
     match find_device(bios.disks, device) {
@@ -62,18 +53,12 @@ fn boot_span<D: Disks, I: Source, O: Sink>(
     out: &mut Shown<'_, O>,
 ) -> u8
     requires { span.start < D.size_of bios.old.disks.now span.disk }
-    ensures does { Told (D.past bios.old.disks.now) (λ now. let machine = machine_of (D.size_of bios.old.disks.now) (D.geometry_of bios.old.disks.now) in
-        Does (report_effect dump (boot_today now machine (span_view span) (length ram.old))) result (memory_of ram.old) (memory_of ram.new)
-        (state_of (O.taken out.old.out.now) (O.faults out.old.out.now) out.old.failed) (state_of (O.taken out.new.out.now) (O.faults out.new.out.now) out.new.failed)) }
+    ensures does { DoesOn D.Disks O.Sink bios.old.disks.now result (ram.old, out.old) (ram.new, out.new)
+        (λ now machine memory. report_effect dump (boot_today now machine (span_view span) memory)) }
     ensures known { IsTrue (is_plain_status result) }
-    ensures device { result ≡ 8 → Rose (D.faults bios.old.disks.now) (D.faults bios.new.disks.now) }
-    ensures later { D.faults bios.old.disks.now ≤ D.faults bios.new.disks.now }
-    ensures sink { HasFailed (state_of (O.taken out.old.out.now) (O.faults out.old.out.now) out.old.failed) (state_of (O.taken out.new.out.now) (O.faults out.new.out.now) out.new.failed) }
+    ensures sink { HasFailed (sink_of O.Sink out.old) (sink_of O.Sink out.new) }
     ensures memory { length ram.new ≡ length ram.old }
-    ensures same { SameDisks D.past D.size_of D.count_of D.geometry_of bios.old.disks.now bios.new.disks.now }
-    ensures keys { bios.new.keys.now ≡ bios.old.keys.now }
-    ensures same_disks_reference { bios.new.disks.ghost_name ≡ bios.old.disks.ghost_name }
-    ensures same_keys_reference { bios.new.keys.ghost_name ≡ bios.old.keys.ghost_name }
+    ensures reads { OnlyReadsBios D.Disks bios.old bios.new (result ≡ 8) }
     ensures same_reference { out.new.out.ghost_name ≡ out.old.out.ghost_name }
 {
     match boot(bios, span, ram, out) {
@@ -94,9 +79,8 @@ fn boot_span<D: Disks, I: Source, O: Sink>(
 /// Tells what a kernel's loading has put into memory, where that is asked for.
 fn tell_kernel<O: Sink>(dump: bool, out: &mut Shown<'_, O>, ram: &Ram, layout: &Layout)
     requires { LiesIn (length ram.now) layout.now }
-    ensures shown { Shows (state_of (O.taken out.old.out.now) (O.faults out.old.out.now) out.old.failed)
-        (regions_text dump (regions_of layout.now ram.now))
-        (state_of (O.taken out.new.out.now) (O.faults out.new.out.now) out.new.failed) }
+    ensures shown { Shows (sink_of O.Sink out.old)
+        (regions_text dump (regions_of layout.now ram.now)) (sink_of O.Sink out.new) }
     ensures same_reference { out.new.out.ghost_name ≡ out.old.out.ghost_name }
 {
     if dump {
@@ -106,9 +90,8 @@ fn tell_kernel<O: Sink>(dump: bool, out: &mut Shown<'_, O>, ram: &Ram, layout: &
 
 /// Tells the boot sector that was started, where that is asked for.
 fn tell_sector<O: Sink>(dump: bool, out: &mut Shown<'_, O>, ram: &Ram)
-    ensures shown { Shows (state_of (O.taken out.old.out.now) (O.faults out.old.out.now) out.old.failed)
-        (regions_text dump (boot_sector_in ram.now ∷ []))
-        (state_of (O.taken out.new.out.now) (O.faults out.new.out.now) out.new.failed) }
+    ensures shown { Shows (sink_of O.Sink out.old)
+        (regions_text dump (boot_sector_in ram.now ∷ [])) (sink_of O.Sink out.new) }
     ensures same_reference { out.new.out.ghost_name ≡ out.old.out.ghost_name }
 {
     if dump {

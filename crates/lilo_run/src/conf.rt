@@ -1,17 +1,18 @@
 // The configuration of a part: where it stands, what it says, and what is told of one that can't be used.
-ghost use Rattle.std.specs.Prelude.{◌≡◌, ◌≤◌, ◌++◌, ℕ, None, option_map, option_copied, is_none, codes, IfErr, IfSome, IsTrue};
-ghost use Rattle.disk_trait.specs.Past.{Told, SameDisks};
-ghost use Rattle.disk_trait.specs.Cause.{Rose};
-ghost use Rattle.stream_trait.specs.Shows.{Shows, HasFailed, state_of};
+ghost use Rattle.std.specs.Prelude.{◌≡◌, ◌≤◌, ◌++◌, ℕ, None, option_map, option_copied, is_none, codes, IfErr};
+ghost use Rattle.std.specs.Prelude.{IfSome, IsTrue};
+ghost use Rattle.disk_trait.specs.Past.{SameDisks};
+ghost use Rattle.stream_trait.specs.Shows.{Shows, sink_of};
 ghost use Rattle.lilo_model.specs.ConfVerdict.{conf_path, conf_device};
 ghost use Rattle.lilo_model.specs.Place.{Memory};
 ghost use Rattle.lilo_model.specs.Words.{Query};
-ghost use Rattle.bios_model.specs.Machine.{machine_of};
+ghost use Rattle.sector_address.specs.Machine.{OnDisks};
 ghost use Rattle.mbr_table.specs.View.{device_view};
 ghost use Rattle.conf_settings.specs.View.{fault_view, reason_view};
 ghost use Rattle.lilo_run.specs.Refusal.{conf_verdict, file_verdict, text_verdict, GivesDevice, HasConfCause};
-ghost use Rattle.lilo_run.specs.Run.{Does, is_part_status};
+ghost use Rattle.lilo_run.specs.Run.{is_part_status, DoesBeside};
 ghost use Rattle.lilo_run.specs.Verdict.{command_effect, conf_query_effect, install_effect, early_status};
+ghost use Rattle.bios_model.specs.Reads.{ReadsAndShows};
 
 use crate::place::place_halt;
 use crate::query::query_device;
@@ -56,17 +57,14 @@ pub(crate) fn query<D: Disks, O: Sink>(
     path: &[u8],
     out: &mut Shown<'_, O>,
 ) -> u8
-    ensures does { (memory : Memory) (size : ℕ) → Told (D.past disks.old) (λ now. let machine = machine_of (D.size_of disks.old) (D.geometry_of disks.old) in
-        Does (command_effect now machine size (option_map device_view root) path.now (Query (option_map device_view device))) result memory memory
-        (state_of (O.taken out.old.out.now) (O.faults out.old.out.now) out.old.failed) (state_of (O.taken out.new.out.now) (O.faults out.new.out.now) out.new.failed)) }
-    ensures early { IfSome (early_status (D.size_of disks.old) (Query (option_map device_view device))) (λ status. result ≡ status) }
+    ensures does { (memory : Memory) (size : ℕ) → DoesBeside D.Disks O.Sink disks.old memory result out.old out.new
+        (λ now machine. command_effect now machine size (option_map device_view root) path.now
+        (Query (option_map device_view device))) }
+    ensures early { IfSome (early_status (D.size_of disks.old) (Query (option_map device_view device)))
+        (λ status. result ≡ status) }
     ensures known { IsTrue (is_part_status result) }
     ensures starved { result ≡ 13 → device ≡ None }
-    ensures device { result ≡ 8 → Rose (D.faults disks.old) (D.faults disks.new) }
-    ensures later { D.faults disks.old ≤ D.faults disks.new }
-    ensures sink { HasFailed (state_of (O.taken out.old.out.now) (O.faults out.old.out.now) out.old.failed) (state_of (O.taken out.new.out.now) (O.faults out.new.out.now) out.new.failed) }
-    ensures same { SameDisks D.past D.size_of D.count_of D.geometry_of disks.old disks.new }
-    ensures same_reference { out.new.out.ghost_name ≡ out.old.out.ghost_name }
+    ensures only { ReadsAndShows D.Disks O.Sink (disks.old, out.old) (disks.new, out.new) (result ≡ 8) }
 {
     match device {
         Some(device) => query_device(disks, device, out),
@@ -83,15 +81,10 @@ fn query_conf<D: Disks, O: Sink>(
     path: &[u8],
     out: &mut Shown<'_, O>,
 ) -> u8
-    ensures does { (memory : Memory) → Told (D.past disks.old) (λ now. let machine = machine_of (D.size_of disks.old) (D.geometry_of disks.old) in
-        Does (conf_query_effect now machine (option_map device_view root) path.now) result memory memory
-        (state_of (O.taken out.old.out.now) (O.faults out.old.out.now) out.old.failed) (state_of (O.taken out.new.out.now) (O.faults out.new.out.now) out.new.failed)) }
+    ensures does { (memory : Memory) → DoesBeside D.Disks O.Sink disks.old memory result out.old out.new (λ now machine.
+        conf_query_effect now machine (option_map device_view root) path.now) }
     ensures known { IsTrue (is_part_status result) }
-    ensures device { result ≡ 8 → Rose (D.faults disks.old) (D.faults disks.new) }
-    ensures later { D.faults disks.old ≤ D.faults disks.new }
-    ensures sink { HasFailed (state_of (O.taken out.old.out.now) (O.faults out.old.out.now) out.old.failed) (state_of (O.taken out.new.out.now) (O.faults out.new.out.now) out.new.failed) }
-    ensures same { SameDisks D.past D.size_of D.count_of D.geometry_of disks.old disks.new }
-    ensures same_reference { out.new.out.ghost_name ≡ out.old.out.ghost_name }
+    ensures only { ReadsAndShows D.Disks O.Sink (disks.old, out.old) (disks.new, out.new) (result ≡ 8) }
 {
     match boot_device(alloc, disks, root, path) {
         Ok(device) => query_device(disks, device, out),
@@ -108,15 +101,10 @@ pub(crate) fn install<D: Disks, O: Sink>(
     path: &[u8],
     out: &mut Shown<'_, O>,
 ) -> u8
-    ensures does { (memory : Memory) → Told (D.past disks.old) (λ now. let machine = machine_of (D.size_of disks.old) (D.geometry_of disks.old) in
-        Does (install_effect now machine (option_map device_view root) path.now) result memory memory
-        (state_of (O.taken out.old.out.now) (O.faults out.old.out.now) out.old.failed) (state_of (O.taken out.new.out.now) (O.faults out.new.out.now) out.new.failed)) }
+    ensures does { (memory : Memory) → DoesBeside D.Disks O.Sink disks.old memory result out.old out.new (λ now machine.
+        install_effect now machine (option_map device_view root) path.now) }
     ensures known { IsTrue (is_part_status result) }
-    ensures device { result ≡ 8 → Rose (D.faults disks.old) (D.faults disks.new) }
-    ensures later { D.faults disks.old ≤ D.faults disks.new }
-    ensures sink { HasFailed (state_of (O.taken out.old.out.now) (O.faults out.old.out.now) out.old.failed) (state_of (O.taken out.new.out.now) (O.faults out.new.out.now) out.new.failed) }
-    ensures same { SameDisks D.past D.size_of D.count_of D.geometry_of disks.old disks.new }
-    ensures same_reference { out.new.out.ghost_name ≡ out.old.out.ghost_name }
+    ensures only { ReadsAndShows D.Disks O.Sink (disks.old, out.old) (disks.new, out.new) (result ≡ 8) }
 {
     match boot_device(alloc, disks, root, path) {
         Ok(_device) => say(out, Halt::NotBuilt),
@@ -132,8 +120,8 @@ fn boot_device<D: Disks>(
     root: Option<Device>,
     path: &[u8],
 ) -> Result<Device, ConfHalt>
-    ensures device { Told (D.past disks.old) (λ now. GivesDevice path.now result
-        (conf_device now (machine_of (D.size_of disks.old) (D.geometry_of disks.old)) (option_map device_view root) path.now)) }
+    ensures device { OnDisks D.Disks disks.old (λ now machine.
+        GivesDevice path.now result (conf_device now machine (option_map device_view root) path.now)) }
     ensures cause { IfErr result (HasConfCause (D.faults disks.old) (D.faults disks.new)) }
     ensures later { D.faults disks.old ≤ D.faults disks.new }
     ensures same { SameDisks D.past D.size_of D.count_of D.geometry_of disks.old disks.new }
@@ -152,8 +140,7 @@ fn say_conf<O: Sink>(out: &mut Shown<'_, O>, halt: ConfHalt, path: &[u8]) -> u8
     ensures status { result ≡ (conf_verdict path.now halt).status }
     ensures known { IsTrue (is_part_status result) }
     ensures some { 1 ≤ result }
-    ensures shown { Shows (state_of (O.taken out.old.out.now) (O.faults out.old.out.now) out.old.failed) (conf_verdict path.now halt).text
-        (state_of (O.taken out.new.out.now) (O.faults out.new.out.now) out.new.failed) }
+    ensures shown { Shows (sink_of O.Sink out.old) (conf_verdict path.now halt).text (sink_of O.Sink out.new) }
     ensures same_reference { out.new.out.ghost_name ≡ out.old.out.ghost_name }
 {
     match halt {
@@ -168,8 +155,7 @@ fn say_file<O: Sink>(out: &mut Shown<'_, O>, fault: FileFault, path: &[u8]) -> u
     ensures status { result ≡ (file_verdict path.now fault).status }
     ensures known { IsTrue (is_part_status result) }
     ensures some { 1 ≤ result }
-    ensures shown { Shows (state_of (O.taken out.old.out.now) (O.faults out.old.out.now) out.old.failed) (file_verdict path.now fault).text
-        (state_of (O.taken out.new.out.now) (O.faults out.new.out.now) out.new.failed) }
+    ensures shown { Shows (sink_of O.Sink out.old) (file_verdict path.now fault).text (sink_of O.Sink out.new) }
     ensures same_reference { out.new.out.ghost_name ≡ out.old.out.ghost_name }
 {
     match fault {
@@ -197,8 +183,7 @@ fn say_file<O: Sink>(out: &mut Shown<'_, O>, fault: FileFault, path: &[u8]) -> u
 
 // Shows a text and a path, and ends the line.
 fn say_path<O: Sink>(out: &mut Shown<'_, O>, text: &[u8], path: &[u8])
-    ensures shown { Shows (state_of (O.taken out.old.out.now) (O.faults out.old.out.now) out.old.failed) (text.now ++ path.now ++ codes "\n")
-        (state_of (O.taken out.new.out.now) (O.faults out.new.out.now) out.new.failed) }
+    ensures shown { Shows (sink_of O.Sink out.old) (text.now ++ path.now ++ codes "\n") (sink_of O.Sink out.new) }
     ensures same_reference { out.new.out.ghost_name ≡ out.old.out.ghost_name }
 {
     out.put(text);
@@ -209,8 +194,7 @@ fn say_path<O: Sink>(out: &mut Shown<'_, O>, text: &[u8], path: &[u8])
 // Shows that memory doesn't suffice, and gives the status.
 fn say_memory<O: Sink>(out: &mut Shown<'_, O>) -> u8
     ensures status { result ≡ 13 }
-    ensures shown { Shows (state_of (O.taken out.old.out.now) (O.faults out.old.out.now) out.old.failed) (codes "lilo: memory\n")
-        (state_of (O.taken out.new.out.now) (O.faults out.new.out.now) out.new.failed) }
+    ensures shown { Shows (sink_of O.Sink out.old) (codes "lilo: memory\n") (sink_of O.Sink out.new) }
     ensures same_reference { out.new.out.ghost_name ≡ out.old.out.ghost_name }
 {
     out.put(b"lilo: memory\n");
@@ -222,8 +206,7 @@ fn say_text<O: Sink>(out: &mut Shown<'_, O>, fault: ConfFault) -> u8
     ensures status { result ≡ (text_verdict (fault_view fault)).status }
     ensures known { IsTrue (is_part_status result) }
     ensures some { 1 ≤ result }
-    ensures shown { Shows (state_of (O.taken out.old.out.now) (O.faults out.old.out.now) out.old.failed) (text_verdict (fault_view fault)).text
-        (state_of (O.taken out.new.out.now) (O.faults out.new.out.now) out.new.failed) }
+    ensures shown { Shows (sink_of O.Sink out.old) (text_verdict (fault_view fault)).text (sink_of O.Sink out.new) }
     ensures same_reference { out.new.out.ghost_name ≡ out.old.out.ghost_name }
 {
     if is_memory(fault.reason) {

@@ -5,7 +5,7 @@ ghost use Rattle.lilo_model.specs.Bytes.{hex_digit, hex_byte};
 ghost use Rattle.lilo_model.specs.Verdict.{address_text, region_text};
 ghost use Rattle.arrayvec.specs.ArrayVec.{array_vec_len};
 ghost use Rattle.setup_header.specs.Words.{LiesIn, EndsBy};
-ghost use Rattle.stream_trait.specs.Shows.{Shows, state_of};
+ghost use Rattle.stream_trait.specs.Shows.{Shows, sink_of};
 ghost use Rattle.lilo_run.specs.Dump.{hex_text, written_in, regions_of, boot_sector_in};
 
 use crate::refusal::Line;
@@ -28,9 +28,8 @@ type Lines = ArrayVec<u8, 4160>;
 /// Shows what a kernel's loading has put into memory.
 pub(crate) fn dump_memory<O: Sink>(out: &mut Shown<'_, O>, ram: &Ram, layout: &Layout)
     requires { LiesIn (length ram.now) layout.now }
-    ensures shown { Shows (state_of (O.taken out.old.out.now) (O.faults out.old.out.now) out.old.failed)
-        (flat_map region_text (regions_of layout.now ram.now))
-        (state_of (O.taken out.new.out.now) (O.faults out.new.out.now) out.new.failed) }
+    ensures shown { Shows (sink_of O.Sink out.old)
+        (flat_map region_text (regions_of layout.now ram.now)) (sink_of O.Sink out.new) }
     ensures same_reference { out.new.out.ghost_name ≡ out.old.out.ghost_name }
 {
     dump_part(out, ram, layout.real);
@@ -43,9 +42,7 @@ pub(crate) fn dump_memory<O: Sink>(out: &mut Shown<'_, O>, ram: &Ram, layout: &L
 
 /// Shows the boot sector that memory has at 0x7C00.
 pub(crate) fn dump_sector<O: Sink>(out: &mut Shown<'_, O>, ram: &Ram)
-    ensures shown { Shows (state_of (O.taken out.old.out.now) (O.faults out.old.out.now) out.old.failed)
-        (region_text (boot_sector_in ram.now))
-        (state_of (O.taken out.new.out.now) (O.faults out.new.out.now) out.new.failed) }
+    ensures shown { Shows (sink_of O.Sink out.old) (region_text (boot_sector_in ram.now)) (sink_of O.Sink out.new) }
     ensures same_reference { out.new.out.ghost_name ≡ out.old.out.ghost_name }
 {
     prove!(ram.size() >= 0x7E00);
@@ -55,9 +52,7 @@ pub(crate) fn dump_sector<O: Sink>(out: &mut Shown<'_, O>, ram: &Ram)
 // Shows a region of memory.
 fn dump_part<O: Sink>(out: &mut Shown<'_, O>, ram: &Ram, region: Region)
     requires { EndsBy (length ram.now) region }
-    ensures shown { Shows (state_of (O.taken out.old.out.now) (O.faults out.old.out.now) out.old.failed)
-        (region_text (written_in ram.now region))
-        (state_of (O.taken out.new.out.now) (O.faults out.new.out.now) out.new.failed) }
+    ensures shown { Shows (sink_of O.Sink out.old) (region_text (written_in ram.now region)) (sink_of O.Sink out.new) }
     ensures same_reference { out.new.out.ghost_name ≡ out.old.out.ghost_name }
 {
     dump_region(
@@ -70,9 +65,8 @@ fn dump_part<O: Sink>(out: &mut Shown<'_, O>, ram: &Ram, region: Region)
 /// Shows bytes of memory: a line with their address and how many they are, and then the bytes. Many lines are
 /// put at a time.
 pub(crate) fn dump_region<O: Sink>(out: &mut Shown<'_, O>, address: u32, bytes: &[u8])
-    ensures shown { Shows (state_of (O.taken out.old.out.now) (O.faults out.old.out.now) out.old.failed)
-        (region_text (record { address = address; bytes = bytes.now }))
-        (state_of (O.taken out.new.out.now) (O.faults out.new.out.now) out.new.failed) }
+    ensures shown { Shows (sink_of O.Sink out.old)
+        (region_text (record { address = address; bytes = bytes.now })) (sink_of O.Sink out.new) }
     ensures same_reference { out.new.out.ghost_name ≡ out.old.out.ghost_name }
 {
     out.put(head(address, bytes.len()).as_slice());
@@ -81,9 +75,7 @@ pub(crate) fn dump_region<O: Sink>(out: &mut Shown<'_, O>, address: u32, bytes: 
 
 // Shows bytes, many lines at a time.
 fn dump_bytes<O: Sink>(out: &mut Shown<'_, O>, bytes: &[u8])
-    ensures shown { Shows (state_of (O.taken out.old.out.now) (O.faults out.old.out.now) out.old.failed)
-        (hex_text bytes.now)
-        (state_of (O.taken out.new.out.now) (O.faults out.new.out.now) out.new.failed) }
+    ensures shown { Shows (sink_of O.Sink out.old) (hex_text bytes.now) (sink_of O.Sink out.new) }
     ensures same_reference { out.new.out.ghost_name ≡ out.old.out.ghost_name }
 {
     for piece in bytes.chunks(PIECE) {

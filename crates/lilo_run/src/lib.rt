@@ -9,6 +9,7 @@ mod dump;
 #[cfg(test)]
 mod fixture;
 mod laws;
+mod memory;
 mod part;
 mod place;
 mod query;
@@ -16,5 +17,6 @@ mod refusal;
 mod run;
 
 pub use bios_model::Ram;
-pub use laws::boots_answer_as_the_model;
+pub use laws::{boots_answer_as_the_model, memory_matters_to_boots_alone};
+pub use memory::boots;
 pub use run::lilo;

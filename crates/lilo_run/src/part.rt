@@ -1,13 +1,10 @@
 // A part of a run.
-ghost use Rattle.std.specs.Prelude.{◌≡◌, ◌≤◌, ℕ, List, true, false, length, IfSome, IsTrue};
-ghost use Rattle.disk_trait.specs.Past.{Told, SameDisks};
-ghost use Rattle.disk_trait.specs.Cause.{Rose};
-ghost use Rattle.bios_model.specs.Machine.{machine_of};
-ghost use Rattle.bios_model.specs.Memory.{memory_of};
+ghost use Rattle.std.specs.Prelude.{◌≡◌, ℕ, List, true, false, length, IfSome, IsTrue};
 ghost use Rattle.lilo_words.specs.View.{command_view, part_view};
-ghost use Rattle.stream_trait.specs.Shows.{state_of, HasFailed};
-ghost use Rattle.lilo_run.specs.Run.{Does, is_part_status};
+ghost use Rattle.stream_trait.specs.Shows.{sink_of, HasFailed};
+ghost use Rattle.lilo_run.specs.Run.{is_part_status, DoesOn};
 ghost use Rattle.lilo_run.specs.Verdict.{part_effect, early_status, is_boot, reads_conf};
+ghost use Rattle.bios_model.specs.Reads.{OnlyReadsBios};
 
 use crate::boot::boot_device;
 use crate::conf::{conf_path, install, query};
@@ -28,21 +25,19 @@ pub(crate) fn carry_out<D: Disks, I: Source, O: Sink>(
     ram: &mut Ram,
     out: &mut Shown<'_, O>,
 ) -> u8
-    ensures does { (words : List (List ℕ)) → Told (D.past bios.old.disks.now) (λ now. let machine = machine_of (D.size_of bios.old.disks.now) (D.geometry_of bios.old.disks.now) in
-        Does (part_effect now machine (length ram.old) (part_view words part.entry)) result (memory_of ram.old) (memory_of ram.new)
-        (state_of (O.taken out.old.out.now) (O.faults out.old.out.now) out.old.failed) (state_of (O.taken out.new.out.now) (O.faults out.new.out.now) out.new.failed)) }
-    ensures early { (words : List (List ℕ)) → IfSome (early_status (D.size_of bios.old.disks.now) (command_view words part.entry.command)) (λ status. result ≡ status) }
+    ensures does { (words : List (List ℕ))
+        → DoesOn D.Disks O.Sink bios.old.disks.now result (ram.old, out.old) (ram.new, out.new)
+        (λ now machine memory. part_effect now machine memory (part_view words part.entry)) }
+    ensures early { (words : List (List ℕ)) → IfSome (early_status (D.size_of bios.old.disks.now)
+        (command_view words part.entry.command)) (λ status. result ≡ status) }
     ensures known { IsTrue (is_part_status result) }
-    ensures starved { (words : List (List ℕ)) → result ≡ 13 → reads_conf (command_view words part.entry.command) ≡ true }
-    ensures device { result ≡ 8 → Rose (D.faults bios.old.disks.now) (D.faults bios.new.disks.now) }
-    ensures later { D.faults bios.old.disks.now ≤ D.faults bios.new.disks.now }
-    ensures sink { HasFailed (state_of (O.taken out.old.out.now) (O.faults out.old.out.now) out.old.failed) (state_of (O.taken out.new.out.now) (O.faults out.new.out.now) out.new.failed) }
+    ensures starved { (words : List (List ℕ)) → result ≡ 13
+        → reads_conf (command_view words part.entry.command) ≡ true }
+    ensures sink { HasFailed (sink_of O.Sink out.old) (sink_of O.Sink out.new) }
     ensures memory { length ram.new ≡ length ram.old }
-    ensures quiet { (words : List (List ℕ)) → is_boot (command_view words part.entry.command) ≡ false → ram.new ≡ ram.old }
-    ensures same { SameDisks D.past D.size_of D.count_of D.geometry_of bios.old.disks.now bios.new.disks.now }
-    ensures keys { bios.new.keys.now ≡ bios.old.keys.now }
-    ensures same_disks_reference { bios.new.disks.ghost_name ≡ bios.old.disks.ghost_name }
-    ensures same_keys_reference { bios.new.keys.ghost_name ≡ bios.old.keys.ghost_name }
+    ensures quiet { (words : List (List ℕ)) → is_boot (command_view words part.entry.command) ≡ false
+        → ram.new ≡ ram.old }
+    ensures reads { OnlyReadsBios D.Disks bios.old bios.new (result ≡ 8) }
     ensures same_reference { out.new.out.ghost_name ≡ out.old.out.ghost_name }
 {
     let path = conf_path(part.config).as_bytes();

@@ -1,11 +1,10 @@
 // Where a device lies.
-ghost use Rattle.std.specs.Prelude.{◌≡◌, ◌≤◌, ◌<◌, Err, IfOk, IsErrOf};
-ghost use Rattle.disk_trait.specs.Past.{Told, SameDisks};
-ghost use Rattle.disk_trait.specs.Cause.{Rose};
-ghost use Rattle.bios_model.specs.Machine.{machine_of};
+ghost use Rattle.std.specs.Prelude.{◌≡◌, ◌<◌, Err, IfOk, IsErrOf};
+ghost use Rattle.sector_address.specs.Machine.{OnDisks};
 ghost use Rattle.mbr_table.specs.View.{device_view};
 ghost use Rattle.lilo_run.specs.Run.{GivesPlace, IsPlaceHalt};
 ghost use Rattle.lilo_model.specs.ConfVerdict.{place_at};
+ghost use Rattle.bios_model.specs.Reads.{OnlyReads};
 
 use crate::refusal::{Halt, PlaceFault};
 use disk_trait::{Disks, Span};
@@ -14,13 +13,11 @@ use mbr_table::{Device, TableFault, place_of};
 /// The sectors of a device.
 #[tactic(auto, unfolding(lilo_model::specs::ConfVerdict::place_at))]
 pub(crate) fn find_device<D: Disks>(disks: &mut D, device: Device) -> Result<Span, Halt>
-    ensures place { Told (D.past disks.old) (λ now. GivesPlace result
-        (place_at now (machine_of (D.size_of disks.old) (D.geometry_of disks.old)) (device_view device))) }
+    ensures place { OnDisks D.Disks disks.old (λ now machine.
+        GivesPlace result (place_at now machine (device_view device))) }
     ensures inside { IfOk result (λ span. span.start < D.size_of disks.old span.disk) }
     ensures no_disk { D.size_of disks.old device.disk ≡ 0 → result ≡ Err (Halt.NoPlace PlaceFault.NoDisk) }
-    ensures same { SameDisks D.past D.size_of D.count_of D.geometry_of disks.old disks.new }
-    ensures later { D.faults disks.old ≤ D.faults disks.new }
-    ensures device { IsErrOf result Halt.Device → Rose (D.faults disks.old) (D.faults disks.new) }
+    ensures reads { OnlyReads D.Disks disks.old disks.new (IsErrOf result Halt.Device) }
 {
     match place_of(disks, device) {
         Ok(span) => Ok(span),

@@ -1,20 +1,19 @@
 // The names behind the boot sector of a device.
 ghost use Rattle.std.specs.Prelude.{◌≡◌, ◌≤◌, ◌<◌, Err, length, map, All, IfOk, IfSome, IsErrOf, IsTrue};
-ghost use Rattle.disk_trait.specs.Past.{Told, SameDisks};
-ghost use Rattle.disk_trait.specs.Cause.{Rose};
+ghost use Rattle.disk_trait.specs.Past.{Told};
 ghost use Rattle.lilo_model.specs.Checks.{with_fault};
 ghost use Rattle.lilo_model.specs.BootSector.{boot_at};
 ghost use Rattle.lilo_model.specs.Verdict.{map_refusal, table_sectors, names_text, names_behind, name_line, lines_from};
 ghost use Rattle.sector_address.specs.View.{slot_view};
-ghost use Rattle.bios_model.specs.Machine.{machine_of};
 ghost use Rattle.lilo_model.specs.Place.{Memory};
-ghost use Rattle.boot_map.specs.View.{boot_view, map_fault_view, table_view};
+ghost use Rattle.sector_address.specs.Machine.{OnDisks};
+ghost use Rattle.boot_map.specs.View.{boot_view, table_view};
 ghost use Rattle.boot_map.specs.Ranges.{IsNamed, IsOneSector};
 ghost use Rattle.mbr_table.specs.View.{device_view};
-ghost use Rattle.stream_trait.specs.Shows.{state_of, HasFailed};
-ghost use Rattle.lilo_run.specs.Run.{Gives, IsMapHalt, Does, is_plain_status};
+ghost use Rattle.lilo_run.specs.Run.{Gives, IsMapHalt, is_plain_status, DoesBeside};
 ghost use Rattle.lilo_model.specs.ConfVerdict.{place_at};
 ghost use Rattle.lilo_run.specs.Verdict.{early_at, query_effect};
+ghost use Rattle.bios_model.specs.Reads.{OnlyReads, ReadsAndShows};
 
 use crate::place::find_device;
 use crate::refusal::{Halt, PlaceFault, say};
@@ -39,16 +38,11 @@ pub(crate) fn query_device<D: Disks, O: Sink>(
     device: Device,
     out: &mut Shown<'_, O>,
 ) -> u8
-    ensures does { (memory : Memory) → Told (D.past disks.old) (λ now. let machine = machine_of (D.size_of disks.old) (D.geometry_of disks.old) in
-        Does (query_effect now machine (place_at now machine (device_view device))) result memory memory
-        (state_of (O.taken out.old.out.now) (O.faults out.old.out.now) out.old.failed) (state_of (O.taken out.new.out.now) (O.faults out.new.out.now) out.new.failed)) }
+    ensures does { (memory : Memory) → DoesBeside D.Disks O.Sink disks.old memory result out.old out.new (λ now machine.
+        query_effect now machine (place_at now machine (device_view device))) }
     ensures early { IfSome (early_at (D.size_of disks.old) (device_view device)) (λ status. result ≡ status) }
     ensures known { IsTrue (is_plain_status result) }
-    ensures device { result ≡ 8 → Rose (D.faults disks.old) (D.faults disks.new) }
-    ensures later { D.faults disks.old ≤ D.faults disks.new }
-    ensures sink { HasFailed (state_of (O.taken out.old.out.now) (O.faults out.old.out.now) out.old.failed) (state_of (O.taken out.new.out.now) (O.faults out.new.out.now) out.new.failed) }
-    ensures same { SameDisks D.past D.size_of D.count_of D.geometry_of disks.old disks.new }
-    ensures same_reference { out.new.out.ghost_name ≡ out.old.out.ghost_name }
+    ensures only { ReadsAndShows D.Disks O.Sink (disks.old, out.old) (disks.new, out.new) (result ≡ 8) }
 {
     match read_listing(disks, device) {
         Ok(text) => {
@@ -62,12 +56,10 @@ pub(crate) fn query_device<D: Disks, O: Sink>(
 /// What `-q` prints of a device.
 #[tactic(auto, unfolding(lilo_model::specs::Verdict::names_text))]
 fn read_listing<D: Disks>(disks: &mut D, device: Device) -> Result<Listing, Halt>
-    ensures names { Told (D.past disks.old) (λ now. let machine = machine_of (D.size_of disks.old) (D.geometry_of disks.old) in
+    ensures names { OnDisks D.Disks disks.old (λ now machine.
         Gives (λ text. text.items) result (names_text now machine (place_at now machine (device_view device)))) }
     ensures no_disk { D.size_of disks.old device.disk ≡ 0 → result ≡ Err (Halt.NoPlace PlaceFault.NoDisk) }
-    ensures same { SameDisks D.past D.size_of D.count_of D.geometry_of disks.old disks.new }
-    ensures later { D.faults disks.old ≤ D.faults disks.new }
-    ensures device { IsErrOf result Halt.Device → Rose (D.faults disks.old) (D.faults disks.new) }
+    ensures reads { OnlyReads D.Disks disks.old disks.new (IsErrOf result Halt.Device) }
 {
     let span = find_device(disks, device)?;
     let boot = read_boot(disks, &span)?;
@@ -77,13 +69,12 @@ fn read_listing<D: Disks>(disks: &mut D, device: Device) -> Result<Listing, Halt
 /// The boot sector of a device, which is its first sector.
 fn read_boot<D: Disks>(disks: &mut D, span: &Span) -> Result<BootSector, Halt>
     requires { span.now.start < D.size_of disks.old span.now.disk }
-    ensures boot { Told (D.past disks.old) (λ now. Gives boot_view result (with_fault map_refusal (boot_at (now span.now.disk span.now.start)))) }
+    ensures boot { Told (D.past disks.old) (λ now.
+        Gives boot_view result (with_fault map_refusal (boot_at (now span.now.disk span.now.start)))) }
     ensures table { IfOk result (λ boot. length boot.table.items ≡ 3) }
     ensures slots { IfOk result (λ boot. All IsOneSector boot.table.items) }
     ensures names { IfOk result (λ boot. boot.names ≤ 19) }
-    ensures same { SameDisks D.past D.size_of D.count_of D.geometry_of disks.old disks.new }
-    ensures later { D.faults disks.old ≤ D.faults disks.new }
-    ensures device { IsErrOf result Halt.Device → Rose (D.faults disks.old) (D.faults disks.new) }
+    ensures reads { OnlyReads D.Disks disks.old disks.new (IsErrOf result Halt.Device) }
 {
     let mut sector = [0; 512];
     if disks.read(span.disk, span.start, &mut sector).is_err() {
@@ -101,11 +92,9 @@ fn read_names<D: Disks>(disks: &mut D, boot: &BootSector) -> Result<Listing, Hal
     requires table { length boot.now.table.items ≡ 3 }
     requires slots { All IsOneSector boot.now.table.items }
     requires names { boot.now.names ≤ 19 }
-    ensures names { Told (D.past disks.old) (λ now. Gives (λ text. text.items) result
-        (names_behind now (machine_of (D.size_of disks.old) (D.geometry_of disks.old)) (boot_view boot.now))) }
-    ensures same { SameDisks D.past D.size_of D.count_of D.geometry_of disks.old disks.new }
-    ensures later { D.faults disks.old ≤ D.faults disks.new }
-    ensures device { IsErrOf result Halt.Device → Rose (D.faults disks.old) (D.faults disks.new) }
+    ensures names { OnDisks D.Disks disks.old (λ now machine.
+        Gives (λ text. text.items) result (names_behind now machine (boot_view boot.now))) }
+    ensures reads { OnlyReads D.Disks disks.old disks.new (IsErrOf result Halt.Device) }
 {
     let mut sectors = [[0; 512]; 3];
     read_slots(disks, boot.table.as_slice(), &mut sectors)?;
@@ -119,11 +108,9 @@ fn read_names<D: Disks>(disks: &mut D, boot: &BootSector) -> Result<Listing, Hal
 fn read_slots<D: Disks>(disks: &mut D, slots: &[Slot], into: &mut [Sector]) -> Result<(), Halt>
     requires room { length slots.now ≡ length into.old }
     requires slots { All IsOneSector slots.now }
-    ensures sectors { Told (D.past disks.old) (λ now. Gives (λ _. into.new) result
-        (table_sectors now (machine_of (D.size_of disks.old) (D.geometry_of disks.old)) (map slot_view slots.now))) }
-    ensures same { SameDisks D.past D.size_of D.count_of D.geometry_of disks.old disks.new }
-    ensures later { D.faults disks.old ≤ D.faults disks.new }
-    ensures device { IsErrOf result Halt.Device → Rose (D.faults disks.old) (D.faults disks.new) }
+    ensures sectors { OnDisks D.Disks disks.old (λ now machine.
+        Gives (λ _. into.new) result (table_sectors now machine (map slot_view slots.now))) }
+    ensures reads { OnlyReads D.Disks disks.old disks.new (IsErrOf result Halt.Device) }
 {
     match bios_model::read_slots(disks, slots, into) {
         Ok(()) => Ok(()),

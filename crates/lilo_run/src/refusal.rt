@@ -1,9 +1,9 @@
 // Why a command ends before its work is done, with its status and text.
 ghost use Rattle.std.specs.Prelude.{◌≡◌, ◌≤◌, ◌⊎◌, ◌++◌, length, codes, decimal, IsTrue};
 ghost use Rattle.lilo_model.specs.Refusal.{refusal_line};
-ghost use Rattle.loader_core.specs.Reading.{Because};
-ghost use Rattle.stream_trait.specs.Shows.{Shows, state_of};
-ghost use Rattle.loader_core.specs.View.{reason_view};
+ghost use Rattle.section_loader.specs.Reading.{Because};
+ghost use Rattle.stream_trait.specs.Shows.{Shows, sink_of};
+ghost use Rattle.section_loader.specs.View.{reason_view};
 ghost use Rattle.setup_header.specs.View.{setup_fault_view};
 ghost use Rattle.lilo_model.specs.Reason.{setup_text};
 ghost use Rattle.lilo_run.specs.Refusal.{place_fault_view, halt_verdict, why_verdict};
@@ -50,8 +50,7 @@ pub(crate) fn say<O: Sink>(out: &mut Shown<'_, O>, halt: Halt) -> u8
     ensures known { IsTrue (is_plain_status result) }
     ensures some { 1 ≤ result }
     ensures device { result ≡ 8 → halt ≡ Halt.Device }
-    ensures shown { Shows (state_of (O.taken out.old.out.now) (O.faults out.old.out.now) out.old.failed) (halt_verdict halt).text
-        (state_of (O.taken out.new.out.now) (O.faults out.new.out.now) out.new.failed) }
+    ensures shown { Shows (sink_of O.Sink out.old) (halt_verdict halt).text (sink_of O.Sink out.new) }
     ensures same_reference { out.new.out.ghost_name ≡ out.old.out.ghost_name }
 {
     out.put(halt.line().as_slice());
@@ -173,7 +172,8 @@ fn numbered_line(text: &[u8], number: u64) -> Line
 
 // The line of a kernel for which memory has no room.
 fn room_line(need: u64, have: u64) -> Line
-    ensures { result.items ≡ codes "lilo: boot: no room: need " ++ decimal need ++ codes ", have " ++ decimal have ++ codes "\n" }
+    ensures { result.items
+        ≡ codes "lilo: boot: no room: need " ++ decimal need ++ codes ", have " ++ decimal have ++ codes "\n" }
 {
     let mut line = line(b"lilo: boot: no room: need ");
     let mut digits = Buffer::new();

@@ -1,21 +1,23 @@
 // The top call: what the program `lilo` does with its words.
-ghost use Rattle.std.specs.Prelude.{◌≡◌, true, Bool, List, ◌≤◌, ◌⊎◌, ◌↔◌, ◌++◌, codes, false, length, map, IfSome, IfOk, IsOk, IsErr, IsTrue};
-ghost use Rattle.disk_trait.specs.Past.{Told, SameDisks};
+ghost use Rattle.std.specs.Prelude.{◌≡◌, true, Bool, List, ◌↔◌, ◌++◌, codes, false, length, map, IfSome, IfOk, IsOk};
+ghost use Rattle.std.specs.Prelude.{IsErr, IsTrue};
+ghost use Rattle.disk_trait.specs.Past.{SameDisks};
 ghost use Rattle.disk_trait.specs.Cause.{Rose};
 ghost use Rattle.stream_trait.specs.Sink.{Takes};
 ghost use Rattle.lilo_model.specs.Place.{memory_after};
 ghost use Rattle.lilo_model.specs.Words.{run_at, usage_text};
 ghost use Rattle.lilo_model.specs.Devices.{Device};
 ghost use Rattle.lilo_model.specs.Prompt.{Key};
-ghost use Rattle.lilo_model.specs.Verdict.{boot_verdict};
-ghost use Rattle.bios_model.specs.Machine.{machine_of};
+ghost use Rattle.sector_address.specs.Machine.{OnDisks};
 ghost use Rattle.bios_model.specs.Memory.{memory_of};
 ghost use Rattle.lilo_words.specs.Run.{run_behind, parts_behind};
-ghost use Rattle.stream_trait.specs.Shows.{Shows, state_of, HasFailed, Prints};
-ghost use Rattle.lilo_run.specs.Run.{Runs, Answers, Tells, TellsRun, is_run_status, is_status};
+ghost use Rattle.stream_trait.specs.Shows.{Shows, sink_of, HasFailed, Prints};
+ghost use Rattle.lilo_run.specs.Run.{Answers, is_run_status, is_status, RunsAll, OnParts, TellsAll};
 ghost use Rattle.lilo_model.specs.ConfVerdict.{place_at};
-ghost use Rattle.lilo_run.specs.Verdict.{part_effect, plain_effect, boot_effect, effects_of, run_verdict, run_written, early_answer, early_parts, has_boot, has_conf};
-ghost use Rattle.lilo_run.specs.Laws.{IsBootRun, IsUnbuiltAt};
+ghost use Rattle.lilo_run.specs.Verdict.{part_effect, effects_of, run_verdict, run_written, early_answer};
+ghost use Rattle.lilo_run.specs.Verdict.{early_parts, has_boot, has_conf};
+ghost use Rattle.lilo_run.specs.Laws.{IsBootRun, TellsBoot};
+ghost use Rattle.bios_model.specs.Reads.{OnlyReadsBios};
 
 use crate::part::carry_out;
 use bios_model::{Bios, Ram};
@@ -29,9 +31,9 @@ use stream_trait::{Sink, Source, Words, answer};
 /// out in order until one answers other than 0: that status is the answer. A part that would answer 0, but whose text
 /// can't be shown, answers 12, and so the run ends there.
 ///
-/// `-q DEVICE` prints the names behind the boot sector of a device, a line each, with ` *` after the default's. Without a
-/// device it is that of `boot=` in the configuration, or the volume's: the file `/etc/lilo.conf`, or that behind `-C`, on
-/// the volume of the device behind `--root`, or on the first that is found.
+/// `-q DEVICE` prints the names behind the boot sector of a device, a line each, with ` *` after the default's.
+/// Without a device it is that of `boot=` in the configuration, or the volume's: the file `/etc/lilo.conf`, or that
+/// behind `-C`, on the volume of the device behind `--root`, or on the first that is found.
 /// `boot DEVICE` boots it, by [`loader_core::boot`], and with `--dump` tells what was put into memory. The options
 /// `-C`, `--root` and `-v` before these two have no effect. An installation and `-t` read their configuration so far.
 /// What else the grammar has isn't built yet.
@@ -42,7 +44,7 @@ use stream_trait::{Sink, Source, Words, answer};
 /// | 1 | the words aren't in the grammar | `lilo: usage: WORD`, or `(end)` |
 /// | 2 | the configuration's text is refused | `lilo: config: OPTION: REASON at line N` |
 /// | 3 | the device isn't found | `lilo: volume: no disk`, `no partition` or `table` |
-/// | 3 | the volume or the configuration's file isn't | `lilo: volume: no volume`, `layout`, `missing PATH` or `path PATH` |
+/// | 3 | the volume or the configuration's file isn't | `lilo: volume: no volume`, `layout`, `missing PATH`, `path PATH` |
 /// | 6 | `-q` finds a foreign boot sector, or one of another version | `lilo: not ours` |
 /// | 7 | the boot is refused, or the map is | `lilo: boot: REASON` |
 /// | 8 | a disk failed | `lilo: device` |
@@ -50,7 +52,7 @@ use stream_trait::{Sink, Source, Words, answer};
 /// | 13 | there is no memory for a configuration | `lilo: memory` |
 /// | 15 | the part isn't built yet, or the boot isn't | `lilo: not built` |
 ///
-/// Once the sink failed nothing more is put, and the part that runs is the last. No disk is written, and no key is taken.
+/// After the sink failed nothing is put, and the part that runs is the last. No disk is written, and no key is taken.
 /// Memory is allocated for a configuration alone.
 pub fn lilo<D: Disks, I: Source, O: Sink>(
     alloc: Global,
@@ -62,38 +64,34 @@ pub fn lilo<D: Disks, I: Source, O: Sink>(
     now: u32,
 ) -> u8
     // Where the disks tell what they hold, the status is the verdict's, but for faults.
-    ensures status { Told (D.past disks.old) (λ now. Answers
-        (effects_of now (machine_of (D.size_of disks.old) (D.geometry_of disks.old)) (length ram.old) words.now) result) }
+    ensures status { OnParts D.Disks disks.old (length ram.old) words.now (λ parts. Answers parts result) }
     ensures device { result ≡ 8 → Rose (D.faults disks.old) (D.faults disks.new) }
     ensures sink { result ≡ 12 → Rose (O.faults out.old) (O.faults out.new) }
     ensures starved { result ≡ 13 → IfOk (run_at words.now) (λ parts. has_conf parts ≡ true) }
 
     // The text goes with the status. Only a failed sink may have cut it short, in the part at which the run ended.
-    ensures text { Told (D.past disks.old) (λ now. TellsRun
-        (effects_of now (machine_of (D.size_of disks.old) (D.geometry_of disks.old)) (length ram.old) words.now) result
-        (memory_of ram.old) (memory_of ram.new) (O.taken out.old) (O.taken out.new) (O.faults out.old) (O.faults out.new)) }
-    ensures whole { result ≡ 0 → Told (D.past disks.old) (λ now. Takes (O.taken out.old)
-        (run_verdict (effects_of now (machine_of (D.size_of disks.old) (D.geometry_of disks.old)) (length ram.old) words.now)).text (O.taken out.new)) }
+    ensures text { OnParts D.Disks disks.old (length ram.old) words.now (λ parts.
+        TellsAll O.Sink parts result (ram.old, out.old) (ram.new, out.new)) }
+    ensures whole { result ≡ 0 → OnParts D.Disks disks.old (length ram.old) words.now (λ parts.
+        Takes (O.taken out.old) (run_verdict parts).text (O.taken out.new)) }
 
     // Outside what isn't built yet, a boot by itself has the model's verdict, for all keys.
     ensures boot { (device : Device) (dump : Bool) (keys : List Key) → IsBootRun words.now device dump
-        → Told (D.past disks.old) (λ now. let machine = machine_of (D.size_of disks.old) (D.geometry_of disks.old) in
-        (IsUnbuiltAt now machine (length ram.old) (place_at now machine device) → ⊥)
-        → Tells (plain_effect (boot_verdict now machine (place_at now machine device) dump keys (length ram.old))
-        (boot_effect now machine (length ram.old) dump (place_at now machine device)).failures) result
-        (O.taken out.old) (O.taken out.new) (O.faults out.old) (O.faults out.new)) }
+        → OnDisks D.Disks disks.old (λ now machine.
+        TellsBoot O.Sink now machine (length ram.old) (place_at now machine device) dump keys result out.old out.new) }
 
     // Words that aren't in the grammar, whatever the disks tell.
     ensures usage { (result ≡ 1) ↔ IsErr (run_at words.now) }
-    ensures usage_line { IsErr (run_at words.now) → Prints (O.taken out.old) (usage_text words.now) (O.taken out.new) (O.faults out.old) (O.faults out.new) }
+    ensures usage_line { IsErr (run_at words.now)
+        → Prints (O.taken out.old) (usage_text words.now) (O.taken out.new) (O.faults out.old) (O.faults out.new) }
 
     // Whatever the disks tell, these are the statuses, and what isn't built or is of a disk without sectors is known.
     ensures statuses { IsTrue (is_status result) }
     ensures early { IfSome (early_answer (D.size_of disks.old) (run_at words.now)) (λ status. result ≡ status) }
 
     // Memory has what the boots put there, and without a boot it stays.
-    ensures memory { result ≡ 0 → Told (D.past disks.old) (λ now. memory_of ram.new ≡ memory_after (memory_of ram.old)
-        (run_written (effects_of now (machine_of (D.size_of disks.old) (D.geometry_of disks.old)) (length ram.old) words.now))) }
+    ensures memory { result ≡ 0 → OnParts D.Disks disks.old (length ram.old) words.now (λ parts.
+        memory_of ram.new ≡ memory_after (memory_of ram.old) (run_written parts)) }
     ensures no_boot { IfOk (run_at words.now) (λ parts. has_boot parts ≡ false → ram.new ≡ ram.old) }
     ensures no_run { IsErr (run_at words.now) → ram.new ≡ ram.old }
     ensures size { length ram.new ≡ length ram.old }
@@ -116,26 +114,21 @@ fn run_words<D: Disks, I: Source, O: Sink>(
     ram: &mut Ram,
     out: &mut Shown<'_, O>,
 ) -> u8
-    ensures does { Told (D.past bios.old.disks.now) (λ now. let machine = machine_of (D.size_of bios.old.disks.now) (D.geometry_of bios.old.disks.now) in
-        Runs (effects_of now machine (length ram.old) words.now) result (memory_of ram.old) (memory_of ram.new)
-        (state_of (O.taken out.old.out.now) (O.faults out.old.out.now) out.old.failed) (state_of (O.taken out.new.out.now) (O.faults out.new.out.now) out.new.failed)) }
+    ensures does { OnParts D.Disks bios.old.disks.now (length ram.old) words.now (λ parts.
+        RunsAll O.Sink parts result (ram.old, out.old) (ram.new, out.new)) }
     ensures usage { (result ≡ 1) ↔ IsErr (run_at words.now) }
-    ensures usage_line { IsErr (run_at words.now) → Shows (state_of (O.taken out.old.out.now) (O.faults out.old.out.now) out.old.failed) (usage_text words.now)
-        (state_of (O.taken out.new.out.now) (O.faults out.new.out.now) out.new.failed) }
-    ensures early { IfSome (early_answer (D.size_of bios.old.disks.now) (run_at words.now)) (λ status. result ≡ status) }
+    ensures usage_line { IsErr (run_at words.now)
+        → Shows (sink_of O.Sink out.old) (usage_text words.now) (sink_of O.Sink out.new) }
+    ensures early { IfSome (early_answer (D.size_of bios.old.disks.now) (run_at words.now))
+        (λ status. result ≡ status) }
     ensures known { IsTrue (is_status result) }
     ensures starved { result ≡ 13 → IfOk (run_at words.now) (λ parts. has_conf parts ≡ true) }
-    ensures device { result ≡ 8 → Rose (D.faults bios.old.disks.now) (D.faults bios.new.disks.now) }
-    ensures later { D.faults bios.old.disks.now ≤ D.faults bios.new.disks.now }
-    ensures sink { HasFailed (state_of (O.taken out.old.out.now) (O.faults out.old.out.now) out.old.failed) (state_of (O.taken out.new.out.now) (O.faults out.new.out.now) out.new.failed) }
+    ensures sink { HasFailed (sink_of O.Sink out.old) (sink_of O.Sink out.new) }
     ensures unshown { result ≡ 12 → out.new.failed ≡ true }
     ensures memory { length ram.new ≡ length ram.old }
     ensures no_boot { IfOk (run_at words.now) (λ parts. has_boot parts ≡ false → ram.new ≡ ram.old) }
     ensures no_run { IsErr (run_at words.now) → ram.new ≡ ram.old }
-    ensures same { SameDisks D.past D.size_of D.count_of D.geometry_of bios.old.disks.now bios.new.disks.now }
-    ensures keys { bios.new.keys.now ≡ bios.old.keys.now }
-    ensures same_disks_reference { bios.new.disks.ghost_name ≡ bios.old.disks.ghost_name }
-    ensures same_keys_reference { bios.new.keys.ghost_name ≡ bios.old.keys.ghost_name }
+    ensures reads { OnlyReadsBios D.Disks bios.old bios.new (result ≡ 8) }
     ensures same_reference { out.new.out.ghost_name ≡ out.old.out.ghost_name }
 {
     match check(words) {
@@ -156,22 +149,18 @@ fn run_parts<D: Disks, I: Source, O: Sink>(
     out: &mut Shown<'_, O>,
 ) -> u8
     requires { IsOk (run_behind words.now 0) }
-    ensures does { Told (D.past bios.old.disks.now) (λ now. let machine = machine_of (D.size_of bios.old.disks.now) (D.geometry_of bios.old.disks.now) in
-        Runs (map (part_effect now machine (length ram.old)) (parts_behind words.now 0)) result (memory_of ram.old) (memory_of ram.new)
-        (state_of (O.taken out.old.out.now) (O.faults out.old.out.now) out.old.failed) (state_of (O.taken out.new.out.now) (O.faults out.new.out.now) out.new.failed)) }
-    ensures early { IfSome (early_parts (D.size_of bios.old.disks.now) (parts_behind words.now 0)) (λ status. result ≡ status) }
+    ensures does { OnDisks D.Disks bios.old.disks.now (λ now machine.
+        RunsAll O.Sink (map (part_effect now machine (length ram.old)) (parts_behind words.now 0)) result
+        (ram.old, out.old) (ram.new, out.new)) }
+    ensures early { IfSome (early_parts (D.size_of bios.old.disks.now) (parts_behind words.now 0))
+        (λ status. result ≡ status) }
     ensures known { IsTrue (is_run_status result) }
     ensures starved { result ≡ 13 → has_conf (parts_behind words.now 0) ≡ true }
-    ensures device { result ≡ 8 → Rose (D.faults bios.old.disks.now) (D.faults bios.new.disks.now) }
-    ensures later { D.faults bios.old.disks.now ≤ D.faults bios.new.disks.now }
-    ensures sink { HasFailed (state_of (O.taken out.old.out.now) (O.faults out.old.out.now) out.old.failed) (state_of (O.taken out.new.out.now) (O.faults out.new.out.now) out.new.failed) }
+    ensures sink { HasFailed (sink_of O.Sink out.old) (sink_of O.Sink out.new) }
     ensures unshown { result ≡ 12 → out.new.failed ≡ true }
     ensures memory { length ram.new ≡ length ram.old }
     ensures no_boot { has_boot (parts_behind words.now 0) ≡ false → ram.new ≡ ram.old }
-    ensures same { SameDisks D.past D.size_of D.count_of D.geometry_of bios.old.disks.now bios.new.disks.now }
-    ensures keys { bios.new.keys.now ≡ bios.old.keys.now }
-    ensures same_disks_reference { bios.new.disks.ghost_name ≡ bios.old.disks.ghost_name }
-    ensures same_keys_reference { bios.new.keys.ghost_name ≡ bios.old.keys.ghost_name }
+    ensures reads { OnlyReadsBios D.Disks bios.old bios.new (result ≡ 8) }
     ensures same_reference { out.new.out.ghost_name ≡ out.old.out.ghost_name }
 {
     let mut next = Some(0);
@@ -188,8 +177,8 @@ fn run_parts<D: Disks, I: Source, O: Sink>(
 
 /// Shows the word of a command line that can't stand where it stands.
 fn say_usage<O: Sink>(out: &mut Shown<'_, O>, word: &str)
-    ensures shown { Shows (state_of (O.taken out.old.out.now) (O.faults out.old.out.now) out.old.failed) (codes "lilo: usage: " ++ word.now ++ codes "\n")
-        (state_of (O.taken out.new.out.now) (O.faults out.new.out.now) out.new.failed) }
+    ensures shown { Shows (sink_of O.Sink out.old)
+        (codes "lilo: usage: " ++ word.now ++ codes "\n") (sink_of O.Sink out.new) }
     ensures same_reference { out.new.out.ghost_name ≡ out.old.out.ghost_name }
 {
     out.put(b"lilo: usage: ");

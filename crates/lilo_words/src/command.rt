@@ -4,7 +4,8 @@ ghost use Rattle.std.specs.Prelude.{◌≡◌, ◌≤◌, ◌<◌, ◌==◌, len
 ghost use Rattle.std.specs.List.{list_all};
 ghost use Rattle.lilo_model.specs.Bytes.{is_between};
 ghost use Rattle.lilo_model.specs.Checks.{seen};
-ghost use Rattle.lilo_model.specs.Words.{is_line_word, command_from, query_from, line_from, restore_from, dump_from, boot_from, named_from};
+ghost use Rattle.lilo_model.specs.Words.{is_line_word, command_from, query_from, line_from, restore_from};
+ghost use Rattle.lilo_model.specs.Words.{dump_from, boot_from, named_from};
 ghost use Rattle.mbr_table.specs.View.{device_view};
 ghost use Rattle.lilo_words.specs.View.{command_view};
 
@@ -89,7 +90,8 @@ fn boot_in(words: &Words, at: usize, end: usize) -> Result<Command, usize>
 fn dump_in(words: &Words, at: usize, end: usize, device: Device) -> Result<Command, usize>
     requires at { at ≤ end }
     requires end { end ≤ length words.now }
-    ensures { seen (command_view words.now) (λ place. place) result ≡ dump_from at (slice_range words.now at end) (device_view device) }
+    ensures { seen (command_view words.now) (λ place. place) result
+        ≡ dump_from at (slice_range words.now at end) (device_view device) }
 {
     if at == end {
         return Ok(Command::Boot {

@@ -14,7 +14,8 @@ use stream_trait::Words;
 pub fn part_in(words: &Words, from: usize, end: usize) -> Result<Part<'_>, usize>
     requires from { from ≤ end }
     requires end { end ≤ length words.now }
-    ensures { seen (part_view words.now) (λ place. place) result ≡ part_from from bare_part (slice_range words.now from end) }
+    ensures { seen (part_view words.now) (λ place. place) result
+        ≡ part_from from bare_part (slice_range words.now from end) }
 {
     let mut part = Part {
         config: None,

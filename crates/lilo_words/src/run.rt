@@ -1,5 +1,6 @@
 // A whole run: parts with a `--then` between each two.
-ghost use Rattle.std.specs.Prelude.{◌≡◌, ◌≤◌, ◌<◌, ◌+◌, ◌∷◌, length, drop, Ok, Err, IsOk, OnOk, IfErr, IfSome, MatchResult};
+ghost use Rattle.std.specs.Prelude.{◌≡◌, ◌≤◌, ◌<◌, ◌+◌, ◌∷◌, length, drop};
+ghost use Rattle.std.specs.Prelude.{Ok, Err, IsOk, OnOk, IfErr, IfSome, MatchResult};
 ghost use Rattle.std.specs.List.{position_or_len};
 ghost use Rattle.lilo_model.specs.Words.{is_then, place_in, run_at};
 ghost use Rattle.lilo_words.specs.View.{part_view};
@@ -57,7 +58,8 @@ pub fn part_at(words: &Words, from: usize) -> PartAt<'_>
 // The part that begins at a place, or the place of the first word that can't stand where it stands.
 fn read_part(words: &Words, from: usize) -> Result<PartAt<'_>, usize>
     requires { from ≤ length words.now }
-    ensures { MatchResult result (λ read. IsPartAt words.now from (part_view words.now read.part) read.next) (λ place. run_behind words.now from ≡ Err place) }
+    ensures { MatchResult result (λ read. IsPartAt words.now from (part_view words.now read.part) read.next)
+        (λ place. run_behind words.now from ≡ Err place) }
 {
     let end = part_end(words, from);
     match part_in(words, from, end) {

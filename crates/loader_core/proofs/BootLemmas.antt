@@ -32,17 +32,17 @@ use Rattle.lilo_model.specs.BootSector.{BootSector}
 use Rattle.lilo_model.specs.Table.{Descriptor}
 use Rattle.lilo_model.specs.Reason.{NotFound, map_reason}
 use Rattle.lilo_model.specs.Boot.{Ending, MapSectors, GoodMap, error_text, map_sectors, good_map, middle_of}
-use Rattle.loader_core.specs.declared.outcome.Reason.TheVariants as variants
+use Rattle.section_loader.specs.declared.reason.Reason.TheVariants as variants
 use Rattle.loader_core.specs.Map.{IsBadMap, ReadsMap, ReadsMiddle}
-use Rattle.loader_core.specs.declared.outcome.Reason.{Reason}
-use Rattle.loader_core.specs.declared.outcome.Halt.{Halt}
-use Rattle.loader_core.specs.declared.outcome.Halt.TheVariants.{Device, Refused}
+use Rattle.section_loader.specs.declared.reason.Reason.{Reason}
+use Rattle.section_loader.specs.declared.reason.Halt.{Halt}
+use Rattle.section_loader.specs.declared.reason.Halt.TheVariants.{Device, Refused}
 use Rattle.loader_core.specs.declared.outcome.Started.{Started}
-use Rattle.loader_core.specs.Reading.{Why, Unbuilt, Because}
+use Rattle.section_loader.specs.Reading.{Why, Unbuilt, Because}
 use Rattle.stream_trait.specs.Shows.{SinkState, Shows}
 use Rattle.loader_core.specs.Today.{Report, report_behind, or_device, refused_report, why_text, end_text, needs_prompt, line_today, chosen_today, entry_report, middle_report, texts_report, good_report, sectors_report, found_report, map_report}
 use Rattle.loader_core.specs.Start.{Starts, Reports, halt_text, map_text}
-use Rattle.loader_core.specs.View.{reason_view}
+use Rattle.section_loader.specs.View.{reason_view}
 use Rattle.stream_trait.proofs.ShowsLemmas.{shows_nothing, shows_join, shows_one_join}
 
 -- ---- reports

@@ -12,9 +12,9 @@ use Rattle.lilo_model.specs.Table.{Descriptor, other_flag, video_flag}
 use Rattle.lilo_model.specs.Reason as reasons
 use Rattle.lilo_model.specs.Reason.{Reason, section_reason}
 use Rattle.lilo_model.specs.Boot.{entry_has, initrd_size, whole_check, first_two_check, initrd_check, initrd_of, main_of, handed_ending, loaded_ending, kernel_ending, entry_ending}
-use Rattle.loader_core.specs.Reading.{Why, Unbuilt, Because, FileRest, file_today}
+use Rattle.section_loader.specs.Reading.{Why, Unbuilt, Because, FileRest, file_today}
 use Rattle.loader_core.specs.Today.{whole_today, first_two_today, initrd_today, handed_today, loaded_today, main_today, initrd_file_today, entry_today, line_today}
-use Rattle.loader_core.proofs.AgreementLemmas.{GoesOn, FileAgrees, file_agrees, content_fits}
+use Rattle.section_loader.proofs.AgreementLemmas.{GoesOn, FileAgrees, file_agrees, content_fits}
 
 -- a check of today's comes to what one of the model's does, unless a part isn't built
 abbrev pub SameResult : {X : Type 0} → Result X Why → Result X Reason → Type 0

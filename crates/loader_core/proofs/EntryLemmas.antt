@@ -9,17 +9,17 @@ use Rattle.lilo_model.specs.Place.{Memory, Written, with_bytes, memory_after}
 use Rattle.lilo_model.specs.Boot.{Ending, Handed, boot_address}
 use Rattle.lilo_model.specs.Verdict.{told_regions}
 use Rattle.bios_model.specs.Memory.{memory_of}
-use Rattle.loader_core.specs.declared.outcome.Halt.{Halt}
-use Rattle.loader_core.specs.declared.outcome.Halt.TheVariants.{Device, Refused}
+use Rattle.section_loader.specs.declared.reason.Halt.{Halt}
+use Rattle.section_loader.specs.declared.reason.Halt.TheVariants.{Device, Refused}
 use Rattle.loader_core.specs.declared.outcome.Started.TheVariants as starts
-use Rattle.loader_core.specs.Reading.{Why, FileRest}
-use Rattle.loader_core.specs.Load.{IsCutSector, ReadsCut}
+use Rattle.section_loader.specs.Reading.{Why, FileRest}
+use Rattle.section_loader.specs.Load.{IsCutSector, ReadsCut}
 use Rattle.loader_core.specs.Kernel.{LoadsKernel}
 use Rattle.std.specs.Prelude.{bit_and, ◌==◌}
 use Rattle.lilo_model.specs.Disks.{Image, Machine}
 use Rattle.loader_core.specs.Today.{handed_today, loaded_today, entry_today, main_today, initrd_file_today, video_today}
 use Rattle.loader_core.specs.Start.{table_written, IsStarted, Starts}
-use Rattle.loader_core.specs.View.{reason_view}
+use Rattle.section_loader.specs.View.{reason_view}
 use Rattle.setup_header.specs.declared.layout.Layout.{Layout}
 use Rattle.loader_core.proofs.MemoryLemmas.{held}
 

@@ -1,23 +1,18 @@
 -- The steps of loading a kernel, one behind the other.
-use Rattle.std.proofs.Common.{◌≡◌, ◌≤◌, ◌<◌, ◌+◌, ◌-◌, ◌∙◌, ◌⊎◌, inl, inr, ℕ, zero, suc, Bool, true, false, refl, sym, ap, List, [], ◌∷◌, ◌++◌, map, take, length, Option, None, Some, Result, Ok, Err, append_assoc, length-append, arith}
-use Rattle.std.specs.Prelude.{min, nat_le, replicate, is_some, ◌==◌}
-use Rattle.std.specs.List.{concat}
-use Rattle.std.proofs.lemmas.List.{append-nil, length-take}
+use Rattle.std.proofs.Common.{◌≡◌, ◌≤◌, ◌<◌, ◌+◌, ◌-◌, ◌∙◌, ◌⊎◌, inl, inr, ℕ, zero, suc, Bool, true, false, refl, sym, ap, List, [], ◌∷◌, ◌++◌, length, Option, None, Some, Result, Ok, Err, append_assoc, length-append, arith}
+use Rattle.std.specs.Prelude.{min, nat_le, replicate, is_some}
+use Rattle.std.proofs.lemmas.List.{append-nil}
 use Rattle.lilo_model.specs.Bytes.{filled_bytes}
-use Rattle.lilo_model.specs.Disks.{Image, Machine, bytes_at}
-use Rattle.lilo_model.specs.Slots as slots
-use Rattle.lilo_model.specs.Section.{sectors_for}
 use Rattle.lilo_model.specs.Header as headers
 use Rattle.lilo_model.specs.Place.{Memory, with_bytes}
-use Rattle.map_section.specs.Reader.{ReaderState, Done, next_of, turns_left}
 use Rattle.setup_header.specs.declared.layout.Layout.{Layout}
-use Rattle.loader_core.specs.declared.outcome.Halt.{Halt}
-use Rattle.loader_core.specs.declared.outcome.Halt.TheVariants.{Device, Refused}
-use Rattle.loader_core.specs.Reading.{ended_reading, reading_answer, reading_turns, reading_ahead, FileRest, rest_of, rest_ahead, rest_behind}
-use Rattle.loader_core.specs.Load.{Loads, IsLoaded, IsCutSector, ReadsCut}
+use Rattle.section_loader.specs.declared.reason.Halt.{Halt}
+use Rattle.section_loader.specs.declared.reason.Halt.TheVariants.{Device, Refused}
+use Rattle.section_loader.specs.Reading.{FileRest, rest_behind}
+use Rattle.section_loader.specs.Load.{Loads, IsLoaded, IsCutSector, ReadsCut}
 use Rattle.loader_core.specs.Kernel.{ReadsTwo, PlacesKernel, PlacesInitrd}
 use Rattle.loader_core.specs.Today.{initrd_today}
-use Rattle.loader_core.proofs.LoadLemmas.{with_bytes-join}
+use Rattle.section_loader.proofs.LoadLemmas.{with_bytes-join}
 
 -- ---- the first two sectors
 
@@ -70,34 +65,6 @@ two_read left more (Err (Refused reason)) old mid new first second rest one othe
       stops = ap (λ r. r.stop) one.read ∙ other.stops;
       short = omega (arith, rest, size, one.long, other.short);
     }
-
--- ---- the end of a file
-
-take-none : (n : ℕ) → ◌≡◌ {A = List ℕ} (take n []) []
-take-none zero = refl
-take-none (suc n) = refl
-
-ended_next : (state : ReaderState) → state.needed ≡ 0 → (next_of state).answer ≡ Ok Done
-ended_next state none = let is : (state.needed == 0) ≡ true = grind arith in rw is refl
-
--- behind its last byte a file has ended
-pub ended_rest :
-    (now : Image) (machine : Machine) (first : slots.Slot) (left : ℕ) (state : ReaderState)
-    → left ≡ 0 → state.needed ≡ sectors_for left → rest_ahead now machine first left state ≡ record { bytes = []; stop = None }
-unfolding reading_ahead
-ended_rest now machine first left state none needed =
-    let done : (next_of state).answer ≡ Ok Done = ended_next state (omega arith) in
-    let ahead : reading_turns now machine first (suc (turns_left state)) (sectors_for left) state ≡ ended_reading None =
-    ap (λ answer. reading_answer now machine first (sectors_for left) (reading_turns now machine first (turns_left state)) (next_of state).state answer) done in
-    ap (λ reading. rest_of now left reading) ahead ∙ ap (λ bytes. record { bytes = bytes; stop = None }) (take-none left)
-
--- a file is no longer than what is left of it
-pub rest_most :
-    (now : Image) (machine : Machine) (first : slots.Slot) (left : ℕ) (state : ReaderState)
-    → length (rest_ahead now machine first left state).bytes ≤ left
-rest_most now machine first left state =
-    let bytes = concat (map (bytes_at now) (reading_ahead now machine first (sectors_for left) state).places) in
-    rw (length-take left bytes) (omega arith)
 
 -- ---- a kernel
 

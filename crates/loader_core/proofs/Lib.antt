@@ -1,15 +1,11 @@
-pub mod AgreementLemmas
 pub mod BootLemmas
 pub mod ChoiceLemmas
 pub mod EndLemmas
 pub mod EntryLemmas
-pub mod FileLemmas
 pub mod KernelLemmas
-pub mod LoadLemmas
 pub mod LoadedLemmas
 pub mod MapLemmas
 pub mod MemoryLemmas
 pub mod PlanLemmas
-pub mod ReadingLemmas
 pub mod TodayLemmas
 pub mod WholeLemmas

@@ -12,21 +12,21 @@ use Rattle.lilo_model.specs.Place.{Memory, first_two, initrd_written, written_by
 use Rattle.lilo_model.specs.Reason as reasons
 use Rattle.lilo_model.specs.Boot.{Ending, Loaded, initrd_size}
 use Rattle.setup_header.proofs.Replaced.{patch-whole}
-use Rattle.loader_core.specs.declared.outcome.Reason.{Reason}
+use Rattle.section_loader.specs.declared.reason.Reason.{Reason}
 use Rattle.setup_header.specs.declared.layout.Layout.{Layout}
 use Rattle.setup_header.specs.View.{layout_view}
-use Rattle.loader_core.specs.declared.outcome.Halt.{Halt}
-use Rattle.loader_core.specs.declared.outcome.Halt.TheVariants.{Device, Refused}
-use Rattle.loader_core.specs.Reading.{Why, Because, FileRest}
+use Rattle.section_loader.specs.declared.reason.Halt.{Halt}
+use Rattle.section_loader.specs.declared.reason.Halt.TheVariants.{Device, Refused}
+use Rattle.section_loader.specs.Reading.{Why, Because, FileRest}
 use Rattle.lilo_model.specs.Disks.{Image, Machine}
 use Rattle.sector_address.specs.View.{slot_view}
-use Rattle.loader_core.specs.declared.file.FileReader.{FileReader}
-use Rattle.loader_core.specs.File.{rest_in}
-use Rattle.loader_core.proofs.KernelLemmas.{rest_most}
-use Rattle.loader_core.specs.Load.{IsShort}
+use Rattle.section_loader.specs.declared.file.FileReader.{FileReader}
+use Rattle.section_loader.specs.File.{rest_in}
+use Rattle.section_loader.proofs.RestLemmas.{rest_most}
+use Rattle.section_loader.specs.Load.{IsShort}
 use Rattle.loader_core.specs.Kernel.{IsTwo, ReadsTwo, GivesHeader, GivesLayout, IsPlaced, PlacesKernel, PlacesInitrd, LoadsKernel, IsSetupRefusal}
 use Rattle.loader_core.specs.Today.{whole_today, initrd_today, loaded_today}
-use Rattle.loader_core.specs.View.{reason_view}
+use Rattle.section_loader.specs.View.{reason_view}
 
 -- ---- the first two sectors
 

@@ -19,13 +19,13 @@ use Rattle.boot_map.specs.View.{descriptor_view, table_view, map_fault_view}
 use Rattle.boot_map.specs.declared.descriptor.Descriptor.{Descriptor}
 use Rattle.boot_map.specs.declared.table.Table.{Table}
 use Rattle.boot_map.specs.declared.map_fault.MapFault.{MapFault}
-use Rattle.loader_core.specs.declared.outcome.Reason.{Reason}
-use Rattle.loader_core.specs.declared.outcome.Reason.TheVariants as variants
-use Rattle.loader_core.specs.declared.outcome.Halt.{Halt}
-use Rattle.loader_core.specs.declared.outcome.Halt.TheVariants.{Device, Refused}
-use Rattle.loader_core.specs.Reading.{Because}
-use Rattle.loader_core.specs.View.{reason_view}
-use Rattle.loader_core.specs.File.{ReadsOne}
+use Rattle.section_loader.specs.declared.reason.Reason.{Reason}
+use Rattle.section_loader.specs.declared.reason.Reason.TheVariants as variants
+use Rattle.section_loader.specs.declared.reason.Halt.{Halt}
+use Rattle.section_loader.specs.declared.reason.Halt.TheVariants.{Device, Refused}
+use Rattle.section_loader.specs.Reading.{Because}
+use Rattle.section_loader.specs.View.{reason_view}
+use Rattle.section_loader.specs.File.{ReadsOne}
 use Rattle.loader_core.specs.Today.{asks_password, needs_prompt}
 use Rattle.loader_core.specs.Map.{ReadsThere, password_sector, IsJudged, asks_keys, asks_more, IsExtra, AreExtras, ReadsExtras, IsReadMap, ReadsMap}
 

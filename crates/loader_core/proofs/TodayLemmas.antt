@@ -12,7 +12,7 @@ use Rattle.lilo_model.specs.Slots as slots
 use Rattle.lilo_model.specs.Table.{Descriptor}
 use Rattle.lilo_model.specs.LineSector.{is_same_line}
 use Rattle.lilo_model.specs.Boot.{Boot, Ending, MapSectors, GoodMap, refused_boot, foreign_boot, present_line, map_sectors, good_map, message_of, message_check, middle_of, image_with_line, entry_ending, ended_boot, chosen_boot, picked_entry, decided_boot, opening_at, prompted_boot, end_of, map_boot, boot_by, whole_boot}
-use Rattle.loader_core.specs.Reading.{Why, Unbuilt, Because}
+use Rattle.section_loader.specs.Reading.{Why, Unbuilt, Because}
 use Rattle.loader_core.specs.Today.{Report, line_behind, standing_line, report_behind, or_device, line_today, entry_today, entry_report, middle_report, texts_report, choice_report, entry_or_idle, default_of, needs_prompt, chosen_today, good_report, judged_report, sectors_report, map_report, foreign_report, report_by, boot_today, end_text}
 use Rattle.loader_core.specs.Laws.{IsReported, TodayLaw}
 use Rattle.loader_core.proofs.EndLemmas.{SameResult, plain_pick, entry_same}

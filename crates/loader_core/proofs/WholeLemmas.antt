@@ -14,10 +14,10 @@ use Rattle.setup_header.specs.declared.layout.Region.{Region}
 use Rattle.setup_header.specs.declared.layout.Layout.{Layout}
 use Rattle.setup_header.specs.View.{region_view, layout_view}
 use Rattle.setup_header.specs.Words.{EndsBy, LiesIn, IsApartFrom, AreApart}
-use Rattle.loader_core.specs.Reading.{FileRest}
+use Rattle.section_loader.specs.Reading.{FileRest}
 use Rattle.loader_core.specs.Kernel.{IsPlaced, IsSized, IsInitrd, region_in, optional_region, regions_in, IsKernel}
 use Rattle.loader_core.specs.Today.{initrd_today, loaded_today}
-use Rattle.loader_core.proofs.LoadLemmas.{with_bytes-join}
+use Rattle.section_loader.proofs.LoadLemmas.{with_bytes-join}
 use Rattle.loader_core.proofs.LoadedLemmas.{IsPlanned, loaded_whole, written_pieces}
 use Rattle.loader_core.proofs.MemoryLemmas.{IsApart, AreApartFrom, held, memory_after-append}
 

@@ -10,12 +10,12 @@ use Rattle.setup_header.specs.declared.header.Header.{Header}
 use Rattle.setup_header.specs.declared.layout.Layout.{Layout}
 use Rattle.setup_header.specs.View.{header_view, layout_view}
 use Rattle.setup_header.specs.Words.{EndsBy}
-use Rattle.loader_core.specs.declared.outcome.Reason.{Reason}
-use Rattle.loader_core.specs.declared.outcome.Halt.{Halt}
-use Rattle.loader_core.specs.declared.outcome.Halt.TheVariants.{Device, Refused}
-use Rattle.loader_core.specs.Reading.{Why, Because, FileRest, rest_behind}
-use Rattle.loader_core.specs.Load.{StopsFor, IsShort}
-use Rattle.loader_core.specs.View.{reason_view}
+use Rattle.section_loader.specs.declared.reason.Reason.{Reason}
+use Rattle.section_loader.specs.declared.reason.Halt.{Halt}
+use Rattle.section_loader.specs.declared.reason.Halt.TheVariants.{Device, Refused}
+use Rattle.section_loader.specs.Reading.{Why, Because, FileRest, rest_behind}
+use Rattle.section_loader.specs.Load.{StopsFor, IsShort}
+use Rattle.section_loader.specs.View.{reason_view}
 
 -- the first two sectors of a file, with zeros behind so many bytes
 pub record IsTwo (size : ℕ) (old : FileRest) (sectors : List ℕ) (new : FileRest) : Type 0 where

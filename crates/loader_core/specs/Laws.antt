@@ -4,7 +4,7 @@ use Rattle.lilo_model.specs.DefaultLine.{DefaultLine}
 use Rattle.lilo_model.specs.Disks.{Image, Machine, Span}
 use Rattle.lilo_model.specs.Prompt.{Key}
 use Rattle.lilo_model.specs.Boot.{Boot, Ending, Refused, whole_boot}
-use Rattle.loader_core.specs.Reading.{Why, Unbuilt, Because}
+use Rattle.section_loader.specs.Reading.{Why, Unbuilt, Because}
 use Rattle.loader_core.specs.Today.{Report, boot_today, standing_line, IsUnbuilt}
 
 -- a boot ends so

@@ -1,9 +1,6 @@
-pub mod File
 pub mod Kernel
 pub mod Laws
-pub mod Load
 pub mod Map
-pub mod Reading
 pub mod Start
 pub mod Today
 pub mod View

@@ -15,15 +15,15 @@ use Rattle.boot_map.specs.View.{line_view, table_view, options_view, map_fault_v
 use Rattle.boot_map.specs.Ranges.{IsNamed, HasSectors, FitsFlags}
 use Rattle.boot_map.specs.declared.table.Table.{Table}
 use Rattle.boot_map.specs.declared.options.Options.{Options}
-use Rattle.loader_core.specs.declared.outcome.Reason.{Reason}
-use Rattle.loader_core.specs.declared.outcome.Reason.TheVariants as variants
-use Rattle.loader_core.specs.declared.outcome.Halt.{Halt}
-use Rattle.loader_core.specs.declared.outcome.Halt.TheVariants.{Device, Refused}
+use Rattle.section_loader.specs.declared.reason.Reason.{Reason}
+use Rattle.section_loader.specs.declared.reason.Reason.TheVariants as variants
+use Rattle.section_loader.specs.declared.reason.Halt.{Halt}
+use Rattle.section_loader.specs.declared.reason.Halt.TheVariants.{Device, Refused}
 use Rattle.loader_core.specs.declared.map.MapParts.{MapParts}
 use Rattle.loader_core.specs.declared.map.GoodParts.{GoodParts}
-use Rattle.loader_core.specs.Reading.{Because}
+use Rattle.section_loader.specs.Reading.{Because}
 use Rattle.loader_core.specs.Today.{is_empty_line, changes_line, asks_password}
-use Rattle.loader_core.specs.View.{reason_view}
+use Rattle.section_loader.specs.View.{reason_view}
 
 -- ---- what is read
 

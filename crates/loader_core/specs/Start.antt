@@ -1,6 +1,7 @@
 -- How a boot's end stands to today's report of it.
-use Rattle.std.specs.Prelude.{◌≡◌, ℕ, codes, Bool, true, false, List, [], ◌∷◌, Option, Result, Ok, Err}
+use Rattle.std.specs.Prelude.{◌≡◌, ℕ, codes, Bool, true, false, List, [], ◌∷◌, length, Option, Result, Ok, Err, IsErrOf}
 use Rattle.disk_trait.specs.declared.disks.Span.{Span}
+use Rattle.disk_trait.specs.declared.disks.Disks.{Ghosts}
 use Rattle.lilo_model.specs.Disks as disks
 use Rattle.lilo_model.specs.DefaultLine.{DefaultLine}
 use Rattle.lilo_model.specs.Prompt.{Key}
@@ -16,13 +17,17 @@ use Rattle.loader_core.specs.declared.outcome.Outcome.{Outcome}
 use Rattle.loader_core.specs.declared.outcome.Outcome.TheVariants as outcomes
 use Rattle.loader_core.specs.declared.outcome.Started.{Started}
 use Rattle.loader_core.specs.declared.outcome.Started.TheVariants as starts
-use Rattle.loader_core.specs.declared.outcome.Halt.{Halt}
-use Rattle.loader_core.specs.declared.outcome.Halt.TheVariants.{Device, Refused}
+use Rattle.section_loader.specs.declared.reason.Halt.{Halt}
+use Rattle.section_loader.specs.declared.reason.Halt.TheVariants.{Device, Refused}
 use Rattle.loader_core.specs.Kernel.{region_in, regions_in}
-use Rattle.loader_core.specs.Reading.{Why, Unbuilt, Because}
-use Rattle.stream_trait.specs.Shows.{SinkState, Shows, ShowsOne}
-use Rattle.loader_core.specs.Today.{Report, why_text}
-use Rattle.loader_core.specs.View.{reason_view, started_view}
+use Rattle.section_loader.specs.Reading.{Why, Unbuilt, Because}
+use Rattle.sector_address.specs.Machine.{OnDisks}
+use Rattle.stream_trait.specs.Shows.{SinkState, Shows, ShowsOne, sink_of}
+use Rattle.stream_trait.specs.declared.shown.Shown.{Shown}
+use Rattle.stream_trait.specs.declared.sink.Sink as sinks
+use Rattle.loader_core.specs.Today.{Report, why_text, IsUnbuilt, standing_line}
+use Rattle.loader_core.specs.View.{started_view}
+use Rattle.section_loader.specs.View.{reason_view}
 
 -- what is written of a partition table's sector, where it goes with an entry
 abbrev pub table_written : Bool → List ℕ → List Written
@@ -57,6 +62,15 @@ ShowsReport (Err (Refused reason)) report old new = Shows old report.shown new
 pub record Reports (report : Report) (result : Result Started Halt) (memory : Memory) (ram : List ℕ) (old new : SinkState) : Type 0 where
   pub starts : Starts result report.result memory ram
   pub shows : ShowsReport result report old new
+
+-- the same, by the memory and the sink before it and after it
+abbrev pub ReportsAs : {O : Type 0} → sinks.Ghosts O → Report → Result Started Halt → List ℕ × Shown O → List ℕ × Shown O → Type 0
+ReportsAs o report result old new = Reports report result (memory_of old.0) new.0 (sink_of o old.1) (sink_of o new.1)
+
+-- the same of what disks hold, where they tell their past: the report for this image, machine and size of memory
+abbrev pub ReportsOn : {D O : Type 0} → Ghosts D → sinks.Ghosts O → D → Result Started Halt → List ℕ × Shown O → List ℕ × Shown O → (disks.Image → disks.Machine → ℕ → Report) → Type 0
+ReportsOn g o disks result old new report =
+    OnDisks g disks (λ now machine. ReportsAs o (report now machine (length old.0)) result old new)
 
 -- ---- the outcome
 
@@ -100,6 +114,16 @@ pub record IsBoot (outcome : Outcome) (boot : boots.Boot) (standing : Option Def
   pub shows : ShowsAs (result_of outcome) boot old new
   pub line : boot.line ≡ standing
   pub left : boot.left ≡ keys
+
+-- outside what isn't built yet, what was done is the model's boot from a span, for all keys
+abbrev pub BootsAsModel : {O : Type 0} → sinks.Ghosts O → disks.Image → disks.Machine → Span → Outcome → List ℕ × Shown O → List ℕ × Shown O → Type 0
+BootsAsModel o now machine device outcome old new =
+    (keys : List Key) → (IsUnbuilt now machine (span_view device) (length old.0) → ⊥)
+    → IsBoot outcome (boots.whole_boot now machine (span_view device) keys (length old.0)) (standing_line now machine (span_view device)) keys (memory_of old.0) (memory_of new.0) (sink_of o old.1) (sink_of o new.1)
+
+-- a boot ended as a disk failed
+abbrev pub IsDiskFailure : Outcome → Type 0
+IsDiskFailure outcome = IsErrOf (result_of outcome) Device
 
 -- ---- the texts of failures
 

@@ -16,7 +16,7 @@ use Rattle.lilo_model.specs.Reason as reasons
 use Rattle.lilo_model.specs.Reason.{Reason, NotBootable, BadTable, NotFound, Idle, map_reason}
 use Rattle.lilo_model.specs.Slots as slots
 use Rattle.lilo_model.specs.Boot.{Loaded, Handed, Ending, MapSectors, GoodMap, boot_address, table_address, error_text, entry_has, present_line, map_sectors, good_map, middle_of, initrd_size}
-use Rattle.loader_core.specs.Reading.{Why, Unbuilt, Because, FileRest, file_today}
+use Rattle.section_loader.specs.Reading.{Why, Unbuilt, Because, FileRest, file_today}
 
 -- ---- an entry
 
@@ -70,12 +70,19 @@ initrd_file_today image machine entry =
 abbrev pub video_today : Descriptor → Option ℕ
 video_today entry = if entry_has entry video_flag then Some entry.vga else None
 
+-- the other system that an entry hands over to
+abbrev pub other_today : Image → Machine → Descriptor → Result Ending Why
+other_today image machine entry = handed_today entry (main_today image machine entry)
+
+-- the kernel that an entry loads with a command line, in a memory of so many bytes
+abbrev pub kernel_today : Image → Machine → Descriptor → List ℕ → ℕ → Result Ending Why
+kernel_today image machine entry line memory =
+    loaded_today entry (main_today image machine entry) (initrd_file_today image machine entry) line (video_today entry) memory
+
 -- what an entry loads with a command line
 unfoldable pub entry_today : Image → Machine → Descriptor → List ℕ → ℕ → Result Ending Why
 entry_today image machine entry line memory =
-    if entry_has entry other_flag
-    then handed_today entry (main_today image machine entry)
-    else loaded_today entry (main_today image machine entry) (initrd_file_today image machine entry) line (video_today entry) memory
+    if entry_has entry other_flag then other_today image machine entry else kernel_today image machine entry line memory
 
 -- the command line of an entry that is chosen without a key
 abbrev pub line_today : Descriptor → List ℕ → List ℕ
@@ -166,10 +173,14 @@ entry_report image machine entry line memory =
       device = codes "Error 80\n" ∷ [];
     })
 
+-- an entry that is loaded with the command line of this middle text
+abbrev pub line_report : Image → Machine → Descriptor → List ℕ → ℕ → Report
+line_report image machine entry middle memory = entry_report image machine entry (line_today entry middle) memory
+
 -- an entry by its middle text
 abbrev pub middle_report : Image → Machine → Descriptor → ℕ → Result (List ℕ) Reason → Report
 middle_report image machine entry memory (Err reason) = refused_report (error_text reason) (Because reason)
-middle_report image machine entry memory (Ok middle) = entry_report image machine entry (line_today entry middle) memory
+middle_report image machine entry memory (Ok middle) = line_report image machine entry middle memory
 
 -- an entry whose texts are read
 unfoldable pub texts_report : Image → Machine → Descriptor → ℕ → Report

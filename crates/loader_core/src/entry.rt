@@ -1,24 +1,22 @@
 // The files of the entry that is started.
-ghost use Rattle.std.specs.Prelude.{◌≡◌, ◌≤◌, ◌+◌, true, length, IfOk, OnOk, IsErrOf};
-ghost use Rattle.disk_trait.specs.Past.{Told, SameDisks};
-ghost use Rattle.disk_trait.specs.Cause.{Rose};
+ghost use Rattle.std.specs.Prelude.{◌≡◌, ◌≤◌, ◌+◌, true, length, IfOk, IsErrOf};
 ghost use Rattle.lilo_model.specs.Table.{has_flag, other_flag, table_flag};
 ghost use Rattle.lilo_model.specs.Place.{with_bytes, memory_after};
 ghost use Rattle.lilo_model.specs.Boot.{boot_address};
-ghost use Rattle.bios_model.specs.Machine.{machine_of};
+ghost use Rattle.sector_address.specs.Machine.{OnDisks};
+ghost use Rattle.bios_model.specs.Reads.{OnlyReads};
 ghost use Rattle.bios_model.specs.Memory.{memory_of};
 ghost use Rattle.boot_map.specs.View.{descriptor_view};
 ghost use Rattle.boot_map.specs.Ranges.{HasSectors, FitsFlags};
-ghost use Rattle.loader_core.specs.Today.{entry_today, handed_today, main_today};
+ghost use Rattle.loader_core.specs.Today.{entry_today, other_today};
 ghost use Rattle.loader_core.specs.Start.{LiesInside, Starts, table_written};
 
-use crate::file::FileReader;
 use crate::kernel::load_kernel;
-use crate::load::{place, read_cut};
-use crate::outcome::{Halt, Started};
+use crate::outcome::Started;
 use bios_model::Ram;
 use boot_map::{Descriptor, flags};
 use disk_trait::Disks;
+use section_loader::{FileReader, Halt, place, read_cut};
 use sector_parts::Sector;
 
 /// The address of a boot sector (IBM PC).
@@ -37,13 +35,12 @@ pub(crate) fn load_entry<D: Disks>(
     requires sectors { HasSectors entry.now }
     requires flags { FitsFlags entry.now }
     requires line { length line.now ≤ 500 }
-    ensures started { Told (D.past disks.old) (λ now. let machine = machine_of (D.size_of disks.old) (D.geometry_of disks.old) in
-        Starts result (entry_today now machine (descriptor_view entry.now) line.now (length ram.old)) (memory_of ram.old) ram.new) }
+    ensures started { OnDisks D.Disks disks.old (λ now machine.
+        Starts result (entry_today now machine (descriptor_view entry.now) line.now (length ram.old))
+        (memory_of ram.old) ram.new) }
     ensures memory { length ram.new ≡ length ram.old }
     ensures inside { IfOk result (LiesInside (length ram.new)) }
-    ensures same { SameDisks D.past D.size_of D.count_of D.geometry_of disks.old disks.new }
-    ensures later { D.faults disks.old ≤ D.faults disks.new }
-    ensures device { IsErrOf result Halt.Device → Rose (D.faults disks.old) (D.faults disks.new) }
+    ensures reads { OnlyReads D.Disks disks.old disks.new (IsErrOf result Halt.Device) }
 {
     if entry.flags & flags::OTHER == 0 {
         let layout = load_kernel(disks, ram, entry, line)?;
@@ -59,14 +56,11 @@ fn load_other<D: Disks>(disks: &mut D, ram: &mut Ram, entry: &Descriptor) -> Res
     requires sectors { HasSectors entry.now }
     requires flags { FitsFlags entry.now }
     requires other { has_flag entry.now.flags other_flag ≡ true }
-    ensures started { Told (D.past disks.old) (λ now. let machine = machine_of (D.size_of disks.old) (D.geometry_of disks.old) in
-        let entry = descriptor_view entry.now in
-        Starts result (handed_today entry (main_today now machine entry)) (memory_of ram.old) ram.new) }
+    ensures started { OnDisks D.Disks disks.old (λ now machine.
+        Starts result (other_today now machine (descriptor_view entry.now)) (memory_of ram.old) ram.new) }
     ensures memory { length ram.new ≡ length ram.old }
     ensures inside { IfOk result (LiesInside (length ram.new)) }
-    ensures same { SameDisks D.past D.size_of D.count_of D.geometry_of disks.old disks.new }
-    ensures later { D.faults disks.old ≤ D.faults disks.new }
-    ensures device { IsErrOf result Halt.Device → Rose (D.faults disks.old) (D.faults disks.new) }
+    ensures reads { OnlyReads D.Disks disks.old disks.new (IsErrOf result Halt.Device) }
 {
     let mut file = FileReader::new(&entry.first, entry.length, entry.chain);
     let mut boot = [0; 512];
@@ -80,7 +74,8 @@ fn load_other<D: Disks>(disks: &mut D, ram: &mut Ram, entry: &Descriptor) -> Res
 
 /// Places the entries of a partition table from the sector at hand, where it goes with an entry.
 fn place_table(ram: &mut Ram, entry: &Descriptor, table: &Sector)
-    ensures memory { memory_of ram.new ≡ memory_after (memory_of ram.old) (table_written (has_flag entry.now.flags table_flag) table.now) }
+    ensures memory { memory_of ram.new
+        ≡ memory_after (memory_of ram.old) (table_written (has_flag entry.now.flags table_flag) table.now) }
     ensures size { length ram.new ≡ length ram.old }
 {
     let _memory = ram.size();
@@ -91,7 +86,8 @@ fn place_table(ram: &mut Ram, entry: &Descriptor, table: &Sector)
 
 /// Places a boot sector.
 pub(crate) fn place_boot(ram: &mut Ram, boot: &Sector)
-    ensures memory { memory_of ram.new ≡ with_bytes (memory_of ram.old) (record { address = boot_address; bytes = boot.now }) }
+    ensures memory { memory_of ram.new
+        ≡ with_bytes (memory_of ram.old) (record { address = boot_address; bytes = boot.now }) }
     ensures inside { boot_address + 512 ≤ length ram.old }
     ensures size { length ram.new ≡ length ram.old }
 {

@@ -1,27 +1,25 @@
 // A kernel with its initrd and its command line, loaded as the boot protocol has it.
-ghost use Rattle.std.specs.Prelude.{◌≡◌, ◌≤◌, ◌<◌, ◌+◌, ◌-◌, ◌^◌, ◌%◌, ◌++◌, length, min, is_some, OnOk, IfOk, IfSome, IsErrOf};
+ghost use Rattle.std.specs.Prelude.{◌≡◌, ◌≤◌, ◌<◌, ◌+◌, ◌-◌, ◌^◌, ◌++◌};
+ghost use Rattle.std.specs.Prelude.{length, min, is_some, OnOk, IfOk, IfSome, IsErrOf};
 ghost use Rattle.std.specs.Option.{option_map};
-ghost use Rattle.disk_trait.specs.Past.{Told, SameDisks};
-ghost use Rattle.disk_trait.specs.Cause.{Rose};
-ghost use Rattle.lilo_model.specs.Checks.{seen};
 ghost use Rattle.lilo_model.specs.Header.{header_at, plan_memory};
 ghost use Rattle.lilo_model.specs.Boot.{initrd_size};
-ghost use Rattle.bios_model.specs.Machine.{machine_of};
+ghost use Rattle.sector_address.specs.Machine.{OnDisks};
+ghost use Rattle.bios_model.specs.Reads.{OnlyReads};
 ghost use Rattle.bios_model.specs.Memory.{memory_of};
 ghost use Rattle.boot_map.specs.View.{descriptor_view};
 ghost use Rattle.boot_map.specs.Ranges.{HasSectors, FitsFlags};
-ghost use Rattle.setup_header.specs.View.{header_view, layout_view, region_view};
+ghost use Rattle.setup_header.specs.View.{header_view, region_view};
 ghost use Rattle.setup_header.specs.Words.{IsHeaderFor, HasLengths, LiesIn, AreApart, EndsBy};
-ghost use Rattle.loader_core.specs.Today.{initrd_file_today, initrd_today, loaded_today, main_today, video_today};
-ghost use Rattle.loader_core.specs.File.{IsCounted, rest_in};
-ghost use Rattle.loader_core.specs.Kernel.{ReadsTwo, HoldsKernel, PlacesKernel, PlacesInitrd, LoadsKernel, GivesHeader, GivesLayout};
+ghost use Rattle.loader_core.specs.Today.{initrd_file_today, initrd_today, video_today, kernel_today};
+ghost use Rattle.section_loader.specs.File.{IsCounted, OnFile};
+ghost use Rattle.loader_core.specs.Kernel.{ReadsTwo, HoldsKernel, PlacesKernel, PlacesInitrd, LoadsKernel};
+ghost use Rattle.loader_core.specs.Kernel.{GivesHeader, GivesLayout};
 
-use crate::file::FileReader;
-use crate::load::{load_bytes, place, read_cut};
-use crate::outcome::{Halt, Reason};
 use bios_model::Ram;
 use boot_map::{Descriptor, flags};
 use disk_trait::Disks;
+use section_loader::{FileReader, Halt, Reason, load_bytes, place, read_cut};
 use sector_parts::Sector;
 use setup_header::{Header, Layout, Region, patch, plan_memory};
 
@@ -35,11 +33,9 @@ fn read_two<D: Disks>(
     requires { IsCounted file.old }
     ensures counted { OnOk result (IsCounted file.new) }
     ensures left { OnOk result (file.new.left ≡ file.old.left - min 1024 file.old.left) }
-    ensures bytes { Told (D.past disks.old) (λ now. let machine = machine_of (D.size_of disks.old) (D.geometry_of disks.old) in
-        ReadsTwo result (min 1024 file.old.left) (rest_in now machine file.old) (first.new ++ second.new) (rest_in now machine file.new)) }
-    ensures same { SameDisks D.past D.size_of D.count_of D.geometry_of disks.old disks.new }
-    ensures later { D.faults disks.old ≤ D.faults disks.new }
-    ensures device { IsErrOf result Halt.Device → Rose (D.faults disks.old) (D.faults disks.new) }
+    ensures bytes { OnFile D.Disks disks.old file.old file.new (λ old new.
+        ReadsTwo result (min 1024 file.old.left) old (first.new ++ second.new) new) }
+    ensures reads { OnlyReads D.Disks disks.old disks.new (IsErrOf result Halt.Device) }
 {
     read_cut(file, disks, first)?;
     read_cut(file, disks, second)
@@ -113,12 +109,10 @@ fn place_kernel<D: Disks>(
 ) -> Result<(), Halt>
     requires counted { IsCounted file.old }
     requires kernel { HoldsKernel layout.now file.old.left (length ram.old) }
-    ensures placed { Told (D.past disks.old) (λ now. let machine = machine_of (D.size_of disks.old) (D.geometry_of disks.old) in
-        PlacesKernel result layout.now (first.now ++ second.now) (rest_in now machine file.old) (memory_of ram.old) (memory_of ram.new)) }
+    ensures placed { OnFile D.Disks disks.old file.old file.new (λ old new.
+        PlacesKernel result layout.now (first.now ++ second.now) old (memory_of ram.old) (memory_of ram.new)) }
     ensures memory { length ram.new ≡ length ram.old }
-    ensures same { SameDisks D.past D.size_of D.count_of D.geometry_of disks.old disks.new }
-    ensures later { D.faults disks.old ≤ D.faults disks.new }
-    ensures device { IsErrOf result Halt.Device → Rose (D.faults disks.old) (D.faults disks.new) }
+    ensures reads { OnlyReads D.Disks disks.old disks.new (IsErrOf result Halt.Device) }
 {
     place(ram, layout.real.address, first);
     place(ram, layout.real.address + 512, second);
@@ -150,12 +144,12 @@ fn load_initrd<D: Disks>(
     requires size { IfSome region (λ region. region.length ≡ entry.now.initrd_length) }
     requires inside { IfSome region (EndsBy (length ram.old)) }
     requires fits { length ram.old < 2 ^ 32 }
-    ensures placed { Told (D.past disks.old) (λ now. let machine = machine_of (D.size_of disks.old) (D.geometry_of disks.old) in
-        PlacesInitrd result (option_map region_view region) (initrd_today (initrd_file_today now machine (descriptor_view entry.now))) (memory_of ram.old) (memory_of ram.new)) }
+    ensures placed { OnDisks D.Disks disks.old (λ now machine.
+        PlacesInitrd result (option_map region_view region)
+        (initrd_today (initrd_file_today now machine (descriptor_view entry.now)))
+        (memory_of ram.old) (memory_of ram.new)) }
     ensures memory { length ram.new ≡ length ram.old }
-    ensures same { SameDisks D.past D.size_of D.count_of D.geometry_of disks.old disks.new }
-    ensures later { D.faults disks.old ≤ D.faults disks.new }
-    ensures device { IsErrOf result Halt.Device → Rose (D.faults disks.old) (D.faults disks.new) }
+    ensures reads { OnlyReads D.Disks disks.old disks.new (IsErrOf result Halt.Device) }
 {
     let (Some(region), Some(slot)) = (region, entry.initrd) else {
         return Ok(());
@@ -174,15 +168,12 @@ pub(crate) fn load_kernel<D: Disks>(
     requires sectors { HasSectors entry.now }
     requires flags { FitsFlags entry.now }
     requires line { length line.now ≤ 500 }
-    ensures loaded { Told (D.past disks.old) (λ now. let machine = machine_of (D.size_of disks.old) (D.geometry_of disks.old) in
-        let entry = descriptor_view entry.now in
-        LoadsKernel result (loaded_today entry (main_today now machine entry) (initrd_file_today now machine entry) line.now (video_today entry) (length ram.old))
+    ensures loaded { OnDisks D.Disks disks.old (λ now machine.
+        LoadsKernel result (kernel_today now machine (descriptor_view entry.now) line.now (length ram.old))
         (memory_of ram.old) ram.new) }
     ensures memory { length ram.new ≡ length ram.old }
     ensures inside { IfOk result (LiesIn (length ram.new)) }
-    ensures same { SameDisks D.past D.size_of D.count_of D.geometry_of disks.old disks.new }
-    ensures later { D.faults disks.old ≤ D.faults disks.new }
-    ensures device { IsErrOf result Halt.Device → Rose (D.faults disks.old) (D.faults disks.new) }
+    ensures reads { OnlyReads D.Disks disks.old disks.new (IsErrOf result Halt.Device) }
 {
     let mut file = FileReader::new(&entry.first, entry.length, entry.chain);
     let mut first = [0; 512];

@@ -2,12 +2,10 @@
 #![tactic(auto)]
 
 mod entry;
-mod file;
 #[cfg(test)]
 mod fixture;
 mod kernel;
 mod laws;
-mod load;
 mod loader;
 mod map;
 mod outcome;
@@ -16,5 +14,6 @@ mod tests;
 
 pub use laws::boots_as_the_model;
 pub use loader::boot;
-pub use outcome::{Outcome, Reason};
+pub use outcome::Outcome;
+pub use section_loader::Reason;
 pub use stream_trait::Shown;

@@ -1,27 +1,28 @@
 // The boot itself.
-ghost use Rattle.std.specs.Prelude.{◌≡◌, ℕ, Err, ◌<◌, ◌≤◌, ◌++◌, codes, false, List, length, All, IfOk, IsErrOf};
-ghost use Rattle.disk_trait.specs.Past.{Told, SameDisks};
-ghost use Rattle.disk_trait.specs.Cause.{Rose};
+ghost use Rattle.std.specs.Prelude.{◌≡◌, ℕ, Err, ◌<◌, ◌≤◌, ◌++◌, codes, false, length, All, IfOk, IsErrOf};
 ghost use Rattle.lilo_model.specs.Disks.{Image, Machine};
-ghost use Rattle.lilo_model.specs.Prompt.{Key};
-ghost use Rattle.lilo_model.specs.Boot.{MapSectors, GoodMap, whole_boot};
+ghost use Rattle.lilo_model.specs.Boot.{MapSectors, GoodMap};
 ghost use Rattle.lilo_model.specs.Table.{has_flag, fallback_flag};
-ghost use Rattle.bios_model.specs.Machine.{machine_of};
+ghost use Rattle.sector_address.specs.Machine.{OnDisks};
 ghost use Rattle.bios_model.specs.Memory.{memory_of};
+ghost use Rattle.bios_model.specs.Reads.{OnlyReadsBios, ReadsAndShows};
 ghost use Rattle.boot_map.specs.View.{boot_view, descriptor_view, map_fault_view};
 ghost use Rattle.boot_map.specs.Ranges.{IsNamed, IsOneSector, HasSectors, FitsFlags};
-ghost use Rattle.loader_core.specs.Today.{IsUnbuilt, boot_today, standing_line, report_by, map_report, sectors_report, good_report, texts_report, entry_report, foreign_report, line_today};
+ghost use Rattle.loader_core.specs.Today.{IsUnbuilt, boot_today, report_by, foreign_report};
+ghost use Rattle.loader_core.specs.Today.{map_report, sectors_report, good_report, texts_report, line_report};
 ghost use Rattle.loader_core.specs.Map.{StandsFor, IsTable, IsGood};
-ghost use Rattle.stream_trait.specs.Shows.{state_of, HasFailed};
-ghost use Rattle.loader_core.specs.Start.{LiesInside, Starts, Reports, result_of, span_view, IsBoot, halt_text, map_text};
+ghost use Rattle.stream_trait.specs.Shows.{sink_of, HasFailed};
+ghost use Rattle.loader_core.specs.Start.{LiesInside, Starts, result_of, span_view, halt_text, map_text};
+ghost use Rattle.loader_core.specs.Start.{ReportsOn, ReportsAs, BootsAsModel, IsDiskFailure};
 
 use crate::entry::{load_entry, place_boot};
 use crate::map::{GoodParts, MapParts, command_line, judge, needs_prompt, read_map, read_middle};
-use crate::outcome::{Halt, Outcome, Reason, Started};
+use crate::outcome::{Outcome, Started};
 use arrayvec::ArrayVec;
 use bios_model::{Bios, Ram};
 use boot_map::{BootSector, Descriptor, MapFault};
 use disk_trait::{Disks, Phase, Span};
+use section_loader::{Halt, Reason};
 use sector_parts::{Sector, part};
 use stream_trait::{Shown, Sink, Source};
 
@@ -46,34 +47,24 @@ pub fn boot<D: Disks, I: Source, O: Sink>(
 ) -> Outcome
     requires { device.start < D.size_of bios.old.disks.now device.disk }
 
-    // It is today's boot, and outside what isn't built yet the model's, for all keys; the default line is left as it stands.
-    ensures today { Told (D.past bios.old.disks.now) (λ now. let machine = machine_of (D.size_of bios.old.disks.now) (D.geometry_of bios.old.disks.now) in
-        Reports (boot_today now machine (span_view device) (length ram.old)) (result_of result) (memory_of ram.old) ram.new
-        (state_of (O.taken out.old.out.now) (O.faults out.old.out.now) out.old.failed) (state_of (O.taken out.new.out.now) (O.faults out.new.out.now) out.new.failed)) }
-    ensures boot { Told (D.past bios.old.disks.now) (λ now. let machine = machine_of (D.size_of bios.old.disks.now) (D.geometry_of bios.old.disks.now) in
-        (keys : List Key) → (IsUnbuilt now machine (span_view device) (length ram.old) → ⊥)
-        → IsBoot result (whole_boot now machine (span_view device) keys (length ram.old)) (standing_line now machine (span_view device)) keys (memory_of ram.old) (memory_of ram.new)
-        (state_of (O.taken out.old.out.now) (O.faults out.old.out.now) out.old.failed) (state_of (O.taken out.new.out.now) (O.faults out.new.out.now) out.new.failed)) }
-    ensures unbuilt { Told (D.past bios.old.disks.now) (λ now. let machine = machine_of (D.size_of bios.old.disks.now) (D.geometry_of bios.old.disks.now) in
+    // It is today's boot, and outside what isn't built yet the model's, for all keys; the default line stays.
+    ensures today { ReportsOn D.Disks O.Sink bios.old.disks.now (result_of result) (ram.old, out.old) (ram.new, out.new)
+        (λ now machine memory. boot_today now machine (span_view device) memory) }
+    ensures boot { OnDisks D.Disks bios.old.disks.now (λ now machine.
+        BootsAsModel O.Sink now machine device result (ram.old, out.old) (ram.new, out.new)) }
+    ensures unbuilt { OnDisks D.Disks bios.old.disks.now (λ now machine.
         result ≡ Outcome.Refused Reason.Unbuilt → IsUnbuilt now machine (span_view device) (length ram.old)) }
 
-    // A disk's failure has its cause, and no other comes.
-    ensures device { (phase : _) → result ≡ Outcome.Device phase → Rose (D.faults bios.old.disks.now) (D.faults bios.new.disks.now) }
+    // A disk's failure has its cause, and so has a sink's; no other failure comes.
+    ensures reads { OnlyReadsBios D.Disks bios.old bios.new (IsDiskFailure result) }
     ensures before { (phase : _) → result ≡ Outcome.Device phase → phase ≡ Phase.Before }
     ensures no_keys { result ≡ Outcome.Keys → ⊥ }
-    ensures later { D.faults bios.old.disks.now ≤ D.faults bios.new.disks.now }
-    ensures sink { HasFailed (state_of (O.taken out.old.out.now) (O.faults out.old.out.now) out.old.failed) (state_of (O.taken out.new.out.now) (O.faults out.new.out.now) out.new.failed) }
+    ensures sink { HasFailed (sink_of O.Sink out.old) (sink_of O.Sink out.new) }
+    ensures same_reference { out.new.out.ghost_name ≡ out.old.out.ghost_name }
 
     // A kernel that was loaded lies in memory.
     ensures inside { IfOk (result_of result) (LiesInside (length ram.new)) }
-
-    // Nothing else happens.
     ensures memory { length ram.new ≡ length ram.old }
-    ensures same { SameDisks D.past D.size_of D.count_of D.geometry_of bios.old.disks.now bios.new.disks.now }
-    ensures keys { bios.new.keys.now ≡ bios.old.keys.now }
-    ensures same_disks_reference { bios.new.disks.ghost_name ≡ bios.old.disks.ghost_name }
-    ensures same_keys_reference { bios.new.keys.ghost_name ≡ bios.old.keys.ghost_name }
-    ensures same_reference { out.new.out.ghost_name ≡ out.old.out.ghost_name }
 {
     outcome_of(boot_by(bios.disks, device, ram, out))
 }
@@ -100,16 +91,11 @@ fn boot_by<D: Disks, O: Sink>(
     out: &mut Shown<'_, O>,
 ) -> Result<Started, Halt>
     requires { device.start < D.size_of disks.old device.disk }
-    ensures report { Told (D.past disks.old) (λ now. let machine = machine_of (D.size_of disks.old) (D.geometry_of disks.old) in
-        Reports (boot_today now machine (span_view device) (length ram.old)) result (memory_of ram.old) ram.new
-        (state_of (O.taken out.old.out.now) (O.faults out.old.out.now) out.old.failed) (state_of (O.taken out.new.out.now) (O.faults out.new.out.now) out.new.failed)) }
+    ensures report { ReportsOn D.Disks O.Sink disks.old result (ram.old, out.old) (ram.new, out.new)
+        (λ now machine memory. boot_today now machine (span_view device) memory) }
     ensures memory { length ram.new ≡ length ram.old }
     ensures inside { IfOk result (LiesInside (length ram.new)) }
-    ensures same { SameDisks D.past D.size_of D.count_of D.geometry_of disks.old disks.new }
-    ensures later { D.faults disks.old ≤ D.faults disks.new }
-    ensures device { IsErrOf result Halt.Device → Rose (D.faults disks.old) (D.faults disks.new) }
-    ensures sink { HasFailed (state_of (O.taken out.old.out.now) (O.faults out.old.out.now) out.old.failed) (state_of (O.taken out.new.out.now) (O.faults out.new.out.now) out.new.failed) }
-    ensures same_reference { out.new.out.ghost_name ≡ out.old.out.ghost_name }
+    ensures only { ReadsAndShows D.Disks O.Sink (disks.old, out.old) (disks.new, out.new) (IsErrOf result Halt.Device) }
 {
     let mut sector = [0; 512];
     if disks.read(device.disk, device.start, &mut sector).is_err() {
@@ -129,12 +115,12 @@ fn boot_other<O: Sink>(
     out: &mut Shown<'_, O>,
 ) -> Result<Started, Halt>
     ensures report { (now : Image) (machine : Machine) (memory : ℕ)
-        → Reports (report_by now machine sector.now memory (Err (map_fault_view fault))) result (memory_of ram.old) ram.new
-        (state_of (O.taken out.old.out.now) (O.faults out.old.out.now) out.old.failed) (state_of (O.taken out.new.out.now) (O.faults out.new.out.now) out.new.failed) }
+        → ReportsAs O.Sink (report_by now machine sector.now memory (Err (map_fault_view fault))) result
+        (ram.old, out.old) (ram.new, out.new) }
     ensures memory { length ram.new ≡ length ram.old }
     ensures inside { IfOk result (LiesInside (length ram.new)) }
     ensures device { IsErrOf result Halt.Device → ⊥ }
-    ensures sink { HasFailed (state_of (O.taken out.old.out.now) (O.faults out.old.out.now) out.old.failed) (state_of (O.taken out.new.out.now) (O.faults out.new.out.now) out.new.failed) }
+    ensures sink { HasFailed (sink_of O.Sink out.old) (sink_of O.Sink out.new) }
     ensures same_reference { out.new.out.ghost_name ≡ out.old.out.ghost_name }
 {
     match fault {
@@ -175,16 +161,11 @@ fn boot_map<D: Disks, O: Sink>(
     requires slots { All IsOneSector boot.now.table.items }
     requires names { boot.now.names ≤ 19 }
     requires default_entry { boot.now.default_entry < boot.now.names }
-    ensures report { Told (D.past disks.old) (λ now. let machine = machine_of (D.size_of disks.old) (D.geometry_of disks.old) in
-        Reports (map_report now machine (boot_view boot.now) (length ram.old)) result (memory_of ram.old) ram.new
-        (state_of (O.taken out.old.out.now) (O.faults out.old.out.now) out.old.failed) (state_of (O.taken out.new.out.now) (O.faults out.new.out.now) out.new.failed)) }
+    ensures report { ReportsOn D.Disks O.Sink disks.old result (ram.old, out.old) (ram.new, out.new)
+        (λ now machine memory. map_report now machine (boot_view boot.now) memory) }
     ensures memory { length ram.new ≡ length ram.old }
     ensures inside { IfOk result (LiesInside (length ram.new)) }
-    ensures same { SameDisks D.past D.size_of D.count_of D.geometry_of disks.old disks.new }
-    ensures later { D.faults disks.old ≤ D.faults disks.new }
-    ensures device { IsErrOf result Halt.Device → Rose (D.faults disks.old) (D.faults disks.new) }
-    ensures sink { HasFailed (state_of (O.taken out.old.out.now) (O.faults out.old.out.now) out.old.failed) (state_of (O.taken out.new.out.now) (O.faults out.new.out.now) out.new.failed) }
-    ensures same_reference { out.new.out.ghost_name ≡ out.old.out.ghost_name }
+    ensures only { ReadsAndShows D.Disks O.Sink (disks.old, out.old) (disks.new, out.new) (IsErrOf result Halt.Device) }
 {
     out.put(b"L");
     match read_map(disks, boot) {
@@ -206,16 +187,13 @@ fn boot_parts<D: Disks, O: Sink>(
 ) -> Result<Started, Halt>
     requires known { IfOk parts.table (IsTable boot.now.names) }
     requires default_entry { boot.now.default_entry < boot.now.names }
-    ensures report { Told (D.past disks.old) (λ now. let machine = machine_of (D.size_of disks.old) (D.geometry_of disks.old) in
-        (sectors : MapSectors) → StandsFor parts sectors → Reports (sectors_report now machine (boot_view boot.now) (length ram.old) sectors) result (memory_of ram.old) ram.new
-        (state_of (O.taken out.old.out.now) (O.faults out.old.out.now) out.old.failed) (state_of (O.taken out.new.out.now) (O.faults out.new.out.now) out.new.failed)) }
+    ensures report { OnDisks D.Disks disks.old (λ now machine.
+        (sectors : MapSectors) → StandsFor parts sectors
+        → ReportsAs O.Sink (sectors_report now machine (boot_view boot.now) (length ram.old) sectors) result
+        (ram.old, out.old) (ram.new, out.new)) }
     ensures memory { length ram.new ≡ length ram.old }
     ensures inside { IfOk result (LiesInside (length ram.new)) }
-    ensures same { SameDisks D.past D.size_of D.count_of D.geometry_of disks.old disks.new }
-    ensures later { D.faults disks.old ≤ D.faults disks.new }
-    ensures device { IsErrOf result Halt.Device → Rose (D.faults disks.old) (D.faults disks.new) }
-    ensures sink { HasFailed (state_of (O.taken out.old.out.now) (O.faults out.old.out.now) out.old.failed) (state_of (O.taken out.new.out.now) (O.faults out.new.out.now) out.new.failed) }
-    ensures same_reference { out.new.out.ghost_name ≡ out.old.out.ghost_name }
+    ensures only { ReadsAndShows D.Disks O.Sink (disks.old, out.old) (disks.new, out.new) (IsErrOf result Halt.Device) }
 {
     out.put(b"IL");
     match judge(parts) {
@@ -237,16 +215,13 @@ fn boot_good<D: Disks, O: Sink>(
 ) -> Result<Started, Halt>
     requires known { IsTable boot.now.names good.now.table }
     requires default_entry { boot.now.default_entry < boot.now.names }
-    ensures report { Told (D.past disks.old) (λ now. let machine = machine_of (D.size_of disks.old) (D.geometry_of disks.old) in
-        (model : GoodMap) → IsGood good.now model → Reports (good_report now machine (boot_view boot.now) (length ram.old) model) result (memory_of ram.old) ram.new
-        (state_of (O.taken out.old.out.now) (O.faults out.old.out.now) out.old.failed) (state_of (O.taken out.new.out.now) (O.faults out.new.out.now) out.new.failed)) }
+    ensures report { OnDisks D.Disks disks.old (λ now machine.
+        (model : GoodMap) → IsGood good.now model
+        → ReportsAs O.Sink (good_report now machine (boot_view boot.now) (length ram.old) model) result
+        (ram.old, out.old) (ram.new, out.new)) }
     ensures memory { length ram.new ≡ length ram.old }
     ensures inside { IfOk result (LiesInside (length ram.new)) }
-    ensures same { SameDisks D.past D.size_of D.count_of D.geometry_of disks.old disks.new }
-    ensures later { D.faults disks.old ≤ D.faults disks.new }
-    ensures device { IsErrOf result Halt.Device → Rose (D.faults disks.old) (D.faults disks.new) }
-    ensures sink { HasFailed (state_of (O.taken out.old.out.now) (O.faults out.old.out.now) out.old.failed) (state_of (O.taken out.new.out.now) (O.faults out.new.out.now) out.new.failed) }
-    ensures same_reference { out.new.out.ghost_name ≡ out.old.out.ghost_name }
+    ensures only { ReadsAndShows D.Disks O.Sink (disks.old, out.old) (disks.new, out.new) (IsErrOf result Halt.Device) }
 {
     out.put(b"O\n");
     if needs_prompt(boot, good) {
@@ -271,16 +246,11 @@ fn boot_entry<D: Disks, O: Sink>(
     requires sectors { HasSectors entry.now }
     requires flags { FitsFlags entry.now }
     requires fallback { has_flag entry.now.flags fallback_flag ≡ false }
-    ensures report { Told (D.past disks.old) (λ now. let machine = machine_of (D.size_of disks.old) (D.geometry_of disks.old) in
-        Reports (texts_report now machine (descriptor_view entry.now) (length ram.old)) result (memory_of ram.old) ram.new
-        (state_of (O.taken out.old.out.now) (O.faults out.old.out.now) out.old.failed) (state_of (O.taken out.new.out.now) (O.faults out.new.out.now) out.new.failed)) }
+    ensures report { ReportsOn D.Disks O.Sink disks.old result (ram.old, out.old) (ram.new, out.new)
+        (λ now machine memory. texts_report now machine (descriptor_view entry.now) memory) }
     ensures memory { length ram.new ≡ length ram.old }
     ensures inside { IfOk result (LiesInside (length ram.new)) }
-    ensures same { SameDisks D.past D.size_of D.count_of D.geometry_of disks.old disks.new }
-    ensures later { D.faults disks.old ≤ D.faults disks.new }
-    ensures device { IsErrOf result Halt.Device → Rose (D.faults disks.old) (D.faults disks.new) }
-    ensures sink { HasFailed (state_of (O.taken out.old.out.now) (O.faults out.old.out.now) out.old.failed) (state_of (O.taken out.new.out.now) (O.faults out.new.out.now) out.new.failed) }
-    ensures same_reference { out.new.out.ghost_name ≡ out.old.out.ghost_name }
+    ensures only { ReadsAndShows D.Disks O.Sink (disks.old, out.old) (disks.new, out.new) (IsErrOf result Halt.Device) }
 {
     match read_middle(disks, entry) {
         Ok(options) => start_entry(disks, entry, options.middle.as_slice(), ram, out),
@@ -303,16 +273,11 @@ fn start_entry<D: Disks, O: Sink>(
     requires sectors { HasSectors entry.now }
     requires flags { FitsFlags entry.now }
     requires middle { length middle.now ≤ 255 }
-    ensures report { Told (D.past disks.old) (λ now. let machine = machine_of (D.size_of disks.old) (D.geometry_of disks.old) in
-        Reports (entry_report now machine (descriptor_view entry.now) (line_today (descriptor_view entry.now) middle.now) (length ram.old)) result (memory_of ram.old) ram.new
-        (state_of (O.taken out.old.out.now) (O.faults out.old.out.now) out.old.failed) (state_of (O.taken out.new.out.now) (O.faults out.new.out.now) out.new.failed)) }
+    ensures report { ReportsOn D.Disks O.Sink disks.old result (ram.old, out.old) (ram.new, out.new)
+        (λ now machine memory. line_report now machine (descriptor_view entry.now) middle.now memory) }
     ensures memory { length ram.new ≡ length ram.old }
     ensures inside { IfOk result (LiesInside (length ram.new)) }
-    ensures same { SameDisks D.past D.size_of D.count_of D.geometry_of disks.old disks.new }
-    ensures later { D.faults disks.old ≤ D.faults disks.new }
-    ensures device { IsErrOf result Halt.Device → Rose (D.faults disks.old) (D.faults disks.new) }
-    ensures sink { HasFailed (state_of (O.taken out.old.out.now) (O.faults out.old.out.now) out.old.failed) (state_of (O.taken out.new.out.now) (O.faults out.new.out.now) out.new.failed) }
-    ensures same_reference { out.new.out.ghost_name ≡ out.old.out.ghost_name }
+    ensures only { ReadsAndShows D.Disks O.Sink (disks.old, out.old) (disks.new, out.new) (IsErrOf result Halt.Device) }
 {
     out.put(loading_line(entry.name.as_slice()).as_slice());
     let line = command_line(entry.name.as_slice(), middle);

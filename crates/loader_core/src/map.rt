@@ -1,28 +1,29 @@
 // The sectors of a map that are read before a choice, and what they say.
-ghost use Rattle.std.specs.Prelude.{◌≡◌, ◌≤◌, ◌<◌, ◌||◌, ℕ, true, false, [], length, map, slice_get, All, Some, Ok, IfOk, IsErrOf};
+ghost use Rattle.std.specs.Prelude.{◌≡◌, ◌≤◌, ◌<◌, ◌||◌, ℕ, true, false, [], length, map, slice_get, All, Some, Ok};
+ghost use Rattle.std.specs.Prelude.{IfOk, IsErrOf};
 ghost use Rattle.std.specs.List.{list_any};
-ghost use Rattle.disk_trait.specs.Past.{Told, SameDisks};
-ghost use Rattle.disk_trait.specs.Cause.{Rose};
 ghost use Rattle.lilo_model.specs.Checks.{seen, each};
 ghost use Rattle.lilo_model.specs.Table.{has_flag, fallback_flag};
 ghost use Rattle.lilo_model.specs.Reason.{map_reason};
 ghost use Rattle.lilo_model.specs.Place.{command_line};
-ghost use Rattle.lilo_model.specs.Boot.{MapSectors, GoodMap, slot_bytes_at, optional_at, entries_of, map_sectors, password_at, good_map, middle_of};
+ghost use Rattle.lilo_model.specs.Boot.{MapSectors, GoodMap, slot_bytes_at, optional_at, entries_of, map_sectors};
+ghost use Rattle.lilo_model.specs.Boot.{password_at, good_map, middle_of};
 ghost use Rattle.sector_address.specs.View.{slot_view};
-ghost use Rattle.bios_model.specs.Machine.{machine_of};
+ghost use Rattle.sector_address.specs.Machine.{OnDisks};
+ghost use Rattle.bios_model.specs.Reads.{OnlyReads};
 ghost use Rattle.boot_map.specs.View.{boot_view, table_view, line_view, descriptor_view, map_fault_view};
 ghost use Rattle.boot_map.specs.Ranges.{IsOneSector, IsLine, HasSectors};
-ghost use Rattle.loader_core.specs.Reading.{Because};
-ghost use Rattle.loader_core.specs.View.{reason_view};
+ghost use Rattle.section_loader.specs.Reading.{Because};
+ghost use Rattle.section_loader.specs.View.{reason_view};
 ghost use Rattle.loader_core.specs.Today.{is_empty_line, changes_line, asks_password, needs_prompt};
-ghost use Rattle.loader_core.specs.Map.{ReadsThere, IsJudged, asks_keys, asks_more, password_sector, ReadsExtra, ReadsExtras, StandsFor, ReadsMap, IsTable, IsGood, Judges, ReadsMiddle};
+ghost use Rattle.loader_core.specs.Map.{ReadsThere, IsJudged, asks_keys, asks_more, password_sector, ReadsExtra};
+ghost use Rattle.loader_core.specs.Map.{ReadsExtras, StandsFor, ReadsMap, IsTable, IsGood, Judges, ReadsMiddle};
 
-use crate::file::read_one;
-use crate::outcome::{Halt, Reason};
 use arrayvec::ArrayVec;
 use bios_model::{BiosFault, read_slots};
 use boot_map::{BootSector, DefaultLine, Descriptor, Extra, MapFault, Options, Table, flags};
 use disk_trait::Disks;
+use section_loader::{Halt, Reason, read_one};
 use sector_address::Slot;
 use sector_parts::Sector;
 
@@ -50,12 +51,10 @@ pub(crate) fn read_map<D: Disks>(disks: &mut D, boot: &BootSector) -> Result<Map
     requires table { length boot.now.table.items ≡ 3 }
     requires slots { All IsOneSector boot.now.table.items }
     requires names { boot.now.names ≤ 19 }
-    ensures parts { Told (D.past disks.old) (λ now. let machine = machine_of (D.size_of disks.old) (D.geometry_of disks.old) in
+    ensures parts { OnDisks D.Disks disks.old (λ now machine.
         ReadsMap result (map_sectors now machine (boot_view boot.now))) }
     ensures known { IfOk result (λ parts. IfOk parts.table (IsTable boot.now.names)) }
-    ensures same { SameDisks D.past D.size_of D.count_of D.geometry_of disks.old disks.new }
-    ensures later { D.faults disks.old ≤ D.faults disks.new }
-    ensures device { IsErrOf result Halt.Device → Rose (D.faults disks.old) (D.faults disks.new) }
+    ensures reads { OnlyReads D.Disks disks.old disks.new (IsErrOf result Halt.Device) }
 {
     let mut line = [0; 512];
     read_one(disks, &boot.line, &mut line)?;
@@ -74,11 +73,9 @@ pub(crate) fn read_map<D: Disks>(disks: &mut D, boot: &BootSector) -> Result<Map
 fn read_table<D: Disks>(disks: &mut D, slots: &[Slot], into: &mut [Sector]) -> Result<(), Halt>
     requires room { length slots.now ≡ length into.old }
     requires slots { All IsOneSector slots.now }
-    ensures sectors { Told (D.past disks.old) (λ now. let machine = machine_of (D.size_of disks.old) (D.geometry_of disks.old) in
+    ensures sectors { OnDisks D.Disks disks.old (λ now machine.
         ReadsThere result into.new (each (map (slot_bytes_at now machine) (map slot_view slots.now)))) }
-    ensures same { SameDisks D.past D.size_of D.count_of D.geometry_of disks.old disks.new }
-    ensures later { D.faults disks.old ≤ D.faults disks.new }
-    ensures device { IsErrOf result Halt.Device → Rose (D.faults disks.old) (D.faults disks.new) }
+    ensures reads { OnlyReads D.Disks disks.old disks.new (IsErrOf result Halt.Device) }
 {
     match read_slots(disks, slots, into) {
         Ok(()) => Ok(()),
@@ -90,11 +87,10 @@ fn read_table<D: Disks>(disks: &mut D, slots: &[Slot], into: &mut [Sector]) -> R
 /// Reads the sectors of a table's passwords, none where it is bad, and tells whether all are good.
 fn read_extras<D: Disks>(disks: &mut D, table: &Result<Table, MapFault>) -> Result<bool, Halt>
     requires { IfOk table.now (λ table. All HasSectors table.entries.items) }
-    ensures extras { Told (D.past disks.old) (λ now. let machine = machine_of (D.size_of disks.old) (D.geometry_of disks.old) in
-        ReadsExtras result (each (map (password_sector now machine) (entries_of (seen table_view map_fault_view table.now))))) }
-    ensures same { SameDisks D.past D.size_of D.count_of D.geometry_of disks.old disks.new }
-    ensures later { D.faults disks.old ≤ D.faults disks.new }
-    ensures device { IsErrOf result Halt.Device → Rose (D.faults disks.old) (D.faults disks.new) }
+    ensures extras { OnDisks D.Disks disks.old (λ now machine.
+        ReadsExtras result
+        (each (map (password_sector now machine) (entries_of (seen table_view map_fault_view table.now))))) }
+    ensures reads { OnlyReads D.Disks disks.old disks.new (IsErrOf result Halt.Device) }
 {
     match table {
         Ok(table) => read_passwords(disks, table.entries.as_slice()),
@@ -105,11 +101,9 @@ fn read_extras<D: Disks>(disks: &mut D, table: &Result<Table, MapFault>) -> Resu
 /// Reads the sectors of the passwords of some entries, and tells whether all are good.
 fn read_passwords<D: Disks>(disks: &mut D, entries: &[Descriptor]) -> Result<bool, Halt>
     requires { All HasSectors entries.now }
-    ensures extras { Told (D.past disks.old) (λ now. let machine = machine_of (D.size_of disks.old) (D.geometry_of disks.old) in
+    ensures extras { OnDisks D.Disks disks.old (λ now machine.
         ReadsExtras result (each (map (password_sector now machine) (map descriptor_view entries.now)))) }
-    ensures same { SameDisks D.past D.size_of D.count_of D.geometry_of disks.old disks.new }
-    ensures later { D.faults disks.old ≤ D.faults disks.new }
-    ensures device { IsErrOf result Halt.Device → Rose (D.faults disks.old) (D.faults disks.new) }
+    ensures reads { OnlyReads D.Disks disks.old disks.new (IsErrOf result Halt.Device) }
 {
     let mut are_good = true;
     for entry in entries {
@@ -122,11 +116,9 @@ fn read_passwords<D: Disks>(disks: &mut D, entries: &[Descriptor]) -> Result<boo
 /// Reads the sector of an entry's password, where it has one, and tells whether it is good.
 fn read_password<D: Disks>(disks: &mut D, entry: &Descriptor) -> Result<bool, Halt>
     requires { HasSectors entry.now }
-    ensures extra { Told (D.past disks.old) (λ now. let machine = machine_of (D.size_of disks.old) (D.geometry_of disks.old) in
+    ensures extra { OnDisks D.Disks disks.old (λ now machine.
         ReadsExtra result (password_sector now machine (descriptor_view entry.now))) }
-    ensures same { SameDisks D.past D.size_of D.count_of D.geometry_of disks.old disks.new }
-    ensures later { D.faults disks.old ≤ D.faults disks.new }
-    ensures device { IsErrOf result Halt.Device → Rose (D.faults disks.old) (D.faults disks.new) }
+    ensures reads { OnlyReads D.Disks disks.old disks.new (IsErrOf result Halt.Device) }
 {
     if !is_set(entry, flags::PASSWORD) {
         return Ok(true);
@@ -141,11 +133,9 @@ fn read_password<D: Disks>(disks: &mut D, entry: &Descriptor) -> Result<bool, Ha
 #[tactic(auto, unfolding(lilo_model::specs::Boot::slot_bytes_at))]
 fn read_extra<D: Disks>(disks: &mut D, slot: &Slot) -> Result<bool, Halt>
     requires { IsOneSector slot.now }
-    ensures extra { Told (D.past disks.old) (λ now. let machine = machine_of (D.size_of disks.old) (D.geometry_of disks.old) in
+    ensures extra { OnDisks D.Disks disks.old (λ now machine.
         ReadsExtra result (optional_at now machine (Some (slot_view slot.now)))) }
-    ensures same { SameDisks D.past D.size_of D.count_of D.geometry_of disks.old disks.new }
-    ensures later { D.faults disks.old ≤ D.faults disks.new }
-    ensures device { IsErrOf result Halt.Device → Rose (D.faults disks.old) (D.faults disks.new) }
+    ensures reads { OnlyReads D.Disks disks.old disks.new (IsErrOf result Halt.Device) }
 {
     let mut sector = [0; 512];
     read_one(disks, slot, &mut sector)?;
@@ -272,12 +262,10 @@ fn changes_line(entry: &Descriptor) -> bool
 pub(crate) fn read_middle<D: Disks>(disks: &mut D, entry: &Descriptor) -> Result<Options, Halt>
     requires options { IsOneSector entry.now.options }
     requires fallback { has_flag entry.now.flags fallback_flag ≡ false }
-    ensures middle { Told (D.past disks.old) (λ now. let machine = machine_of (D.size_of disks.old) (D.geometry_of disks.old) in
+    ensures middle { OnDisks D.Disks disks.old (λ now machine.
         ReadsMiddle result (middle_of now machine (descriptor_view entry.now))) }
     ensures limit { IfOk result (λ options. length options.middle.items ≤ 255) }
-    ensures same { SameDisks D.past D.size_of D.count_of D.geometry_of disks.old disks.new }
-    ensures later { D.faults disks.old ≤ D.faults disks.new }
-    ensures device { IsErrOf result Halt.Device → Rose (D.faults disks.old) (D.faults disks.new) }
+    ensures reads { OnlyReads D.Disks disks.old disks.new (IsErrOf result Halt.Device) }
 {
     let mut sector = [0; 512];
     read_one(disks, &entry.options, &mut sector)?;

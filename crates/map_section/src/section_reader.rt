@@ -2,7 +2,8 @@
 ghost use Rattle.std.specs.Prelude.{◌≡◌, ◌+◌, ◌<◌, IfOk, replicate};
 ghost use Rattle.lilo_model.specs.Checks.{seen};
 ghost use Rattle.sector_address.specs.View.{slot_view};
-ghost use Rattle.map_section.specs.Reader.{begun, next_of, fed, slots_turn, end_turn, behind_slot, refused, further_turn, IsAsking, IsLink, Offers, TakesTurn, CountsDown};
+ghost use Rattle.map_section.specs.Reader.{begun, next_of, fed, slots_turn, end_turn, behind_slot, refused};
+ghost use Rattle.map_section.specs.Reader.{further_turn, IsAsking, IsLink, Offers, TakesTurn, CountsDown};
 ghost use Rattle.map_section.specs.View.{ask_view, section_fault_view};
 
 use crate::sectors::{SLOTS, link_in, slot_in};

@@ -3,9 +3,12 @@ ghost use Rattle.std.specs.Prelude.{◌≡◌, ◌+◌, ◌^◌, ◌%◌, ◌≤
 ghost use Rattle.std.specs.Option.{option_map};
 ghost use Rattle.lilo_model.specs.Bytes.{is_zero, with_part};
 ghost use Rattle.lilo_model.specs.Checks.{seen};
-ghost use Rattle.lilo_model.specs.Slots.{is_slot, has_ranges, has_address, address_of, chs_of, slot_of, slot_at, slot_make, slot_bytes, sector_at, number_at, address_in, address_bytes, mode_number};
+ghost use Rattle.lilo_model.specs.Slots.{is_slot, has_ranges, has_address, address_of, chs_of, slot_of};
+ghost use Rattle.lilo_model.specs.Slots.{slot_at, slot_make, slot_bytes, sector_at, number_at, address_in};
+ghost use Rattle.lilo_model.specs.Slots.{address_bytes, mode_number};
 ghost use Rattle.lilo_model.specs.Slots as model;
-ghost use Rattle.sector_address.specs.View.{geometry_view, chs_view, address_view, mode_view, slot_view, address_fault_view};
+ghost use Rattle.sector_address.specs.View.{geometry_view, chs_view, address_view};
+ghost use Rattle.sector_address.specs.View.{mode_view, slot_view, address_fault_view};
 ghost use Rattle.sector_address.specs.Whole.{IsAddress, IsSlot};
 
 use crate::track::{self, LAST_CYLINDER};

@@ -16,7 +16,9 @@ shows_nothing a = record {
   later = omega arith;
   stays_failed = λ failed. failed;
   stays_taken = λ failed. refl;
+  stays_counted = λ failed. refl;
   whole = λ fine. takes_nothing a.taken;
+  uncounted = λ fine. refl;
   rose = λ fine failed. absurd (both_ways a.failed fine failed);
   front = λ fine failed. absurd (both_ways a.failed fine failed);
 }
@@ -61,7 +63,9 @@ shows_join a b c one other first second = record {
   later = let early = first.later in let late = second.later in omega (arith, early, late);
   stays_failed = λ failed. second.stays_failed (first.stays_failed failed);
   stays_taken = λ failed. let early = first.stays_taken failed in let late = second.stays_taken (first.stays_failed failed) in cc;
+  stays_counted = λ failed. second.stays_counted (first.stays_failed failed) ∙ first.stays_counted failed;
   whole = whole_of_both a b c one other first second;
+  uncounted = λ fine. second.uncounted fine ∙ first.uncounted (fine_before b c other second fine);
   rose = rose_of_both a b c one other first second;
   front = front_of_both a b c one other first second;
 }

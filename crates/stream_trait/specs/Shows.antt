@@ -1,7 +1,9 @@
--- What a sink has taken of the texts that were shown: all of them in order until it failed, and nothing more.
+-- What a sink has taken of the texts that were shown: all of them in order until it failed, and nothing after that.
 use Rattle.std.specs.Prelude.{◌≡◌, ◌≤◌, ◌⊎◌, ℕ, ◌==◌, ◌&&◌, if◌then◌else◌, Bool, true, false, List, [], ◌∷◌, Option}
 use Rattle.stream_trait.specs.Fault.{Rose}
 use Rattle.stream_trait.specs.Sink.{Takes, TakesFront}
+use Rattle.stream_trait.specs.declared.sink.Sink.{Ghosts}
+use Rattle.stream_trait.specs.declared.shown.Shown.{Shown}
 
 -- a sink behind which texts are shown: what it has taken, where it tells that, how often it failed, and whether it
 -- refused a text that was to be shown
@@ -16,9 +18,11 @@ pub record Shows (old : SinkState) (text : List ℕ) (new : SinkState) : Type 0 
   -- once it failed nothing more is put
   pub stays_failed : old.failed ≡ true → new.failed ≡ true
   pub stays_taken : old.failed ≡ true → new.taken ≡ old.taken
-  -- until it fails it takes all
+  pub stays_counted : old.failed ≡ true → new.faults ≡ old.faults
+  -- until it fails it takes all, and counts no fault
   pub whole : new.failed ≡ false → Takes old.taken text new.taken
-  -- where it fails it has taken a front
+  pub uncounted : new.failed ≡ false → new.faults ≡ old.faults
+  -- where it fails its count of faults rises, and it has taken a prefix
   pub rose : old.failed ≡ false → new.failed ≡ true → Rose old.faults new.faults
   pub front : old.failed ≡ false → new.failed ≡ true → TakesFront old.taken text new.taken
 
@@ -35,6 +39,10 @@ ShowsOne old (text ∷ texts) new = Shows old text new ⊎ ShowsOne old texts ne
 -- such a state, by what is known of the sink
 abbrev pub state_of : Option (List ℕ) → ℕ → Bool → SinkState
 state_of taken faults failed = record { taken = taken; faults = faults; failed = failed }
+
+-- the sink behind which texts are shown
+abbrev pub sink_of : {O : Type 0} → Ghosts O → Shown O → SinkState
+sink_of g shown = record { taken = g.taken shown.out.now; faults = g.faults shown.out.now; failed = shown.failed }
 
 -- ---- the whole of what a sink took
 

@@ -19,7 +19,13 @@ impl Model for MemSink {
 
     ghost Value = { MemSinkState };
 
-    ghost view = { λ s. record { taken = s.bytes.items; room = s.room; calls = s.calls; failing = s.failing.items; faults = s.faults } };
+    ghost view = { λ s. record {
+      taken = s.bytes.items;
+      room = s.room;
+      calls = s.calls;
+      failing = s.failing.items;
+      faults = s.faults;
+    } };
 
     ghost invariant = { λ s. (vec_len s.bytes ≤ s.room) × (s.room ≤ vec_capacity s.bytes) };
 }
@@ -69,6 +75,7 @@ impl Sink for MemSink {
         ensures later { self.old.faults ≤ self.new.faults }
         ensures failed { OnErr result (Rose self.old.faults self.new.faults) }
         ensures ok { OnOk result (Takes (Some self.old.taken) bytes.now (Some self.new.taken)) }
+        ensures uncounted { OnOk result (self.new.faults ≡ self.old.faults) }
         ensures front { OnErr result (TakesFront (Some self.old.taken) bytes.now (Some self.new.taken)) }
 
         // Exactly the calls in the list fail, and those that would pass the room.

@@ -20,7 +20,13 @@ impl Model for MemSource {
 
     ghost Value = { MemSourceState };
 
-    ghost view = { λ s. record { left = drop s.given s.bytes.items; ended = s.ended; calls = s.calls; failing = s.failing.items; faults = s.faults } };
+    ghost view = { λ s. record {
+      left = drop s.given s.bytes.items;
+      ended = s.ended;
+      calls = s.calls;
+      failing = s.failing.items;
+      faults = s.faults;
+    } };
 
     ghost invariant = { λ s. IsTrue s.ended → drop s.given s.bytes.items ≡ [] };
 }
@@ -37,7 +43,8 @@ impl MemSource {
     ///
     /// There is no memory for the copies.
     pub fn new(alloc: Global, bytes: &[u8], failing: &[u64]) -> Result<MemSource, AllocError>
-        ensures { IfOk result (λ s. s ≡ record { left = bytes.now; ended = false; calls = 0; failing = failing.now; faults = 0 }) }
+        ensures { IfOk result (λ s. s
+            ≡ record { left = bytes.now; ended = false; calls = 0; failing = failing.now; faults = 0 }) }
     {
         Ok(MemSource {
             bytes: bytes.to_vec(alloc)?,
@@ -75,7 +82,8 @@ impl Source for MemSource {
             × (Some self.new.left ≡ Some self.old.left) }
 
         // Exactly the calls in the list fail, and nothing changes after the end.
-        ensures fails { IsFalse self.old.ended → (result ≡ Next.Failed) ↔ IsTrue (is_listed self.old.failing self.old.calls) }
+        ensures fails { IsFalse self.old.ended
+            → (result ≡ Next.Failed) ↔ IsTrue (is_listed self.old.failing self.old.calls) }
         ensures after { IsFalse self.old.ended → self.new ≡ source_after self.old result }
         ensures unchanged { IsTrue self.old.ended → self.new ≡ self.old }
     {

@@ -1,10 +1,10 @@
-// Texts that are shown, behind which a sink may fail.
+// Texts that are shown on a sink that may fail.
 ghost use Rattle.std.specs.Prelude.{◌≡◌, false};
-ghost use Rattle.stream_trait.specs.Shows.{SinkState, Shows, state_of, answer_of};
+ghost use Rattle.stream_trait.specs.Shows.{SinkState, Shows, sink_of, answer_of};
 
 use crate::sink::Sink;
 
-/// Where texts are shown. Until the sink fails, all of them are put in order; then nothing more is put.
+/// Where texts are shown. Until the sink fails, all of them are put in order; after that nothing is put.
 #[derive(Drop)]
 pub struct Shown<'o, O: Sink> {
     pub(crate) out: &'o mut O,
@@ -22,8 +22,7 @@ impl<'o, O: Sink> Shown<'o, O> {
 
     /// Shows a text, unless the sink has refused one.
     pub fn put(&mut self, bytes: &[u8])
-        ensures shown { Shows (state_of (O.taken self.old.out.now) (O.faults self.old.out.now) self.old.failed) bytes.now
-            (state_of (O.taken self.new.out.now) (O.faults self.new.out.now) self.new.failed) }
+        ensures shown { Shows (sink_of O.Sink self.old) bytes.now (sink_of O.Sink self.new) }
         ensures same_reference { self.new.out.ghost_name ≡ self.old.out.ghost_name }
     {
         if !self.failed {

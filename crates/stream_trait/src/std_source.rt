@@ -33,7 +33,12 @@ impl<R: Read + Drop> Model for StdSource<R> {
 
     ghost Value = { StdSourceState };
 
-    ghost view = { λ s. record { unread = prepend_known (slice_range s.buffer s.at s.filled) (R.remaining s.reader); can_give = s.can_give; ended = s.ended; faults = s.faults } };
+    ghost view = { λ s. record {
+      unread = prepend_known (slice_range s.buffer s.at s.filled) (R.remaining s.reader);
+      can_give = s.can_give;
+      ended = s.ended;
+      faults = s.faults;
+    } };
 
     ghost invariant = { λ s. (s.at ≤ s.filled) × (s.filled ≤ 512)
         × (IsTrue s.ended → (s.at ≡ s.filled) × IsAtEnd (R.remaining s.reader)) };

@@ -1,7 +1,7 @@
 ghost use Rattle.std.specs.Prelude.{◌≡◌, ◌≤◌, [], length};
 
 use crate::fixture::{LINUX, OPTIONS, SECTION, boot_sector, first_sector, second_sector};
-use crate::{Ram, lilo};
+use crate::{Ram, boots, lilo};
 use disk_trait::{Disks, Failing, Geometry, MemDisk, MemDisks};
 use sector_parts::{Sector, put_part};
 use std::alloc::{AllocError, Global};
@@ -97,12 +97,17 @@ fn put_sector(disks: &mut MemDisks, case: &Case<'_>, number: u32, bytes: &Sector
     }
 }
 
-// Runs a case, and gives the status and the text.
-fn answer(alloc: Global, case: &Case<'_>) -> Result<(u8, Vec<u8>), AllocError> {
+fn words_of(alloc: Global, line: &[&str]) -> Result<Words, AllocError> {
     let mut words = Words::new(alloc);
-    for word in case.words {
+    for word in line {
         words.push(alloc, word)?;
     }
+    Ok(words)
+}
+
+// Runs a case, and gives the status and the text.
+fn answer(alloc: Global, case: &Case<'_>) -> Result<(u8, Vec<u8>), AllocError> {
+    let words = words_of(alloc, case.words)?;
     let mut disks = installation(alloc, case)?;
     let mut keys = MemSource::new(alloc, b"", &[])?;
     let mut out = MemSink::new(alloc, 4096, case.failing_puts)?;
@@ -522,6 +527,24 @@ fn four_sectors_are_read_and_one_text_is_put(rt: HostRuntime) -> Result<(), Fail
         let (status, as_wanted) = run(rt.alloc(), &case)?;
         assert_eq!(rt; status, case.status, "calls {:?}", case.failing_calls);
         assert!(rt; as_wanted, "calls {:?}", case.failing_calls);
+    }
+    Ok(())
+}
+
+#[test]
+fn words_that_boot(rt: HostRuntime) -> Result<(), Fail> {
+    let lines: [(&[&str], bool); 6] = [
+        (&["boot", "/dev/hda"], true),
+        (&["-q", "--then", "boot", "/dev/hda", "--dump"], true),
+        (&["-q", "/dev/hda"], false),
+        (&[], false),
+        (&["-R", "boot"], false),
+        // No run.
+        (&["boot", "/dev/hda", "--then", "boot"], false),
+    ];
+    for (line, wanted) in lines {
+        let words = words_of(rt.alloc(), line)?;
+        assert_eq!(rt; boots(&words), wanted, "{line:?}");
     }
     Ok(())
 }

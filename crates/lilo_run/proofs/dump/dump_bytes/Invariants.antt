@@ -1,7 +1,7 @@
 -- What is shown so far and the lines of the bytes that are left are all of them.
 use Rattle.std.proofs.Common.{◌≡◌, ℕ, List, ◌++◌}
 use Rattle.std.specs.Slice.Iter.{chunks_rest, chunks_size}
-use Rattle.stream_trait.specs.Shows.{Shows, state_of}
+use Rattle.stream_trait.specs.Shows.{Shows, sink_of}
 use Rattle.lilo_run.specs.Dump.{hex_text}
 use Rattle.lilo_run.proofs.dump.dump_bytes.Given as goal
 
@@ -13,5 +13,5 @@ invariant-loop-piece g l =
     × (chunks_size l.piece-iterator ≡ 2048)
     × (l.out.out.ghost_name ≡ l.initial.out.out.ghost_name)
     × ((shown : List ℕ)
-    × Shows (state_of (sink.taken l.initial.out.out.now) (sink.faults l.initial.out.out.now) l.initial.out.failed) shown (state_of (sink.taken l.out.out.now) (sink.faults l.out.out.now) l.out.failed)
+    × Shows (sink_of sink l.initial.out) shown (sink_of sink l.out)
     × (shown ++ hex_text (chunks_rest l.piece-iterator) ≡ hex_text l.bytes))

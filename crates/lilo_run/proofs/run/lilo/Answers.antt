@@ -2,7 +2,7 @@
 use Rattle.std.proofs.Common.{ap, arith, rules}
 use Rattle.std.specs.Prelude.{length}
 use Rattle.disk_trait.specs.Past.{Told}
-use Rattle.bios_model.specs.Machine.{machine_of}
+use Rattle.sector_address.specs.Machine.{machine_of}
 use Rattle.bios_model.specs.Memory.{memory_of}
 use Rattle.disk_trait.proofs.ToldLemmas.{told_map}
 use Rattle.lilo_run.specs.Run.{TellsRun}
@@ -15,7 +15,7 @@ pub returns-clause-text : goal.returns-clause-text
 returns-clause-text g c =
     held_of_two
     (λ out out'. Told (g.D.Disks.past c.args.disks.now) (λ now.
-    TellsRun (effects_of now (machine_of (g.D.Disks.size_of c.args.disks.now) (g.D.Disks.geometry_of c.args.disks.now)) (length c.args.ram.now) c.args.words.now)
+    TellsRun (effects_of now (machine_of g.D.Disks c.args.disks.now) (length c.args.ram.now) c.args.words.now)
     c.run_words.result (memory_of c.args.ram.now) (memory_of c.run_words.new.ram) (g.O.Sink.taken out) (g.O.Sink.taken out') (g.O.Sink.faults out) (g.O.Sink.faults out')))
     c.new-shown.result.out.now c.run_words.new.out.out.now
     (told_map (g.D.Disks.past c.args.disks.now) _ _

@@ -1,18 +1,20 @@
 -- A part answers 0 and the loop goes on, or it is the last.
-use Rattle.std.proofs.Common.{◌≡◌, [], ◌∷◌, refl, ◌∙◌, length, sym, subst, arith, tests}
+use Rattle.std.proofs.Common.{◌≡◌, [], ◌∷◌, refl, ◌∙◌, length, sym, ap, subst, arith, tests}
 use Rattle.std.specs.Prelude.{IfSome}
 use Rattle.disk_trait.specs.Past.{Told}
-use Rattle.bios_model.specs.Machine.{machine_of}
+use Rattle.sector_address.specs.Machine.{machine_of}
 use Rattle.bios_model.specs.Memory.{memory_of}
 use Rattle.lilo_words.specs.Run.{parts_behind, parts_of_next}
 use Rattle.lilo_words.specs.View.{part_view}
 use Rattle.mbr_table.proofs.ToldLemmas.{same_twice}
-use Rattle.stream_trait.specs.Shows.{state_of, answer_of}
+use Rattle.stream_trait.specs.Shows.{sink_of, answer_of}
 use Rattle.stream_trait.proofs.ShowsLemmas.{has_failed_twice}
 use Rattle.disk_trait.proofs.ToldLemmas.{told_map, told_both}
 use Rattle.lilo_run.specs.Run.{Does}
 use Rattle.lilo_run.specs.Verdict.{part_effect, early_status}
 use Rattle.lilo_run.proofs.ConfLemmas.{read_first, read_more}
+use Rattle.lilo_model.specs.ConfVerdict.{conf_path}
+use Rattle.lilo_run.proofs.MemoryLemmas.{boots_by}
 use Rattle.lilo_run.proofs.RunLemmas.{Begun, place_within, continues_more, continues_end, continues_last, own_status, begun_more, begun_last, stays_more, told_same}
 use Rattle.lilo_run.proofs.run.run_parts.Goals as goal
 
@@ -22,21 +24,22 @@ returns-in_default-answer-clause-does g c =
     let invariant = c.loop-next.invariant in
     let run = c.carry_out-own in
     let part = part_view words c.part_at-read.result.part in
-    let old = state_of (g.O.Sink.taken c.loop-next.out.out.now) (g.O.Sink.faults c.loop-next.out.out.now) c.loop-next.out.failed in
-    let new = state_of (g.O.Sink.taken run.new.out.out.now) (g.O.Sink.faults run.new.out.out.now) run.new.out.failed in
+    let old = sink_of g.O.Sink c.loop-next.out in
+    let new = sink_of g.O.Sink run.new.out in
     let rest : parts_of_next words c.loop-next.next ≡ part ∷ parts_of_next words c.part_at-read.result.next =
     rw c.in-Some.is c.part_at-read.ensures.part in
     let answer : c.answer.result ≡ answer_of run.result run.new.out.failed = rw c.failed.ensures at c.answer.ensures in
-    let told = told_same g.D.Disks.past g.D.Disks.size_of g.D.Disks.count_of g.D.Disks.geometry_of c.args.bios.now.disks.now c.loop-next.bios.disks.now invariant.same
-    (λ now size geometry. Does (part_effect now (machine_of size geometry) (length c.loop-next.ram) part) run.result (memory_of c.loop-next.ram) (memory_of run.new.ram) old new)
+    let told = told_same g.D.Disks c.args.bios.now.disks.now c.loop-next.bios.disks.now invariant.same
+    (λ now machine. Does (part_effect now machine (length c.loop-next.ram) part) run.result (memory_of c.loop-next.ram) (memory_of run.new.ram) old new)
     (run.ensures.does words) in
     let done = subst
     (λ size. Told (g.D.Disks.past c.args.bios.now.disks.now) (λ now.
-    Does (part_effect now (machine_of (g.D.Disks.size_of c.args.bios.now.disks.now) (g.D.Disks.geometry_of c.args.bios.now.disks.now)) size part) run.result (memory_of c.loop-next.ram) (memory_of run.new.ram) old new))
+    Does (part_effect now (machine_of g.D.Disks c.args.bios.now.disks.now) size part) run.result (memory_of c.loop-next.ram) (memory_of run.new.ram) old new))
     invariant.memory told in
     told_both (g.D.Disks.past c.args.bios.now.disks.now) _ _ _
     (λ now goes last. continues_last _ _ _ _ part run.result c.answer.result _ _ _ _ _ new goes rest last run.ensures.known answer
-    (grind (arith, tests)))
+    (grind (arith, tests))
+    (λ none. ap memory_of (run.ensures.quiet words (sym (boots_by now _ (length c.args.ram.now) part.root (conf_path part.config) part.command) ∙ none))))
     invariant.does done
 
 pub returns-in_default-answer-clause-early : goal.returns-in_default-answer-clause-early
@@ -70,12 +73,24 @@ returns-in_default-answer-clause-starved g c =
     own_status c.carry_out-own.result 13 c.failed.result (sym c.answer.ensures ∙ starved) (λ is. omega (arith, is)) in
     read_first (parts_behind words 0) _ behind part c.loop-next.invariant.conf rest (c.carry_out-own.ensures.starved words own)
 
-pub returns-in_default-answer-clause-device : goal.returns-in_default-answer-clause-device
-returns-in_default-answer-clause-device g c =
-    λ failed.
-    let own : c.carry_out-own.result ≡ 8 =
-    own_status c.carry_out-own.result 8 c.failed.result (sym c.answer.ensures ∙ failed) (λ is. omega (arith, is)) in
-    λ below. let rose = c.carry_out-own.ensures.device own below in let later = c.loop-next.invariant.later in omega (arith, rose, later)
+pub returns-in_default-answer-clause-reads : goal.returns-in_default-answer-clause-reads
+returns-in_default-answer-clause-reads g c =
+    let invariant = c.loop-next.invariant in
+    let run = c.carry_out-own in
+    let before = invariant.later in
+    record {
+      reads = record {
+        same = same_twice g.D.Disks.past g.D.Disks.size_of g.D.Disks.count_of g.D.Disks.geometry_of c.args.bios.now.disks.now c.loop-next.bios.disks.now run.new.bios.disks.now invariant.same run.ensures.reads.reads.same;
+        later = let after = run.ensures.reads.reads.later in omega (arith, before, after);
+        failed =
+            λ failed.
+            let own : run.result ≡ 8 = own_status run.result 8 c.failed.result (sym c.answer.ensures ∙ failed) (λ is. omega (arith, is)) in
+            λ below. let rose = run.ensures.reads.reads.failed own below in omega (arith, rose, before);
+      };
+      keys = run.ensures.reads.keys ∙ invariant.keys;
+      same_disks_reference = run.ensures.reads.same_disks_reference ∙ invariant.disks_reference;
+      same_keys_reference = run.ensures.reads.same_keys_reference ∙ invariant.keys_reference;
+    }
 
 pub loop-next-preserved : goal.loop-next-preserved
 loop-next-preserved g c =
@@ -84,15 +99,15 @@ loop-next-preserved g c =
     let run = c.carry_out-own in
     let part = part_view words c.part_at-read.result.part in
     let behind = parts_of_next words c.part_at-read.result.next in
-    let old = state_of (g.O.Sink.taken c.loop-next.out.out.now) (g.O.Sink.faults c.loop-next.out.out.now) c.loop-next.out.failed in
-    let new = state_of (g.O.Sink.taken run.new.out.out.now) (g.O.Sink.faults run.new.out.out.now) run.new.out.failed in
+    let old = sink_of g.O.Sink c.loop-next.out in
+    let new = sink_of g.O.Sink run.new.out in
     let rest : parts_of_next words c.loop-next.next ≡ part ∷ behind = rw c.in-Some.is c.part_at-read.ensures.part in
-    let told = told_same g.D.Disks.past g.D.Disks.size_of g.D.Disks.count_of g.D.Disks.geometry_of c.args.bios.now.disks.now c.loop-next.bios.disks.now invariant.same
-    (λ now size geometry. Does (part_effect now (machine_of size geometry) (length c.loop-next.ram) part) run.result (memory_of c.loop-next.ram) (memory_of run.new.ram) old new)
+    let told = told_same g.D.Disks c.args.bios.now.disks.now c.loop-next.bios.disks.now invariant.same
+    (λ now machine. Does (part_effect now machine (length c.loop-next.ram) part) run.result (memory_of c.loop-next.ram) (memory_of run.new.ram) old new)
     (run.ensures.does words) in
     let done = subst
     (λ size. Told (g.D.Disks.past c.args.bios.now.disks.now) (λ now.
-    Does (part_effect now (machine_of (g.D.Disks.size_of c.args.bios.now.disks.now) (g.D.Disks.geometry_of c.args.bios.now.disks.now)) size part) run.result (memory_of c.loop-next.ram) (memory_of run.new.ram) old new))
+    Does (part_effect now (machine_of g.D.Disks c.args.bios.now.disks.now) size part) run.result (memory_of c.loop-next.ram) (memory_of run.new.ram) old new))
     invariant.memory told in
     let begun = subst (λ next. Begun (g.D.Disks.size_of c.args.bios.now.disks.now) (parts_behind words 0) next) c.in-Some.is invariant.begun in
     let early = subst (λ size. IfSome (early_status size part.command) (λ status. run.result ≡ status)) invariant.same.same_size (run.ensures.early words) in
@@ -108,15 +123,15 @@ loop-next-preserved g c =
           begun_more _ (parts_behind words 0) behind part c.in-Some.from run.result run.new.out.failed c.part_at-read.result.next begun
           (λ zero. subst (λ n. parts_behind words n ≡ part ∷ behind) zero c.part_at-read.ensures.part)
           early zero;
-      later = omega (arith, invariant.later, run.ensures.later);
+      later = let before = invariant.later in let after = run.ensures.reads.reads.later in omega (arith, before, after);
       sink = has_failed_twice _ old new invariant.sink run.ensures.sink;
       memory = run.ensures.memory ∙ invariant.memory;
       conf = read_more (parts_behind words 0) _ behind part invariant.conf rest;
       stays = stays_more (parts_behind words 0) _ behind part c.args.ram.now c.loop-next.ram run.new.ram invariant.stays rest (run.ensures.quiet words);
-      same = same_twice g.D.Disks.past g.D.Disks.size_of g.D.Disks.count_of g.D.Disks.geometry_of c.args.bios.now.disks.now c.loop-next.bios.disks.now run.new.bios.disks.now invariant.same run.ensures.same;
-      keys = run.ensures.keys ∙ invariant.keys;
-      disks_reference = run.ensures.same_disks_reference ∙ invariant.disks_reference;
-      keys_reference = run.ensures.same_keys_reference ∙ invariant.keys_reference;
+      same = same_twice g.D.Disks.past g.D.Disks.size_of g.D.Disks.count_of g.D.Disks.geometry_of c.args.bios.now.disks.now c.loop-next.bios.disks.now run.new.bios.disks.now invariant.same run.ensures.reads.reads.same;
+      keys = run.ensures.reads.keys ∙ invariant.keys;
+      disks_reference = run.ensures.reads.same_disks_reference ∙ invariant.disks_reference;
+      keys_reference = run.ensures.reads.same_keys_reference ∙ invariant.keys_reference;
       out_reference = run.ensures.same_reference ∙ invariant.out_reference;
     }
 

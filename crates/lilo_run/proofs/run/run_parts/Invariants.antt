@@ -1,10 +1,10 @@
 -- What the parts that are left do is what is left of all of them.
 use Rattle.std.proofs.Common.{◌≡◌, ◌≤◌, length, IfSome, IsOk}
 use Rattle.disk_trait.specs.Past.{Told, SameDisks}
-use Rattle.bios_model.specs.Machine.{machine_of}
+use Rattle.sector_address.specs.Machine.{machine_of}
 use Rattle.bios_model.specs.Memory.{memory_of}
 use Rattle.lilo_words.specs.Run.{run_behind, parts_behind, parts_of_next}
-use Rattle.stream_trait.specs.Shows.{state_of, HasFailed}
+use Rattle.stream_trait.specs.Shows.{sink_of, HasFailed}
 use Rattle.lilo_run.specs.Verdict.{part_effect}
 use Rattle.lilo_run.proofs.ConfLemmas.{AreRead}
 use Rattle.lilo_run.proofs.RunLemmas.{turns_left, Continues, Begun, Stays}
@@ -16,15 +16,15 @@ invariant-loop-next g l = record {
   run : IfSome l.next (λ from. IsOk (run_behind l.words from));
   does :
       Told (g.D.Disks.past l.fn.bios.disks.now) (λ now.
-      Continues (part_effect now (machine_of (g.D.Disks.size_of l.fn.bios.disks.now) (g.D.Disks.geometry_of l.fn.bios.disks.now)) (length l.fn.ram))
+      Continues (part_effect now (machine_of g.D.Disks l.fn.bios.disks.now) (length l.fn.ram))
       (parts_behind l.words 0) (parts_of_next l.words l.next) (memory_of l.fn.ram) (memory_of l.ram)
-      (state_of (g.O.Sink.taken l.fn.out.out.now) (g.O.Sink.faults l.fn.out.out.now) l.fn.out.failed)
-      (state_of (g.O.Sink.taken l.out.out.now) (g.O.Sink.faults l.out.out.now) l.out.failed));
+      (sink_of g.O.Sink l.fn.out)
+      (sink_of g.O.Sink l.out));
   begun : Begun (g.D.Disks.size_of l.fn.bios.disks.now) (parts_behind l.words 0) l.next;
   later : g.D.Disks.faults l.fn.bios.disks.now ≤ g.D.Disks.faults l.bios.disks.now;
   sink :
-      HasFailed (state_of (g.O.Sink.taken l.fn.out.out.now) (g.O.Sink.faults l.fn.out.out.now) l.fn.out.failed)
-      (state_of (g.O.Sink.taken l.out.out.now) (g.O.Sink.faults l.out.out.now) l.out.failed);
+      HasFailed (sink_of g.O.Sink l.fn.out)
+      (sink_of g.O.Sink l.out);
   memory : length l.ram ≡ length l.fn.ram;
   conf : AreRead (parts_behind l.words 0) (parts_of_next l.words l.next);
   stays : Stays (parts_behind l.words 0) (parts_of_next l.words l.next) l.fn.ram l.ram;

@@ -1,5 +1,5 @@
 use Rattle.std.proofs.Common.{◌≡◌, length, Ok, Err, rules}
-use Rattle.bios_model.specs.Machine.{machine_of}
+use Rattle.sector_address.specs.Machine.{machine_of}
 use Rattle.bios_model.specs.Memory.{memory_of}
 use Rattle.boot_map.specs.View.{descriptor_view}
 use Rattle.disk_trait.proofs.ToldLemmas.{told_map}
@@ -10,7 +10,7 @@ use Rattle.loader_core.proofs.entry.load_entry.Goals as goal
 
 pub returns-in_err-layout-clause-started : goal.returns-in_err-layout-clause-started
 returns-in_err-layout-clause-started g c =
-    let machine = machine_of (g.D.Disks.size_of c.args.disks.now) (g.D.Disks.geometry_of c.args.disks.now) in
+    let machine = machine_of g.D.Disks c.args.disks.now in
     let entry = descriptor_view c.args.entry.now in
     let halt = c.in_err-layout.field-0.0 in
     let is : c.from_residual.result ≡ Err halt = search rules in
@@ -21,7 +21,7 @@ returns-in_err-layout-clause-started g c =
 
 pub returns-in_ok-layout-clause-started : goal.returns-in_ok-layout-clause-started
 returns-in_ok-layout-clause-started g c =
-    let machine = machine_of (g.D.Disks.size_of c.args.disks.now) (g.D.Disks.geometry_of c.args.disks.now) in
+    let machine = machine_of g.D.Disks c.args.disks.now in
     let entry = descriptor_view c.args.entry.now in
     told_map (g.D.Disks.past c.args.disks.now)
     (λ now. LoadsKernel (Ok c.in_ok-layout.layout) (loaded_today entry (main_today now machine entry) (initrd_file_today now machine entry) c.args.line.now (video_today entry) (length c.args.ram.now)) (memory_of c.args.ram.now) c.load_kernel.new.ram) _
@@ -30,7 +30,7 @@ returns-in_ok-layout-clause-started g c =
 
 pub returns-else-entry-eq0-clause-started : goal.returns-else-entry-eq0-clause-started
 returns-else-entry-eq0-clause-started g c =
-    let machine = machine_of (g.D.Disks.size_of c.args.disks.now) (g.D.Disks.geometry_of c.args.disks.now) in
+    let machine = machine_of g.D.Disks c.args.disks.now in
     let entry = descriptor_view c.args.entry.now in
     told_map (g.D.Disks.past c.args.disks.now) _ _
     (λ now started. rw (entry_other now machine entry c.args.line.now (length c.args.ram.now) (flag_set c.args.entry.now.flags c.if-entry-eq0.false)) started)

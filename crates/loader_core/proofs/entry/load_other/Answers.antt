@@ -1,21 +1,21 @@
 use Rattle.std.proofs.Common.{◌≡◌, ◌∙◌, ◌-◌, min, ap, refl, Err, arith, rules}
-use Rattle.bios_model.specs.Machine.{machine_of}
+use Rattle.sector_address.specs.Machine.{machine_of}
 use Rattle.bios_model.specs.Memory.{memory_of}
 use Rattle.boot_map.specs.View.{descriptor_view}
 use Rattle.sector_address.specs.View.{slot_view}
 use Rattle.lilo_model.specs.Table.{has_flag, table_flag}
-use Rattle.loader_core.specs.File.{rest_in}
-use Rattle.loader_core.specs.Load.{IsCutSector, ReadsCut}
+use Rattle.section_loader.specs.File.{rest_in}
+use Rattle.section_loader.specs.Load.{IsCutSector, ReadsCut}
 use Rattle.disk_trait.proofs.ToldLemmas.{told_map, told_both}
 use Rattle.loader_core.specs.Today.{main_today}
 use Rattle.loader_core.proofs.EntryLemmas.{ends_first, ends_second, other_sectors, left_none}
-use Rattle.loader_core.proofs.KernelLemmas.{ended_rest}
+use Rattle.section_loader.proofs.RestLemmas.{ended_rest}
 use Rattle.loader_core.proofs.entry.load_other.Goals as goal
 
 pub returns-in_err-read_cut-clause-started : goal.returns-in_err-read_cut-clause-started
 unfolding main_today
 returns-in_err-read_cut-clause-started g c =
-    let machine = machine_of (g.D.Disks.size_of c.args.disks.now) (g.D.Disks.geometry_of c.args.disks.now) in
+    let machine = machine_of g.D.Disks c.args.disks.now in
     let entry = descriptor_view c.args.entry.now in
     let halt = c.in_err-read_cut.field-0.0 in
     let is : c.from_residual.result ≡ Err halt = search rules in
@@ -29,11 +29,11 @@ returns-in_err-read_cut-clause-started g c =
 pub returns-in_err-read_cut-2-clause-started : goal.returns-in_err-read_cut-2-clause-started
 unfolding main_today
 returns-in_err-read_cut-2-clause-started g c =
-    let machine = machine_of (g.D.Disks.size_of c.args.disks.now) (g.D.Disks.geometry_of c.args.disks.now) in
+    let machine = machine_of g.D.Disks c.args.disks.now in
     let entry = descriptor_view c.args.entry.now in
     let halt = c.in_err-read_cut-2.field-0.0 in
     let is : c.from_residual-in_err-read_cut-2.result ≡ Err halt = search rules in
-    let same = c.in_ok-read_cut.ensures.same in
+    let same = c.in_ok-read_cut.ensures.reads.same in
     let second = rw (same.same_past, same.same_size, same.same_geometry) at c.in_err-read_cut-2.ensures.bytes in
     told_both (g.D.Disks.past c.args.disks.now)
     (λ now. IsCutSector (min 512 c.new-file.result.left) (rest_in now machine c.new-file.result) c.read_cut.new.into (rest_in now machine c.read_cut.new.file)) _ _
@@ -45,9 +45,9 @@ returns-in_err-read_cut-2-clause-started g c =
 pub returns-clause-started : goal.returns-clause-started
 unfolding main_today
 returns-clause-started g c =
-    let machine = machine_of (g.D.Disks.size_of c.args.disks.now) (g.D.Disks.geometry_of c.args.disks.now) in
+    let machine = machine_of g.D.Disks c.args.disks.now in
     let entry = descriptor_view c.args.entry.now in
-    let same = c.in_ok-read_cut.ensures.same in
+    let same = c.in_ok-read_cut.ensures.reads.same in
     let second = rw (same.same_past, same.same_size, same.same_geometry) at c.in_ok-read_cut-2.ensures.bytes in
     let flag = has_flag c.args.entry.now.flags table_flag in
     let long = c.requires.flags.other c.requires.other in

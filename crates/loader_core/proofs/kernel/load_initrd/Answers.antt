@@ -1,5 +1,5 @@
 use Rattle.std.proofs.Common.{None, Ok, refl, arith}
-use Rattle.bios_model.specs.Machine.{machine_of}
+use Rattle.sector_address.specs.Machine.{machine_of}
 use Rattle.bios_model.specs.Memory.{memory_of}
 use Rattle.sector_address.specs.View.{slot_view}
 use Rattle.setup_header.specs.View.{region_view}
@@ -7,10 +7,11 @@ use Rattle.boot_map.specs.View.{descriptor_view}
 use Rattle.std.specs.Option.{option_map}
 use Rattle.loader_core.specs.Kernel.{PlacesInitrd}
 use Rattle.loader_core.specs.Today.{initrd_today, initrd_file_today}
-use Rattle.loader_core.specs.Reading.{file_today}
-use Rattle.loader_core.specs.File.{rest_in}
-use Rattle.loader_core.specs.Load.{Loads}
-use Rattle.loader_core.proofs.KernelLemmas.{initrd_placed, ended_rest, none_from}
+use Rattle.section_loader.specs.Reading.{file_today}
+use Rattle.section_loader.specs.File.{rest_in}
+use Rattle.section_loader.specs.Load.{Loads}
+use Rattle.loader_core.proofs.KernelLemmas.{initrd_placed, none_from}
+use Rattle.section_loader.proofs.RestLemmas.{ended_rest}
 use Rattle.disk_trait.proofs.ToldLemmas.{told_all, told_map}
 use Rattle.loader_core.proofs.kernel.load_initrd.Goals as goal
 
@@ -18,7 +19,7 @@ pub returns-in_default-2-clause-placed : goal.returns-in_default-2-clause-placed
 unfolding initrd_file_today
 returns-in_default-2-clause-placed g c =
     let none = none_from c.args.region c.args.entry.now.initrd c.in_default.is-0 c.requires.there in
-    let machine = machine_of (g.D.Disks.size_of c.args.disks.now) (g.D.Disks.geometry_of c.args.disks.now) in
+    let machine = machine_of g.D.Disks c.args.disks.now in
     told_all (g.D.Disks.past c.args.disks.now)
     (λ now. PlacesInitrd (Ok tt) (option_map region_view c.args.region) (initrd_today (initrd_file_today now machine (descriptor_view c.args.entry.now))) (memory_of c.args.ram.now) (memory_of c.args.ram.now))
     (λ now. rw (none, c.in_default.is-0) (record { bytes = None; is = refl; fits = tt; placed = refl }))
@@ -26,7 +27,7 @@ returns-in_default-2-clause-placed g c =
 pub returns-clause-placed : goal.returns-clause-placed
 unfolding initrd_file_today
 returns-clause-placed g c =
-    let machine = machine_of (g.D.Disks.size_of c.args.disks.now) (g.D.Disks.geometry_of c.args.disks.now) in
+    let machine = machine_of g.D.Disks c.args.disks.now in
     let region = c.in-Some-Some.region in
     let slot = c.in-Some-Some.slot in
     told_map (g.D.Disks.past c.args.disks.now)

@@ -1,13 +1,13 @@
 -- Each way in which the loading of a kernel ends is today's.
 use Rattle.std.proofs.Common.{◌≡◌, ◌∙◌, ◌≤◌, ◌-◌, ◌++◌, length, min, sym, ap, subst, length-append, Err, arith, rules}
-use Rattle.bios_model.specs.Machine.{machine_of}
+use Rattle.sector_address.specs.Machine.{machine_of}
 use Rattle.bios_model.specs.Memory.{memory_of}
 use Rattle.boot_map.specs.View.{descriptor_view}
 use Rattle.std.specs.Option.{option_map}
 use Rattle.lilo_model.specs.Header.{patch}
 use Rattle.setup_header.specs.Words.{LiesIn}
 use Rattle.setup_header.specs.View.{header_view, layout_view, region_view}
-use Rattle.loader_core.specs.File.{rest_in}
+use Rattle.section_loader.specs.File.{rest_in}
 use Rattle.loader_core.specs.Kernel.{IsTwo, ReadsTwo}
 use Rattle.loader_core.specs.Today.{main_today, initrd_file_today, video_today}
 use Rattle.loader_core.proofs.LoadedLemmas.{begun_by, ends_short, ends_header, ends_layout, ends_kernel, ends_initrd}
@@ -38,7 +38,7 @@ load_initrd-requires-clause-size g c =
 pub returns-in_err-read_two-clause-loaded : goal.returns-in_err-read_two-clause-loaded
 unfolding main_today
 returns-in_err-read_two-clause-loaded g c =
-    let machine = machine_of (g.D.Disks.size_of c.args.disks.now) (g.D.Disks.geometry_of c.args.disks.now) in
+    let machine = machine_of g.D.Disks c.args.disks.now in
     let entry = descriptor_view c.args.entry.now in
     let halt = c.in_err-read_two.field-0.0 in
     let is : c.from_residual.result ≡ Err halt = search rules in
@@ -53,7 +53,7 @@ returns-in_err-read_two-clause-loaded g c =
 pub returns-in_err-header-clause-loaded : goal.returns-in_err-header-clause-loaded
 unfolding main_today
 returns-in_err-header-clause-loaded g c =
-    let machine = machine_of (g.D.Disks.size_of c.args.disks.now) (g.D.Disks.geometry_of c.args.disks.now) in
+    let machine = machine_of g.D.Disks c.args.disks.now in
     let entry = descriptor_view c.args.entry.now in
     let sectors = c.read_two.new.first ++ c.read_two.new.second in
     let line = c.args.line.now in
@@ -72,7 +72,7 @@ returns-in_err-header-clause-loaded g c =
 pub returns-in_err-layout-clause-loaded : goal.returns-in_err-layout-clause-loaded
 unfolding main_today
 returns-in_err-layout-clause-loaded g c =
-    let machine = machine_of (g.D.Disks.size_of c.args.disks.now) (g.D.Disks.geometry_of c.args.disks.now) in
+    let machine = machine_of g.D.Disks c.args.disks.now in
     let entry = descriptor_view c.args.entry.now in
     let sectors = c.read_two.new.first ++ c.read_two.new.second in
     let line = c.args.line.now in
@@ -92,7 +92,7 @@ returns-in_err-layout-clause-loaded g c =
 pub returns-in_err-place_kernel-clause-loaded : goal.returns-in_err-place_kernel-clause-loaded
 unfolding main_today
 returns-in_err-place_kernel-clause-loaded g c =
-    let machine = machine_of (g.D.Disks.size_of c.args.disks.now) (g.D.Disks.geometry_of c.args.disks.now) in
+    let machine = machine_of g.D.Disks c.args.disks.now in
     let entry = descriptor_view c.args.entry.now in
     let sectors = c.read_two.new.first ++ c.read_two.new.second in
     let line = c.args.line.now in
@@ -103,7 +103,7 @@ returns-in_err-place_kernel-clause-loaded g c =
     let plan = rw (c.initrd_size.ensures, c.size-memory.ensures.value) at c.in_ok-layout.ensures.layout in
     let halt = c.in_err-place_kernel.field-0.0 in
     let is : c.from_residual-in_err-place_kernel.result ≡ Err halt = search rules in
-    let same = c.in_ok-read_two.ensures.same in
+    let same = c.in_ok-read_two.ensures.reads.same in
     let placed = rw (same.same_past, same.same_size, same.same_geometry) at c.in_err-place_kernel.ensures.placed in
     told_both (g.D.Disks.past c.args.disks.now)
     (λ now. IsTwo (min 1024 c.new-file.result.left) (rest_in now machine c.new-file.result) sectors (rest_in now machine c.read_two.new.file)) _ _
@@ -116,7 +116,7 @@ returns-in_err-place_kernel-clause-loaded g c =
 pub returns-in_err-load_initrd-clause-loaded : goal.returns-in_err-load_initrd-clause-loaded
 unfolding main_today
 returns-in_err-load_initrd-clause-loaded g c =
-    let machine = machine_of (g.D.Disks.size_of c.args.disks.now) (g.D.Disks.geometry_of c.args.disks.now) in
+    let machine = machine_of g.D.Disks c.args.disks.now in
     let entry = descriptor_view c.args.entry.now in
     let sectors = c.read_two.new.first ++ c.read_two.new.second in
     let line = c.args.line.now in
@@ -125,9 +125,9 @@ returns-in_err-load_initrd-clause-loaded g c =
     let header = header_view c.in_ok-header.header in
     let layout = c.in_ok-layout.layout in
     let plan = rw (c.initrd_size.ensures, c.size-memory.ensures.value) at c.in_ok-layout.ensures.layout in
-    let same = c.in_ok-read_two.ensures.same in
+    let same = c.in_ok-read_two.ensures.reads.same in
     let placed = rw (same.same_past, same.same_size, same.same_geometry) at c.in_ok-place_kernel.ensures.placed in
-    let same' = c.in_ok-place_kernel.ensures.same in
+    let same' = c.in_ok-place_kernel.ensures.reads.same in
     let read = rw (same'.same_past, same'.same_size, same'.same_geometry, same.same_past, same.same_size, same.same_geometry) at c.in_err-load_initrd.ensures.placed in
     let halt = c.in_err-load_initrd.field-0.0 in
     let is : c.from_residual-in_err-load_initrd.result ≡ Err halt = search rules in
@@ -142,7 +142,7 @@ returns-in_err-load_initrd-clause-loaded g c =
 pub returns-clause-loaded : goal.returns-clause-loaded
 unfolding main_today
 returns-clause-loaded g c =
-    let machine = machine_of (g.D.Disks.size_of c.args.disks.now) (g.D.Disks.geometry_of c.args.disks.now) in
+    let machine = machine_of g.D.Disks c.args.disks.now in
     let entry = descriptor_view c.args.entry.now in
     let sectors = c.read_two.new.first ++ c.read_two.new.second in
     let line = c.args.line.now in
@@ -151,9 +151,9 @@ returns-clause-loaded g c =
     let header = header_view c.in_ok-header.header in
     let layout = c.in_ok-layout.layout in
     let plan = rw (c.initrd_size.ensures, c.size-memory.ensures.value) at c.in_ok-layout.ensures.layout in
-    let same = c.in_ok-read_two.ensures.same in
+    let same = c.in_ok-read_two.ensures.reads.same in
     let placed = rw (same.same_past, same.same_size, same.same_geometry) at c.in_ok-place_kernel.ensures.placed in
-    let same' = c.in_ok-place_kernel.ensures.same in
+    let same' = c.in_ok-place_kernel.ensures.reads.same in
     let read = rw (same'.same_past, same'.same_size, same'.same_geometry, same.same_past, same.same_size, same.same_geometry) at c.in_ok-load_initrd.ensures.placed in
     let patched = c.patch.ensures ∙ ap (λ v. patch header (layout_view layout) v sectors) c.video_of.ensures in
     let setup = setup_least _ c.args.entry.now.length header c.in_ok-header.ensures.header in

@@ -1,16 +1,17 @@
 use Rattle.std.proofs.Common.{arith, rules}
-use Rattle.bios_model.specs.Machine.{machine_of}
+use Rattle.sector_address.specs.Machine.{machine_of}
 use Rattle.bios_model.specs.Memory.{memory_of}
 use Rattle.sector_address.specs.View.{slot_view}
-use Rattle.loader_core.specs.File.{rest_in}
-use Rattle.loader_core.proofs.KernelLemmas.{kernel_placed, ended_rest}
+use Rattle.section_loader.specs.File.{rest_in}
+use Rattle.loader_core.proofs.KernelLemmas.{kernel_placed}
+use Rattle.section_loader.proofs.RestLemmas.{ended_rest}
 use Rattle.disk_trait.proofs.ToldLemmas.{told_both}
 use Rattle.loader_core.proofs.kernel.place_kernel.Goals as goal
 
 pub returns-clause-placed : goal.returns-clause-placed
 returns-clause-placed g c =
-    let same = c.in_ok-load_bytes.ensures.same in
-    let machine = machine_of (g.D.Disks.size_of c.args.disks.now) (g.D.Disks.geometry_of c.args.disks.now) in
+    let same = c.in_ok-load_bytes.ensures.reads.same in
+    let machine = machine_of g.D.Disks c.args.disks.now in
     let protected = rw (same.same_past, same.same_size, same.same_geometry) at c.load_bytes-2.ensures.loaded in
     told_both (g.D.Disks.past c.args.disks.now) _ _ _
     (λ now one other.

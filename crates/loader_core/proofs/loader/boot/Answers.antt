@@ -1,7 +1,7 @@
 use Rattle.std.proofs.Common.{length}
-use Rattle.bios_model.specs.Machine.{machine_of}
+use Rattle.sector_address.specs.Machine.{machine_of}
 use Rattle.bios_model.specs.Memory.{memory_of}
-use Rattle.stream_trait.specs.Shows.{state_of}
+use Rattle.stream_trait.specs.Shows.{sink_of}
 use Rattle.disk_trait.proofs.ToldLemmas.{told_map}
 use Rattle.lilo_model.specs.Boot.{whole_boot}
 use Rattle.loader_core.specs.Today.{boot_today, standing_line}
@@ -12,11 +12,11 @@ use Rattle.loader_core.proofs.loader.boot.Goals as goal
 
 pub returns-clause-boot : goal.returns-clause-boot
 returns-clause-boot g c =
-    let machine = machine_of (g.D.Disks.size_of c.args.bios.now.disks.now) (g.D.Disks.geometry_of c.args.bios.now.disks.now) in
+    let machine = machine_of g.D.Disks c.args.bios.now.disks.now in
     let span = span_view c.args.device in
     let size = length c.args.ram.now in
     told_map (g.D.Disks.past c.args.bios.now.disks.now) _ _
     (λ now report keys built.
     boots_so c.outcome_of.result (boot_today now machine span size) (whole_boot now machine span keys size) (standing_line now machine span) keys (memory_of c.args.ram.now) c.boot_by.new.ram
-    (state_of (g.O.Sink.taken c.args.out.now.out.now) (g.O.Sink.faults c.args.out.now.out.now) c.args.out.now.failed) (state_of (g.O.Sink.taken c.boot_by.new.out.out.now) (g.O.Sink.faults c.boot_by.new.out.out.now) c.boot_by.new.out.failed) (today_law now machine span keys size built) (rw c.outcome_of.ensures.end report))
+    (sink_of g.O.Sink c.args.out.now) (sink_of g.O.Sink c.boot_by.new.out) (today_law now machine span keys size built) (rw c.outcome_of.ensures.end report))
     c.boot_by.ensures.report

@@ -5,9 +5,10 @@ use Rattle.std.proofs.lemmas.Result.{err_from_is_err_and}
 use Rattle.lilo_model.specs.Checks.{seen, each}
 use Rattle.lilo_model.specs.Boot.{slot_bytes_at, map_sectors}
 use Rattle.sector_address.specs.View.{slot_view}
-use Rattle.bios_model.specs.Machine.{machine_of, sector_bytes_at}
+use Rattle.sector_address.specs.Machine.{machine_of}
+use Rattle.bios_model.specs.Machine.{sector_bytes_at}
 use Rattle.boot_map.specs.View.{boot_view, table_view, map_fault_view}
-use Rattle.loader_core.specs.File.{ReadsOne}
+use Rattle.section_loader.specs.File.{ReadsOne}
 use Rattle.loader_core.specs.Map.{ReadsThere, AreExtras, ReadsExtras, IsReadMap, ReadsMap}
 use Rattle.disk_trait.proofs.ToldLemmas.{told_map, told_both, told_three}
 use Rattle.loader_core.proofs.MapLemmas.{table_extras, line_halts, table_halts, extras_halt, map_reads}
@@ -15,7 +16,7 @@ use Rattle.loader_core.proofs.map.read_map.Goals as goal
 
 pub returns-in_err-read_one-clause-parts : goal.returns-in_err-read_one-clause-parts
 returns-in_err-read_one-clause-parts g c =
-    let machine = machine_of (g.D.Disks.size_of c.args.disks.now) (g.D.Disks.geometry_of c.args.disks.now) in
+    let machine = machine_of g.D.Disks c.args.disks.now in
     let halt = c.in_err-read_one.field-0.0 in
     let p = err_from_is_err_and c.from_residual.result c.from_residual.ensures.1 in
     rw (p.1, p.2)
@@ -27,10 +28,10 @@ returns-in_err-read_one-clause-parts g c =
 
 pub returns-in_err-read_table-clause-parts : goal.returns-in_err-read_table-clause-parts
 returns-in_err-read_table-clause-parts g c =
-    let machine = machine_of (g.D.Disks.size_of c.args.disks.now) (g.D.Disks.geometry_of c.args.disks.now) in
+    let machine = machine_of g.D.Disks c.args.disks.now in
     let halt = c.in_err-read_table.field-0.0 in
     let boot = boot_view c.args.boot.now in
-    let same = c.in_ok-read_one.ensures.same in
+    let same = c.in_ok-read_one.ensures.reads.same in
     let read = rw (same.same_past, same.same_size, same.same_geometry, c.as_slice.ensures.value) at c.in_err-read_table.ensures.sectors in
     let p = err_from_is_err_and c.from_residual-in_err-read_table.result c.from_residual-in_err-read_table.ensures.1 in
     rw (p.1, p.2)
@@ -42,12 +43,12 @@ returns-in_err-read_table-clause-parts g c =
 
 pub returns-in_err-are_extras_good-clause-parts : goal.returns-in_err-are_extras_good-clause-parts
 returns-in_err-are_extras_good-clause-parts g c =
-    let machine = machine_of (g.D.Disks.size_of c.args.disks.now) (g.D.Disks.geometry_of c.args.disks.now) in
+    let machine = machine_of g.D.Disks c.args.disks.now in
     let halt = c.in_err-are_extras_good.field-0.0 in
     let boot = boot_view c.args.boot.now in
     let table = c.read-table.result in
-    let same = c.in_ok-read_one.ensures.same in
-    let same2 = c.in_ok-read_table.ensures.same in
+    let same = c.in_ok-read_one.ensures.reads.same in
+    let same2 = c.in_ok-read_table.ensures.reads.same in
     let there = rw (same.same_past, same.same_size, same.same_geometry, c.as_slice.ensures.value) at c.in_ok-read_table.ensures.sectors in
     let extras = rw (same2.same_past, same2.same_size, same2.same_geometry, same.same_past, same.same_size, same.same_geometry) at c.in_err-are_extras_good.ensures.extras in
     let p = err_from_is_err_and c.from_residual-in_err-are_extras_good.result c.from_residual-in_err-are_extras_good.ensures.1 in
@@ -61,13 +62,13 @@ returns-in_err-are_extras_good-clause-parts g c =
 
 pub returns-clause-parts : goal.returns-clause-parts
 returns-clause-parts g c =
-    let machine = machine_of (g.D.Disks.size_of c.args.disks.now) (g.D.Disks.geometry_of c.args.disks.now) in
+    let machine = machine_of g.D.Disks c.args.disks.now in
     let good = c.in_ok-are_extras_good.are_extras_good in
     let boot = boot_view c.args.boot.now in
     let line = c.read_one.new.into in
     let table = c.read-table.result in
-    let same = c.in_ok-read_one.ensures.same in
-    let same2 = c.in_ok-read_table.ensures.same in
+    let same = c.in_ok-read_one.ensures.reads.same in
+    let same2 = c.in_ok-read_table.ensures.reads.same in
     let there = rw (same.same_past, same.same_size, same.same_geometry, c.as_slice.ensures.value) at c.in_ok-read_table.ensures.sectors in
     let extras = rw (same2.same_past, same2.same_size, same2.same_geometry, same.same_past, same.same_size, same.same_geometry) at c.in_ok-are_extras_good.ensures.extras in
     told_three (g.D.Disks.past c.args.disks.now)

@@ -2,7 +2,7 @@
 use Rattle.std.proofs.Common.{◌≡◌, ◌∙◌, ◌&&◌, ◌+◌, ◌∷◌, suc, refl, sym, ap, map, drop, add-one, rules}
 use Rattle.std.proofs.Math.Seq.{drop-cons}
 use Rattle.lilo_model.specs.Checks.{each}
-use Rattle.bios_model.specs.Machine.{machine_of}
+use Rattle.sector_address.specs.Machine.{machine_of}
 use Rattle.boot_map.specs.View.{descriptor_view}
 use Rattle.loader_core.specs.Map.{password_sector}
 use Rattle.disk_trait.proofs.ToldLemmas.{told_both}
@@ -13,7 +13,7 @@ use Rattle.loader_core.proofs.map.read_passwords.Goals.{then-are_good, else-are_
 pub loop-entry-preserved : goal.loop-entry-preserved
 loop-entry-preserved g c =
     let same = c.loop-entry.invariant.same in
-    let machine = machine_of (g.D.Disks.size_of c.args.disks.now) (g.D.Disks.geometry_of c.args.disks.now) in
+    let machine = machine_of g.D.Disks c.args.disks.now in
     let entry = c.entry-item.result in
     let read = rw (same.same_past, same.same_size, same.same_geometry) at c.in_ok-is_good.ensures.extra in
     let both : c.if-are_good.are_good ≡ (c.loop-entry.are_good && c.in_ok-is_good.is_good) =

@@ -65,7 +65,7 @@ def section(sectors, first):
 
 def kernel_installation(main, backwards=False):
     """A disk that boots a kernel without a key and without an initrd: each sector of the file has a slot of its own.
-    The file's sectors stand behind those of its section, in order or backwards."""
+    The file's sectors lie after those of its section, in order or backwards."""
     count = (len(main) + SECTOR - 1) // SECTOR
     chain = (count + 62) // 63
     places = list(range(100 + chain, 100 + chain + count))

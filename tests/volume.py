@@ -1,7 +1,11 @@
 """Disks with a Minix volume for the tests, written field by field from the layout in docs/FORMATS.md: a table with one
-partition, or a volume from sector 0 on."""
+partition, or a volume from sector 0 on.
+
+`python3 tests/volume.py system` writes the image of the manual pages: a small system with a map."""
 
 import struct
+
+import fixture
 
 BLOCK = 1024
 SECTOR = 512
@@ -167,6 +171,15 @@ def disk(volume, **changed):
     return (table((0x81, 64, 4032))).ljust(64 * SECTOR, b'\0') + volume.bytes(**changed)
 
 
+def installed(image):
+    """The same disk with a map of one name: the boot sector's code area and fields, and the map's sectors."""
+    made = fixture.installation(128)
+    image = bytearray(image)
+    image[:440] = made[:440]
+    image[94 * SECTOR:102 * SECTOR] = made[94 * SECTOR:102 * SECTOR]
+    return bytes(image)
+
+
 def small():
     """A volume of 64 sectors from the start of a disk, with the file `a` of three bytes."""
     volume = Volume('v1-14', 64, 16)
@@ -189,4 +202,5 @@ def refused():
 
 if __name__ == '__main__':
     import sys
-    sys.stdout.buffer.write(refused() if sys.argv[1:] == ['refused'] else small())
+    images = {'refused': refused, 'system': lambda: installed(disk(system(fixture.kernel())))}
+    sys.stdout.buffer.write(images.get(' '.join(sys.argv[1:]), small)())

@@ -1,8 +1,8 @@
-"""What the tools of cases share: their files are written, or compared with what stands."""
+"""What the tools of cases share: their files are written, or compared with what is there."""
 
 
 def write_or_check(tool, files, old, arguments):
-    """Writes the files and removes the old ones; with --check tells those that aren't as the tool writes them.
+    """Writes the files and removes the old ones; with --check it reports those that aren't as the tool writes them.
 
     `files` has the text of each path. The answer is the exit status.
     """

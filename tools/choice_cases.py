@@ -32,7 +32,7 @@ NAMES = '◌≡◌, [], ◌∷◌, ◌++◌, replicate, true, false, None, Some,
 
 
 def short_terms(value):
-    """The parts of a text as terms: names for what often stands there, and texts and numbers. A `?` is a
+    """The parts of a text as terms: names for what is often there, and texts and numbers. A `?` is a
     number, so that a search for holes finds none."""
     terms = []
     for found in re.finditer(r'\x08 \x08|\n|[ !#->@-\[\]-~]+|.', value, re.DOTALL):

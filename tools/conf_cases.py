@@ -1,10 +1,10 @@
 #!/usr/bin/env python3
 """Writes the cases of lilo.conf, from conf_cases.json beside it, as theorems that the check computes:
 crates/model_cases/proofs/ConfCases*.antt. Each such file has a line in Lib.antt beside them. With --check it
-compares them with what stands.
+compares them with what is there.
 
 In the data each character of a text is one byte. A case has what its text says, or its refusal with the line
-that tells it.
+that says so.
 """
 
 import json

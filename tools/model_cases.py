@@ -38,7 +38,7 @@ def listed(terms):
 
 
 def is_plain(data):
-    """Whether bytes can stand as a text. One with a `?` is written in hexadecimal, so that a search for holes finds none."""
+    """Whether bytes can be written as a text. One with a `?` is written in hexadecimal, so that a search for holes finds none."""
     return all(32 <= byte < 127 or byte == 10 for byte in data) and not set(data) & set(b'"\\?')
 
 

@@ -1,7 +1,7 @@
 #!/usr/bin/env python3
 """Writes the cases of partition tables and of names of devices, from partition_cases.json beside it, as theorems
 that the check computes: crates/model_cases/proofs/PartitionCases1.antt, and its line in proofs/Lib.antt. With
---check it writes nothing and tells whether the files are as it would write them.
+--check it writes nothing and reports whether the files are as it would write them.
 
 In the data a table is a sector, its entries by status, type, start and count, and whether it ends in 55 AA.
 """

@@ -6,7 +6,7 @@ isn't as it would be written.
 A volume is given by its superblock, its inodes from 1 on (mode, links, size, zones), the pieces of its zones that
 aren't zeros (offset and hexadecimal bytes), and the marks that are set. The answer is the first refusal, or the zones
 that have an owner (zone, inode, whether it has numbers of zones) and the number of names of each inode. Every case
-stands in the data; those that say "checked" are written.
+is in the data; those that say "checked" are written.
 """
 
 import json

@@ -17,7 +17,8 @@ const NAMES_LIMIT: usize = 19;
 
 /// The first refusal of the names of sections, each behind those before it.
 pub fn names_refusal(sections: &[&[Setting]]) -> Option<ConfFault>
-    ensures { names_view result (names_of sections.now) ≡ with_fault Some (model.names_from [] (lists_view sections.now)) }
+    ensures { names_view result (names_of sections.now)
+        ≡ with_fault Some (model.names_from [] (lists_view sections.now)) }
 {
     let mut count = 0;
     for (index, section) in sections.iter().enumerate() {
@@ -31,7 +32,8 @@ pub fn names_refusal(sections: &[&[Setting]]) -> Option<ConfFault>
 
 /// Why a configuration is refused as a whole, the names of its sections being told apart.
 pub fn default_refusal(front: &[Setting], sections: &[&[Setting]]) -> Option<ConfFault>
-    ensures { option_map fault_view result ≡ option_map Some (model.default_refusal (settings_view front.now) (names_of sections.now)) }
+    ensures { option_map fault_view result ≡ option_map Some
+        (model.default_refusal (settings_view front.now) (names_of sections.now)) }
 {
     if sections.is_empty() {
         return Some(ConfFault {
@@ -66,7 +68,8 @@ fn wanted_refusal(front: &[Setting], wanted: &[u8], sections: &[&[Setting]]) -> 
 fn names_reason(before: &[&[Setting]], count: usize, section: &[Setting]) -> Option<ConfFault>
     requires count { count ≡ length (names_of before.now) }
     requires few { count ≤ 19 }
-    ensures { option_map fault_view result ≡ option_map Some (model.names_reason (names_of before.now) (settings_view section.now)) }
+    ensures { option_map fault_view result ≡ option_map Some
+        (model.names_reason (names_of before.now) (settings_view section.now)) }
 {
     let label = section_label(section);
     if has_name(label, before) {

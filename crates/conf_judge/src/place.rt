@@ -38,7 +38,8 @@ pub fn settings_refusal(settings: &[Setting]) -> Option<ConfFault>
 // What is wrong with a setting, behind others of its part.
 #[tactic(auto, unfolding(lilo_model::specs::ConfJudge::setting_reason))]
 fn setting_reason(own: &[Setting], setting: &Setting) -> Option<ConfReason>
-    ensures { option_map reason_view result ≡ option_map Some (model.setting_reason (settings_view own.now) (setting_view setting.now)) }
+    ensures { option_map reason_view result ≡ option_map Some
+        (model.setting_reason (settings_view own.now) (setting_view setting.now)) }
 {
     if setting.option.opens() {
         value_reason(0, setting)
@@ -54,7 +55,8 @@ fn setting_reason(own: &[Setting], setting: &Setting) -> Option<ConfReason>
 // What is wrong with an option of a part, behind others of it.
 #[tactic(auto, unfolding(lilo_model::specs::ConfJudge::part_reason))]
 fn part_reason(own: &[Setting], setting: &Setting) -> Option<ConfReason>
-    ensures { option_map reason_view result ≡ option_map Some (model.part_reason (settings_view own.now) (setting_view setting.now)) }
+    ensures { option_map reason_view result ≡ option_map Some
+        (model.part_reason (settings_view own.now) (setting_view setting.now)) }
 {
     if !setting.option.stands_in(part_kind(own)) {
         Some(ConfReason::Misplaced)
@@ -82,7 +84,8 @@ fn excluded_in(own: &[Setting], option: Opt) -> Option<Opt>
 // What is wrong with a `disk`, behind others of its part.
 #[tactic(auto, unfolding(lilo_model::specs::ConfJudge::disk_reason))]
 fn disk_reason(own: &[Setting], setting: &Setting) -> Option<ConfReason>
-    ensures { option_map reason_view result ≡ option_map Some (model.disk_reason (settings_view own.now) (setting_view setting.now)) }
+    ensures { option_map reason_view result ≡ option_map Some
+        (model.disk_reason (settings_view own.now) (setting_view setting.now)) }
 {
     if !Opt::Disk.stands_in(part_kind(own)) {
         Some(ConfReason::Misplaced)
@@ -129,7 +132,8 @@ fn setting_disk(setting: &Setting) -> Option<u8>
 // What is wrong with what is told of a disk, behind others of its part.
 #[tactic(auto, unfolding(lilo_model::specs::ConfJudge::detail_reason))]
 fn detail_reason(own: &[Setting], setting: &Setting) -> Option<ConfReason>
-    ensures { option_map reason_view result ≡ option_map Some (model.detail_reason (settings_view own.now) (setting_view setting.now)) }
+    ensures { option_map reason_view result ≡ option_map Some
+        (model.detail_reason (settings_view own.now) (setting_view setting.now)) }
 {
     match group_disk(own) {
         None => Some(ConfReason::Misplaced),
@@ -186,7 +190,8 @@ fn value_reason(disk: u8, setting: &Setting) -> Option<ConfReason>
 // What is wrong with an option that has no equals sign.
 #[tactic(auto, unfolding(lilo_model::specs::ConfJudge::given_reason))]
 fn bare_reason(option: Opt) -> Option<ConfReason>
-    ensures { (disk : ℕ) → option_map reason_view result ≡ option_map Some (model.given_reason (opt_view option) disk Bare) }
+    ensures { (disk : ℕ) → option_map reason_view result
+        ≡ option_map Some (model.given_reason (opt_view option) disk Bare) }
 {
     if takes_nothing(option) {
         None
@@ -198,7 +203,8 @@ fn bare_reason(option: Opt) -> Option<ConfReason>
 // What is wrong with an option that has an equals sign and no value.
 #[tactic(auto, unfolding(lilo_model::specs::ConfJudge::given_reason))]
 fn sign_reason(option: Opt) -> Option<ConfReason>
-    ensures { (disk : ℕ) → option_map reason_view result ≡ option_map Some (model.given_reason (opt_view option) disk Sign) }
+    ensures { (disk : ℕ) → option_map reason_view result
+        ≡ option_map Some (model.given_reason (opt_view option) disk Sign) }
 {
     if takes_nothing(option) {
         Some(ConfReason::BadValue)

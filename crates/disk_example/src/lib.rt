@@ -30,7 +30,8 @@ pub fn write_in_turn<D: Disks>(
     ensures any_moment { IsTold (D.past disks.old)
         → LeavesOnly (D.past disks.old) (D.past disks.new) (IsOldFirstOrBoth (now (D.past disks.old)) disk a first.now b second.now) }
     ensures both { IsTold (D.past disks.old)
-        → OnOk result (now (D.past disks.new) ≡ with_sector (with_sector (now (D.past disks.old)) disk a first.now) disk b second.now) }
+        → OnOk result (now (D.past disks.new)
+        ≡ with_sector (with_sector (now (D.past disks.old)) disk a first.now) disk b second.now) }
 {
     write(disks, disk, a, first)?;
     flush(disks)?;
@@ -91,7 +92,8 @@ pub fn fill<D: Disks, B: Boot>(
     from: &Sector,
 ) -> Result<(), DiskFault>
     requires quiet { IsQuiet (D.past disks.old) }
-    requires free { EachIndex places.now (λ k. (c : Image) → B.boots (with_sector c disk (slice_index places.now k) from.now) ≡ B.boots c) }
+    requires free { EachIndex places.now (λ k. (c : Image)
+        → B.boots (with_sector c disk (slice_index places.now k) from.now) ≡ B.boots c) }
     ensures failed { IsErrOf result DiskFault.Failed → Rose (D.faults disks.old) (D.faults disks.new) }
     ensures out_of_range { IsErrOf result DiskFault.OutOfRange
         → SomeIndex places.now (λ k. D.size_of disks.old disk ≤ slice_index places.now k) }
@@ -99,7 +101,8 @@ pub fn fill<D: Disks, B: Boot>(
     ensures filled { IsTold (D.past disks.old)
         → OnOk result (now (D.past disks.new) ≡ filled disk places.now from.now (now (D.past disks.old))) }
     ensures others { (d s : ℕ) → IsNoneOf disk places.now d s → NotWritten (D.past disks.old) (D.past disks.new) d s }
-    ensures any_moment { LeavesOnly (D.past disks.old) (D.past disks.new) (λ c. B.boots c ≡ B.boots (now (D.past disks.old))) }
+    ensures any_moment { LeavesOnly (D.past disks.old) (D.past disks.new)
+        (λ c. B.boots c ≡ B.boots (now (D.past disks.old))) }
     ensures quiet { OnOk result (IsQuiet (D.past disks.new)) }
 {
     for place in places {

@@ -26,7 +26,8 @@ pub(crate) fn sections_of(
     front: &[Setting],
     sections: &[&[Setting]],
 ) -> Result<SectionList, AllocError>
-    ensures { IfOk result (λ told. sections_view told ≡ map (model.section_of (settings_view front.now)) (lists_view sections.now)) }
+    ensures { IfOk result (λ told. sections_view told
+        ≡ map (model.section_of (settings_view front.now)) (lists_view sections.now)) }
 {
     let mut told = Vec::new(alloc);
     for section in sections {
@@ -37,7 +38,8 @@ pub(crate) fn sections_of(
 
 // What a section says.
 fn section_of(alloc: Global, front: &[Setting], section: &[Setting]) -> Result<Section, AllocError>
-    ensures { IfOk result (λ told. section_view told ≡ model.section_of (settings_view front.now) (settings_view section.now)) }
+    ensures { IfOk result (λ told. section_view told
+        ≡ model.section_of (settings_view front.now) (settings_view section.now)) }
 {
     let path = Text::new(alloc, section_path(section))?;
     let label = Text::new(alloc, section_label(section))?;
@@ -81,7 +83,8 @@ fn section_device(section: &[Setting]) -> Option<Device>
 
 // The number of the root's device that is in effect in a section.
 fn effect_root(front: &[Setting], section: &[Setting]) -> Option<u16>
-    ensures { result ≡ option_and_then values.root_at (model.effect_value options.Root (settings_view front.now) (settings_view section.now)) }
+    ensures { result ≡ option_and_then values.root_at
+        (model.effect_value options.Root (settings_view front.now) (settings_view section.now)) }
 {
     match effect_value(Opt::Root, front, section) {
         Some(text) => root_at(text),
@@ -91,7 +94,8 @@ fn effect_root(front: &[Setting], section: &[Setting]) -> Option<u16>
 
 // The video mode that is in effect in a section.
 fn effect_vga(front: &[Setting], section: &[Setting]) -> Option<u16>
-    ensures { result ≡ option_and_then modes.video_mode (model.effect_value options.Vga (settings_view front.now) (settings_view section.now)) }
+    ensures { result ≡ option_and_then modes.video_mode
+        (model.effect_value options.Vga (settings_view front.now) (settings_view section.now)) }
 {
     match effect_value(Opt::Vga, front, section) {
         Some(text) => video_mode(text),

@@ -47,7 +47,8 @@ pub fn find_volume<D: Disks>(disks: &mut D, root: Option<Device>) -> Result<Loca
     ensures room { IfOk result (λ found. HasRoom (D.size_of disks.old found.span.disk) found.span) }
 
     // When it is refused.
-    ensures device { IsErrOf result (VolumeFault.Place TableFault.Device) → Rose (D.faults disks.old) (D.faults disks.new) }
+    ensures device { IsErrOf result (VolumeFault.Place TableFault.Device)
+        → Rose (D.faults disks.old) (D.faults disks.new) }
     ensures later { D.faults disks.old ≤ D.faults disks.new }
 
     // Nothing else happens.
@@ -65,7 +66,8 @@ fn named_volume<D: Disks>(disks: &mut D, device: Device) -> Result<Located, Volu
     ensures volume { Told (D.past disks.old) (λ now. Gives result
         (named_volume now (machine_of (D.size_of disks.old) (D.geometry_of disks.old)) (device_view device))) }
     ensures room { IfOk result (λ found. HasRoom (D.size_of disks.old found.span.disk) found.span) }
-    ensures device { IsErrOf result (VolumeFault.Place TableFault.Device) → Rose (D.faults disks.old) (D.faults disks.new) }
+    ensures device { IsErrOf result (VolumeFault.Place TableFault.Device)
+        → Rose (D.faults disks.old) (D.faults disks.new) }
     ensures later { D.faults disks.old ≤ D.faults disks.new }
     ensures same { SameDisks D.past D.size_of D.count_of D.geometry_of disks.old disks.new }
 {
@@ -85,7 +87,8 @@ fn first_volume<D: Disks>(disks: &mut D) -> Result<Located, VolumeFault>
     ensures volume { Told (D.past disks.old) (λ now. Gives result
         (first_volume now (machine_of (D.size_of disks.old) (D.geometry_of disks.old)))) }
     ensures room { IfOk result (λ found. HasRoom (D.size_of disks.old found.span.disk) found.span) }
-    ensures device { IsErrOf result (VolumeFault.Place TableFault.Device) → Rose (D.faults disks.old) (D.faults disks.new) }
+    ensures device { IsErrOf result (VolumeFault.Place TableFault.Device)
+        → Rose (D.faults disks.old) (D.faults disks.new) }
     ensures later { D.faults disks.old ≤ D.faults disks.new }
     ensures same { SameDisks D.past D.size_of D.count_of D.geometry_of disks.old disks.new }
 {
@@ -104,7 +107,8 @@ fn first_volume<D: Disks>(disks: &mut D) -> Result<Located, VolumeFault>
 fn volume_on<D: Disks>(disks: &mut D, disk: u8) -> Result<Option<Located>, TableFault>
     ensures volume { Told (D.past disks.old) (λ now. Ends result (find (ends_search now)
         (searched_on now (machine_of (D.size_of disks.old) (D.geometry_of disks.old)) disk))) }
-    ensures room { IfOk result (λ found. IfSome found (λ found. HasRoom (D.size_of disks.old found.span.disk) found.span)) }
+    ensures room { IfOk result (λ found. IfSome found
+        (λ found. HasRoom (D.size_of disks.old found.span.disk) found.span)) }
     ensures device { IsErrOf result TableFault.Device → Rose (D.faults disks.old) (D.faults disks.new) }
     ensures later { D.faults disks.old ≤ D.faults disks.new }
     ensures same { SameDisks D.past D.size_of D.count_of D.geometry_of disks.old disks.new }
@@ -131,7 +135,8 @@ fn volume_in_table<D: Disks>(disks: &mut D, disk: u8) -> Result<Option<Located>,
     requires { 1 ≤ D.size_of disks.old disk }
     ensures volume { Told (D.past disks.old) (λ now. Ends result (find (ends_search now)
         (searched_partitions disk (partitions_of now (machine_of (D.size_of disks.old) (D.geometry_of disks.old)) disk)))) }
-    ensures room { IfOk result (λ found. IfSome found (λ found. HasRoom (D.size_of disks.old found.span.disk) found.span)) }
+    ensures room { IfOk result (λ found. IfSome found
+        (λ found. HasRoom (D.size_of disks.old found.span.disk) found.span)) }
     ensures device { IsErrOf result TableFault.Device → Rose (D.faults disks.old) (D.faults disks.new) }
     ensures later { D.faults disks.old ≤ D.faults disks.new }
     ensures same { SameDisks D.past D.size_of D.count_of D.geometry_of disks.old disks.new }
@@ -173,7 +178,8 @@ fn volume_among<D: Disks>(
     requires { All (λ partition. IsOnDisk disk (D.size_of disks.old disk) partition.span) partitions.now }
     ensures volume { Told (D.past disks.old) (λ now. Ends result (find (ends_search now)
         (searched_partitions disk (Ok (partitions_view partitions.now))))) }
-    ensures room { IfOk result (λ found. IfSome found (λ found. HasRoom (D.size_of disks.old found.span.disk) found.span)) }
+    ensures room { IfOk result (λ found. IfSome found
+        (λ found. HasRoom (D.size_of disks.old found.span.disk) found.span)) }
     ensures device { IsErrOf result TableFault.Device → Rose (D.faults disks.old) (D.faults disks.new) }
     ensures later { D.faults disks.old ≤ D.faults disks.new }
     ensures same { SameDisks D.past D.size_of D.count_of D.geometry_of disks.old disks.new }
@@ -198,7 +204,8 @@ fn volume_at<D: Disks>(
     requires { IsOnDisk disk (D.size_of disks.old disk) partition.now.span }
     ensures volume { Told (D.past disks.old) (λ now. Ends result (find (ends_search now)
         (searched_partitions disk (Ok (partition_view partition.now ∷ []))))) }
-    ensures room { IfOk result (λ found. IfSome found (λ found. HasRoom (D.size_of disks.old found.span.disk) found.span)) }
+    ensures room { IfOk result (λ found. IfSome found
+        (λ found. HasRoom (D.size_of disks.old found.span.disk) found.span)) }
     ensures device { IsErrOf result TableFault.Device → Rose (D.faults disks.old) (D.faults disks.new) }
     ensures later { D.faults disks.old ≤ D.faults disks.new }
     ensures same { SameDisks D.past D.size_of D.count_of D.geometry_of disks.old disks.new }
@@ -229,7 +236,8 @@ fn has_name(disk: u8, number: u8) -> bool
 #[tactic(auto, unfolding(lilo_model::specs::VolumeSearch::holds_volume))]
 fn holds_volume<D: Disks>(disks: &mut D, span: &Span) -> Result<bool, TableFault>
     requires { span.now.start + span.now.count ≤ D.size_of disks.old span.now.disk }
-    ensures holds { Told (D.past disks.old) (λ now. IfOk result (λ found. found ≡ holds_volume now (span_view span.now))) }
+    ensures holds { Told (D.past disks.old) (λ now.
+        IfOk result (λ found. found ≡ holds_volume now (span_view span.now))) }
     ensures room { IfOk result (λ found. found ≡ true → HasRoom (D.size_of disks.old span.now.disk) span.now) }
     ensures refused { IfErr result (λ fault. fault ≡ TableFault.Device) }
     ensures device { IsErrOf result TableFault.Device → Rose (D.faults disks.old) (D.faults disks.new) }

@@ -19,7 +19,7 @@ use minix_layout::{FsKind, Inode};
 use minix_zones::{Volume, read_at};
 
 /// How many entries of a directory lie whole below its size.
-fn places(inode: &Inode, kind: FsKind) -> u32
+pub fn places(inode: &Inode, kind: FsKind) -> u32
     ensures value { result ≡ places (kind_view kind) inode.now.size }
     ensures few { result < 2 ^ 28 }
 {

@@ -55,14 +55,14 @@ fn name_size(kind: FsKind) -> u16
 }
 
 /// The bytes of an entry.
-pub(crate) fn entry_size(kind: FsKind) -> u16
+pub fn entry_size(kind: FsKind) -> u16
     ensures { result ≡ entry_size (kind_view kind) }
 {
     name_size(kind) + 2
 }
 
 /// How many entries a block has.
-pub(crate) fn entries_per_block(kind: FsKind) -> u16
+pub fn entries_per_block(kind: FsKind) -> u16
     ensures value { result ≡ entries_per_block (kind_view kind) }
     ensures few { (1 ≤ result) × (result ≤ 64) }
 {
@@ -82,7 +82,7 @@ fn entry_bytes(block: &[u8; 1024], kind: FsKind, place: u16) -> &[u8]
 
 /// The entry at a place of a block.
 #[tactic(auto, unfolding(lilo_model::specs::MinixEntries::entry_of))]
-pub(crate) fn entry_at(block: &[u8; 1024], kind: FsKind, place: u16) -> DirEntry<'_>
+pub fn entry_at(block: &[u8; 1024], kind: FsKind, place: u16) -> DirEntry<'_>
     requires { place < entries_per_block (kind_view kind) }
     ensures { entry_view result ≡ placed_entry (kind_view kind) block.now place }
 {

@@ -19,8 +19,10 @@ mod tests;
 mod tree_fault;
 mod walk;
 
-pub use directory::{directory_blocks, read_entries};
-pub use entry::{DirEntry, Entries, entries_among, entries_in};
+pub use directory::{directory_blocks, places, read_entries};
+pub use entry::{
+    DirEntry, Entries, entries_among, entries_in, entries_per_block, entry_at, entry_size,
+};
 pub use file::{read_block, read_block_through, read_file};
 pub use find::{lookup, lookup_name};
 pub use laws::directory_is_its_blocks;

@@ -1,17 +1,17 @@
 -- What a prompt comes to that is told keys is the choice by cutting.
-use Rattle.std.proofs.Common.{◌≡◌, ℕ, zero, suc, List, [], ◌∷◌, ◌++◌, map, slice_get, Bool, true, false, not, ◌&&◌, ◌||◌, if◌then◌else◌, Option, None, Some, append_assoc, refl, sym, ◌∙◌, ap, arith}
+use Rattle.std.proofs.Common.{◌≡◌, ℕ, zero, suc, List, [], ◌∷◌, ◌++◌, map, slice_get, Bool, true, false, ◌&&◌, ◌||◌, if◌then◌else◌, Option, None, Some, refl, ◌∙◌, ap}
 use Rattle.std.specs.Prelude.{flat_map, unwrap_or, is_none}
 use Rattle.std.specs.Option.{option_map, option_and_then}
 use Rattle.std.specs.Str.{bytes_eq}
 use Rattle.std.proofs.lemmas.Option.{slice_get-map}
-use Rattle.lilo_model.specs.DefaultLine.{DefaultLine, Kept, line_text, line_after}
-use Rattle.lilo_model.specs.Prompt.{Key, Byte, Tick, Settings, ListedEntry, Opening}
+use Rattle.lilo_model.specs.DefaultLine.{DefaultLine, line_text, line_after}
+use Rattle.lilo_model.specs.Prompt.{Key, Byte, Settings, ListedEntry, Opening}
 use Rattle.lilo_model.specs.KeyCuts.{WaitCut, Elapsed, Interrupted, cut_wait, LineCut, Unended, Ended, cut_line, is_enter_key, is_erase_key}
 use Rattle.lilo_model.specs.LineEdits.{echoes, text_after}
 use Rattle.lilo_model.specs.LineWords.{words_of, words_meaning, named_meaning, entry_named, Meaning, Nothing, Names, NoSuch, meaning, joined_words, kept_words, has_lock_word}
 use Rattle.lilo_model.specs.Choice.{Setup, Candidate, default_candidate, meant_candidate, automatic_candidate, asked_of, asked_password, newline, listing, Turn, Takes, Idles, Again, turn_behind, question_turn, candidate_turn, meaning_turn, line_end_turn, line_turn, next_line_turn, delay_turn, timeout_turn, opened_turn, Piece, Shows, Opens, Course, course_behind, prompt_pieces, course_from, most_turns, course_opened, opens_at_once, course_of, pieces_text, pieces_opening, opening_behind, picked_of, filled_text, line_after_entry, decision_of}
-use Rattle.prompt_core.specs.Steps.{Chosen, name_at, chosen_of}
-use Rattle.prompt_core.specs.Run.{Mark, Shown, Opened, text_marks, piece_marks, Run, run_of, seen}
+use Rattle.prompt_core.specs.Steps.{name_at, chosen_of}
+use Rattle.prompt_core.specs.Run.{Mark, text_marks, piece_marks, run_of, seen}
 use Rattle.prompt_core.specs.Decided.{plain_entry, plain_setup, marks_text, marks_opening, line_by, decided, ChoiceLaw, OpeningLaw}
 use Rattle.prompt_core.proofs.GatherLemmas.{position_of}
 use Rattle.prompt_core.proofs.StartLemmas.{keys_law}

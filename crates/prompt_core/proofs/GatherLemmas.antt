@@ -1,16 +1,15 @@
 -- What the words of a line come to, one after another, is what they come to all together.
-use Rattle.std.proofs.Common.{◌≡◌, ◌≢◌, ℕ, zero, suc, ◌+◌, ◌≤◌, ◌<◌, List, [], ◌∷◌, ◌++◌, length, filter, map, slice_get, Bool, true, false, not, ◌==◌, ◌&&◌, ◌||◌, if◌then◌else◌, Option, None, Some, append_assoc, refl, sym, ◌∙◌, ap, arith}
-use Rattle.std.specs.Prelude.{⊤, fold, filter_map, position, codes, unwrap_or}
-use Rattle.std.specs.Option.{option_map, option_and_then}
-use Rattle.std.specs.List.{list_any, last_or, join_with_byte, position_from, slice_split}
+use Rattle.std.proofs.Common.{◌≡◌, ◌≢◌, ℕ, suc, ◌+◌, ◌≤◌, List, [], ◌∷◌, ◌++◌, length, filter, map, slice_get, Bool, true, false, not, ◌==◌, ◌||◌, if◌then◌else◌, Option, None, Some, append_assoc, refl, sym, ◌∙◌, ap, arith}
+use Rattle.std.specs.Prelude.{⊤, fold, filter_map, position}
+use Rattle.std.specs.List.{last_or, join_with_byte, position_from, slice_split}
 use Rattle.std.proofs.lemmas.Iterator.Adapters.{position_from-zero}
 use Rattle.std.specs.Str.{bytes_eq}
 use Rattle.std.proofs.lemmas.Slice.Eq.{bytes_eq-Decides}
 use Rattle.std.proofs.lemmas.List.{length-append}
 use Rattle.lilo_model.specs.Prompt.{ListedEntry}
-use Rattle.lilo_model.specs.LineWords.{words_of, is_empty_list, joined_words, is_lock_word, is_vga_word, passed_words, kept_words, has_lock_word, word_video_mode, words_video_mode, entry_named, Meaning, Nothing, Names, NoSuch, meaning}
+use Rattle.lilo_model.specs.LineWords.{words_of, is_empty_list, joined_words, is_lock_word, is_vga_word, passed_words, kept_words, has_lock_word, word_video_mode, entry_named, meaning}
 use Rattle.prompt_core.specs.Reader.{onto_words, with_word, Gathered, later_mode, gather, gather_all, named, gathered_choice}
-use Rattle.prompt_core.specs.Steps.{Chosen, name_at, chosen_of, Meant, Blank, Means, Unknown, meant_of}
+use Rattle.prompt_core.specs.Steps.{Chosen, name_at, chosen_of, Blank, Means, Unknown, meant_of}
 
 -- ---- each part of what words come to
 

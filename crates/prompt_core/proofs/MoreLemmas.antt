@@ -1,13 +1,12 @@
 -- When more keys are wanted.
-use Rattle.std.proofs.Common.{◌≡◌, ℕ, suc, ◌==◌, List, [], ◌∷◌, ◌++◌, Bool, true, false, not, ◌&&◌, ◌||◌, if◌then◌else◌, Option, None, Some, refl, sym, ◌∙◌, ap}
+use Rattle.std.proofs.Common.{◌≡◌, ℕ, suc, ◌==◌, List, [], ◌++◌, Bool, true, false, not, ◌&&◌, ◌||◌, Option, None, Some, refl, sym, ◌∙◌}
 use Rattle.std.specs.Prelude.{nat_le, codes}
 use Rattle.std.proofs.lemmas.Bool.{eqb-true}
 use Rattle.lilo_model.specs.KeyCuts.{is_enter_key, is_erase_key, is_list_key, most_quiet_ticks}
 use Rattle.lilo_model.specs.LineWords.{meaning}
 use Rattle.lilo_model.specs.Choice.{Setup, newline, is_right}
-use Rattle.prompt_core.specs.declared.key.Key.{Key}
 use Rattle.prompt_core.specs.declared.key.Key.TheVariants as keys
-use Rattle.prompt_core.specs.Steps.{Chosen, Question, State, Delaying, Timing, Typing, Asking, Decided, Over, Meant, Blank, Means, Unknown, meant_of, line_meant, meant_or, default_choice, password_of, question_step, choice_step, meant_step, line_step, reopened_step, answered_step, answer_step, quiet_step, delayed_step, timed_step, prompt_text, key_step, tells, wants_more, MoreLaw}
+use Rattle.prompt_core.specs.Steps.{Chosen, Question, Delaying, Timing, Typing, Asking, Decided, Over, Meant, Blank, Means, Unknown, meant_of, line_meant, meant_or, default_choice, password_of, question_step, meant_step, line_step, reopened_step, answer_step, quiet_step, delayed_step, timed_step, prompt_text, key_step, wants_more, MoreLaw}
 
 asked : (before : List ℕ) (opened : Bool) (chosen : Chosen) (password : Option (List ℕ)) → wants_more (question_step before opened chosen password).said.answer ≡ false
 asked before opened chosen None = refl

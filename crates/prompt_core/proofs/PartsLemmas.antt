@@ -4,9 +4,7 @@ use Rattle.std.specs.Prelude.{unwrap_or}
 use Rattle.std.proofs.lemmas.List.{append-nil}
 use Rattle.lilo_model.specs.Prompt.{Key, ListedEntry}
 use Rattle.prompt_core.specs.declared.reply.Answer.{Answer}
-use Rattle.prompt_core.specs.declared.reply.Answer.TheVariants as answers
-use Rattle.prompt_core.specs.Steps.{Said}
-use Rattle.prompt_core.specs.Run.{Mark, Opened, text_marks, begins_prompt, first_prompt, later_place, last_found, last_prompt, with_names, listed, said_marks, parts_marks}
+use Rattle.prompt_core.specs.Run.{Opened, text_marks, begins_prompt, first_prompt, later_place, last_found, last_prompt, with_names, listed, said_marks, parts_marks}
 
 -- ---- the text from a place on
 

@@ -1,19 +1,16 @@
 -- Told a list of keys one by one, the prompt does what the list does that is cut: by cases on each key, over one
 -- induction on the list.
-use Rattle.std.proofs.Common.{◌≡◌, ◌≢◌, ℕ, zero, suc, ◌+◌, ◌≤◌, ◌<◌, ◌==◌, List, [], ◌∷◌, ◌++◌, length, map, slice_get, Bool, true, false, not, ◌&&◌, ◌||◌, if◌then◌else◌, Option, None, Some, append_assoc, refl, sym, ◌∙◌, ap, arith}
-use Rattle.std.specs.Prelude.{nat_le, codes, flat_map, unwrap_or, is_none}
-use Rattle.std.specs.Option.{option_map, option_and_then}
+use Rattle.std.proofs.Common.{◌≡◌, ℕ, zero, suc, ◌≤◌, ◌<◌, ◌==◌, List, [], ◌∷◌, ◌++◌, length, slice_get, Bool, true, false, not, ◌&&◌, if◌then◌else◌, Option, None, Some, append_assoc, refl, sym, ◌∙◌, ap, arith}
+use Rattle.std.specs.Prelude.{codes, flat_map}
+use Rattle.std.specs.Option.{option_and_then}
 use Rattle.std.proofs.lemmas.List.{map-append, append-nil}
-use Rattle.lilo_model.specs.DefaultLine.{line_text}
 use Rattle.lilo_model.specs.Prompt.{Key, Byte, Tick, ListedEntry}
-use Rattle.lilo_model.specs.KeyCuts.{WaitCut, Elapsed, Interrupted, cut_wait, LineCut, Unended, Ended, onto_line, ends_line, is_enter_key, is_erase_key, is_list_key, cut_line, AnswerCut, Missing, Given, onto_answer, most_quiet_ticks, cut_answer}
-use Rattle.lilo_model.specs.LineEdits.{text_after_byte, echo_of, echoes, text_after, answer_after_byte, answer_after}
-use Rattle.lilo_model.specs.LineWords.{is_empty_list, joined_words, passed_words, entry_named, words_of, words_meaning, named_meaning, Meaning, Nothing, Names, NoSuch, meaning}
-use Rattle.lilo_model.specs.Choice.{Setup, Candidate, default_candidate, meant_candidate, line_candidate, automatic_candidate, asked_of, asked_password, newline, listing, Turn, Takes, Idles, Again, turn_behind, is_right, answer_turn, question_turn, candidate_turn, meaning_turn, line_end_turn, line_turn, next_line_turn, delay_turn, timeout_turn, opened_turn, Piece, Shows, Opens, Course, course_behind, prompt_pieces, course_from, most_turns, course_opened, opens_at_once, course_of}
-use Rattle.prompt_core.specs.declared.reply.Answer.{Answer}
-use Rattle.prompt_core.specs.declared.reply.Answer.TheVariants as answers
-use Rattle.prompt_core.specs.Steps.{Chosen, Question, State, Delaying, Timing, Typing, Asking, Decided, Over, Said, Step, stepped, opening, prompt_text, name_at, chosen_of, default_choice, Meant, Blank, Means, Unknown, meant_of, line_meant, opens_by, meant_or, entry_asks, password_of, question_step, choice_step, begun_step, meant_step, line_step, delayed_step, timed_step, reopened_step, answered_step, answer_step, quiet_step, byte_step, tick_step, silence_step, key_step, shown_step, waiting_step, start_step}
-use Rattle.prompt_core.specs.Run.{Mark, Shown, Opened, text_marks, said_marks, Run, run_behind, ended, silenced, driven, after_step, run_of, piece_marks, seen, KeysLaw}
+use Rattle.lilo_model.specs.KeyCuts.{LineCut, Unended, Ended, onto_line, is_enter_key, is_erase_key, is_list_key, cut_line, AnswerCut, Missing, Given, onto_answer, most_quiet_ticks, cut_answer}
+use Rattle.lilo_model.specs.LineEdits.{text_after_byte, echo_of, echoes, text_after, answer_after_byte}
+use Rattle.lilo_model.specs.LineWords.{passed_words, entry_named, words_of, words_meaning, Meaning, Nothing, Names, NoSuch, meaning}
+use Rattle.lilo_model.specs.Choice.{Setup, Candidate, default_candidate, asked_of, asked_password, newline, listing, Turn, Takes, Idles, Again, turn_behind, is_right, answer_turn, question_turn, candidate_turn, meaning_turn, line_end_turn, line_turn, next_line_turn, prompt_pieces, course_from}
+use Rattle.prompt_core.specs.Steps.{Chosen, Typing, Asking, Decided, prompt_text, chosen_of, meant_of, entry_asks, password_of, question_step, choice_step, meant_step, line_step, reopened_step, answered_step, answer_step, quiet_step, key_step}
+use Rattle.prompt_core.specs.Run.{Mark, Shown, Opened, text_marks, Run, run_behind, driven, after_step, piece_marks, seen}
 use Rattle.prompt_core.proofs.GatherLemmas.{AreFilled, filled_filter, words_filled, joined_empty}
 
 -- ---- what is shown, one text after another

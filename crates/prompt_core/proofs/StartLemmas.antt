@@ -1,17 +1,17 @@
 -- From the start on, the prompt does with keys what the list of them does that is cut.
-use Rattle.std.proofs.Common.{◌≡◌, ℕ, zero, suc, ◌+◌, ◌-◌, ◌≤◌, ◌<◌, ◌==◌, List, [], ◌∷◌, ◌++◌, length, Bool, true, false, not, ◌&&◌, if◌then◌else◌, Option, None, Some, refl, sym, ◌∙◌, ap, arith}
+use Rattle.std.proofs.Common.{◌≡◌, ℕ, zero, suc, ◌-◌, ◌≤◌, ◌<◌, ◌==◌, List, [], ◌∷◌, ◌++◌, length, Bool, true, false, ◌&&◌, if◌then◌else◌, Option, None, Some, refl, sym, ◌∙◌, ap, arith}
 use Rattle.std.specs.Prelude.{nat_le, is_none, unwrap_or}
 use Rattle.std.proofs.lemmas.Bool.Decides.{nat_tests}
 use Rattle.lilo_model.specs.DefaultLine.{line_text}
-use Rattle.lilo_model.specs.Prompt.{Key, Byte, Tick, ListedEntry}
+use Rattle.lilo_model.specs.Prompt.{Key, Byte, Tick}
 use Rattle.lilo_model.specs.KeyCuts.{cut_wait, is_enter_key, is_erase_key, is_list_key}
 use Rattle.lilo_model.specs.LineWords.{Meaning, Nothing, Names, NoSuch, meaning}
-use Rattle.lilo_model.specs.Choice.{Setup, Candidate, default_candidate, meant_candidate, automatic_candidate, newline, Turn, Takes, Idles, Again, turn_behind, candidate_turn, delay_turn, timeout_turn, opened_turn, course_from, most_turns, course_opened, opens_at_once, course_of}
+use Rattle.lilo_model.specs.Choice.{Setup, default_candidate, meant_candidate, automatic_candidate, newline, Turn, Takes, Idles, Again, turn_behind, candidate_turn, delay_turn, timeout_turn, opened_turn, course_from, most_turns, course_opened, opens_at_once, course_of}
 use Rattle.prompt_core.specs.declared.reply.Answer.TheVariants as answers
-use Rattle.prompt_core.specs.Steps.{Chosen, State, Delaying, Timing, Typing, Step, stepped, opening, prompt_text, chosen_of, default_choice, Meant, Blank, Means, Unknown, meant_of, line_meant, opens_by, meant_or, password_of, question_step, choice_step, meant_step, line_step, delayed_step, timed_step, key_step, shown_step, waiting_step, start_step}
-use Rattle.prompt_core.specs.Run.{Mark, Opened, text_marks, said_marks, Run, run_behind, silenced, driven, after_step, run_of, seen, KeysLaw}
+use Rattle.prompt_core.specs.Steps.{Chosen, Delaying, Timing, stepped, opening, prompt_text, chosen_of, default_choice, Meant, Blank, Means, Unknown, meant_of, line_meant, opens_by, meant_or, password_of, question_step, choice_step, meant_step, line_step, delayed_step, timed_step, key_step, shown_step, waiting_step, start_step}
+use Rattle.prompt_core.specs.Run.{Mark, Opened, text_marks, said_marks, run_behind, silenced, driven, after_step, run_of, seen, KeysLaw}
 use Rattle.prompt_core.proofs.GatherLemmas.{AreFilled}
-use Rattle.prompt_core.proofs.RunLemmas.{candidate_goes, meaning_filled, Goes, goes}
+use Rattle.prompt_core.proofs.RunLemmas.{candidate_goes, meaning_filled, goes}
 
 -- ---- a prompt that opens
 

@@ -1,6 +1,6 @@
 -- The first word of a text.
-use Rattle.std.proofs.Common.{◌≡◌, ◌≢◌, ℕ, zero, suc, ◌+◌, ◌≤◌, ◌<◌, List, [], ◌∷◌, length, take, drop, filter, Bool, true, false, not, ◌==◌, refl, sym, ◌∙◌, ap, arith}
-use Rattle.std.specs.List.{slice_split, onto_first}
+use Rattle.std.proofs.Common.{◌≡◌, ◌≢◌, ℕ, suc, List, [], ◌∷◌, length, take, drop, filter, Bool, true, false, not, ◌==◌, refl, sym, ◌∙◌, ap, arith}
+use Rattle.std.specs.List.{slice_split}
 use Rattle.std.proofs.lemmas.Bool.{eqb-true, eqb-false}
 use Rattle.lilo_model.specs.LineWords.{words_of, is_empty_list}
 use Rattle.prompt_core.specs.Reader.{spaces, word_length, onto_words, BeginsSpaced}

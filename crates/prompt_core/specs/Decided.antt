@@ -1,5 +1,5 @@
 -- What a prompt that is told a list of keys comes to, in the words of the choice by cutting.
-use Rattle.std.specs.Prelude.{◌≡◌, ℕ, List, [], ◌∷◌, map, flat_map, Bool, false, ◌||◌, if◌then◌else◌, Option, None, Some, unwrap_or, slice_get}
+use Rattle.std.specs.Prelude.{◌≡◌, ℕ, List, [], ◌∷◌, map, flat_map, false, ◌||◌, if◌then◌else◌, Option, None, Some, unwrap_or, slice_get}
 use Rattle.std.specs.Option.{option_map}
 use Rattle.lilo_model.specs.DefaultLine.{DefaultLine, Kept, line_text, line_after}
 use Rattle.lilo_model.specs.Prompt.{Key, Settings, ListedEntry, Picked, Decision, Opening}

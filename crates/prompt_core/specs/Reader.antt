@@ -1,5 +1,5 @@
 -- The words of a line, one after another. (This project's own.)
-use Rattle.std.specs.Prelude.{ℕ, ◌≡◌, List, [], ◌∷◌, ◌++◌, take, drop, Bool, false, not, ◌||◌, ◌==◌, if◌then◌else◌, Option, None, Some, ⊤, fold}
+use Rattle.std.specs.Prelude.{ℕ, ◌≡◌, List, [], ◌∷◌, ◌++◌, Bool, false, not, ◌||◌, ◌==◌, if◌then◌else◌, Option, None, Some, ⊤, fold}
 use Rattle.std.specs.List.{prefix_len}
 use Rattle.lilo_model.specs.LineWords.{is_lock_word, is_vga_word, word_video_mode}
 use Rattle.prompt_core.specs.Steps.{Chosen}

@@ -2,14 +2,13 @@
 use Rattle.std.specs.Prelude.{◌≡◌, ℕ, zero, suc, List, [], ◌∷◌, ◌++◌, length, take, drop, map, flat_map, Bool, true, false, if◌then◌else◌, Option, None, Some, unwrap_or, nat_eq}
 use Rattle.std.specs.Option.{option_map}
 use Rattle.std.specs.List.{starts_with}
-use Rattle.lilo_model.specs.DefaultLine.{DefaultLine, line_after}
-use Rattle.lilo_model.specs.Prompt.{Key, Byte, Tick, Settings, ListedEntry, Picked, Decision, Opening}
-use Rattle.lilo_model.specs.Choice.{Setup, listing, Piece, Shows, Opens, Course, course_of, filled_text, opening_behind}
+use Rattle.lilo_model.specs.Prompt.{Key, Byte, Tick, ListedEntry}
+use Rattle.lilo_model.specs.Choice.{Setup, listing, Piece, Shows, Opens, Course, course_of}
 use Rattle.prompt_core.specs.declared.key.Key as heard
 use Rattle.prompt_core.specs.declared.key.Key.TheVariants as keys
 use Rattle.prompt_core.specs.declared.reply.Answer.{Answer}
 use Rattle.prompt_core.specs.declared.reply.Answer.TheVariants as answers
-use Rattle.prompt_core.specs.Steps.{Chosen, chosen_of, State, Delaying, Timing, Typing, Asking, Decided, Over, Said, Step, prompt_text, key_step, silence_step, start_step}
+use Rattle.prompt_core.specs.Steps.{Chosen, chosen_of, State, Decided, Over, Said, Step, prompt_text, key_step, start_step}
 
 -- ---- what is shown
 

@@ -1,6 +1,6 @@
 -- How the prompt goes on with one key. The rules are this project's own; the texts, and the keys that edit a line,
 -- follow LILO's manners.
-use Rattle.std.specs.Prelude.{◌≡◌, ℕ, suc, ◌-◌, List, [], ◌∷◌, ◌++◌, Bool, true, false, not, ◌&&◌, ◌||◌, ◌==◌, nat_le, if◌then◌else◌, Option, None, Some, is_none, unwrap_or, slice_get, codes}
+use Rattle.std.specs.Prelude.{◌≡◌, ℕ, suc, ◌-◌, List, [], ◌∷◌, ◌++◌, Bool, true, false, not, ◌&&◌, ◌||◌, ◌==◌, nat_le, if◌then◌else◌, Option, None, Some, unwrap_or, slice_get, codes}
 use Rattle.std.specs.Option.{option_map, option_and_then}
 use Rattle.lilo_model.specs.DefaultLine.{line_text}
 use Rattle.lilo_model.specs.Prompt.{ListedEntry}

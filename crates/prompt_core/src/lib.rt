@@ -22,7 +22,9 @@ mod word;
 
 pub use entry::{Choice, Settings};
 pub use key::Key;
-pub use laws::{comes_to_the_choice, keys_one_by_one, more_is_wanted, opens_at_the_opening};
+pub use laws::{
+    comes_to_the_choice, keys_one_by_one, lines_are_short, more_is_wanted, opens_at_the_opening,
+};
 pub use parts::Parts;
 pub use prompt::Prompt;
 pub use reply::{Answer, Picked, Reply};

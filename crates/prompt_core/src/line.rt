@@ -64,7 +64,8 @@ pub(crate) fn plain_choice(choices: &[Choice], place: u16, automatic: bool) -> C
 pub(crate) fn read_line(choices: &[Choice], automatic: bool, text: &[u8]) -> Meant
     requires few { length choices.now ≤ 48 }
     requires fits { length text.now ≤ 470 }
-    ensures { meant_view result ≡ meant_of (entries_view choices.now) automatic (meaning (entries_view choices.now) text.now) }
+    ensures { let entries = entries_view choices.now in
+        meant_view result ≡ meant_of entries automatic (meaning entries text.now) }
 {
     let first = first_word(text);
     if first.word.is_empty() {

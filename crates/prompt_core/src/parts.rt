@@ -1,7 +1,8 @@
 // Where the message and the names go in a text.
 ghost use Rattle.std.specs.Prelude.{◌≡◌, ◌≤◌, ◌++◌, List, [], drop, if◌then◌else◌, length, take};
 ghost use Rattle.lilo_model.specs.Prompt.{Key, ListedEntry};
-ghost use Rattle.prompt_core.specs.Run.{begins_prompt, first_prompt, last_prompt, listed, parts_marks, said_marks, with_names};
+ghost use Rattle.prompt_core.specs.Run.{begins_prompt, first_prompt, last_prompt};
+ghost use Rattle.prompt_core.specs.Run.{listed, parts_marks, said_marks, with_names};
 ghost use Rattle.prompt_core.specs.View.{said_of};
 
 use crate::reply::{Answer, Reply};
@@ -46,7 +47,8 @@ fn message_cut(opened: bool, text: &[u8]) -> (&[u8], &[u8])
 
 // A text, cut directly before its last prompt where the names are listed, or else behind all of it.
 fn names_cut(answer: Answer, text: &[u8]) -> (&[u8], &[u8])
-    ensures { (entries : List ListedEntry) → with_names entries answer text.now ≡ result.0.now ++ (listed entries answer ++ result.1.now) }
+    ensures { (entries : List ListedEntry)
+        → with_names entries answer text.now ≡ result.0.now ++ (listed entries answer ++ result.1.now) }
 {
     match answer {
         Answer::List => text.split_at(last_prompt(text)),

@@ -51,7 +51,8 @@ pub(crate) fn opening(step: Step) -> Step
 
 // The password that is asked of what is chosen.
 fn password_of(choices: &[Choice], chosen: &Chosen) -> Option<ArrayVec<u8, 31>>
-    ensures { option_map (λ password. password.items) result ≡ steps.password_of (entries_view choices.now) (chosen_view chosen.now) }
+    ensures { option_map (λ password. password.items) result
+        ≡ steps.password_of (entries_view choices.now) (chosen_view chosen.now) }
 {
     let choice = choices.get(usize::from(chosen.picked.entry))?;
     let typed = !chosen.picked.automatic && !chosen.words.is_empty();
@@ -65,7 +66,8 @@ fn password_of(choices: &[Choice], chosen: &Chosen) -> Option<ArrayVec<u8, 31>>
 // A choice, behind the question for its password where there is one.
 fn choice_step(choices: &[Choice], before: Text, opened: bool, chosen: Chosen) -> Step
     requires { length before.items ≤ 40 }
-    ensures { step_view result ≡ steps.choice_step (entries_view choices.now) before.items opened (chosen_view chosen) }
+    ensures { step_view result
+        ≡ steps.choice_step (entries_view choices.now) before.items opened (chosen_view chosen) }
 {
     match password_of(choices, &chosen) {
         None => {
@@ -134,7 +136,8 @@ fn edited_step(capacity: u16, before: Text, mut text: ArrayVec<u8, 470>, byte: u
     requires short { length before.items ≤ 10 }
     requires fits { capacity ≤ 470 }
     ensures { step_view result ≡ steps.stepped
-        (steps.Typing (text_after_byte capacity text.items byte) false) Answer.More (before.items ++ echo_of capacity text.items byte) }
+        (steps.Typing (text_after_byte capacity text.items byte) false)
+        Answer.More (before.items ++ echo_of capacity text.items byte) }
 {
     let show = match byte {
         8 | 127 => match text.pop() {
@@ -162,7 +165,8 @@ fn line_step(
     requires short { length before.items ≤ 8 }
     requires few { length choices.now ≤ 48 }
     requires fits { settings.now.capacity ≤ 470 }
-    ensures { step_view result ≡ steps.line_step (setup_of settings.now choices.now []) before.items text.items first byte }
+    ensures { step_view result
+        ≡ steps.line_step (setup_of settings.now choices.now []) before.items text.items first byte }
 {
     match byte {
         b'\n' | b'\r' => finished_step(
@@ -437,7 +441,8 @@ fn waiting_step(settings: &Settings, choices: &[Choice], line: &[u8]) -> Step
 fn opens_at_once(settings: &Settings, choices: &[Choice], line: &[u8]) -> bool
     requires few { length choices.now ≤ 48 }
     requires fits { length line.now ≤ 470 }
-    ensures { result ≡ steps.opens_by settings.now.prompt (steps.line_meant (setup_of settings.now choices.now line.now)) }
+    ensures { let setup = setup_of settings.now choices.now line.now in
+        result ≡ steps.opens_by settings.now.prompt (steps.line_meant setup) }
 {
     match read_line(choices, true, line) {
         Meant::Means(_) => false,

@@ -47,7 +47,8 @@ fn word_length(text: &[u8]) -> usize
 pub(crate) fn first_word(text: &[u8]) -> Word<'_>
     ensures words { words_of text.now ≡ onto_words result.word.now (words_of result.rest.now) }
     ensures within { length result.word.now + length result.rest.now ≤ length text.now }
-    ensures shorter { BeginsSpaced text.now → result.word.now ≢ [] → length result.word.now + length result.rest.now < length text.now }
+    ensures shorter { BeginsSpaced text.now → result.word.now ≢ []
+        → length result.word.now + length result.rest.now < length text.now }
     ensures spaced { BeginsSpaced result.rest.now }
 {
     let (_, text) = text.split_at(spaces(text));

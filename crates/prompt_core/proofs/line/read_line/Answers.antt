@@ -1,4 +1,4 @@
-use Rattle.std.proofs.Common.{◌≢◌, [], sym, ◌∙◌}
+use Rattle.std.proofs.Common.{sym, ◌∙◌}
 use Rattle.std.specs.Str.{bytes_eq}
 use Rattle.lilo_model.specs.LineWords.{words_of}
 use Rattle.prompt_core.specs.View.{choice_view, entries_view, chosen_view}

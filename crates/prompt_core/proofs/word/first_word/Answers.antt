@@ -1,4 +1,3 @@
-use Rattle.std.proofs.Common.{drop, ap, refl}
 use Rattle.prompt_core.proofs.WordLemmas.{first_word_is, rest_spaced}
 use Rattle.prompt_core.proofs.word.first_word.Goals as goal
 

@@ -2,6 +2,8 @@
 //! leaves, at any moment of a turn, is what was held before or has the sector whole.
 #![tactic(auto)]
 
+mod part;
 mod sector;
 
+pub use part::turn_part;
 pub use sector::turn;

@@ -1,0 +1,24 @@
+-- What a turn of a part of a zone leaves.
+use Rattle.std.specs.Prelude.{◌≡◌, ◌⊎◌, ◌+◌, ◌/◌, ◌%◌, ℕ, List}
+use Rattle.disk_trait.specs.declared.disks.Disks.{Ghosts}
+use Rattle.disk_trait.specs.Past.{Image}
+use Rattle.disk_trait.specs.Moments.{now}
+use Rattle.lilo_model.specs.Bytes.{with_part}
+use Rattle.lilo_model.specs.MinixLayout.{zone_sector}
+use Rattle.lilo_model.specs.MinixParts.{sector_of}
+use Rattle.minix_zones.specs.Volume.{volume_view, past_of}
+use Rattle.minix_zones.specs.declared.volume.Volume.{Volume}
+use Rattle.minix_zone_bytes_laws.specs.Part.{HasZonePart}
+
+-- the bytes of the sector with a part of a zone now, with others in place of that part
+abbrev pub part_rewritten : {D : Type 0} {disks : Ghosts D} → Volume D disks → ℕ → ℕ → List ℕ → List ℕ
+part_rewritten volume zone offset bytes =
+    with_part (sector_of (volume_view volume) (now (past_of volume)) (zone_sector zone + offset / 512)) (offset % 512) bytes
+
+-- an image has other bytes in a part of a zone, and all others of the volume as it is now
+abbrev pub HasPart : {D : Type 0} {disks : Ghosts D} → Volume D disks → Image → ℕ → ℕ → List ℕ → Type 0
+HasPart volume image zone offset bytes = HasZonePart (volume_view volume) (now (past_of volume)) image zone offset bytes
+
+-- it is as it is now, or has them
+abbrev pub WithOrWithoutPart : {D : Type 0} {disks : Ghosts D} → Volume D disks → ℕ → ℕ → List ℕ → Image → Type 0
+WithOrWithoutPart volume zone offset bytes c = (c ≡ now (past_of volume)) ⊎ HasPart volume c zone offset bytes

@@ -6,9 +6,10 @@ use Rattle.disk_trait.specs.Moments.{now}
 use Rattle.lilo_model.specs.Bytes.{with_part}
 use Rattle.lilo_model.specs.MinixLayout.{zone_sector}
 use Rattle.lilo_model.specs.MinixParts.{sector_of}
+use Rattle.minix_layout.specs.View.{kind_view}
 use Rattle.minix_zones.specs.Volume.{volume_view, past_of}
 use Rattle.minix_zones.specs.declared.volume.Volume.{Volume}
-use Rattle.minix_zone_bytes_laws.specs.Part.{HasZonePart}
+use Rattle.minix_zone_bytes_laws.specs.Part.{HasZonePart, number_bytes, offset_of_number}
 
 -- the bytes of the sector with a part of a zone now, with others in place of that part
 abbrev pub part_rewritten : {D : Type 0} {disks : Ghosts D} → Volume D disks → ℕ → ℕ → List ℕ → List ℕ
@@ -22,3 +23,12 @@ HasPart volume image zone offset bytes = HasZonePart (volume_view volume) (now (
 -- it is as it is now, or has them
 abbrev pub WithOrWithoutPart : {D : Type 0} {disks : Ghosts D} → Volume D disks → ℕ → ℕ → List ℕ → Image → Type 0
 WithOrWithoutPart volume zone offset bytes c = (c ≡ now (past_of volume)) ⊎ HasPart volume c zone offset bytes
+
+-- an image has a number in an indirect zone, and all other bytes of the volume as it is now
+abbrev pub HasNumberPart : {D : Type 0} {disks : Ghosts D} → Volume D disks → Image → ℕ → ℕ → ℕ → Type 0
+HasNumberPart volume image zone index number =
+    HasPart volume image zone (offset_of_number (kind_view volume.layout.kind) index) (number_bytes (kind_view volume.layout.kind) number)
+
+-- it is as it is now, or has it
+abbrev pub WithOrWithoutNumber : {D : Type 0} {disks : Ghosts D} → Volume D disks → ℕ → ℕ → ℕ → Image → Type 0
+WithOrWithoutNumber volume zone index number c = (c ≡ now (past_of volume)) ⊎ HasNumberPart volume c zone index number

@@ -2,8 +2,10 @@
 //! leaves, at any moment of a turn, is what was held before or has the sector whole.
 #![tactic(auto)]
 
+mod number;
 mod part;
 mod sector;
 
+pub use number::turn_number;
 pub use part::turn_part;
 pub use sector::turn;

@@ -2,10 +2,12 @@
 //! leaves, at any moment of a turn, is what was held before or has the sector whole.
 #![tactic(auto)]
 
+mod entry;
 mod number;
 mod part;
 mod sector;
 
+pub use entry::{turn_entry, turn_free};
 pub use number::turn_number;
 pub use part::turn_part;
 pub use sector::turn;

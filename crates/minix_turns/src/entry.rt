@@ -15,8 +15,8 @@ use minix_layout::FsKind;
 use minix_zones::{Volume, ZoneFault};
 use sector_parts::{Sector, part, put_name, put_u16};
 
-/// Fills an entry of a block with zeros, so that it is free, and makes that durable, from a quiet moment on. The block's
-/// other entries stay.
+/// Fills an entry of a block with zeros, so that it is free, and makes that durable, from a quiet moment on. The
+/// other entries of the block stay.
 ///
 /// # Errors
 ///
@@ -43,8 +43,8 @@ pub fn turn_free<D: Disks>(
     }
 }
 
-/// Writes the inode and the name of an entry of a block, and makes them durable, from a quiet moment on. The block's
-/// other entries stay.
+/// Writes the inode and the name of an entry of a block, and makes them durable, from a quiet moment on. The
+/// other entries of the block stay.
 ///
 /// # Errors
 ///

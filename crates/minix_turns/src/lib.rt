@@ -1,5 +1,5 @@
-//! Turns on a Minix volume, versions 1 and 2: one sector of something that may have a name, and a flush. Whatever a stop
-//! leaves, at any moment of a turn, is what was held before or has the sector whole.
+//! Turns on a Minix volume, versions 1 and 2: one sector of something that may have a name, and a flush. Whatever a
+//! stop leaves, at any moment of a turn, is what was held before or has the sector whole.
 #![tactic(auto)]
 
 mod entry;

@@ -1,1 +1,3 @@
 pub mod TurnLemmas
+pub mod PartLemmas
+pub mod EntryLemmas

@@ -4,13 +4,16 @@ use Rattle.disk_trait.specs.declared.disks.Disks.{Ghosts}
 use Rattle.disk_trait.specs.declared.disks.Span.{Span}
 use Rattle.disk_trait.specs.Past.{Image, Past, with_sector}
 use Rattle.disk_trait.specs.Moments.{IsTold, now, begun, MayLeave, IsQuiet, LeftOrWritten, LeavesOnly}
-use Rattle.disk_trait.specs.Calls.{GoesOn, Writes, Flushes}
-use Rattle.disk_trait.proofs.MomentLemmas.{leaves_weaker, leaves_join}
+use Rattle.disk_trait.specs.Calls.{GoesOn}
+use Rattle.disk_trait.specs.NotWritten.{IsOther, NotWritten}
+use Rattle.disk_trait.proofs.MomentLemmas.{leaves_none, leaves_weaker, leaves_join, on_ok}
 use Rattle.disk_trait.proofs.CallLemmas.{goes_on_join}
-use Rattle.disk_trait.proofs.NotWrittenLemmas.{not_written_join}
-use Rattle.minix_zones.specs.Volume.{volume_view, past_of, faults_of, KeepsVolume, HasDeviceCause, WritesSector, Syncs}
+use Rattle.disk_trait.proofs.NotWrittenLemmas.{not_written_none, not_written_join}
+use Rattle.minix_zones.specs.Volume.{volume_view, past_of, faults_of, SameVolume, HasDeviceCause, WritesSector, Syncs}
 use Rattle.minix_zones.specs.declared.volume.Volume.{Volume}
-use Rattle.minix_zones.proofs.WriteLemmas.{keeps_join, cause_after}
+use Rattle.minix_zones.proofs.WriteLemmas.{keeps_same, keeps_join, goes_on_unchanged, cause_after}
+use Rattle.minix_steps.specs.Written.{with_sector_of}
+use Rattle.minix_steps.proofs.StepLemmas.{leaves_told, same_view}
 use Rattle.minix_turns.specs.Turns.{WithOrWithout, Turns}
 
 module _ {D : Type 0} {disks : Ghosts D} (old : Volume D disks) (sector : ℕ) (bytes : List ℕ) (quiet : IsQuiet (past_of old)) where
@@ -30,7 +33,7 @@ module _ {D : Type 0} {disks : Ghosts D} (old : Volume D disks) (sector : ℕ) (
   turn_refused new error fault call = record {
     any_moment = leaves_weaker (past_of old) (past_of new) _ Choice call.writes.any_moment one-or-other;
     written = λ told. tt;
-    made = call.writes.made;
+    made = λ told. call.writes.made;
     quiet = tt;
     durable = tt;
     others = call.writes.others;
@@ -53,7 +56,7 @@ module _ {D : Type 0} {disks : Ghosts D} (old : Volume D disks) (sector : ℕ) (
     turn_done (Ok tt) flush = record {
       any_moment = both (Ok tt) flush;
       written = λ told. flush.flushes.same_now ∙ call.writes.written told;
-      made = made (Ok tt) flush;
+      made = λ told. made (Ok tt) flush;
       quiet = flush.flushes.quiet;
       durable = flush.flushes.durable ∙ sym flush.flushes.same_now;
       others = λ d s other. not_written_join (past_of old) (past_of mid) (past_of new) d s (call.writes.others d s other) (flush.flushes.untouched d s);
@@ -64,11 +67,72 @@ module _ {D : Type 0} {disks : Ghosts D} (old : Volume D disks) (sector : ℕ) (
     turn_done (Err fault) flush = record {
       any_moment = both (Err fault) flush;
       written = λ told. tt;
-      made = made (Err fault) flush;
+      made = λ told. made (Err fault) flush;
       quiet = tt;
       durable = tt;
       others = λ d s other. not_written_join (past_of old) (past_of mid) (past_of new) d s (call.writes.others d s other) (flush.flushes.untouched d s);
       device = cause_after {T = Unit {0}} old mid new error (Err fault) call.writes.goes_on.later flush.device;
       goes_on = goes_on_join disks old.disks.now mid.disks.now new.disks.now call.writes.goes_on flush.flushes.goes_on;
       kept = keeps_join old mid new call.kept flush.kept;
+    }
+
+-- ---- after a call that only read
+
+module _ {D : Type 0} {disks : Ghosts D} (old mid : Volume D disks) (same : SameVolume old mid) (later : faults_of old ≤ faults_of mid) where
+  past-same : past_of mid ≡ past_of old
+  past-same = same.same_disks.same_past
+
+  pub quiet_still : IsQuiet (past_of old) → IsQuiet (past_of mid)
+  quiet_still quiet = subst IsQuiet (sym past-same) quiet
+
+  -- the call was refused
+  pub turn_unread : {E : Type 0} (sector : ℕ) (bytes : List ℕ) (error : E) (result : Result (Unit {0}) E) → ((P : Type 0) → OnOk result P) → IsQuiet (past_of old) → HasDeviceCause old mid error result → Turns old mid sector bytes error result
+  turn_unread sector bytes error (Ok done) refused quiet device = absurd (refused ⊥)
+  turn_unread sector bytes error (Err fault) refused quiet device = record {
+    any_moment =
+        let P : Image → Type 0 = WithOrWithout (volume_view old) (now (past_of old)) sector bytes in
+        subst (λ past. LeavesOnly (past_of old) past P) (sym past-same) (leaves_none (past_of old) P (λ c left. inl (quiet c left)));
+    written = λ told. tt;
+    made = λ told. inr (ap now past-same);
+    quiet = tt;
+    durable = tt;
+    others = λ d s other. subst (λ past. NotWritten (past_of old) past d s) (sym past-same) (not_written_none (past_of old) d s);
+    device = device;
+    goes_on = goes_on_unchanged old mid same later;
+    kept = keeps_same old mid same;
+  }
+
+  -- and its bytes were turned
+  module _ {E : Type 0} (new : Volume D disks) (sector : ℕ) (from bytes : List ℕ) (error : E) (is : IsTold (past_of old) → from ≡ bytes) where
+    view-same : volume_view mid ≡ volume_view old
+    view-same = same_view old mid (keeps_same old mid same)
+
+    with-same : IsTold (past_of old) → with_sector_of (volume_view mid) (now (past_of mid)) sector from ≡ with_sector_of (volume_view old) (now (past_of old)) sector bytes
+    with-same told =
+        ap (λ v. with_sector_of v (now (past_of mid)) sector from) view-same
+        ∙ (ap (λ p. with_sector_of (volume_view old) (now p) sector from) past-same ∙ ap (with_sector_of (volume_view old) (now (past_of old)) sector) (is told))
+
+    told-old : GoesOn disks mid.disks.now new.disks.now → IsTold (past_of new) → IsTold (past_of old)
+    told-old goes_on told = subst IsTold past-same (goes_on.told_before told)
+
+    told-mid : IsTold (past_of old) → IsTold (past_of mid)
+    told-mid told = subst IsTold (sym past-same) told
+
+    pub turn_after : (result : Result (Unit {0}) E) → Turns mid new sector from error result → Turns old new sector bytes error result
+    turn_after result turns = record {
+      any_moment =
+          let Q : Image → Type 0 = WithOrWithout (volume_view old) (now (past_of old)) sector bytes in
+          subst (λ past. LeavesOnly past (past_of new) Q) past-same
+          (leaves_told (past_of mid) (past_of new) _ Q turns.any_moment (λ told c choice.
+          ⊎_elim (λ without. inl (without ∙ ap now past-same)) (λ with'. inr (with' ∙ with-same (told-old turns.goes_on told))) choice));
+      written = λ told. on_ok result _ _ (turns.written (told-mid told)) (λ now_is. now_is ∙ with-same told);
+      made = λ told. ⊎_elim (λ with'. inl (with' ∙ with-same told)) (λ without. inr (without ∙ ap now past-same)) (turns.made (told-mid told));
+      quiet = turns.quiet;
+      durable = turns.durable;
+      others = λ d s other.
+          let P : Span → Type 0 = λ span. IsOther span.disk (span.start + sector) d s in
+          subst (λ past. NotWritten past (past_of new) d s) past-same (turns.others d s (subst P (sym same.same_span) other));
+      device = cause_after {T = Unit {0}} old mid new error result later turns.device;
+      goes_on = goes_on_join disks old.disks.now mid.disks.now new.disks.now (goes_on_unchanged old mid same later) turns.goes_on;
+      kept = keeps_join old mid new (keeps_same old mid same) turns.kept;
     }

@@ -21,7 +21,7 @@ pub record Turns {D E : Type 0} {disks : Ghosts D} (old new : Volume D disks) (s
   pub any_moment : LeavesOnly (past_of old) (past_of new) (WithOrWithout (volume_view old) (now (past_of old)) sector bytes)
   -- what the disks hold now
   pub written : IsTold (past_of old) → OnOk result (now (past_of new) ≡ with_sector_of (volume_view old) (now (past_of old)) sector bytes)
-  pub made : (now (past_of new) ≡ with_sector_of (volume_view old) (now (past_of old)) sector bytes) ⊎ (now (past_of new) ≡ now (past_of old))
+  pub made : IsTold (past_of old) → (now (past_of new) ≡ with_sector_of (volume_view old) (now (past_of old)) sector bytes) ⊎ (now (past_of new) ≡ now (past_of old))
   -- and what a stop leaves then
   pub quiet : OnOk result (IsQuiet (past_of new))
   pub durable : OnOk result (begun (past_of new) ≡ now (past_of new))

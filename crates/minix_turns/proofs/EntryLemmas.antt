@@ -1,8 +1,8 @@
 -- The bytes of an entry, put together at the start of a sector.
-use Rattle.std.proofs.Common.{◌≡◌, ℕ, ◌+◌, ◌-◌, ◌≤◌, List, ◌++◌, length, take, drop, replicate, refl, sym, ◌∙◌, ap, arith, length-append, append_assoc}
+use Rattle.std.proofs.Common.{◌≡◌, ℕ, ◌+◌, ◌-◌, ◌≤◌, List, ◌++◌, length, take, drop, replicate, sym, ◌∙◌, ap, arith, length-append, append_assoc}
 use Rattle.std.proofs.lemmas.List.{length-replicate}
 use Rattle.std.proofs.Math.Seq.{take-append_seam}
-use Rattle.lilo_model.specs.Bytes.{part_of, with_part, bytes16, filled_bytes}
+use Rattle.lilo_model.specs.Bytes.{with_part, bytes16, filled_bytes}
 use Rattle.minix_turns.specs.Part.{IsEntry}
 
 filled-long : (len : ℕ) (name : List ℕ) → length name ≤ len → length (filled_bytes len name) ≡ len

@@ -1,16 +1,13 @@
 -- A part of a zone in its sector.
-use Rattle.std.proofs.Common.{◌≡◌, ◌≢◌, ◌⊎◌, ◌≤◌, ◌<◌, ◌+◌, ◌*◌, ◌/◌, ◌%◌, ℕ, List, length, Result, refl, sym, ◌∙◌, ap, subst, arith, inl, inr, ⊎_elim, OnOk}
+use Rattle.std.proofs.Common.{◌≡◌, ◌≢◌, ◌≤◌, ◌<◌, ◌+◌, ◌*◌, ◌/◌, ◌%◌, ℕ, List, length, Result, sym, subst, arith, inl, inr, OnOk}
 use Rattle.disk_trait.specs.declared.disks.Disks.{Ghosts}
-use Rattle.disk_trait.specs.declared.disks.Span.{Span}
-use Rattle.disk_trait.specs.Past.{Image, Past}
+use Rattle.disk_trait.specs.Past.{Image}
 use Rattle.disk_trait.specs.Moments.{IsTold, now, LeavesOnly}
-use Rattle.disk_trait.proofs.MomentLemmas.{leaves_weaker, told_now, on_ok}
-use Rattle.lilo_model.specs.Bytes.{with_part}
+use Rattle.disk_trait.proofs.MomentLemmas.{leaves_weaker, on_ok}
 use Rattle.lilo_model.specs.MinixLayout.{Kind, entry_size, super_sector, zone_sector}
-use Rattle.lilo_model.specs.MinixParts.{sector_of}
 use Rattle.minix_layout.specs.View.{kind_view, super_view}
 use Rattle.minix_layout.specs.declared.kind.FsKind.{FsKind}
-use Rattle.minix_zones.specs.Volume.{volume_view, past_of, SameVolume}
+use Rattle.minix_zones.specs.Volume.{volume_view, past_of}
 use Rattle.minix_zones.specs.declared.volume.Volume.{Volume}
 use Rattle.minix_steps.specs.Written.{with_sector_of}
 use Rattle.minix_steps.proofs.RegionLemmas.{sector_there, zone_behind}

@@ -1,9 +1,9 @@
 -- A written sector and a flush are a turn.
-use Rattle.std.proofs.Common.{◌≡◌, ◌⊎◌, ◌≤◌, ◌+◌, ℕ, List, Option, Result, Ok, Err, OnOk, refl, sym, ◌∙◌, ap, subst, inl, inr, ⊎_elim}
+use Rattle.std.proofs.Common.{◌≡◌, ◌⊎◌, ◌≤◌, ◌+◌, ℕ, List, Result, Ok, Err, OnOk, sym, ◌∙◌, ap, subst, inl, inr, ⊎_elim}
 use Rattle.disk_trait.specs.declared.disks.Disks.{Ghosts}
 use Rattle.disk_trait.specs.declared.disks.Span.{Span}
-use Rattle.disk_trait.specs.Past.{Image, Past, with_sector}
-use Rattle.disk_trait.specs.Moments.{IsTold, now, begun, MayLeave, IsQuiet, LeftOrWritten, LeavesOnly}
+use Rattle.disk_trait.specs.Past.{Image, with_sector}
+use Rattle.disk_trait.specs.Moments.{IsTold, now, IsQuiet, LeftOrWritten, LeavesOnly}
 use Rattle.disk_trait.specs.Calls.{GoesOn}
 use Rattle.disk_trait.specs.NotWritten.{IsOther, NotWritten}
 use Rattle.disk_trait.proofs.MomentLemmas.{leaves_none, leaves_weaker, leaves_join, on_ok}

@@ -1,14 +1,13 @@
-use Rattle.std.proofs.Common.{rules, ◌≡◌, ◌≢◌, ◌+◌, ◌/◌, ◌%◌, ◌<◌, ℕ, List, refl, sym, ◌∙◌, ap, subst}
+use Rattle.std.proofs.Common.{rules, ◌≡◌, ◌+◌, ◌/◌, ◌<◌, ℕ, refl, sym, ◌∙◌, subst}
 use Rattle.disk_trait.specs.declared.disks.Span.{Span}
 use Rattle.disk_trait.proofs.MomentLemmas.{told_now}
-use Rattle.lilo_model.specs.Bytes.{with_part}
 use Rattle.lilo_model.specs.MinixLayout.{zone_sector}
 use Rattle.lilo_model.specs.MinixParts.{sector_of}
 use Rattle.minix_zones.specs.Volume.{volume_view, past_of}
 use Rattle.minix_zones.specs.declared.zone_fault.ZoneFault.TheVariants.{Device}
 use Rattle.minix_turns.specs.Turns.{Turns}
 use Rattle.minix_turns.specs.Part.{part_rewritten}
-use Rattle.minix_turns.proofs.TurnLemmas.{quiet_still, turn_unread, turn_after}
+use Rattle.minix_turns.proofs.TurnLemmas.{turn_unread, turn_after}
 use Rattle.minix_turns.proofs.PartLemmas.{part_there, part_no_super, part_moments, part_now}
 use Rattle.minix_turns.proofs.part.turn_part.Goals as goal
 

@@ -120,11 +120,11 @@ pub told_answers :
     (parts : List Effect) (status : ℕ) (m0 m1 : Memory) (old new : Option (List ℕ)) (before now : ℕ)
     → TellsRun parts status m0 m1 old new before now → Answers parts status
 told_answers [] status m0 m1 old new before now (zero, same, is) = inl zero
-told_answers (part ∷ parts) status m0 m1 old new before now (inl (some, inl (is, printed), placed)) =
+told_answers (part ∷ parts) status m0 m1 old new before now (inl (some, inl (is, printed), placed, quiet)) =
     let other = ne_eqb part.verdict.status 0 (λ zero. some (is ∙ zero)) in inl (rw other is)
-told_answers (part ∷ parts) status m0 m1 old new before now (inl (some, inr (inl (is, printed)), placed)) = inr (inl is)
-told_answers (part ∷ parts) status m0 m1 old new before now (inl (some, inr (inr (inl (is, printed))), placed)) = inr (inr (inl is))
-told_answers (part ∷ parts) status m0 m1 old new before now (inl (some, inr (inr (inr (is, zero, rose, front))), placed)) =
+told_answers (part ∷ parts) status m0 m1 old new before now (inl (some, inr (inl (is, printed)), placed, quiet)) = inr (inl is)
+told_answers (part ∷ parts) status m0 m1 old new before now (inl (some, inr (inr (inl (is, printed))), placed, quiet)) = inr (inr (inl is))
+told_answers (part ∷ parts) status m0 m1 old new before now (inl (some, inr (inr (inr (is, zero, rose, front))), placed, quiet)) =
     inr (inr (inr (is, zero)))
 told_answers (part ∷ parts) status m0 m1 old new before now (inr (zero, told)) =
     by (told_answers parts status (memory_after m0 part.written) m1 (taken_behind old part.verdict.text) new before now told)
@@ -143,7 +143,7 @@ pub told_whole :
     (parts : List Effect) (status : ℕ) (m0 m1 : Memory) (old new : Option (List ℕ)) (before now : ℕ)
     → TellsRun parts status m0 m1 old new before now → status ≡ 0 → Takes old (run_verdict parts).text new
 told_whole [] status m0 m1 old new before now (zero, same, is) done = rw is (takes_nothing old)
-told_whole (part ∷ parts) status m0 m1 old new before now (inl (some, tells, placed)) done = absurd (some done)
+told_whole (part ∷ parts) status m0 m1 old new before now (inl (some, tells, placed, quiet)) done = absurd (some done)
 told_whole (part ∷ parts) status m0 m1 old new before now (inr (zero, told)) done =
     let rest = told_whole parts status (memory_after m0 part.written) m1 (taken_behind old part.verdict.text) new before now told done in
     rw zero
@@ -153,7 +153,7 @@ pub told_placed :
     (parts : List Effect) (status : ℕ) (m0 m1 : Memory) (old new : Option (List ℕ)) (before now : ℕ)
     → TellsRun parts status m0 m1 old new before now → status ≡ 0 → m1 ≡ memory_after m0 (run_written parts)
 told_placed [] status m0 m1 old new before now (zero, same, is) done = same
-told_placed (part ∷ parts) status m0 m1 old new before now (inl (some, tells, placed)) done = absurd (some done)
+told_placed (part ∷ parts) status m0 m1 old new before now (inl (some, tells, placed, quiet)) done = absurd (some done)
 told_placed (part ∷ parts) status m0 m1 old new before now (inr (zero, told)) done =
     told_placed parts status (memory_after m0 part.written) m1 (taken_behind old part.verdict.text) new before now told done
     ∙ sym (memory_after-append m0 part.written (run_written parts))
@@ -162,5 +162,5 @@ told_placed (part ∷ parts) status m0 m1 old new before now (inr (zero, told)) 
 pub told_alone :
     (part : Effect) (status : ℕ) (m0 m1 : Memory) (old new : Option (List ℕ)) (before now : ℕ)
     → TellsRun (part ∷ []) status m0 m1 old new before now → Tells part status old new before now
-told_alone part status m0 m1 old new before now (inl (some, tells, placed)) = tells
+told_alone part status m0 m1 old new before now (inl (some, tells, placed, quiet)) = tells
 told_alone part status m0 m1 old new before now (inr (zero, (none, same, is))) = inl (none ∙ sym zero, inl is)

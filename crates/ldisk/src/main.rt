@@ -6,52 +6,30 @@
 #![tactic(auto)]
 
 use disk_trait::{FileDisks, Geometry};
-use host_parts::{moment, open_image};
+use host_parts::{StartFault, arguments, moment, open_image};
 use ldisk_run::{ask, ldisk};
-use std::alloc::AllocError;
 use std::fs::File;
 use std::process::ExitCode;
-use std::{env, io};
 use stream_trait::{StdSink, StdSource, Words};
-use thiserror::Error;
-
-/// Why the program ends before its words are carried out.
-#[derive(Debug, Drop, Error)]
-enum Fault {
-    #[error("cannot use {0}")]
-    Image(String),
-    #[error("memory")]
-    Memory(#[from(alloc)] AllocError),
-    #[error("not text")]
-    NotText,
-}
 
 fn main(rt: HostRuntime) -> ExitCode {
     match run(&rt) {
         Ok(status) => ExitCode::from(status),
         Err(fault) => {
             tell(&rt, &fault);
-            ExitCode::from(status_of(&fault))
+            ExitCode::from(fault.status())
         }
     }
 }
 
 /// Tells a fault. Words that ask for nothing have a status and no text.
-fn tell(rt: &HostRuntime, fault: &Fault) {
-    if !matches!(fault, Fault::NotText) {
+fn tell(rt: &HostRuntime, fault: &StartFault) {
+    if !matches!(fault, StartFault::NotText) {
         let _ = println!(rt; "ldisk: {fault}");
     }
 }
 
-fn status_of(fault: &Fault) -> u8 {
-    match fault {
-        Fault::Image(_) => 14,
-        Fault::Memory(_) => 13,
-        Fault::NotText => 1,
-    }
-}
-
-fn run(rt: &HostRuntime) -> Result<u8, Fault> {
+fn run(rt: &HostRuntime) -> Result<u8, StartFault> {
     let alloc = rt.alloc();
     let mut words = Words::new(alloc);
     read_arguments(rt, &mut words)?;
@@ -65,28 +43,21 @@ fn run(rt: &HostRuntime) -> Result<u8, Fault> {
     Ok(ldisk(alloc, &words, &mut disks, &mut source, &mut out, now))
 }
 
-fn read_arguments(rt: &HostRuntime, words: &mut Words) -> Result<(), Fault> {
-    let arguments = match env::args(rt) {
-        Ok(arguments) => arguments,
-        Err(error) if error.kind() == io::ErrorKind::OutOfMemory => return Err(Fault::Memory(
-            AllocError,
-        )),
-        Err(_) => return Err(Fault::NotText),
-    };
-    for argument in arguments.skip(1) {
+fn read_arguments(rt: &HostRuntime, words: &mut Words) -> Result<(), StartFault> {
+    for argument in arguments(rt)? {
         words.push(rt.alloc(), argument.as_str())?;
     }
     Ok(())
 }
 
 /// Opens an image as the only disk, with 16 heads and 63 sectors on a track.
-fn open_disk(rt: &HostRuntime, path: &str) -> Result<FileDisks<File>, Fault> {
+fn open_disk(rt: &HostRuntime, path: &str) -> Result<FileDisks<File>, StartFault> {
     let disk = match Geometry::new(16, 63) {
         Ok(geometry) => open_image(rt, path, geometry),
         Err(_) => None,
     };
     let Some(disk) = disk else {
-        return Err(Fault::Image(String::from_str(rt.alloc(), path)?));
+        return Err(StartFault::Image(String::from_str(rt.alloc(), path)?));
     };
     let mut disks = FileDisks::new(rt.alloc());
     disks.push(Some(disk))?;

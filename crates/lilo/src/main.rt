@@ -9,15 +9,12 @@
 mod image;
 
 use disk_trait::{Disks, FileDisks};
-use host_parts::moment;
+use host_parts::{StartFault, arguments, moment};
 use image::open_image;
 use lilo_run::{Ram, boots, lilo};
-use std::alloc::AllocError;
 use std::fs::File;
 use std::process::ExitCode;
-use std::{env, io};
 use stream_trait::{StdSink, StdSource, Words};
-use thiserror::Error;
 
 /// The memory of the modelled PC where a part boots, in bytes.
 const MEMORY: u32 = 16_777_216;
@@ -28,36 +25,17 @@ const LEAST_MEMORY: u32 = 1_048_576;
 /// The most disks that a BIOS numbers here.
 const DISKS: u8 = 4;
 
-/// Why the program ends before its words are carried out.
-#[derive(Debug, Drop, Error)]
-enum Fault {
-    #[error("cannot use {0}")]
-    Image(String),
-    #[error("memory")]
-    Memory(#[from(alloc)] AllocError),
-    #[error("usage: (not text)")]
-    NotText,
-}
-
 fn main(rt: HostRuntime) -> ExitCode {
     match run(&rt) {
         Ok(status) => ExitCode::from(status),
         Err(fault) => {
             let _ = println!(rt; "lilo: {fault}");
-            ExitCode::from(status_of(&fault))
+            ExitCode::from(fault.status())
         }
     }
 }
 
-fn status_of(fault: &Fault) -> u8 {
-    match fault {
-        Fault::Image(_) => 14,
-        Fault::Memory(_) => 13,
-        Fault::NotText => 1,
-    }
-}
-
-fn run(rt: &HostRuntime) -> Result<u8, Fault> {
+fn run(rt: &HostRuntime) -> Result<u8, StartFault> {
     let alloc = rt.alloc();
     let mut words = Words::new(alloc);
     let mut disks = FileDisks::new(alloc);
@@ -77,16 +55,9 @@ fn sort_arguments(
     rt: &HostRuntime,
     disks: &mut FileDisks<File>,
     words: &mut Words,
-) -> Result<(), Fault> {
-    let arguments = match env::args(rt) {
-        Ok(arguments) => arguments,
-        Err(error) if error.kind() == io::ErrorKind::OutOfMemory => return Err(Fault::Memory(
-            AllocError,
-        )),
-        Err(_) => return Err(Fault::NotText),
-    };
+) -> Result<(), StartFault> {
     let mut are_words = false;
-    for argument in arguments.skip(1) {
+    for argument in arguments(rt)? {
         if are_words {
             words.push(rt.alloc(), argument.as_str())?;
         } else if argument.as_str() == "--" {
@@ -99,15 +70,19 @@ fn sort_arguments(
 }
 
 /// Opens an image as the next disk.
-fn add_image(rt: &HostRuntime, disks: &mut FileDisks<File>, word: String) -> Result<(), Fault> {
+fn add_image(
+    rt: &HostRuntime,
+    disks: &mut FileDisks<File>,
+    word: String,
+) -> Result<(), StartFault> {
     if disks.count() >= DISKS {
-        return Err(Fault::Image(word));
+        return Err(StartFault::Image(word));
     }
     if word.as_str() == "-" {
         return Ok(disks.push(None)?);
     }
     match open_image(rt, word.as_str()) {
         Some(disk) => Ok(disks.push(Some(disk))?),
-        None => Err(Fault::Image(word)),
+        None => Err(StartFault::Image(word)),
     }
 }

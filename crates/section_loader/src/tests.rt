@@ -47,6 +47,14 @@ fn section_slot() -> Option<Slot> {
     }
 }
 
+// The byte at an address, 0 past the end.
+fn byte(ram: &Ram, at: u32) -> u8 {
+    if at < ram.size() {
+        return ram.bytes(at, 1).first().copied().unwrap_or(0);
+    }
+    0
+}
+
 // What a file of 700 bytes comes to at 0x1000 in a memory of zeros, and its two pieces there at their ends.
 fn load(
     alloc: Global,
@@ -55,21 +63,21 @@ fn load(
 ) -> Result<(Result<(), Halt>, [u8; 4]), AllocError> {
     let mut disks = disk_of(alloc, slots, failing)?;
     let mut ram = Ram::new(alloc, 1_048_576)?;
-    let mut ends = [0; 4];
-    match section_slot() {
-        Some(slot) if slot.count == 1 => {
-            let mut file = FileReader::new(&slot, 700, 1);
-            let answer = load_bytes(&mut file, &mut disks, &mut ram, 0x1000, 700);
-            ends.copy_from_slice(&[
-                ram.bytes(0x1000, 1)[0],
-                ram.bytes(0x11FF, 1)[0],
-                ram.bytes(0x12BB, 1)[0],
-                ram.bytes(0x12BC, 1)[0],
-            ]);
-            Ok((answer, ends))
-        }
-        _ => Err(AllocError),
+    let Some(slot) = section_slot() else {
+        return Err(AllocError);
+    };
+    if slot.count != 1 || ram.size() < 0x12BC {
+        return Err(AllocError);
     }
+    let mut file = FileReader::new(&slot, 700, 1);
+    let answer = load_bytes(&mut file, &mut disks, &mut ram, 0x1000, 700);
+    let ends = [
+        byte(&ram, 0x1000),
+        byte(&ram, 0x11FF),
+        byte(&ram, 0x12BB),
+        byte(&ram, 0x12BC),
+    ];
+    Ok((answer, ends))
 }
 
 #[test]

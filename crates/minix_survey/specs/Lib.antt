@@ -1,0 +1,4 @@
+pub mod Findings
+pub mod Step
+pub mod Tables
+pub mod View

@@ -1,6 +1,6 @@
 -- What is left alone by calls that read disks and show texts.
 use Rattle.std.specs.Prelude.{◌≡◌, ◌≤◌}
-use Rattle.disk_trait.specs.Cause.{Rose}
+use Rattle.lilo_model.specs.Faults.{Rose}
 use Rattle.disk_trait.specs.Past.{SameDisks}
 use Rattle.disk_trait.specs.declared.disks.Disks as disks
 use Rattle.stream_trait.specs.Shows.{HasFailed, sink_of}

@@ -1,7 +1,7 @@
 // The BIOS: disks that are read by slots, and keys.
 ghost use Rattle.std.specs.Prelude.{◌≡◌, ◌<◌, ◌≤◌, ◌↔◌, length, map, All, Ok, IsOk, IsErr, IsErrOf, OnOk, OnErr};
 ghost use Rattle.disk_trait.specs.Past.{SameDisks};
-ghost use Rattle.disk_trait.specs.Cause.{Rose};
+ghost use Rattle.lilo_model.specs.Faults.{Rose};
 ghost use Rattle.lilo_model.specs.Checks.{with_fault};
 ghost use Rattle.lilo_model.specs.Slots as slots;
 ghost use Rattle.lilo_model.specs.Slots.{place_at};

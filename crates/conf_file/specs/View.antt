@@ -1,6 +1,6 @@
 -- When an answer is the model's.
 use Rattle.std.specs.Prelude.{◌≡◌, ℕ, List, Result, Ok, Err}
-use Rattle.disk_trait.specs.Cause.{Rose}
+use Rattle.lilo_model.specs.Faults.{Rose}
 use Rattle.lilo_model.specs.ConfVerdict as model
 use Rattle.lilo_model.specs.Refusal as refusals
 use Rattle.lilo_model.specs.Refusal.{Refusal}

@@ -1,7 +1,7 @@
 // The text of a configuration.
 ghost use Rattle.std.specs.Prelude.{◌≡◌, ◌≤◌, option_map, IfErr};
 ghost use Rattle.disk_trait.specs.Past.{Told, SameDisks};
-ghost use Rattle.disk_trait.specs.Cause.{Rose};
+ghost use Rattle.lilo_model.specs.Faults.{Rose};
 ghost use Rattle.lilo_model.specs.Checks.{with_fault};
 ghost use Rattle.lilo_model.specs.ConfVerdict.{conf_file, file_on, path_refusal};
 ghost use Rattle.lilo_model.specs.MinixFind.{file_at};

@@ -4,7 +4,7 @@
 ghost use Rattle.std.specs.Prelude.{◌≡◌, ◌⊎◌, ◌<◌, ◌≤◌, ℕ, List, length, EachIndex, SomeIndex, slice_index, OnOk, IsErrOf};
 ghost use Rattle.disk_trait.specs.Past.{Image, with_sector};
 ghost use Rattle.disk_trait.specs.Moments.{IsTold, now, MayLeave, IsQuiet, LeavesOnly};
-ghost use Rattle.disk_trait.specs.Cause.{Rose};
+ghost use Rattle.lilo_model.specs.Faults.{Rose};
 ghost use Rattle.disk_trait.specs.Calls.{HasCauseOf, HasRangeCauseOf};
 ghost use Rattle.disk_trait.specs.NotWritten.{NotWritten};
 ghost use Rattle.disk_trait.specs.Range.{IsPastEnd, SameOutside, IsWritten};

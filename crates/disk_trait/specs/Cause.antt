@@ -2,10 +2,7 @@
 use Rattle.std.specs.Prelude.{◌≡◌, ◌↔◌, ◌<◌, ◌≤◌, ℕ, Result, IsErrOf}
 use Rattle.disk_trait.specs.declared.disks.DiskFault.{DiskFault}
 use Rattle.disk_trait.specs.declared.disks.DiskFault.TheVariants.{Failed, OutOfRange}
-
--- A count of faults has risen, or stands at its last value.
-abbrev pub Rose : ℕ → ℕ → Type 0
-Rose before now = now < 18446744073709551615 → before < now
+use Rattle.lilo_model.specs.Faults.{Rose}
 
 -- The cause of what a call on one sector answered: the count never falls; a sector that isn't there is out of
 -- range, and then no fault is counted; a call that failed counted a fault.

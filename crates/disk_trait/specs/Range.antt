@@ -2,7 +2,7 @@
 use Rattle.std.specs.Prelude.{◌≡◌, ◌≢◌, ◌⊎◌, ◌↔◌, ◌<◌, ◌≤◌, ℕ, ◌+◌, List, [], length, Option, Result, IsErrOf, slice_index_or}
 use Rattle.disk_trait.specs.declared.disks.DiskFault.{DiskFault}
 use Rattle.disk_trait.specs.declared.disks.DiskFault.TheVariants.{Failed, OutOfRange}
-use Rattle.disk_trait.specs.Cause.{Rose}
+use Rattle.lilo_model.specs.Faults.{Rose}
 use Rattle.disk_trait.specs.Past.{Image, Past}
 use Rattle.disk_trait.specs.Moments.{MayLeave}
 

@@ -1,6 +1,6 @@
 -- A command on a device, and the whole call.
 use Rattle.std.proofs.Common.{◌≡◌, ◌≤◌, ◌==◌, ◌∙◌, ℕ, inl, inr, Bool, false, List, [], ◌++◌, Option, Ok, Err, refl, sym, ap, subst, arith}
-use Rattle.disk_trait.specs.Cause.{Rose}
+use Rattle.lilo_model.specs.Faults.{Rose}
 use Rattle.stream_trait.specs.Sink.{TakesFront}
 use Rattle.stream_trait.specs.Shows.{SinkState, Shows, Prints, answer_of}
 use Rattle.stream_trait.proofs.SinkLemmas.{TakesFront-whole, TakesFront-before}

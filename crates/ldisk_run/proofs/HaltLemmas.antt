@@ -1,6 +1,6 @@
 -- Refusals of the calls below, as this crate tells them.
 use Rattle.std.proofs.Common.{◌≡◌, ℕ, Result, Ok, Err, IsErr, refl}
-use Rattle.disk_trait.specs.Cause.{Rose}
+use Rattle.lilo_model.specs.Faults.{Rose}
 use Rattle.lilo_model.specs.Checks.{◌>>=◌, with_fault}
 use Rattle.lilo_model.specs.MinixFind as finds
 use Rattle.lilo_model.specs.MinixParts as parts

@@ -1,7 +1,7 @@
 -- How what was done stands to what the definitions give.
 use Rattle.std.specs.Prelude.{◌≡◌, ◌⊎◌, ◌==◌, ℕ, Bool, List, [], ◌∷◌, Option, Result, Ok, Err, IsErr}
 use Rattle.std.specs.List.{list_any}
-use Rattle.disk_trait.specs.Cause.{Rose}
+use Rattle.lilo_model.specs.Faults.{Rose}
 use Rattle.stream_trait.specs.Sink.{TakesFront}
 use Rattle.stream_trait.specs.Shows.{Prints}
 use Rattle.lilo_model.specs.Verdict.{Verdict}

@@ -1,7 +1,7 @@
 // The top call: what the program `ldisk` does with its words.
 ghost use Rattle.std.specs.Prelude.{◌≡◌, ◌↔◌, ◌≤◌, None, IsSome, IsTrue};
 ghost use Rattle.disk_trait.specs.Past.{Told, SameDisks};
-ghost use Rattle.disk_trait.specs.Cause.{Rose};
+ghost use Rattle.lilo_model.specs.Faults.{Rose};
 ghost use Rattle.stream_trait.specs.Sink.{Takes};
 ghost use Rattle.stream_trait.specs.Shows.{HasFailed};
 ghost use Rattle.lilo_model.specs.LdiskWords.{asked_at};

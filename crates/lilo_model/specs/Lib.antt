@@ -17,6 +17,7 @@ pub mod ConfVerdict
 pub mod DefaultLine
 pub mod Devices
 pub mod Disks
+pub mod Faults
 pub mod Header
 pub mod KeyCuts
 pub mod Lays

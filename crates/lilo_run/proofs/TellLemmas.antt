@@ -2,7 +2,7 @@
 use Rattle.std.proofs.Common.{◌≡◌, ◌≤◌, ◌≢◌, ◌∙◌, ◌==◌, ℕ, inl, inr, Bool, true, false, List, [], ◌∷◌, Option, None, Some, refl, sym, ap, subst, arith, append-nil}
 use Rattle.std.proofs.lemmas.Bool.{eqb-true, ne_eqb}
 use Rattle.lilo_model.specs.Place.{Memory, memory_after}
-use Rattle.stream_trait.specs.Fault.{Rose}
+use Rattle.lilo_model.specs.Faults.{Rose}
 use Rattle.stream_trait.specs.Sink.{Takes}
 use Rattle.stream_trait.specs.Shows.{SinkState, answer_of, Prints, PrintsOne}
 use Rattle.stream_trait.proofs.ShowsLemmas.{prints_of, prints_one_of}

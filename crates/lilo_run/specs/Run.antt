@@ -17,7 +17,7 @@ use Rattle.mbr_table.specs.declared.table_fault.TableFault.{TableFault}
 use Rattle.mbr_table.specs.declared.table_fault.TableFault.TheVariants as faults
 use Rattle.section_loader.specs.Reading.{Why, Unbuilt, Because}
 use Rattle.section_loader.specs.declared.reason.Reason.TheVariants as reasons
-use Rattle.stream_trait.specs.Fault.{Rose}
+use Rattle.lilo_model.specs.Faults.{Rose}
 use Rattle.stream_trait.specs.Shows.{SinkState, Shows, ShowsOne, Prints, PrintsOne, answer_of, sink_of}
 use Rattle.stream_trait.specs.declared.shown.Shown.{Shown}
 use Rattle.stream_trait.specs.declared.sink.Sink as sinks

@@ -2,7 +2,7 @@
 ghost use Rattle.std.specs.Prelude.{◌≡◌, true, Bool, List, ◌↔◌, ◌++◌, codes, false, length, map, IfSome, IfOk, IsOk};
 ghost use Rattle.std.specs.Prelude.{IsErr, IsTrue};
 ghost use Rattle.disk_trait.specs.Past.{SameDisks};
-ghost use Rattle.disk_trait.specs.Cause.{Rose};
+ghost use Rattle.lilo_model.specs.Faults.{Rose};
 ghost use Rattle.stream_trait.specs.Sink.{Takes};
 ghost use Rattle.lilo_model.specs.Place.{memory_after};
 ghost use Rattle.lilo_model.specs.Words.{run_at, usage_text};

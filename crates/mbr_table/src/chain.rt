@@ -2,7 +2,7 @@
 ghost use Rattle.std.specs.Prelude.{◌≡◌, ◌^◌, ◌≤◌, ◌<◌, [], ◌∷◌, ◌++◌, nat_eq, ◌+◌, length, All, Some, option_map, option_to_list, IfOk, IfErr, IfSome, IsErrOf, IsTrue};
 ghost use Rattle.std.specs.List.{list_any};
 ghost use Rattle.disk_trait.specs.Past.{Told, SameDisks};
-ghost use Rattle.disk_trait.specs.Cause.{Rose};
+ghost use Rattle.lilo_model.specs.Faults.{Rose};
 ghost use Rattle.lilo_model.specs.Partitions.{table_entries, link_of, linked_sector, chain_from, chain_entries, logical_from, chain_tables};
 ghost use Rattle.mbr_table.specs.Gives.{Gives, is_of_disk};
 ghost use Rattle.mbr_table.specs.Listed.{AreListed};

@@ -1,7 +1,7 @@
 // The partitions of a disk, and where a device lies.
 ghost use Rattle.std.specs.Prelude.{◌≡◌, ℕ, ◌↔◌, ◌≤◌, ◌++◌, Ok, All, IfOk, IfErr, IsErrOf, IsTrue};
 ghost use Rattle.disk_trait.specs.Past.{Told, SameDisks};
-ghost use Rattle.disk_trait.specs.Cause.{Rose};
+ghost use Rattle.lilo_model.specs.Faults.{Rose};
 ghost use Rattle.lilo_model.specs.Checks.{seen};
 ghost use Rattle.lilo_model.specs.Partitions.{partitions_of, logical_partitions, link_of, numbered_span, span_of};
 ghost use Rattle.mbr_table.specs.Gives.{Gives, is_of_disk, is_of_device};

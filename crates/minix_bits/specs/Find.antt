@@ -1,6 +1,6 @@
 -- When an answer is the definition's, and what each refusal says.
 use Rattle.std.specs.Prelude.{◌≡◌, ◌<◌, ℕ, List, Result, Ok, Err}
-use Rattle.disk_trait.specs.Cause.{Rose}
+use Rattle.lilo_model.specs.Faults.{Rose}
 use Rattle.minix_bits.specs.declared.bit_fault.BitFault.{BitFault}
 use Rattle.minix_bits.specs.declared.bit_fault.BitFault.TheVariants as faults
 use Rattle.minix_bits.specs.Free.{Shortage}

@@ -1,6 +1,6 @@
 // The lowest free zones and inodes of a volume.
 ghost use Rattle.std.specs.Prelude.{◌≡◌, ◌-◌, ◌<◌, ◌≤◌, ◌++◌, All, IfOk, IfErr, IfSome, OnOk, length, take};
-ghost use Rattle.disk_trait.specs.Cause.{Rose};
+ghost use Rattle.lilo_model.specs.Faults.{Rose};
 ghost use Rattle.disk_trait.specs.Past.{Told};
 ghost use Rattle.lilo_model.specs.MinixParts.{parts_of, sector_of};
 ghost use Rattle.minix_layout.specs.View.{super_view};

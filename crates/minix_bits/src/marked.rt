@@ -1,6 +1,6 @@
 // Whether zones and inodes are marked.
 ghost use Rattle.std.specs.Prelude.{◌≡◌, ◌<◌, ◌≤◌, IfErr, IfOk};
-ghost use Rattle.disk_trait.specs.Cause.{Rose};
+ghost use Rattle.lilo_model.specs.Faults.{Rose};
 ghost use Rattle.disk_trait.specs.Past.{Told};
 ghost use Rattle.lilo_model.specs.MinixParts.{parts_of, sector_of, bit};
 ghost use Rattle.minix_zones.specs.Volume.{volume_view, past_of, faults_of, SameVolume};

@@ -1,7 +1,7 @@
 // The search for a volume.
 ghost use Rattle.std.specs.Prelude.{◌≡◌, ◌∷◌, [], ◌+◌, ◌≤◌, nat_le, true, Ok, option_map, find, All, IfOk, IfErr, IsErrOf, IfSome};
 ghost use Rattle.disk_trait.specs.Past.{Told, SameDisks};
-ghost use Rattle.disk_trait.specs.Cause.{Rose};
+ghost use Rattle.lilo_model.specs.Faults.{Rose};
 ghost use Rattle.lilo_model.specs.Devices.{last_partition};
 ghost use Rattle.lilo_model.specs.Partitions.{partitions_of};
 ghost use Rattle.lilo_model.specs.VolumeSearch.{has_magic, holds_volume, searched_partitions, searched_on, ends_search, first_volume, named_volume, volume_place};

@@ -1,7 +1,7 @@
 -- Steps of a survey, one after the other.
 use Rattle.std.proofs.Common.{◌≡◌, ◌≤◌, ℕ, List, Option, Some, None, Result, Ok, Err, IfErr, refl, sym, ◌∙◌, subst, arith}
 use Rattle.disk_trait.specs.declared.disks.Disks.{Ghosts}
-use Rattle.disk_trait.specs.Cause.{Rose}
+use Rattle.lilo_model.specs.Faults.{Rose}
 use Rattle.disk_trait.specs.Past.{Past, Image, Told, SameDisks}
 use Rattle.lilo_model.specs.MinixParts.{parts_of}
 use Rattle.lilo_model.specs.MinixSurvey.{Surveyable, Met, SurveyFault as Refusal, surveyable, judged}

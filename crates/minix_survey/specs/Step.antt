@@ -1,6 +1,6 @@
 -- A step of a survey: what is met next, and what was answered.
 use Rattle.std.specs.Prelude.{◌≡◌, ◌≤◌, ◌<◌, ℕ, zero, suc, ◌+◌, ◌-◌, true, List, [], ◌∷◌, Option, None, Some, Result, Ok, Err, IfErr}
-use Rattle.disk_trait.specs.Cause.{Rose}
+use Rattle.lilo_model.specs.Faults.{Rose}
 use Rattle.disk_trait.specs.Past.{Image, Told}
 use Rattle.disk_trait.specs.declared.disks.Disks.{Ghosts}
 use Rattle.lilo_model.specs.MinixFind.{TreeFault as TreeRefusal}

@@ -1,6 +1,6 @@
 -- For which plain value of the model each value of this crate stands, and when an answer is the model's.
 use Rattle.std.specs.Prelude.{◌≡◌, ℕ, Result, Ok, Err}
-use Rattle.disk_trait.specs.Cause.{Rose}
+use Rattle.lilo_model.specs.Faults.{Rose}
 use Rattle.lilo_model.specs.MinixFind as finds
 use Rattle.lilo_model.specs.MinixParts as parts
 use Rattle.lilo_model.specs.MinixSurvey as model

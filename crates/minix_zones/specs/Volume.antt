@@ -5,7 +5,7 @@ use Rattle.std.specs.Borrow.{MutBor}
 use Rattle.disk_trait.specs.declared.disks.Disks.{Ghosts}
 use Rattle.disk_trait.specs.declared.geometry.Geometry.{Geometry}
 use Rattle.disk_trait.specs.Past.{Past, SameDisks}
-use Rattle.disk_trait.specs.Cause.{Rose}
+use Rattle.lilo_model.specs.Faults.{Rose}
 use Rattle.disk_trait.specs.Moments.{begun}
 use Rattle.disk_trait.specs.Calls.{Writes, Flushes}
 use Rattle.minix_layout.specs.View.{super_view}

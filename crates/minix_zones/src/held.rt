@@ -1,6 +1,6 @@
 // The indirect zones on the way to a block.
 ghost use Rattle.std.specs.Prelude.{◌≡◌, ◌<◌, ◌≤◌, slice_index, OnOk, OnErr, IfOk, IfErr};
-ghost use Rattle.disk_trait.specs.Cause.{Rose};
+ghost use Rattle.lilo_model.specs.Faults.{Rose};
 ghost use Rattle.disk_trait.specs.Past.{Told};
 ghost use Rattle.lilo_model.specs.MinixLayout.{numbers_in_zone, reach};
 ghost use Rattle.lilo_model.specs.MinixParts.{parts_of, number_below, follow_at, trail_of, inside, zone_at, block_at};

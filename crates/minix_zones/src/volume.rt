@@ -26,7 +26,7 @@ impl<'d, D: Disks> Volume<'d, D> {
     ghost use Rattle.std.specs.Prelude.{◌≡◌, ◌≢◌, ◌+◌, ◌≤◌, ◌<◌, ℕ, OnOk, OnErr, IfOk, IsErrOf};
     ghost use Rattle.disk_trait.specs.Past.{Told};
     ghost use Rattle.disk_trait.specs.Calls.{SameOf};
-    ghost use Rattle.disk_trait.specs.Cause.{Rose};
+    ghost use Rattle.lilo_model.specs.Faults.{Rose};
     ghost use Rattle.lilo_model.specs.MinixLayout.{IsSuper, super_at, super_sector};
     ghost use Rattle.lilo_model.specs.MinixParts.{volume_at, sector_of, parts_of};
     ghost use Rattle.minix_layout.specs.View.{super_view};

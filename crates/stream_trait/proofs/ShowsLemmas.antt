@@ -1,7 +1,7 @@
 -- Texts that are shown one after another.
 use Rattle.std.proofs.Common.{◌≡◌, ◌≤◌, ◌==◌, ◌⊎◌, ◌∙◌, Bool, ℕ, inl, inr, true, false, List, [], ◌∷◌, ◌++◌, map, Option, None, Some, refl, sym, ap, subst, arith, append-nil}
 use Rattle.std.proofs.lemmas.Bool.{cases_Bool, both_ways, eqb-true}
-use Rattle.stream_trait.specs.Fault.{Rose}
+use Rattle.lilo_model.specs.Faults.{Rose}
 use Rattle.stream_trait.specs.Sink.{Takes, TakesFront}
 use Rattle.stream_trait.proofs.SinkLemmas.{Takes-trans, TakesFront-before, TakesFront-after}
 use Rattle.stream_trait.specs.Shows.{SinkState, Shows, ShowsOne, HasFailed, Prints, PrintsOne, answer_of}

@@ -1,6 +1,6 @@
 -- What a sink has taken of the texts that were shown: all of them in order until it failed, and nothing after that.
 use Rattle.std.specs.Prelude.{◌≡◌, ◌≤◌, ◌⊎◌, ℕ, ◌==◌, ◌&&◌, if◌then◌else◌, Bool, true, false, List, [], ◌∷◌, Option}
-use Rattle.stream_trait.specs.Fault.{Rose}
+use Rattle.lilo_model.specs.Faults.{Rose}
 use Rattle.stream_trait.specs.Sink.{Takes, TakesFront}
 use Rattle.stream_trait.specs.declared.sink.Sink.{Ghosts}
 use Rattle.stream_trait.specs.declared.shown.Shown.{Shown}

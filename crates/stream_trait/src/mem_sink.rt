@@ -63,7 +63,8 @@ impl MemSink {
 
 impl Sink for MemSink {
     ghost use Rattle.std.specs.Prelude.{◌≡◌, ◌+◌, ◌<◌, ◌≤◌, ◌⊎◌, ◌↔◌, length, Some, IsTrue, IsErr, OnOk, OnErr};
-    ghost use Rattle.stream_trait.specs.Fault.{Rose, is_listed};
+    ghost use Rattle.lilo_model.specs.Faults.{Rose};
+    ghost use Rattle.stream_trait.specs.Fault.{is_listed};
     ghost use Rattle.stream_trait.specs.Sink.{Takes, TakesFront};
     ghost use Rattle.stream_trait.specs.MemSink.{sink_after_taking, sink_after_failing};
 

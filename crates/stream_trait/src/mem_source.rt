@@ -59,7 +59,8 @@ impl MemSource {
 
 impl Source for MemSource {
     ghost use Rattle.std.specs.Prelude.{◌≡◌, ℕ, ◌<◌, ◌≤◌, ◌↔◌, length, true, false, Some, IsTrue, IsFalse};
-    ghost use Rattle.stream_trait.specs.Fault.{Rose, is_listed};
+    ghost use Rattle.lilo_model.specs.Faults.{Rose};
+    ghost use Rattle.stream_trait.specs.Fault.{is_listed};
     ghost use Rattle.stream_trait.specs.Source.{Gives};
     ghost use Rattle.stream_trait.specs.MemSource.{source_after};
 

@@ -1,6 +1,6 @@
 // Where texts go.
 ghost use Rattle.std.specs.Prelude.{◌≡◌, ℕ, ◌≤◌, List, Option, OnOk, OnErr};
-ghost use Rattle.stream_trait.specs.Fault.{Rose};
+ghost use Rattle.lilo_model.specs.Faults.{Rose};
 ghost use Rattle.stream_trait.specs.Sink.{Takes, TakesFront};
 
 /// A fault kept a sink from taking all of a text.

@@ -1,6 +1,6 @@
 // Where bytes come from, one at a time.
 ghost use Rattle.std.specs.Prelude.{◌≡◌, ℕ, ◌<◌, ◌≤◌, ◌↔◌, List, Bool, Option, true, IsTrue};
-ghost use Rattle.stream_trait.specs.Fault.{Rose};
+ghost use Rattle.lilo_model.specs.Faults.{Rose};
 
 /// What a source answers.
 #[derive(Clone, Copy, Debug, PartialEq, Eq)]

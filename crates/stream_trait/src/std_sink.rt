@@ -39,7 +39,8 @@ impl<W: Write + Drop> StdSink<W> {
 impl<W: Write + Drop> Sink for StdSink<W> {
     ghost use Rattle.std.specs.Prelude.{◌≡◌, ◌≤◌, None, OnOk, OnErr};
     ghost use Rattle.std.specs.Io.KnownBytes.{Appends};
-    ghost use Rattle.stream_trait.specs.Fault.{Rose, count_after};
+    ghost use Rattle.lilo_model.specs.Faults.{Rose};
+    ghost use Rattle.stream_trait.specs.Fault.{count_after};
     ghost use Rattle.stream_trait.specs.Sink.{Takes, TakesFront};
 
     ghost taken = { λ _. None };

@@ -66,7 +66,7 @@ impl<R: Read + Drop> StdSource<R> {
 
 impl<R: Read + Drop> Source for StdSource<R> {
     ghost use Rattle.std.specs.Prelude.{◌≡◌, ℕ, ◌<◌, ◌≤◌, ◌↔◌, None, IsTrue, IsFalse};
-    ghost use Rattle.stream_trait.specs.Fault.{Rose};
+    ghost use Rattle.lilo_model.specs.Faults.{Rose};
     ghost use Rattle.stream_trait.specs.Source.{Gives};
     ghost use Rattle.stream_trait.specs.StdSource.{GivesKnown, Counts};
 

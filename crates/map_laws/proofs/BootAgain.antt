@@ -1,12 +1,12 @@
 -- A boot sector that is written is read again.
-use Rattle.std.proofs.Common.{◌≡◌, ◌≤◌, ◌<◌, ℕ, ◌^◌, ◌==◌, Bool, true, false, ◌&&◌, not, if◌then◌else◌, List, [], ◌∷◌, ◌++◌, length, replicate, Option, None, Some, Result, Ok, refl, sym, ap, ◌∙◌, arith, append_assoc}
+use Rattle.std.proofs.Common.{◌≡◌, ◌≤◌, ◌<◌, ℕ, ◌^◌, ◌==◌, Bool, true, false, ◌&&◌, not, if◌then◌else◌, List, [], ◌∷◌, ◌++◌, length, replicate, Option, None, Some, Result, Ok, refl, sym, ap, ◌∙◌, arith, append_assoc, length-append}
 use Rattle.std.specs.Prelude.{nat_le, nat_lt, IfSome}
 use Rattle.std.proofs.lemmas.Nat.{from_le_bytes-to_le_bytes_2, from_le_bytes-to_le_bytes_4}
 use Rattle.std.proofs.lemmas.Bool.Decides.{nat_tests}
 use Rattle.lilo_model.specs.Bytes.{is_zero, is_between, part_of, number16, number32, bytes16, bytes32}
 use Rattle.lilo_model.specs.Slots.{Slot, is_one_slot, some_slot, slot_bytes, optional_bytes}
 use Rattle.lilo_model.specs.BootSector.{BootSector, MapFault, first_bytes, last_bytes, is_bootable, has_signature, has_options, has_names, has_slots, has_no_message, has_whole_message, has_message, has_zeros, is_whole, timeout_of, table_slots, boot_of, boot_at, flag_number, timeout_number, field_bytes, merged_sector}
-use Rattle.map_laws.proofs.Parts.{part-after}
+use Rattle.map_laws.proofs.Parts.{part-after, part-between}
 use Rattle.map_laws.specs.Lies.{IsOneSlot}
 use Rattle.map_laws.proofs.SlotAgain.{length-slot, read-as, one-slot, some-slot}
 
@@ -176,6 +176,29 @@ read-boot bytes boot fits r end =
     (rw (zeros-24, zeros-30, message-whole boot.message boot.message_length boot.message_chain fits.message, message-again boot.message boot.message_length boot.message_chain fits.message, timeout-again boot.timeout fits.timeout, flag-again boot.prompt, (read-as boot.line fits.line.whole).is, (read-as boot.zero_sector fits.zero_one.whole).is, (read-as fits.one fits.first.whole).is, (read-as fits.two fits.second.whole).is, (read-as fits.three fits.third.whole).is)
     (boot-is boot fits))
 
+-- the fields of a boot sector take 128 bytes
+length-boot : (boot : BootSector) → FitsBoot boot → length (field_bytes boot) ≡ 128
+length-boot boot fits =
+    ap length (fields-are boot fits.one fits.two fits.three fits.version fits.table)
+    ∙ length-fields boot.time (flag_number boot.prompt) boot.delay (timeout_number boot.timeout) boot.names boot.message_length boot.message_chain boot.default_entry (slot_bytes boot.line) (slot_bytes boot.zero_sector) (optional_bytes boot.message) (slot_bytes fits.one) (slot_bytes fits.two) (slot_bytes fits.three)
+    (length-slot boot.line) (length-slot boot.zero_sector) (length-optional boot.message) (length-slot fits.one) (length-slot fits.two) (length-slot fits.three)
+
+-- the code after them, and what stays of the sector that was there
+module _ (boot : BootSector) (code present : List ℕ) (fits : FitsBoot boot) (full : length (part_of code 128 312) ≡ 312) (whole : length (part_of present 440 70) ≡ 70) where
+  pub code-again : part_of (merged_sector boot code present) 128 312 ≡ part_of code 128 312
+  unfolding merged_sector
+  code-again =
+      ap (λ bytes. part_of bytes 128 312) (append_assoc (field_bytes boot ++ part_of code 128 312) (part_of present 440 70) last_bytes ∙ append_assoc (field_bytes boot) (part_of code 128 312) (part_of present 440 70 ++ last_bytes))
+      ∙ part-between (field_bytes boot) (part_of code 128 312) (part_of present 440 70 ++ last_bytes) 128 312 (length-boot boot fits) full
+
+  pub kept-again : part_of (merged_sector boot code present) 440 70 ≡ part_of present 440 70
+  unfolding merged_sector
+  kept-again =
+      let long = length-append (field_bytes boot) (part_of code 128 312) in
+      let fields = length-boot boot fits in
+      ap (λ bytes. part_of bytes 440 70) (append_assoc (field_bytes boot ++ part_of code 128 312) (part_of present 440 70) last_bytes)
+      ∙ part-between (field_bytes boot ++ part_of code 128 312) (part_of present 440 70) last_bytes 440 70 (omega (arith, long, fields, full)) whole
+
 -- a boot sector, whatever else the sector has
 pub boot_again : (boot : BootSector) (code present : List ℕ) → FitsBoot boot → length (part_of code 128 312) ≡ 312 → length (part_of present 440 70) ≡ 70
     → boot_at (merged_sector boot code present) ≡ Ok boot
@@ -190,7 +213,7 @@ boot_again boot code present fits full whole =
     (reads-fields boot.time (flag_number boot.prompt) boot.delay (timeout_number boot.timeout) boot.names boot.message_length boot.message_chain boot.default_entry (slot_bytes boot.line) (slot_bytes boot.zero_sector) (optional_bytes boot.message) (slot_bytes fits.one) (slot_bytes fits.two) (slot_bytes fits.three) tail
     (omega (arith, fits.time)) (flag-fits boot.prompt) (omega (arith, fits.delay)) (timeout-fits boot.timeout fits.timeout) (omega (arith, fits.few_names)) (message-fits boot.message boot.message_length boot.message_chain fits.message).0 (message-fits boot.message boot.message_length boot.message_chain fits.message).1 (omega (arith, fits.default, fits.few_names))
     (length-slot boot.line) (length-slot boot.zero_sector) (length-optional boot.message) (length-slot fits.one) (length-slot fits.two) (length-slot fits.three))
-    (ends (fields ++ tail) (end-of fields (part_of code 128 312) (part_of present 440 70) (length-fields boot.time (flag_number boot.prompt) boot.delay (timeout_number boot.timeout) boot.names boot.message_length boot.message_chain boot.default_entry (slot_bytes boot.line) (slot_bytes boot.zero_sector) (optional_bytes boot.message) (slot_bytes fits.one) (slot_bytes fits.two) (slot_bytes fits.three) (length-slot boot.line) (length-slot boot.zero_sector) (length-optional boot.message) (length-slot fits.one) (length-slot fits.two) (length-slot fits.three)) full whole))
+    (ends (fields ++ tail) (end-of fields (part_of code 128 312) (part_of present 440 70) (ap length (sym is) ∙ length-boot boot fits) full whole))
   where
     flag-fits : (prompt : Bool) → flag_number prompt < 2 ^ 16
     flag-fits true = omega arith

@@ -53,6 +53,41 @@ pub length-optional : (config : Config) (machine : Machine) (zero_place : DiskSe
 length-optional config machine zero_place None places = refl
 length-optional config machine zero_place (Some file) places = length-file config machine zero_place file places
 
+-- the section sectors of a section's files lie at their places, and those have slots
+pub record FilesAt (image : Image) (machine : Machine) (config : Config) (zero_place : DiskSector) (mapped : MappedSection) (own : List DiskSector) : Type 0 where
+  pub named : AreNamed machine (slot_to config.mode machine) (main_places mapped.section own)
+  pub named_ramdisk : AreNamed machine (slot_to config.mode machine) (initrd_places config machine mapped own)
+  pub main : AreAt image (main_places mapped.section own) (file_sectors config machine zero_place mapped.main (main_places mapped.section own))
+  pub ramdisk : AreAt image (initrd_places config machine mapped own) (optional_sectors config machine zero_place mapped.initrd (initrd_places config machine mapped own))
+
+-- the sectors of a section after its first lie one after the other
+pub files-at : (image : Image) (machine : Machine) (config : Config) (zero_place : DiskSector) (mapped : MappedSection) (first : DiskSector) (own : List DiskSector) → AreNamed machine (slot_to config.mode machine) own
+    → AreAt image own (extra_sectors mapped.section ++ (file_sectors config machine zero_place mapped.main (main_places mapped.section (first ∷ own)) ++ optional_sectors config machine zero_place mapped.initrd (initrd_places config machine mapped (first ∷ own))))
+    → FilesAt image machine config zero_place mapped (first ∷ own)
+files-at image machine config zero_place mapped first own named lie =
+    let to = slot_to config.mode machine in
+    let all = first ∷ own in
+    let extras = extra_sectors mapped.section in
+    let main = main_places mapped.section all in
+    let ramdisk = initrd_places config machine mapped all in
+    let mains = file_sectors config machine zero_place mapped.main main in
+    let ramdisks = optional_sectors config machine zero_place mapped.initrd ramdisk in
+    let after = lie-suffix image own extras (mains ++ ramdisks) lie in
+    let named_main = named-drop machine to (length extras) own named in
+    record {
+      named = named_main;
+      named_ramdisk = named-drop machine to (chain_for config machine mapped.main) main named_main;
+      main = lie-prefix image main mains ramdisks after;
+      ramdisk = subst (λ n. AreAt image (drop n main) ramdisks) (length-file config machine zero_place mapped.main main) (lie-suffix image main mains ramdisks after);
+    }
+
+-- the same of all its sectors
+pub section-at : (image : Image) (machine : Machine) (config : Config) (zero_place : DiskSector) (mapped : MappedSection) (own : List DiskSector) → AreNamed machine (slot_to config.mode machine) own
+    → AreAt image own (section_sectors_at config machine zero_place mapped own) → FilesAt image machine config zero_place mapped own
+unfolding section_sectors_at
+section-at image machine config zero_place mapped [] named lie = absurd lie
+section-at image machine config zero_place mapped (first ∷ own) named lie = files-at image machine config zero_place mapped first own named.1 lie.1
+
 -- ---- a slot's sector
 
 pub slot-read : (image : Image) (machine : Machine) (to : DiskSector → Slot) (place : DiskSector) (bytes : List ℕ) → IsNamed machine to place → bytes_at image place ≡ bytes → slot_bytes_at image machine (to place) ≡ Ok bytes
@@ -251,20 +286,16 @@ section-read image machine config line_place zero_place mapped target (first ∷
     let mains = file_sectors config machine zero_place mapped.main main in
     let ramdisks = optional_sectors config machine zero_place mapped.initrd ramdisk in
     let extra = extra-read image machine config line_place zero_place mapped lawful first own named.1 (lie-prefix image own extras (mains ++ ramdisks) lie.1) in
-    let after = lie-suffix image own extras (mains ++ ramdisks) lie.1 in
-    let lie_main = lie-prefix image main mains ramdisks after in
-    let lie_ramdisk = subst (λ n. AreAt image (drop n main) ramdisks) (length-file config machine zero_place mapped.main main) (lie-suffix image main mains ramdisks after) in
-    let named_main = named-drop machine to (length extras) own named.1 in
-    let named_ramdisk = named-drop machine to (chain_for config machine mapped.main) main named_main in
+    let at = files-at image machine config zero_place mapped first own named.1 lie.1 in
     let none_main = none-drop line_place (length extras) own none.1 in
     let none_ramdisk = none-drop line_place (chain_for config machine mapped.main) main none_main in
     record {
       shows = record {
         name = refl;
         middle = middle-read image machine config line_place zero_place mapped lawful all name extra (slot-read image machine to first (options_bytes (kept_middle mapped.section)) named.0 lie.0) (kept-short mapped.section lawful.middle) ∙ ap Ok (target-middle image machine config line_place zero_place mapped target lies);
-        now = target-read image machine config line_place zero_place mapped lawful all name target lies named_main named_ramdisk lie_main lie_ramdisk;
-        after = λ line. target-read (with_sector image line_place (line_bytes line)) machine config line_place zero_place mapped lawful all name target (target-still image line_place (line_bytes line) machine config zero_place mapped target lies) named_main named_ramdisk
-            (lie-still image line_place (line_bytes line) main mains none_main lie_main) (lie-still image line_place (line_bytes line) ramdisk ramdisks none_ramdisk lie_ramdisk);
+        now = target-read image machine config line_place zero_place mapped lawful all name target lies at.named at.named_ramdisk at.main at.ramdisk;
+        after = λ line. target-read (with_sector image line_place (line_bytes line)) machine config line_place zero_place mapped lawful all name target (target-still image line_place (line_bytes line) machine config zero_place mapped target lies) at.named at.named_ramdisk
+            (lie-still image line_place (line_bytes line) main mains none_main at.main) (lie-still image line_place (line_bytes line) ramdisk ramdisks none_ramdisk at.ramdisk);
       };
       extra = option_map (λ text. extra_bytes (texts_of mapped.section)) mapped.section.password;
       extra_is = ap (λ flag. optional_at image machine (if flag then (descriptor_for config machine mapped all name).extra else None)) (password-flag mapped all name) ∙ asked-read image machine config line_place zero_place mapped lawful all name mapped.section.password (has-by-password image machine config line_place zero_place mapped lawful) extra;

@@ -12,7 +12,7 @@ use Rattle.map_laws.specs.Lies.{IsOneSlot, AreNamed, FileLies, OptionalLies, IsF
 use Rattle.lilo_model.specs.Lays.{AreAt}
 use Rattle.map_laws.proofs.EntryAgain.{FitsOptional, FitsFlags, FitsEntry}
 use Rattle.map_laws.proofs.Files.{chain-is, slots-between}
-use Rattle.map_laws.proofs.Entries.{lie-prefix, lie-suffix, named-drop, length-file, flags-of}
+use Rattle.map_laws.proofs.Entries.{lie-prefix, files-at, flags-of}
 
 module _ (image : Image) (machine : Machine) (config : Config) (line_place zero_place : DiskSector) where
   abbrev to : DiskSector → Slot
@@ -129,11 +129,7 @@ entry-bytes-fit image machine config line_place zero_place mapped target (first 
     let ramdisk = initrd_places config machine mapped all in
     let mains = file_sectors config machine zero_place mapped.main main in
     let ramdisks = optional_sectors config machine zero_place mapped.initrd ramdisk in
-    let after = lie-suffix image own extras (mains ++ ramdisks) lie.1 in
-    let lie_main = lie-prefix image main mains ramdisks after in
-    let lie_ramdisk = subst (λ n. AreAt image (drop n main) ramdisks) (length-file config machine zero_place mapped.main main) (lie-suffix image main mains ramdisks after) in
-    let named_main = named-drop machine (slot_to config.mode machine) (length extras) own named.1 in
-    let named_ramdisk = named-drop machine (slot_to config.mode machine) (chain_for config machine mapped.main) main named_main in
+    let at = files-at image machine config zero_place mapped first own named.1 lie.1 in
     record {
       name = is_name;
       flags = flags-fit image machine config line_place zero_place mapped lawful all name d;
@@ -144,8 +140,8 @@ entry-bytes-fit image machine config line_place zero_place mapped target (first 
       chain = chain-few image machine config line_place zero_place mapped.main d.bytes d.main;
       initrd_chain = ramdisk-chain mapped.initrd d.initrd d.ramdisk;
       options = named.0.one;
-      first = first-one image machine config line_place zero_place mapped.main d.bytes main d.main named_main lie_main;
-      initrd = ramdisk-one mapped.initrd d.initrd d.ramdisk ramdisk named_ramdisk lie_ramdisk;
+      first = first-one image machine config line_place zero_place mapped.main d.bytes main d.main at.named at.main;
+      initrd = ramdisk-one mapped.initrd d.initrd d.ramdisk ramdisk at.named_ramdisk at.ramdisk;
       extra = extra-one (needs_extra mapped.section) own named.1 (lie-prefix image own extras (mains ++ ramdisks) lie.1);
     }
   where

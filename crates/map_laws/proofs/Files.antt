@@ -9,8 +9,8 @@ use Rattle.lilo_model.specs.Conf.{Config}
 use Rattle.lilo_model.specs.Plan.{MappedFile, slot_to, filled_places, place_of_sector, section_sectors, slots_for, chain_for, file_slots, file_sectors, chain_sectors, compact_slots, slots_after}
 use Rattle.map_laws.specs.Shows.{whole}
 use Rattle.map_laws.specs.Lies.{AreNamed, IsNone, FileLies}
-use Rattle.lilo_model.specs.Lays.{AreAt}
-use Rattle.map_laws.proofs.SectionAgain.{Group, slots_in, places_in, AreGroups, Lists, section_again}
+use Rattle.lilo_model.specs.Lays.{chain_slots, AreAt}
+use Rattle.map_laws.proofs.SectionAgain.{Group, slots_in, places_in, AreGroups, Lists, chain-slots, section_again}
 use Rattle.map_laws.proofs.Compact.{Joined, compact-joined}
 use Rattle.map_laws.proofs.Reckoned.{reckoned}
 use Rattle.map_laws.proofs.FileAgain.{content_again}
@@ -113,17 +113,20 @@ module _ (image : Image) (machine : Machine) (config : Config) (line_place zero_
   unfolding chain_for
   chain-is file = refl
 
-  pub file-shown : (file : MappedFile) (bytes : List ℕ) (own : List DiskSector) → FileLies image machine config line_place zero_place file bytes
+  -- its section lists its sectors, by its slots
+  pub file-listed : (file : MappedFile) (bytes : List ℕ) (own : List DiskSector) → FileLies image machine config line_place zero_place file bytes
       → AreNamed machine (slot_to config.mode machine) own → AreAt image own (file_sectors config machine zero_place file own)
-      → file_content image machine (slot_to config.mode machine (place_of_sector own 0)) file.size (chain_for config machine file) ≡ whole bytes
+      → Lists (filled_places zero_place file.places) (section image machine (slot_to config.mode machine (place_of_sector own 0)) (sectors_for file.size) (chain_for config machine file))
+      × (chain_slots image machine (chain_for config machine file) (slot_to config.mode machine (place_of_sector own 0)) ≡ file_slots config machine zero_place file)
   unfolding file_sectors
-  file-shown file bytes own lies named lie =
+  file-listed file bytes own lies named lie =
       let some : 1 ≤ length file.places = rw lies.count (omega (arith, lies.some)) in
       by-chain (chain_for config machine file) (chain-is file) (slots-between machine config file some).0 own named lie
     where
       by-chain : (chain : ℕ) → chain ≡ section_sectors (slots_for config machine file) → 1 ≤ slots_for config machine file → (own : List DiskSector) → AreNamed machine (slot_to config.mode machine) own
           → AreAt image own (chain_sectors (slot_to config.mode machine) chain (file_slots config machine zero_place file) (drop 1 own))
-          → file_content image machine (slot_to config.mode machine (place_of_sector own 0)) file.size chain ≡ whole bytes
+          → Lists (filled_places zero_place file.places) (section image machine (slot_to config.mode machine (place_of_sector own 0)) (sectors_for file.size) chain)
+          × (chain_slots image machine chain (slot_to config.mode machine (place_of_sector own 0)) ≡ file_slots config machine zero_place file)
       by-chain zero is some own named lie = absurd (omega (arith, is, some))
       by-chain (suc more) is some [] named lie = absurd lie
       by-chain (suc more) is some (here ∷ after) named lie =
@@ -133,11 +136,23 @@ module _ (image : Image) (machine : Machine) (config : Config) (line_place zero_
           let size : length j.groups ≡ length (file_slots config machine zero_place file) = sym (length-groups-of j.groups) ∙ ap length j.slots_are in
           let most = slots-few machine config zero_place file in
           let few : length j.groups ≤ 63 * (more + 1) = omega (arith, size, most, is) in
-          let listed = section_again image machine to more j.groups here after j.good few named (subst (λ slots. AreAt image (here ∷ after) (chain_sectors to (suc more) slots after)) (sym j.slots_are) lie) in
-          let count : length (places_in j.groups) ≡ sectors_for (length bytes) = ap length j.places_are ∙ length-places zero_place file.places ∙ lies.count in
-          let listed' : Lists places (section image machine (to here) (sectors_for (length bytes)) (suc more)) = subst (λ n. Lists places (section image machine (to here) n (suc more))) count (subst (λ places. Lists places (section image machine (to here) (length (places_in j.groups)) (suc more))) j.places_are listed) in
-          ap (λ n. file_content image machine (to here) n (suc more)) lies.size
-          ∙ content_again image machine (to here) (suc more) places bytes listed' lies.lies
+          let lie' = subst (λ slots. AreAt image (here ∷ after) (chain_sectors to (suc more) slots after)) (sym j.slots_are) lie in
+          let listed = section_again image machine to more j.groups here after j.good few named lie' in
+          let count : length (places_in j.groups) ≡ sectors_for file.size = ap length j.places_are ∙ length-places zero_place file.places ∙ lies.count ∙ ap sectors_for (sym lies.size) in (
+            subst (λ n. Lists places (section image machine (to here) n (suc more))) count (subst (λ places. Lists places (section image machine (to here) (length (places_in j.groups)) (suc more))) j.places_are listed),
+            chain-slots image machine to (suc more) more j.groups here after j.good few named lie' ∙ j.slots_are,
+          )
+
+  pub file-shown : (file : MappedFile) (bytes : List ℕ) (own : List DiskSector) → FileLies image machine config line_place zero_place file bytes
+      → AreNamed machine (slot_to config.mode machine) own → AreAt image own (file_sectors config machine zero_place file own)
+      → file_content image machine (slot_to config.mode machine (place_of_sector own 0)) file.size (chain_for config machine file) ≡ whole bytes
+  file-shown file bytes own lies named lie =
+      let to = slot_to config.mode machine in
+      let places = filled_places zero_place file.places in
+      let chain = chain_for config machine file in
+      let here = place_of_sector own 0 in
+      ap (λ n. file_content image machine (to here) n chain) lies.size
+      ∙ content_again image machine (to here) chain places bytes (subst (λ n. Lists places (section image machine (to here) (sectors_for n) chain)) lies.size (file-listed file bytes own lies named lie).0) lies.lies
 
 -- ---- the same once a sector is written that is none of them
 

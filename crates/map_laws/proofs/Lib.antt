@@ -26,3 +26,4 @@ pub mod Accepted
 pub mod AcceptedKernels
 pub mod AcceptedSections
 pub mod AcceptedWhole
+pub mod Laid

@@ -2,7 +2,7 @@
 use Rattle.std.proofs.Common.{◌≡◌, ◌≤◌, ℕ, zero, suc, ◌+◌, ◌-◌, ◌*◌, List, [], ◌∷◌, ◌++◌, map, length, take, drop, replicate, Option, None, Some, Result, Ok, refl, sym, ap, subst, ◌∙◌, arith, append_assoc, append-nil, length-append}
 use Rattle.std.specs.List.{concat, range_with_len}
 use Rattle.std.proofs.Math.Seq.{drop-append_seam}
-use Rattle.std.proofs.lemmas.List.{map-append, drop-drop}
+use Rattle.std.proofs.lemmas.List.{map-append, drop-drop, length-map}
 use Rattle.lilo_model.specs.Bytes.{is_zero, part_of, filled_bytes}
 use Rattle.lilo_model.specs.Disks.{Image, Machine, DiskSector, bytes_at}
 use Rattle.lilo_model.specs.Slots.{Slot, slot_at, slot_bytes, optional_bytes, place_at}
@@ -12,7 +12,7 @@ use Rattle.sector_address.proofs.BytesLemmas.{encode_law}
 use Rattle.lilo_model.specs.Plan.{chain_sectors}
 use Rattle.map_laws.proofs.Parts.{part-prefix, part-between, length-filled}
 use Rattle.map_laws.specs.Lies.{IsOneSlot, IsNamed, AreNamed}
-use Rattle.lilo_model.specs.Lays.{AreAt}
+use Rattle.lilo_model.specs.Lays.{slots_of, slots_at_link, slots_from, chain_slots, AreAt}
 use Rattle.map_laws.proofs.SlotAgain.{length-slot}
 
 -- a slot, and the sectors that it names
@@ -57,6 +57,21 @@ slot-prefix slot others = part-prefix (slot_bytes slot) others 8 (length-slot sl
 slot-after : (slot : Slot) (others : List ℕ) → drop 8 (slot_bytes slot ++ others) ≡ others
 slot-after slot others = subst (λ n. drop n (slot_bytes slot ++ others) ≡ others) (length-slot slot) (drop-append_seam (slot_bytes slot) others)
 
+-- the parts of slots that lie one after the other, and of what lies after them
+parts-slots : (slots : List Slot) (count : ℕ) (tail : List ℕ) → length slots ≤ count → eights count (concat (map slot_bytes slots) ++ tail) ≡ map slot_bytes slots ++ eights (count - length slots) tail
+parts-slots [] count tail few =
+    let none : count ≡ count - 0 = omega arith in
+    ap (λ n. eights n tail) none
+parts-slots (slot ∷ slots) zero tail few = absurd (omega (arith, few))
+parts-slots (slot ∷ slots) (suc count) tail few =
+    let others = concat (map slot_bytes slots) ++ tail in
+    let one : count - length slots ≡ suc count - suc (length slots) = omega arith in
+    ap (λ bytes. take 8 bytes ∷ eights count (drop 8 bytes)) (append_assoc (slot_bytes slot) (concat (map slot_bytes slots)) tail)
+    ∙ ap (λ part. part ∷ eights count (drop 8 (slot_bytes slot ++ others))) (slot-prefix slot others)
+    ∙ ap (λ bytes. slot_bytes slot ∷ eights count bytes) (slot-after slot others)
+    ∙ ap (λ parts. slot_bytes slot ∷ parts) (parts-slots slots count tail (omega (arith, few)))
+    ∙ ap (λ n. slot_bytes slot ∷ (map slot_bytes slots ++ eights n tail)) one
+
 -- the steps at slots and the zeros after them
 zeros-read : (machine : Machine) (place count zeros : ℕ) (tail : List ℕ) → 8 * count ≤ zeros → slots_steps machine place (eights count (replicate zeros 0 ++ tail)) ≡ []
 unfolding slot_at is_zero
@@ -64,20 +79,25 @@ zeros-read machine place zero zeros tail fits = refl
 zeros-read machine place (suc count) (suc (suc (suc (suc (suc (suc (suc (suc zeros)))))))) tail fits = refl
 zeros-read machine place (suc count) _ tail fits = absurd (omega (arith, fits))
 
-pub slots-read : (machine : Machine) (groups : List Group) (place count zeros : ℕ) (tail : List ℕ) → AreGroups machine groups → length groups ≤ count → 8 * count ≤ 8 * length groups + zeros
-    → slots_steps machine place (eights count (concat (map slot_bytes (slots_in groups)) ++ (replicate zeros 0 ++ tail))) ≡ map Names (places_in groups)
-slots-read machine [] place count zeros tail are few fits = zeros-read machine place count zeros tail (omega (arith, fits))
-slots-read machine (group ∷ groups) place zero zeros tail are few fits = absurd (omega (arith, few))
-slots-read machine (group ∷ groups) place (suc count) zeros tail are few fits =
-    let others = concat (map slot_bytes (slots_in groups)) ++ (replicate zeros 0 ++ tail) in
-    let assoc = append_assoc (slot_bytes group.slot) (concat (map slot_bytes (slots_in groups))) (replicate zeros 0 ++ tail) in
-    ap (λ bytes. slots_steps machine place (take 8 bytes ∷ eights count (drop 8 bytes))) assoc
-    ∙ ap (λ bytes. slots_steps machine place (bytes ∷ eights count (drop 8 (slot_bytes group.slot ++ others)))) (slot-prefix group.slot others)
-    ∙ ap (λ bytes. slots_steps machine place (slot_bytes group.slot ∷ eights count bytes)) (slot-after group.slot others)
-    ∙ ap (λ found. slot_steps_then machine place found (slots_steps machine (place + 1) (eights count others))) (encode_law group.slot are.0.whole)
-    ∙ ap (λ steps. steps ++ slots_steps machine (place + 1) (eights count others)) are.0.steps
-    ∙ ap (λ steps. map Names group.places ++ steps) (slots-read machine groups (place + 1) count zeros tail are.1 (omega (arith, few)) (omega (arith, fits)))
+pub slots-read : (machine : Machine) (groups : List Group) (place : ℕ) (others : List (List ℕ)) → AreGroups machine groups → ((place : ℕ) → slots_steps machine place others ≡ [])
+    → slots_steps machine place (map slot_bytes (slots_in groups) ++ others) ≡ map Names (places_in groups)
+slots-read machine [] place others are none = none place
+slots-read machine (group ∷ groups) place others are none =
+    ap (λ found. slot_steps_then machine place found (slots_steps machine (place + 1) (map slot_bytes (slots_in groups) ++ others))) (encode_law group.slot are.0.whole)
+    ∙ ap (λ steps. steps ++ slots_steps machine (place + 1) (map slot_bytes (slots_in groups) ++ others)) are.0.steps
+    ∙ ap (λ steps. map Names group.places ++ steps) (slots-read machine groups (place + 1) others are.1 none)
     ∙ sym (map-append Names group.places (places_in groups))
+
+-- the slots themselves, up to the zeros after them
+zeros-none : (count zeros : ℕ) (tail : List ℕ) → 8 * count ≤ zeros → slots_of (eights count (replicate zeros 0 ++ tail)) ≡ []
+unfolding slot_at is_zero
+zeros-none zero zeros tail fits = refl
+zeros-none (suc count) (suc (suc (suc (suc (suc (suc (suc (suc zeros)))))))) tail fits = refl
+zeros-none (suc count) _ tail fits = absurd (omega (arith, fits))
+
+slots-again : (machine : Machine) (groups : List Group) (others : List (List ℕ)) → AreGroups machine groups → slots_of others ≡ [] → slots_of (map slot_bytes (slots_in groups) ++ others) ≡ slots_in groups
+slots-again machine [] others are none = none
+slots-again machine (group ∷ groups) others are none = rw (encode_law group.slot are.0.whole, slots-again machine groups others are.1 none) refl
 
 -- ---- a section sector
 
@@ -87,16 +107,40 @@ length-slots (group ∷ groups) =
     length-append (slot_bytes group.slot) (concat (map slot_bytes (slots_in groups))) ∙ ap (λ n. n + length (concat (map slot_bytes (slots_in groups)))) (length-slot group.slot)
     ∙ ap (λ n. 8 + n) (length-slots groups) ∙ omega arith
 
+-- its parts: those of its slots, and zeros
+parts-sector : (groups : List Group) (link : Option Slot) → length groups ≤ 63
+    → slot_parts (section_bytes (slots_in groups) link) ≡ map slot_bytes (slots_in groups) ++ eights (63 - length (slots_in groups)) (replicate (504 - length (concat (map slot_bytes (slots_in groups)))) 0 ++ optional_bytes link)
+unfolding section_bytes
+parts-sector groups link few =
+    let bytes = concat (map slot_bytes (slots_in groups)) in
+    let count : length (slots_in groups) ≡ length groups = length-map groups (λ (group : Group). group.slot) in
+    parts-eights (section_bytes (slots_in groups) link) 0 63
+    ∙ ap (eights 63) (append_assoc bytes (replicate (504 - length bytes) 0) (optional_bytes link))
+    ∙ parts-slots (slots_in groups) 63 (replicate (504 - length bytes) 0 ++ optional_bytes link) (omega (arith, count, few))
+
+-- so many zeros that no part of them is a slot
+zeros-enough : (groups : List Group) → length groups ≤ 63 → 8 * (63 - length (slots_in groups)) ≤ 504 - length (concat (map slot_bytes (slots_in groups)))
+zeros-enough groups few =
+    let long = length-slots groups in
+    let count : length (slots_in groups) ≡ length groups = length-map groups (λ (group : Group). group.slot) in
+    omega (arith, long, count, few)
+
 -- the steps at the slots of a section sector
 pub sector-read : (machine : Machine) (groups : List Group) (place : ℕ) (link : Option Slot) → AreGroups machine groups → length groups ≤ 63
     → slots_steps machine place (slot_parts (section_bytes (slots_in groups) link)) ≡ map Names (places_in groups)
-unfolding section_bytes
 sector-read machine groups place link are few =
     let bytes = concat (map slot_bytes (slots_in groups)) in
-    let long : length bytes ≡ 8 * length groups = length-slots groups in
-    ap (slots_steps machine place) (parts-eights (section_bytes (slots_in groups) link) 0 63)
-    ∙ ap (λ bytes. slots_steps machine place (eights 63 bytes)) (append_assoc bytes (replicate (504 - length bytes) 0) (optional_bytes link))
-    ∙ slots-read machine groups place 63 (504 - length bytes) (optional_bytes link) are few (omega (arith, long, few))
+    ap (slots_steps machine place) (parts-sector groups link few)
+    ∙ slots-read machine groups place (eights (63 - length (slots_in groups)) (replicate (504 - length bytes) 0 ++ optional_bytes link)) are
+    (λ place. zeros-read machine place (63 - length (slots_in groups)) (504 - length bytes) (optional_bytes link) (zeros-enough groups few))
+
+-- the slots of a section sector
+sector-slots : (machine : Machine) (groups : List Group) (link : Option Slot) → AreGroups machine groups → length groups ≤ 63 → slots_of (slot_parts (section_bytes (slots_in groups) link)) ≡ slots_in groups
+sector-slots machine groups link are few =
+    let bytes = concat (map slot_bytes (slots_in groups)) in
+    ap slots_of (parts-sector groups link few)
+    ∙ slots-again machine groups (eights (63 - length (slots_in groups)) (replicate (504 - length bytes) 0 ++ optional_bytes link)) are
+    (zeros-none (63 - length (slots_in groups)) (504 - length bytes) (optional_bytes link) (zeros-enough groups few))
 
 -- and at its link
 pub link-read : (number : ℕ) (groups : List Group) (link : Option Slot) → length groups ≤ 63 → link_at number (section_bytes (slots_in groups) link) ≡ link_of number (slot_at (optional_bytes link))
@@ -173,6 +217,22 @@ few-prefix zero groups = omega arith
 few-prefix (suc count) [] = omega arith
 few-prefix (suc count) (group ∷ groups) = let h = few-prefix count groups in omega (arith, h)
 
+drop-all : (count : ℕ) (groups : List Group) → length groups ≤ count → drop count groups ≡ []
+drop-all zero [] few = refl
+drop-all zero (group ∷ groups) few = absurd (omega (arith, few))
+drop-all (suc count) [] few = refl
+drop-all (suc count) (group ∷ groups) few = drop-all count groups (omega (arith, few))
+
+few-suffix : (count : ℕ) (groups : List Group) (most : ℕ) → length groups ≤ count + most → length (drop count groups) ≤ most
+few-suffix zero groups most few = omega (arith, few)
+few-suffix (suc count) [] most few = omega arith
+few-suffix (suc count) (group ∷ groups) most few = few-suffix count groups most (omega (arith, few))
+
+slots-cut : (count : ℕ) (groups : List Group) → slots_in (take count groups) ++ slots_in (drop count groups) ≡ slots_in groups
+slots-cut zero groups = refl
+slots-cut (suc count) [] = refl
+slots-cut (suc count) (group ∷ groups) = ap (λ slots. group.slot ∷ slots) (slots-cut count groups)
+
 module _ (image : Image) (machine : Machine) (to : DiskSector → Slot) (chain : ℕ) where
   -- the steps at a section sector list its slots' places, and then those after it
   sector-lists : (number : ℕ) (groups : List Group) (here : DiskSector) (link : Option Slot) (suffix : List DiskSector) (follow : Result (Option Slot) SectionFault → List Step)
@@ -199,12 +259,6 @@ module _ (image : Image) (machine : Machine) (to : DiskSector → Slot) (chain :
       (lie.0 ∙ ap (λ slots. section_bytes slots None) (slots-prefix 63 groups))
       (none-after (drop 63 groups) (drop-all 63 groups (omega (arith, few)))))
     where
-      drop-all : (count : ℕ) (groups : List Group) → length groups ≤ count → drop count groups ≡ []
-      drop-all zero [] few = refl
-      drop-all zero (group ∷ groups) few = absurd (omega (arith, few))
-      drop-all (suc count) [] few = refl
-      drop-all (suc count) (group ∷ groups) few = drop-all count groups (omega (arith, few))
-
       none-after : (groups : List Group) → groups ≡ [] → StepsList (places_in groups) []
       none-after groups is = rw is (lists-none [])
   chain-lists (suc more) number groups here [] are few named lie = absurd lie.1
@@ -217,11 +271,31 @@ module _ (image : Image) (machine : Machine) (to : DiskSector → Slot) (chain :
       (rw (link-of number (to next) named.1.0.one)
       (chain-lists more (number + 1) suffix next after (are-suffix machine 63 groups are) (few-suffix 63 groups (63 * (more + 1)) (omega (arith, few))) named.1
       (subst (λ slots. AreAt image (next ∷ after) (chain_sectors to (suc more) slots after)) (slots-suffix 63 groups) lie.1))))
-    where
-      few-suffix : (count : ℕ) (groups : List Group) (most : ℕ) → length groups ≤ count + most → length (drop count groups) ≤ most
-      few-suffix zero groups most few = omega (arith, few)
-      few-suffix (suc count) [] most few = omega arith
-      few-suffix (suc count) (group ∷ groups) most few = few-suffix count groups most (omega (arith, few))
+
+  -- ---- the slots along a chain
+
+  slots-at : (groups : List Group) (here : DiskSector) (link : Option Slot) (follow : Slot → List Slot) → AreGroups machine groups → length groups ≤ 63 → IsNamed machine to here → bytes_at image here ≡ section_bytes (slots_in groups) link
+      → slots_from image follow (place_at machine (to here) 0) ≡ slots_in groups ++ slots_at_link follow (link_of 0 (slot_at (optional_bytes link)))
+  slots-at groups here link follow are few named lies = rw (named.names, lies, sector-slots machine groups link are few, link-read 0 groups link few) refl
+
+  pub chain-slots : (more : ℕ) (groups : List Group) (here : DiskSector) (after : List DiskSector)
+      → AreGroups machine groups → length groups ≤ 63 * (more + 1) → AreNamed machine to (here ∷ after)
+      → AreAt image (here ∷ after) (chain_sectors to (suc more) (slots_in groups) after)
+      → chain_slots image machine (suc more) (to here) ≡ slots_in groups
+  unfolding slot_at is_zero
+  chain-slots zero groups here after are few named lie =
+      slots-at (take 63 groups) here None (chain_slots image machine zero) (are-prefix machine 63 groups are) (few-prefix 63 groups) named.0 (lie.0 ∙ ap (λ slots. section_bytes slots None) (slots-prefix 63 groups))
+      ∙ ap (λ groups'. slots_in (take 63 groups) ++ slots_in groups') (sym (drop-all 63 groups (omega (arith, few))))
+      ∙ slots-cut 63 groups
+  chain-slots (suc more) groups here [] are few named lie = absurd lie.1
+  chain-slots (suc more) groups here (next ∷ after) are few named lie =
+      let suffix = drop 63 groups in
+      slots-at (take 63 groups) here (Some (to next)) (chain_slots image machine (suc more)) (are-prefix machine 63 groups are) (few-prefix 63 groups) named.0 (lie.0 ∙ ap (λ slots. section_bytes slots (Some (to next))) (slots-prefix 63 groups))
+      ∙ ap (λ link. slots_in (take 63 groups) ++ slots_at_link (chain_slots image machine (suc more)) link) (link-of 0 (to next) named.1.0.one)
+      ∙ ap (λ slots. slots_in (take 63 groups) ++ slots)
+      (chain-slots more suffix next after (are-suffix machine 63 groups are) (few-suffix 63 groups (63 * (more + 1)) (omega (arith, few))) named.1
+      (subst (λ slots. AreAt image (next ∷ after) (chain_sectors to (suc more) slots after)) (slots-suffix 63 groups) lie.1))
+      ∙ slots-cut 63 groups
 
 -- A section whose sectors lie where they are to lie lists the places of its slots, and nothing is refused.
 pub section_again :

@@ -23,7 +23,7 @@ use Rattle.map_laws.proofs.TableAgain as table
 use Rattle.map_laws.proofs.TableAgain.{FitEntries, HaveNames}
 use Rattle.map_laws.proofs.Entries.{lie-prefix, lie-suffix, named-drop, none-drop, length-file, length-optional, EntryShown, section-read, slot-read}
 use Rattle.map_laws.proofs.Parts.{length-filled}
-use Rattle.map_laws.proofs.BootAgain.{FitsMessage, FitsBoot, boot_again}
+use Rattle.map_laws.proofs.BootAgain.{FitsMessage, FitsBoot, code-again, kept-again, boot_again}
 use Rattle.map_laws.proofs.Files.{file-shown, chain-is, slots-between}
 use Rattle.map_laws.proofs.Shown.{shows_law}
 use Rattle.map_laws.proofs.EntryFits.{chain-some, first-one, entry-bytes-fit}
@@ -99,7 +99,7 @@ module _ (image : Image) (machine : Machine) (config : Config) (line_place zero_
       (entry-bytes-fit image machine config line_place zero_place mapped target own name lawful lies are.0 named lie, one-fits mapped target own names others lawful lies are.2 named lie entries fit)
 
   -- the sectors of the sections after one lie after it
-  section-after : (mapped : MappedSection) (own : List DiskSector) (others : List (List ℕ)) → AreAt image own (section_sectors_at config machine zero_place mapped own ++ others) → AreAt image (places_after config machine mapped own) others
+  pub section-after : (mapped : MappedSection) (own : List DiskSector) (others : List (List ℕ)) → AreAt image own (section_sectors_at config machine zero_place mapped own ++ others) → AreAt image (places_after config machine mapped own) others
   unfolding section_sectors_at
   section-after mapped [] others lie = absurd lie
   section-after mapped (first ∷ own) others lie =
@@ -115,7 +115,7 @@ module _ (image : Image) (machine : Machine) (config : Config) (line_place zero_
       let after' = subst (λ n. AreAt image (drop n main) (ramdisks ++ others)) (length-file config machine zero_place mapped.main main) (lie-suffix image main mains (ramdisks ++ others) after) in
       subst (λ n. AreAt image (drop n ramdisk) others) (length-optional config machine zero_place mapped.initrd ramdisk) (lie-suffix image ramdisk ramdisks others after')
 
-  named-after : (mapped : MappedSection) (own : List DiskSector) → AreNamed machine to own → AreNamed machine to (places_after config machine mapped own)
+  pub named-after : (mapped : MappedSection) (own : List DiskSector) → AreNamed machine to own → AreNamed machine to (places_after config machine mapped own)
   named-after mapped own named = named-drop machine to (optional_chain config machine mapped.initrd) (initrd_places config machine mapped own) (named-drop machine to (chain_for config machine mapped.main) (main_places mapped.section own) (named-drop machine to (length (extra_sectors mapped.section)) (drop 1 own) (named-drop machine to 1 own named)))
 
   none-after : (mapped : MappedSection) (own : List DiskSector) → IsNone line_place own → IsNone line_place (places_after config machine mapped own)
@@ -182,10 +182,10 @@ module _ (image : Image) (machine : Machine) (span : Span) (plan : Plan) (menu :
   abbrev places : List DiskSector
   places = p0 ∷ (p1 ∷ (p2 ∷ (p3 ∷ (p4 ∷ rest))))
 
-  abbrev after : List DiskSector
+  abbrev pub after : List DiskSector
   after = sections_places plan machine places
 
-  abbrev entries : List Descriptor
+  abbrev pub entries : List Descriptor
   entries = sections_entries config machine plan.sections after
 
   abbrev message_sectors : List (List ℕ)
@@ -198,18 +198,22 @@ module _ (image : Image) (machine : Machine) (span : Span) (plan : Plan) (menu :
   unfolding plan_sectors plan_entries sectors_after
   all-lie = s.lies
 
-  table-lies : (bytes_at image p1 ∷ (bytes_at image p2 ∷ (bytes_at image p3 ∷ []))) ≡ sectors_of_table entries
+  pub table-lies : (bytes_at image p1 ∷ (bytes_at image p2 ∷ (bytes_at image p3 ∷ []))) ≡ sectors_of_table entries
   unfolding sectors_of_table
   table-lies = rw (all-lie.0, all-lie.1.0, all-lie.1.1.0) refl
+
+  pub zeros-lie : bytes_at image p4 ≡ replicate 512 0
+  unfolding sectors_of_table
+  zeros-lie = all-lie.1.1.1.0
 
   rest-lie : AreAt image rest (message_sectors ++ other_sectors)
   unfolding sectors_of_table
   rest-lie = all-lie.1.1.1.1
 
-  message-lie : AreAt image rest message_sectors
+  pub message-lie : AreAt image rest message_sectors
   message-lie = lie-prefix image rest message_sectors other_sectors rest-lie
 
-  sections-lie : AreAt image after other_sectors
+  pub sections-lie : AreAt image after other_sectors
   sections-lie = subst (λ n. AreAt image (drop n rest) other_sectors) (length-optional config machine p4 plan.message rest) (lie-suffix image rest message_sectors other_sectors rest-lie)
 
   rest-named : AreNamed machine goes rest
@@ -218,7 +222,7 @@ module _ (image : Image) (machine : Machine) (span : Span) (plan : Plan) (menu :
   rest-none : IsNone p0 rest
   rest-none = s.apart.1.1.1.1
 
-  after-named : AreNamed machine goes after
+  pub after-named : AreNamed machine goes after
   after-named = named-drop machine goes (optional_chain config machine plan.message) rest rest-named
 
   after-none : IsNone p0 after
@@ -238,7 +242,7 @@ module _ (image : Image) (machine : Machine) (span : Span) (plan : Plan) (menu :
   unfolding plan_names
   fit = sections-fit image machine config p0 p4 plan.sections targets after s.targets_lie s.names after-named sections-lie
 
-  table-read : table_at (length (plan_names plan)) (sectors_of_table entries) ≡ Ok entries
+  pub table-read : table_at (length (plan_names plan)) (sectors_of_table entries) ≡ Ok entries
   table-read =
       subst (λ n. table_at n (sectors_of_table entries) ≡ Ok entries) count-is
       (table.table_again entries fit (have-names entries (subst AreNames (sym names-are) s.names)) (let few = s.few_names in let count = count-is in omega (arith, few, count)))
@@ -282,14 +286,24 @@ module _ (image : Image) (machine : Machine) (span : Span) (plan : Plan) (menu :
     third = s.named.1.1.1.0.one;
   }
 
-  pub boot-read : boot_at (image span.disk span.start) ≡ Ok said
-  unfolding plan_boot_sector
-  boot-read =
-      ap boot_at s.boot ∙ boot_again said (filled_bytes 512 plan.code) present boot-fits
-      (length-part (filled_bytes 512 plan.code) 128 312 (let long = length-filled 512 plan.code s.code_long in omega (arith, long))) s.present_long
+  code-full : length (part_of (filled_bytes 512 plan.code) 128 312) ≡ 312
+  code-full = length-part (filled_bytes 512 plan.code) 128 312 (let long = length-filled 512 plan.code s.code_long in omega (arith, long))
     where
       length-part : (bytes : List ℕ) (at len : ℕ) → at + len ≤ length bytes → length (part_of bytes at len) ≡ len
       length-part bytes at len fits = length-take-le len (drop at bytes) (rw (length-drop at bytes) (omega (arith, fits)))
+
+  pub boot-read : boot_at (image span.disk span.start) ≡ Ok said
+  unfolding plan_boot_sector
+  boot-read = ap boot_at s.boot ∙ boot_again said (filled_bytes 512 plan.code) present boot-fits code-full s.present_long
+
+  -- the code, and what stays of the sector that was there
+  pub code-read : part_of (image span.disk span.start) 128 312 ≡ part_of (filled_bytes 512 plan.code) 128 312
+  unfolding plan_boot_sector
+  code-read = ap (λ bytes. part_of bytes 128 312) s.boot ∙ code-again said (filled_bytes 512 plan.code) present boot-fits code-full s.present_long
+
+  pub kept-read : part_of (image span.disk span.start) 440 70 ≡ part_of present 440 70
+  unfolding plan_boot_sector
+  kept-read = ap (λ bytes. part_of bytes 440 70) s.boot ∙ kept-again said (filled_bytes 512 plan.code) present boot-fits code-full s.present_long
 
   -- ---- what is read before the prompt
 

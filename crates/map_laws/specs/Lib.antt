@@ -3,6 +3,7 @@ pub mod Compact
 pub mod Files
 pub mod Lies
 pub mod Lines
+pub mod MapLays
 pub mod MapStays
 pub mod PlannedLies
 pub mod Shows

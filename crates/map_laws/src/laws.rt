@@ -10,6 +10,7 @@ ghost use Rattle.map_laws.specs.Compact.{CompactLaw};
 ghost use Rattle.map_laws.specs.Files.{FileLaw, OptionalFileLaw};
 ghost use Rattle.map_laws.specs.Lies.{MapLaw};
 ghost use Rattle.map_laws.specs.Lines.{LinesLaw};
+ghost use Rattle.map_laws.specs.MapLays.{AcceptedLaysLaw, LaysLaw, LaysStaysLaw, PlannedLaysLaw};
 ghost use Rattle.map_laws.specs.MapStays.{MapStaysLaw};
 ghost use Rattle.map_laws.specs.PlannedLies.{PlannedLaw};
 ghost use Rattle.map_laws.specs.Shows.{ShowsLaw};
@@ -79,4 +80,24 @@ pub fn accepted_optional_file_lies()
 /// And what they accept lies as planned, so that the other laws hold of it too.
 pub fn accepted_plan_lies()
     ensures { AcceptedLiesLaw }
+{}
+
+/// Where a planned map lies at the places of a file of its own, an image has Lays.
+pub fn map_that_lies_has_lays()
+    ensures { LaysLaw }
+{}
+
+/// So it has where what a configuration plans lies.
+pub fn planned_map_has_lays()
+    ensures { PlannedLaysLaw }
+{}
+
+/// And where what the checks of a plan accept is written.
+pub fn accepted_plan_has_lays()
+    ensures { AcceptedLaysLaw }
+{}
+
+/// Lays stays where the map's sectors, its boot sector's and its files' stay.
+pub fn map_that_stays_has_lays()
+    ensures { LaysStaysLaw }
 {}

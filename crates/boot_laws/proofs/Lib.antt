@@ -7,3 +7,4 @@ pub mod Maps
 pub mod Boots
 pub mod Mapped
 pub mod Unlisted
+pub mod Steps

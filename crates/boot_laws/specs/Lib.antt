@@ -1,1 +1,2 @@
 pub mod SameOn
+pub mod Steps

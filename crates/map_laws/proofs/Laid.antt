@@ -1,6 +1,6 @@
 -- A planned map that lies in a file of its own has Lays.
-use Rattle.std.proofs.Common.{◌≡◌, ◌≤◌, ◌<◌, ℕ, suc, zero, ◌+◌, Bool, true, false, if◌then◌else◌, List, [], ◌∷◌, ◌++◌, map, length, take, drop, Option, None, Some, Ok, refl, sym, ap, subst, ◌∙◌, arith}
-use Rattle.std.specs.Prelude.{All, option_map, unwrap_or, slice_index_or}
+use Rattle.std.proofs.Common.{◌≡◌, ◌<◌, ℕ, suc, zero, ◌+◌, Bool, true, false, if◌then◌else◌, List, [], ◌∷◌, ◌++◌, map, length, take, drop, Option, None, Some, Ok, refl, sym, ap, subst, ◌∙◌, arith}
+use Rattle.std.specs.Prelude.{option_map, unwrap_or, slice_index_or}
 use Rattle.std.specs.List.{AllByRecursion}
 use Rattle.std.proofs.Math.Seq.{drop-append_seam, take-append_seam}
 use Rattle.std.proofs.lemmas.List.{length-map}
@@ -9,7 +9,6 @@ use Rattle.lilo_model.specs.Checks.{◌>>=◌, each}
 use Rattle.lilo_model.specs.Disks.{Image, Machine, Span, DiskSector, bytes_at}
 use Rattle.lilo_model.specs.Slots.{Slot, place_at}
 use Rattle.lilo_model.specs.Boot.{slot_bytes_at}
-use Rattle.lilo_model.specs.Section.{sectors_for, section}
 use Rattle.lilo_model.specs.BootSector.{BootSector}
 use Rattle.lilo_model.specs.Table.{Descriptor, table_at}
 use Rattle.lilo_model.specs.Conf.{Config}
@@ -20,7 +19,7 @@ use Rattle.lilo_model.specs.MinixParts.{Volume}
 use Rattle.lilo_model.specs.MinixNames.{names_in}
 use Rattle.lilo_model.specs.Plan.{MappedFile, MappedSection, Plan, slot_to, place_of_sector, filled_places, compact_slots, chain_for, optional_chain, file_slots, file_sectors, optional_sectors, main_places, initrd_places, places_after, section_sectors_at, descriptor_for, sections_sectors, sections_entries, plan_boot}
 use Rattle.lilo_model.specs.Planned.{planned, devices_in}
-use Rattle.lilo_model.specs.Lays.{AreApart, AreAsSaid, LaysFile, LaysOptional, LaysEntry, LaysNames, LaysSections, IsPlaceAt, AreAt, Lays, chain_slots}
+use Rattle.lilo_model.specs.Lays.{AreAsSaid, LaysFile, LaysOptional, LaysEntry, LaysNames, LaysSections, IsPlaceAt, AreAt, Lays}
 use Rattle.map_laws.specs.Lies.{AreNamed, FileLies, OptionalLies, TargetLies, TargetsLie, MapLies}
 use Rattle.map_laws.specs.MapLays.{HoldsMap, LaysLaw, PlannedLaysLaw, AcceptedLaysLaw, LaysStaysLaw}
 use Rattle.map_laws.specs.PlannedLies.{targets_for}

@@ -196,12 +196,14 @@ def boot_sector(case):
     return 'plan_boot_sector %s (disks_of %s %d %d)' % (at_places(case), scenario(case)['disk'], disk, start)
 
 
-def installed(case):
-    """The disks with what was planned."""
+def installed(case, changes=()):
+    """The disks with these changes, and with what was planned."""
     disk, start, _ = case['plan']['span']
     places = '(record { disk = %d; sector = %d } ∷ %s)' % (disk, start, sectors(case['plan']['places']))
-    return 'with_sectors (disks_of %s) %s (%s ∷ plan_sectors %s)' % (
-        scenario(case)['disk'], places, boot_sector(case), at_places(case))
+    begun = scenario(case)['disk']
+    if changes:
+        begun = '(%s ++ %s)' % (begun, patches(changes))
+    return 'with_sectors (disks_of %s) %s (%s ∷ plan_sectors %s)' % (begun, places, boot_sector(case), at_places(case))
 
 
 def plan(case):
@@ -312,20 +314,38 @@ def lies(case, name):
         disks_there, image, fields['machine'], fields['volume'], model_cases.span(what['span']), fields['conf'],
         what['time'], disks_there, fields['machine'], ' '.join(place[:5]), listed(place[5:]), fields['disk'],
         what['span'][0], what['span'][1])
-    return ['', '-- the disks with what was planned', 'abbrev %s : Image' % image, '%s = %s' % (image, installed(case)),
-            '', '-- ' + case['shows'], 'pub %s : %s' % (name, statement), None,
-            '%s = %s' % (name, lies_proof(case, image))]
+    changes = case['lies'].get('file', {}).get('changes', [])
+    return ['', '-- the disks with what was planned', 'abbrev %s : Image' % image,
+            '%s = %s' % (image, installed(case, changes)), '', '-- ' + case['shows'], 'pub %s : %s' % (name, statement),
+            None, '%s = %s' % (name, lies_proof(case, image))] + holds(case, image)
+
+
+def holds(case, image):
+    """The theorem that the map's places are those of a file."""
+    if 'file' not in case['lies']:
+        return []
+    given, fields, name = case['lies']['file'], scenario(case), 'holds_' + case['name']
+    statement = 'HoldsMap %s %s %s %s %s %s' % (
+        image, fields['machine'], fields['volume'], planned(case), listed([text(part) for part in given['path']]),
+        sectors(case['plan']['places']))
+    proof = [('holder', given['number']), ('leads', 'inr refl' if given['tilde'] else 'inl refl'),
+             ('regular', 'refl'), ('solid', 'refl'), ('size_is', 'refl'),
+             ('odd', 'λ odd. %s' % ('refl' if len(case['plan']['places']) % 2 else 'absurd (not-odd 0 refl odd)'))]
+    return ['', '-- %s: its map is a file, at its path%s' % (case['shows'], ' with `~`' if given['tilde'] else ''),
+            'pub %s : %s' % (name, statement), None,
+            '%s = record {\n%s}' % (name, ''.join('  %s = %s;\n' % field for field in proof))]
 
 
 LIES_HEAD = '''-- The premises of the law on what planned maps boot are met, written by tools/plan_cases.py.
-use Rattle.std.proofs.Common.{◌≡◌, ◌≢◌, ◌==◌, List, [], ◌∷◌, ◌++◌, map, length, None, Some, true, false}
-use Rattle.std.proofs.Common.{codes, replicate, refl, ap, arith, lit<, lit≤}
+use Rattle.std.proofs.Common.{◌≡◌, ◌≢◌, ◌==◌, ℕ, List, [], ◌∷◌, ◌++◌, map, length, None, Some, true, false}
+use Rattle.std.proofs.Common.{codes, replicate, refl, ap, arith, lit<, lit≤, inl, inr}
 use Rattle.std.specs.List.{concat}
 use Rattle.std.specs.Fmt.{digits}
 use Rattle.std.proofs.lemmas.Bool.Decides.{nat_tests}
 use Rattle.lilo_model.specs.Disks.{Image, DiskSector, bytes_at}
 use Rattle.conf_laws.proofs.Lawful.{lawful_law}
 use Rattle.map_laws.specs.PlannedLies.{PlannedLies}
+use Rattle.map_laws.specs.MapLays.{HoldsMap}
 '''
 LIES_LEMMAS = '''
 other-sector : (place other : DiskSector) → (place.sector == other.sector) ≡ false → place ≢ other
@@ -336,6 +356,9 @@ other-sector place other test same =
 
 no-section : {A : Type 0} → (first : A) (others : List A) → first ∷ others ≡ [] → ⊥
 no-section first others none = let long = ap length none in omega (arith, long)
+
+not-odd : (rest : ℕ) → rest ≡ 0 → rest ≡ 1 → ⊥
+not-odd rest even odd = omega (arith, even, odd)
 '''
 
 

@@ -1,3 +1,4 @@
+pub mod Keys
 pub mod Machine
 pub mod Memory
 pub mod Reads

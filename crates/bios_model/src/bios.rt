@@ -1,5 +1,5 @@
 // The BIOS: disks that are read by slots, and keys.
-ghost use Rattle.std.specs.Prelude.{◌≡◌, ◌<◌, ◌≤◌, ◌↔◌, length, map, All, Ok, IsOk, IsErr, IsErrOf, OnOk, OnErr};
+ghost use Rattle.std.specs.Prelude.{◌≡◌, ◌<◌, ◌≤◌, ◌↔◌, length, map, All, Ok, IsOk, IsErr, IsErrOf, IfErr, IsTrue, OnOk, OnErr};
 ghost use Rattle.disk_trait.specs.Past.{SameDisks};
 ghost use Rattle.lilo_model.specs.Faults.{Rose};
 ghost use Rattle.lilo_model.specs.Checks.{with_fault};
@@ -8,12 +8,14 @@ ghost use Rattle.lilo_model.specs.Slots.{place_at};
 ghost use Rattle.lilo_model.specs.Boot.{slot_bytes_at};
 ghost use Rattle.sector_address.specs.View.{slot_view};
 ghost use Rattle.sector_address.specs.Machine.{machine_of, OnDisks};
+ghost use Rattle.bios_model.specs.Keys.{GivesKey, keys_in};
 ghost use Rattle.bios_model.specs.Machine.{sector_bytes_at, HasSector, slots_bytes_at, first_places, Reads};
 
+use crate::key::Key;
 use disk_trait::{DiskFault, Disks};
 use sector_address::Slot;
 use sector_parts::Sector;
-use stream_trait::Source;
+use stream_trait::{Next, Source};
 
 /// What a boot loader asks for sectors and keys.
 #[derive(Drop)]
@@ -65,6 +67,40 @@ impl<'d, D: Disks, I: Source> Bios<'d, D, I> {
         ensures same_keys_reference { self.new.keys.ghost_name ≡ self.old.keys.ghost_name }
     {
         read_slot(self.disks, slot, index, into)
+    }
+
+    /// Takes the next key. The byte 0x16 is a tick, a tenth of a second without a key; the end of the source is silence,
+    /// from then on for good. `KeysFault` is for a source that failed: then no key is taken.
+    pub fn key(&mut self) -> Result<Key, BiosFault>
+        // What is heard.
+        ensures key { GivesKey (keys_in I.Source self.old.keys.now) result (keys_in I.Source self.new.keys.now) }
+        ensures fewer { (key : Key) → result ≡ Ok key → (key ≡ Key.Silence → ⊥)
+            → I.can_give self.new.keys.now < I.can_give self.old.keys.now }
+        ensures no_more { I.can_give self.new.keys.now ≤ I.can_give self.old.keys.now }
+
+        // After its end a source is silent for good.
+        ensures end { IsTrue (I.ended self.new.keys.now) ↔ (result ≡ Ok Key.Silence) }
+        ensures stays { IsTrue (I.ended self.old.keys.now) → (result ≡ Ok Key.Silence)
+            × (I.faults self.new.keys.now ≡ I.faults self.old.keys.now)
+            × (I.left self.new.keys.now ≡ I.left self.old.keys.now) }
+
+        // When it is refused.
+        ensures fault { IsErrOf result BiosFault.KeysFault
+            → Rose (I.faults self.old.keys.now) (I.faults self.new.keys.now) }
+        ensures only { IfErr result (λ fault. fault ≡ BiosFault.KeysFault) }
+        ensures later { I.faults self.old.keys.now ≤ I.faults self.new.keys.now }
+
+        // Nothing else happens.
+        ensures disks { self.new.disks.now ≡ self.old.disks.now }
+        ensures same_disks_reference { self.new.disks.ghost_name ≡ self.old.disks.ghost_name }
+        ensures same_keys_reference { self.new.keys.ghost_name ≡ self.old.keys.ghost_name }
+    {
+        match self.keys.next_byte() {
+            Next::Got(0x16) => Ok(Key::Tick),
+            Next::Got(byte) => Ok(Key::Byte(byte)),
+            Next::End => Ok(Key::Silence),
+            Next::Failed => Err(BiosFault::KeysFault),
+        }
     }
 }
 

@@ -1,7 +1,7 @@
 ghost use Rattle.std.specs.Prelude.{◌≡◌, ◌<◌, []};
 ghost use Rattle.disk_trait.specs.Past.{SameDisks};
 
-use crate::{Bios, BiosFault, Ram};
+use crate::{Bios, BiosFault, Key, Ram};
 use disk_trait::{Disks, Failing, Geometry, MemDisk, MemDisks};
 use sector_address::Slot;
 use sector_parts::{FieldRef, Sector};
@@ -100,6 +100,28 @@ fn a_failing_disk_is_a_timeout(rt: HostRuntime) -> Result<(), Fail> {
     }];
     let read = read(rt.alloc(), b"\x03\x80\x01\0\x52\0\0\0", 0, &failing)?;
     assert_eq!(rt; read, (Err(BiosFault::Timeout), [1; 512]));
+    Ok(())
+}
+
+// A byte, a tick, a call that fails and takes none, the last byte, and silence for good.
+#[test]
+fn keys_are_heard(rt: HostRuntime) -> Result<(), Fail> {
+    let mut disks = one_disk(rt.alloc(), &[])?;
+    let mut keys = MemSource::new(rt.alloc(), b"a\x16\n", &[2])?;
+    let mut bios = Bios {
+        disks: &mut disks,
+        keys: &mut keys,
+    };
+    for heard in [
+        Ok(Key::Byte(97)),
+        Ok(Key::Tick),
+        Err(BiosFault::KeysFault),
+        Ok(Key::Byte(10)),
+        Ok(Key::Silence),
+        Ok(Key::Silence),
+    ] {
+        assert_eq!(rt; bios.key(), heard);
+    }
     Ok(())
 }
 

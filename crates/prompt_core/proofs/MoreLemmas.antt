@@ -5,7 +5,7 @@ use Rattle.std.proofs.lemmas.Bool.{eqb-true}
 use Rattle.lilo_model.specs.KeyCuts.{is_enter_key, is_erase_key, is_list_key, most_quiet_ticks}
 use Rattle.lilo_model.specs.LineWords.{meaning}
 use Rattle.lilo_model.specs.Choice.{Setup, newline, is_right}
-use Rattle.prompt_core.specs.declared.key.Key.TheVariants as keys
+use Rattle.bios_model.specs.declared.key.Key.TheVariants as keys
 use Rattle.prompt_core.specs.Steps.{Chosen, Question, Delaying, Timing, Typing, Asking, Decided, Over, Meant, Blank, Means, Unknown, meant_of, line_meant, meant_or, default_choice, password_of, question_step, meant_step, line_step, reopened_step, answer_step, quiet_step, delayed_step, timed_step, prompt_text, key_step, wants_more, MoreLaw}
 
 asked : (before : List ℕ) (opened : Bool) (chosen : Chosen) (password : Option (List ℕ)) → wants_more (question_step before opened chosen password).said.answer ≡ false

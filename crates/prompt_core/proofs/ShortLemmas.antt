@@ -10,8 +10,8 @@ use Rattle.lilo_model.specs.KeyCuts.{is_enter_key, is_erase_key, is_list_key, mo
 use Rattle.lilo_model.specs.LineEdits.{is_removal, is_printable, text_after_byte}
 use Rattle.lilo_model.specs.LineWords.{is_empty_list, words_of, words_meaning, joined_words, kept_words, is_lock_word, entry_named, Meaning, Nothing, Names, NoSuch, meaning}
 use Rattle.lilo_model.specs.Choice.{Setup, newline, is_right}
-use Rattle.prompt_core.specs.declared.key.Key.{Key}
-use Rattle.prompt_core.specs.declared.key.Key.TheVariants as keys
+use Rattle.bios_model.specs.declared.key.Key.{Key}
+use Rattle.bios_model.specs.declared.key.Key.TheVariants as keys
 use Rattle.prompt_core.specs.Steps.{Chosen, Question, State, Delaying, Timing, Typing, Asking, Decided, Over, Meant, Blank, Means, Unknown, name_at, meant_of, line_meant, meant_or, default_choice, password_of, question_step, choice_step, meant_step, line_step, reopened_step, answer_step, quiet_step, delayed_step, timed_step, shown_step, waiting_step, opens_by, prompt_text, key_step, start_step}
 use Rattle.prompt_core.specs.Short.{AreShort, IsShort, ShortLaw}
 use Rattle.prompt_core.proofs.GatherLemmas.{name_found}

@@ -4,8 +4,8 @@ use Rattle.std.specs.Option.{option_map}
 use Rattle.std.specs.List.{starts_with}
 use Rattle.lilo_model.specs.Prompt.{Key, Byte, Tick, ListedEntry}
 use Rattle.lilo_model.specs.Choice.{Setup, listing, Piece, Shows, Opens, Course, course_of}
-use Rattle.prompt_core.specs.declared.key.Key as heard
-use Rattle.prompt_core.specs.declared.key.Key.TheVariants as keys
+use Rattle.bios_model.specs.declared.key.Key as heard
+use Rattle.bios_model.specs.declared.key.Key.TheVariants as keys
 use Rattle.prompt_core.specs.declared.reply.Answer.{Answer}
 use Rattle.prompt_core.specs.declared.reply.Answer.TheVariants as answers
 use Rattle.prompt_core.specs.Steps.{Chosen, chosen_of, State, Decided, Over, Said, Step, prompt_text, key_step, start_step}

@@ -2,7 +2,7 @@
 use Rattle.std.specs.Prelude.{ℕ, ◌≤◌, length, ⊤}
 use Rattle.lilo_model.specs.DefaultLine.{line_text}
 use Rattle.lilo_model.specs.Choice.{Setup}
-use Rattle.prompt_core.specs.declared.key.Key as heard
+use Rattle.bios_model.specs.declared.key.Key as heard
 use Rattle.prompt_core.specs.Steps.{name_at, State, Typing, Asking, Decided, key_step, start_step}
 
 -- what is chosen from has names, a default line and typed lines of at most so many bytes

@@ -8,8 +8,8 @@ use Rattle.lilo_model.specs.KeyCuts.{is_enter_key, is_erase_key, is_list_key, mo
 use Rattle.lilo_model.specs.LineEdits.{text_after_byte, echo_of, answer_after_byte}
 use Rattle.lilo_model.specs.LineWords.{Meaning, Nothing, Names, NoSuch, meaning, is_empty_list, joined_words, passed_words, kept_words, has_lock_word, words_video_mode}
 use Rattle.lilo_model.specs.Choice.{Setup, Candidate, newline, is_right}
-use Rattle.prompt_core.specs.declared.key.Key as heard
-use Rattle.prompt_core.specs.declared.key.Key.TheVariants as keys
+use Rattle.bios_model.specs.declared.key.Key as heard
+use Rattle.bios_model.specs.declared.key.Key.TheVariants as keys
 use Rattle.prompt_core.specs.declared.reply.Picked as picks
 use Rattle.prompt_core.specs.declared.reply.Answer.{Answer}
 use Rattle.prompt_core.specs.declared.reply.Answer.TheVariants as answers

@@ -7,7 +7,6 @@
 #![tactic(auto)]
 
 mod entry;
-mod key;
 mod laws;
 mod line;
 mod parts;
@@ -20,8 +19,8 @@ mod tests;
 mod text;
 mod word;
 
+pub use bios_model::Key;
 pub use entry::{Choice, Settings};
-pub use key::Key;
 pub use laws::{
     comes_to_the_choice, keys_one_by_one, lines_are_short, more_is_wanted, opens_at_the_opening,
 };

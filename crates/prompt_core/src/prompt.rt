@@ -1,17 +1,19 @@
 // A prompt.
-ghost use Rattle.std.specs.Prelude.{◌≡◌, ◌≤◌};
+ghost use Rattle.std.specs.Prelude.{◌≡◌, ◌≤◌, length};
+ghost use Rattle.std.specs.Option.{option_map};
 ghost use Rattle.lilo_model.specs.DefaultLine.{line_text};
 ghost use Rattle.boot_map.specs.View.{line_view};
 ghost use Rattle.prompt_core.specs.Steps.{Over, key_step, lock_line_in, start_step, words_in};
-ghost use Rattle.prompt_core.specs.View.{said_of, setup_of};
+ghost use Rattle.prompt_core.specs.Run.{chosen_in, is_done};
+ghost use Rattle.prompt_core.specs.View.{entries_view, said_of, setup_of};
 
 use crate::entry::{Choice, Settings};
-use crate::key::Key;
-use crate::reply::Reply;
+use crate::reply::{Picked, Reply};
 use crate::state::State;
 use crate::step;
 use crate::text::copy_of;
 use arrayvec::ArrayVec;
+use bios_model::Key;
 use boot_map::DefaultLine;
 use std::marker::Model;
 use std::mem;
@@ -90,9 +92,37 @@ impl Prompt {
         step.reply
     }
 
+    /// The entries that are chosen from.
+    pub fn choices(&self) -> &[Choice]
+        ensures entries { entries_view result.now ≡ self.now.setup.entries }
+    {
+        self.choices.as_slice()
+    }
+
+    /// Whether no key is waited for.
+    pub fn is_done(&self) -> bool
+        ensures { result ≡ is_done self.now.state }
+    {
+        match &self.state {
+            State::Decided(_) | State::Over => true,
+            _ => false,
+        }
+    }
+
+    /// What was chosen, if anything.
+    pub fn picked(&self) -> Option<Picked>
+        ensures { result ≡ option_map (λ chosen. chosen.picked) (chosen_in self.now.state) }
+    {
+        match &self.state {
+            State::Decided(chosen) => Some(chosen.picked),
+            _ => None,
+        }
+    }
+
     /// The words to pass on, joined by single spaces, once an entry is chosen.
     pub fn words(&self) -> &[u8]
-        ensures { result.now ≡ words_in self.now.state }
+        ensures words { result.now ≡ words_in self.now.state }
+        ensures limit { length result.now ≤ 470 }
     {
         match &self.state {
             State::Decided(chosen) => chosen.words.as_slice(),

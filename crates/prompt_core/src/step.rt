@@ -8,12 +8,12 @@ ghost use Rattle.prompt_core.specs.Steps as steps;
 ghost use Rattle.prompt_core.specs.View.{entries_view, chosen_view, question_view, setup_of, state_view, step_view};
 
 use crate::entry::{Choice, Settings};
-use crate::key::Key;
 use crate::line::{Meant, plain_choice, read_line};
 use crate::reply::{Answer, Reply};
 use crate::state::{Chosen, Question, State, Step};
 use crate::text::{copy_of, with_bytes};
 use arrayvec::ArrayVec;
+use bios_model::Key;
 
 /// How many ticks in a row end the wait for an answer.
 const QUIET_TICKS: u16 = 600;

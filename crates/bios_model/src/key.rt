@@ -1,4 +1,4 @@
-/// What a prompt hears.
+/// What a prompt hears of the keys.
 #[derive(Clone, Copy, Debug, PartialEq, Eq)]
 pub enum Key {
     /// A byte that was typed.

@@ -16,6 +16,10 @@ mod ChoiceCases5
 mod ChoiceCases6
 mod ChoiceCases7
 mod ChoiceCases8
+mod ChooseCases1
+mod ChooseCases2
+mod ChooseCases3
+mod ChooseCases4
 mod ConfCases1
 mod ConfCases2
 mod ConfCases3

@@ -1,4 +1,5 @@
 pub mod Cases
+pub mod Choices
 pub mod Fixtures
 pub mod MinixFixtures
 pub mod PlanFixtures

@@ -1,0 +1,5 @@
+pub mod Choice
+pub mod FileZones
+pub mod Growth
+pub mod Places
+pub mod Wish

@@ -1,0 +1,165 @@
+#!/usr/bin/env python3
+"""Writes the cases of what is chosen for a new file of a Minix volume, from choose_cases.json beside it, as theorems
+that the check computes: crates/model_cases/proofs/ChooseCases*.antt. With --check it writes nothing, and fails where a
+file isn't as it would be written.
+
+A volume is given as in survey_cases.py; a zone may be full of entries. What is taken: zones, inodes, promises
+(directory, place, growth), names that are overlooked. A wish has its bytes and its holes, or the blocks that it has
+(`total`) with those that aren't holes (`made`); where the place is given, the search for it is left out. The answer is
+the first refusal, or what is chosen.
+"""
+
+import json
+import pathlib
+import re
+import sys
+
+from case_files import write_or_check
+from model_cases import CRATE, TOP, listed, text, words_in
+from survey_cases import fault, node, numbers
+
+DATA = pathlib.Path(__file__).resolve().parent / 'choose_cases.json'
+A_FILE = 40             # cases a file
+LOW = {'Bytes': None, 'MinixLayout': ['kind_of', 'inode_of'], 'MinixParts': None, 'MinixEntries': None}
+FILES = ['Wish', 'FileZones', 'Places', 'Growth', 'Choice']
+CLOSED = {'with_bit', 'parts_of', 'volume_at', 'entries_in', 'entries_at', 'is_dots', 'bit', 'content_at', 'is_zero'}
+VARIANTS = {
+    'lilo_model.specs.MinixLayout': ['BadSize', 'FileSize', 'V1Short', 'V1Long', 'V2Short', 'V2Long'],
+    'lilo_model.specs.MinixParts': ['Layout', 'ZoneOutside'],
+    'lilo_model.specs.MinixFind': ['Zone'],
+    'write_model.specs.Wish': ['NameTooLong', 'Exists', 'NoInode', 'NoSpace', 'Tree'],
+}
+PLAIN = ['Ok', 'Err', 'true', 'false', 'codes', 'replicate', '◌++◌']
+WORDS = ['choose_on', 'blocks_on', 'zones_on', 'taken_by', 'promise', 'overlook', 'wish', 'choice', 'made_at', 'up_from']
+
+
+def runs(items):
+    """Numbers as an argument. A text says some in a row, as "9 from, 519", or the same some times, as "0 is, 65799"."""
+    terms, plain = [], []
+    for item in items + ['']:
+        if not isinstance(item, str):
+            plain.append(item)
+            continue
+        if plain:
+            terms.append(numbers(plain))
+        plain = []
+        if item:
+            number, word, count = item.replace(',', '').split()
+            terms.append('up_from %s %s' % (number, count) if word == 'from' else 'replicate %s %s' % (count, number))
+    if not terms:
+        return '[]'
+    joined = terms[-1]
+    for term in reversed(terms[:-1]):
+        joined = '%s ++ (%s)' % (term, joined)
+    return joined if joined.startswith('(') and len(terms) == 1 else '(%s)' % joined
+
+
+def zone(item):
+    number, pieces = item
+    if pieces == 'full':
+        return 'zone_with %d (replicate 1024 1)' % number
+    return 'zone_with %d (file 1024 %s)' % (number, listed(['piece %d %s' % (at, text(data)) for at, data in pieces]))
+
+
+def volume(case):
+    layout = 'super_with %s %d %d %d %d %d' % tuple(case[key] for key in ('kind', 'inodes', 'zones', 'imap', 'zmap', 'first'))
+    return 'volume_by (%s) %s %s %s %s' % (layout, listed([node(item) for item in case['nodes']]), listed([zone(item) for item in case['bytes']]),
+                                           numbers(case['imarks']), numbers(case['zmarks']))
+
+
+def taken(item):
+    promises = ['promise %d %d %s' % (directory, place, numbers(growth)) for directory, place, growth in item['promises']]
+    names = ['overlook %d %s' % (directory, text(name)) for directory, name in item['overlooked']]
+    return 'taken_by %s %s %s %s' % (runs(item['zones']), numbers(item['inodes']), listed(promises), listed(names))
+
+
+def asked(case):
+    """What is asked, with the word that answers it."""
+    if 'inode' in case:
+        return 'zones_on', '%d %d %d %d' % (case['directory'], case['length'], case['inode'], case['place'])
+    if 'total' in case:
+        return 'blocks_on', '%d %s (made_at %d %s)' % (case['directory'], text(case['name']), case['total'], numbers(case['made']))
+    return 'choose_on', '(wish %d %s %d %s)' % (case['length'], runs(case['holes']), case['directory'], text(case['name']))
+
+
+def answer(gives):
+    if gives[0] == 'Err':
+        return 'Err %s' % fault(gives[1])
+    chosen = gives[1]
+    lists = ' '.join(runs(chosen[key]) for key in ('zones', 'blocks', 'indirect', 'growth'))
+    return 'Ok (choice %d %d %s)' % (chosen['inode'], chosen['place'], lists)
+
+
+def unfolded():
+    """The definitions that a case unfolds, by their file."""
+    found = {}
+    for crate, names in (('lilo_model', list(LOW)), ('write_model', FILES)):
+        for name in names:
+            source = (TOP / 'crates' / crate / 'specs' / (name + '.antt')).read_text()
+            words = re.findall(r'^unfoldable pub (\w+)', source, re.M)
+            found['%s.specs.%s' % (crate, name)] = [word for word in (LOW.get(name) or words) if word not in CLOSED]
+    found['lilo_model.specs.MinixWalk'] = ['branch_of']
+    del found['lilo_model.specs.MinixLayout']
+    return found
+
+
+def cases_text(named_cases):
+    words_of = unfolded()
+    unfolding = ' '.join(word for words in words_of.values() for word in words)
+    pairs = []
+    for _, case in named_cases:
+        word, rest = asked(case)
+        pairs.append(('%s (%s) (%s) %s' % (word, volume(case), taken(case['taken']), rest), answer(case['gives'])))
+    words = words_in([side for pair in pairs for side in pair]) | {'◌++◌'}
+    lines = ['-- Cases of what is chosen for a new file of a Minix volume, written by tools/choose_cases.py.']
+    lines.append('use Rattle.std.proofs.Common.{%s}' % ', '.join(['◌≡◌', '[]', '◌∷◌'] + [word for word in PLAIN if word in words] + ['refl']))
+    for name, names in VARIANTS.items():
+        words_of.setdefault(name, []).extend(word for word in names if word in words)
+    for name in sorted(words_of):
+        if words_of[name]:
+            lines.append('use Rattle.%s.{%s}' % (name, ', '.join(dict.fromkeys(words_of[name]))))
+    lines.append('use Rattle.model_cases.specs.Sparse.{%s}' % ', '.join(word for word in ('file', 'piece', 'hex') if word in words))
+    lines.append('use Rattle.model_cases.specs.Surveys.{super_with, volume_by, node, zone_with}')
+    lines.append('use Rattle.model_cases.specs.Choices.{%s}' % ', '.join(word for word in WORDS if word in words))
+    for (name, case), (left, right) in zip(named_cases, pairs):
+        lines += ['', '-- ' + case['shows'], 'pub %s : %s ≡ %s' % (name, left, right), 'unfolding ' + unfolding, '%s = refl' % name]
+    return '\n'.join(lines) + '\n'
+
+
+def theorem_names(cases):
+    """A name for each case, by what it shows."""
+    names, seen = [], {}
+    for case in cases:
+        name = 'minix_choose_' + re.sub(r'[^a-z0-9]+', '_', case['shows'].lower().replace(',', '')).strip('_')
+        seen[name] = seen.get(name, 0) + 1
+        names.append(name if seen[name] == 1 else '%s_%d' % (name, seen[name]))
+    return names
+
+
+def library_text(files):
+    """The list of modules, with those that others wrote."""
+    lines = (CRATE / 'proofs' / 'Lib.antt').read_text().split('\n')
+    others = [line for line in lines if line and not re.match('mod ChooseCases', line)]
+    ours = ['mod ' + path.stem for path in files if path.parent.name == 'proofs']
+    return '\n'.join(sorted(others + ours)) + '\n'
+
+
+def all_files():
+    cases = json.loads(DATA.read_text())['cases']
+    named_cases = list(zip(theorem_names(cases), cases))
+    files = {}
+    for part in range(-(-len(cases) // A_FILE)):
+        some = named_cases[part * A_FILE:(part + 1) * A_FILE]
+        files[CRATE / 'proofs' / ('ChooseCases%d.antt' % (part + 1))] = cases_text(some)
+    files[CRATE / 'proofs' / 'Lib.antt'] = library_text(files)
+    return files
+
+
+def main(arguments):
+    files = all_files()
+    old = [path for path in (CRATE / 'proofs').glob('ChooseCases*.antt') if path not in files]
+    return write_or_check('choose_cases.py', files, old, arguments)
+
+
+if __name__ == '__main__':
+    sys.exit(main(sys.argv[1:]))

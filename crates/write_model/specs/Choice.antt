@@ -1,16 +1,16 @@
 -- What is chosen for a new file of a Minix volume, or the first refusal (Minix file system; the order of refusals and
 -- what is chosen are this project's own): the lowest free inode, the lowest free zones, and a place in the directory.
-use Rattle.std.specs.Prelude.{ℕ, ◌+◌, ◌-◌, ◌/◌, ◌==◌, nat_le, Bool, not, ◌&&◌, ◌||◌, if◌then◌else◌, List, [], ◌∷◌, ◌++◌, length, filter, find, take, drop, is_none, Option, None, Some, Result, Ok, Err}
+use Rattle.std.specs.Prelude.{ℕ, ◌+◌, ◌-◌, ◌/◌, ◌==◌, nat_le, Bool, not, ◌&&◌, ◌||◌, if◌then◌else◌, List, [], ◌∷◌, ◌++◌, length, filter, find, take, drop, Option, None, Some, Result, Ok, Err}
 use Rattle.std.specs.List.{range_with_len, list_any}
 use Rattle.lilo_model.specs.Checks.{◌>>=◌, require, with_fault}
 use Rattle.lilo_model.specs.MinixLayout.{Kind, Super, name_size, numbers_in_zone}
 use Rattle.lilo_model.specs.MinixParts.{Parts, ZoneFault}
-use Rattle.lilo_model.specs.MinixEntries.{entries_per_block, find_entry}
-use Rattle.lilo_model.specs.MinixFind.{TreeFault, Zone, readable}
-use Rattle.write_model.specs.Wish.{Wish, Promise, Overlooked, Taken, Refusal, NameTooLong, Exists, NoInode, NoSpace, Tree}
+use Rattle.lilo_model.specs.MinixEntries.{Entry, entries_per_block}
+use Rattle.lilo_model.specs.MinixFind.{Zone, readable}
+use Rattle.write_model.specs.Wish.{Wish, Taken, Refusal, NameTooLong, Exists, NoInode, NoSpace, Tree}
 use Rattle.write_model.specs.FileZones.{data_blocks, made_indirect, count_made, given}
 use Rattle.write_model.specs.Growth.{missing_on_way, promised_zones, count_fresh, completed}
-use Rattle.write_model.specs.Places.{is_promised, is_overlooked, place_in}
+use Rattle.write_model.specs.Places.{all_entries, has_name, is_overlooked, new_place}
 
 -- what is chosen
 pub record Choice : Type 0 where
@@ -55,13 +55,14 @@ some_or refusal (Some value) = Ok value
 abbrev pub in_zone : {A : Type 0} → Result A ZoneFault → Result A Refusal
 in_zone answer = with_fault (λ fault. Tree (Zone fault)) answer
 
--- a name isn't in its directory, or is overlooked there
-unfoldable pub name_check : Super → Parts → Taken → ℕ → List ℕ → Result (Unit {0}) Refusal
+-- the entries of the directory, where the name fits and isn't among them, or is overlooked there
+unfoldable pub name_check : Super → Parts → Taken → ℕ → List ℕ → Result (List Entry) Refusal
 name_check super parts taken directory name = do
   a ← require (nat_le (length name) (name_size super.kind)) NameTooLong
   b ← with_fault Tree (readable super parts directory)
-  found ← in_zone (find_entry super parts (parts.node directory) name)
-  require (is_none found || is_overlooked taken.overlooked directory name) Exists
+  entries ← in_zone (all_entries super parts (parts.node directory))
+  c ← require (not (has_name name entries) || is_overlooked taken.overlooked directory name) Exists
+  Ok entries
 
 -- the indirect zones of a file, by which of its blocks get a zone
 abbrev pub indirect_zones : Kind → List Bool → List ℕ → List ℕ
@@ -93,10 +94,10 @@ zones_check super parts taken directory blocks inode place = do
 -- what is chosen for a name in a directory and some blocks, each of which gets a zone or is a hole
 unfoldable pub choose_blocks : Super → Parts → Taken → ℕ → List ℕ → List Bool → Result Choice Refusal
 choose_blocks super parts taken directory name blocks = do
-  a ← name_check super parts taken directory name
+  entries ← name_check super parts taken directory name
   inode ← some_or NoInode (free_inode super parts taken.has_inode)
-  found ← in_zone (place_in super parts (parts.node directory) (is_promised taken.promises directory))
-  place ← some_or (NoSpace 1 0) found
+  place ← some_or (NoSpace 1 0)
+      (new_place super.kind taken.promises directory (parts.node directory).size entries)
   zones_check super parts taken directory blocks inode place
 
 -- what is chosen for a wish

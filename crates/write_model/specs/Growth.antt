@@ -1,11 +1,11 @@
 -- By which zones a directory grows so that one of its blocks is there (pointers and indirect zones: Minix file system;
 -- the order is this project's own: that of the block first, then those of the indirect zones above it, the lowest
 -- first). A zone that was promised to a file before isn't chosen again.
-use Rattle.std.specs.Prelude.{ℕ, zero, suc, ◌+◌, ◌-◌, ◌/◌, ◌%◌, ◌^◌, ◌==◌, nat_lt, Bool, ◌&&◌, if◌then◌else◌, List, [], ◌∷◌, length, filter, find, map, slice_index, is_none, Option, None, Some, option_map, Result, Ok}
+use Rattle.std.specs.Prelude.{ℕ, ◌+◌, ◌-◌, ◌/◌, ◌%◌, ◌^◌, ◌==◌, nat_lt, Bool, ◌&&◌, if◌then◌else◌, List, [], ◌∷◌, length, filter, find, map, slice_index, is_none, Option, None, Some, option_map, Result, Ok}
 use Rattle.std.specs.List.{range_with_len}
 use Rattle.lilo_model.specs.Checks.{◌>>=◌}
 use Rattle.lilo_model.specs.MinixLayout.{Kind, Super, Inode, numbers_in_zone}
-use Rattle.lilo_model.specs.MinixParts.{Parts, ZoneFault, follow, block_pointer, at_pointer}
+use Rattle.lilo_model.specs.MinixParts.{Parts, ZoneFault, inside, number_below, block_pointer}
 use Rattle.lilo_model.specs.MinixEntries.{entries_per_block}
 use Rattle.lilo_model.specs.MinixWalk.{place_in_branch}
 use Rattle.write_model.specs.Wish.{Promise}
@@ -13,17 +13,28 @@ use Rattle.write_model.specs.Wish.{Promise}
 abbrev pub one_if : Bool → ℕ
 one_if holds = if holds then 1 else 0
 
--- how many numbers are 0 along a trail, that at its begin included
-unfoldable pub zeros_along : Kind → (ℕ → List ℕ) → ℕ → List ℕ → ℕ
-zeros_along kind bytes_of zone [] = one_if (zone == 0)
-zeros_along kind bytes_of zone (index ∷ before) =
-    zeros_along kind bytes_of zone before + one_if (follow kind bytes_of zone (index ∷ before) == 0)
+-- the number at the end of a trail, and how many are 0 from its begin to its end
+pub record Way : Type 0 where
+  pub zone : ℕ
+  pub missing : ℕ
 
--- how many zones are missing on the way to a block, that of the block included, or the refusal that is met
+-- one more number on a way
+abbrev pub way_on : ℕ → ℕ → Way
+way_on zone missing = record { zone = zone; missing = missing + one_if (zone == 0) }
+
+-- the way along a trail, where each number on it may be followed; else the refusal of the first one
+unfoldable pub way_along : Super → (ℕ → List ℕ) → ℕ → List ℕ → Result Way ZoneFault
+way_along super bytes_of zone [] = inside super zone >>= λ found. Ok (way_on found 0)
+way_along super bytes_of zone (index ∷ before) =
+    way_along super bytes_of zone before
+    >>= λ above. inside super (number_below super.kind bytes_of above.zone index)
+    >>= λ found. Ok (way_on found above.missing)
+
+-- how many zones are missing on the way to a block, that of the block included
 unfoldable pub missing_on_way : Super → Parts → Inode → ℕ → Result ℕ ZoneFault
 missing_on_way super parts inode block =
-    at_pointer super parts inode (block_pointer super.kind block)
-    >>= λ zone. Ok (zeros_along super.kind parts.zone (slice_index inode.zones (block_pointer super.kind block).top) (block_pointer super.kind block).trail)
+    way_along super parts.zone (slice_index inode.zones (block_pointer super.kind block).top) (block_pointer super.kind block).trail
+    >>= λ way. Ok way.missing
 
 -- the first block that is found through the zone so many levels above a block
 abbrev pub first_beside : ℕ → ℕ → ℕ → ℕ

@@ -18,17 +18,17 @@ use Rattle.minix_zones.specs.declared.zone_fault.ZoneFault.{ZoneFault}
 use Rattle.minix_zones.specs.declared.zone_fault.ZoneFault.TheVariants.{Device}
 use Rattle.minix_steps.specs.Steps.{IsReady, IsUnnamedInode}
 use Rattle.minix_steps.specs.Written.{with_inode}
-use Rattle.minix_steps.proofs.HarmlessLemmas.{inode_harmless, place_inside}
-use Rattle.minix_steps.proofs.RegionLemmas.{sector_there, place_from}
+use Rattle.minix_steps.proofs.HarmlessLemmas.{inode_harmless}
+use Rattle.minix_steps.proofs.RegionLemmas.{sector_there, place_there, place_from}
 use Rattle.minix_steps.proofs.StepLemmas.{same_view}
 
-module _ {D : Type 0} {disks : Ghosts D} (old : Volume D disks) (ready : IsReady old) (number : ℕ) (some : 1 ≤ number) (there : number ≤ old.layout.inodes)
+module _ {D : Type 0} {disks : Ghosts D} (old : Volume D disks) (number : ℕ) (some : 1 ≤ number) (there : number ≤ old.layout.inodes)
     (sector at : ℕ) (place : record { sector = sector; at = at } ≡ inode_place (super_view old.layout) number) where
-  stands : sector ≡ (inode_place (super_view old.layout) number).sector
+  pub stands : sector ≡ (inode_place (super_view old.layout) number).sector
   stands = let P : Place → ℕ = λ p. p.sector in ap P place
 
   pub inode_inside : sector < 2 * old.layout.zones
-  inode_inside = let P : ℕ → Type 0 = λ s. s < 2 * old.layout.zones in subst P (sym stands) (place_inside old ready number some there)
+  inode_inside = let P : ℕ → Type 0 = λ s. s < 2 * old.layout.zones in subst P (sym stands) (place_there (super_view old.layout) old.span.count old.whole number some there)
 
   pub inode_there : sector < old.span.count
   inode_there = sector_there (super_view old.layout) old.span.count old.whole sector inode_inside
@@ -47,15 +47,15 @@ module _ {D : Type 0} {disks : Ghosts D} (old : Volume D disks) (ready : IsReady
     pub inode_inside_mid : sector < 2 * mid.layout.zones
     inode_inside_mid = let P : Super → Type 0 = λ layout. sector < 2 * layout.zones in subst P (sym same.same_layout) inode_inside
 
-    rewritten : IsTold (past_of old) → put ≡ with_inode (volume_view old) (now (past_of old)) number part
+    pub rewritten : IsTold (past_of old) → put ≡ with_inode (volume_view old) (now (past_of old)) number part
     rewritten told =
         let R : Image → Type 0 = λ now. into ≡ sector_of (volume_view old) now sector in
         let P : Place → List ℕ = λ p. with_part (sector_of (volume_view old) (now (past_of old)) p.sector) p.at part in
         is ∙ (ap (λ (held : List ℕ). with_part held at part) (told_now (past_of old) R read told) ∙ ap P place)
 
-    pub inode_harmless_mid : IsUnnamedInode old number → length part ≡ inode_size (super_view old.layout).kind → IsTold (past_of mid)
+    pub inode_harmless_mid : IsReady old → IsUnnamedInode old number → length part ≡ inode_size (super_view old.layout).kind → IsTold (past_of mid)
         → Harmless (volume_view mid) (begun (past_of mid)) sector put
-    inode_harmless_mid unnamed long told =
+    inode_harmless_mid ready unnamed long told =
         let before : IsTold (past_of old) = mid_told told in
         let harmless : Harmless (volume_view old) (begun (past_of old)) (inode_place (super_view old.layout) number).sector (with_inode (volume_view old) (now (past_of old)) number part) = inode_harmless old ready number some there unnamed part long before in
         let S : ℕ → Type 0 = λ s. Harmless (volume_view old) (begun (past_of old)) s (with_inode (volume_view old) (now (past_of old)) number part) in

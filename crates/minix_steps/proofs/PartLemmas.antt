@@ -222,7 +222,7 @@ module _ (volume : Volume) (image : Image) (number : ℕ) (part : List ℕ) (is 
   abbrev bytes : List ℕ
   bytes = with_inode volume image number part
 
-  fits : at + length part ≤ length (sector_of volume image sector)
+  pub fits : at + length part ≤ length (sector_of volume image sector)
   fits = omega (arith, place_offset volume.layout number, offset_fits volume.layout.kind number, size, long)
 
   inode_here : (parts_of volume (with_sector_of volume image sector bytes)).node number ≡ inode_of volume.layout.kind part

@@ -48,8 +48,8 @@ pub fn write_inode<D: Disks>(
     write_beside(volume, place.sector, &bytes)
 }
 
-// Writes an inode over the bytes from an offset on.
-fn put_inode(sector: &mut Sector, at: usize, inode: &Inode, kind: FsKind)
+/// Writes the bytes of an inode into a sector from an offset on; all others stay.
+pub fn put_inode(sector: &mut Sector, at: usize, inode: &Inode, kind: FsKind)
     requires inside { at + inode_size (kind_view kind) ≤ 512 }
     requires links { inode.now.links ≤ most_links (kind_view kind) }
     requires gid { inode.now.gid ≤ most_links (kind_view kind) }

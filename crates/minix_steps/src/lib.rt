@@ -15,7 +15,7 @@ mod write;
 mod zone;
 
 pub use flush::settle;
-pub use inode::write_inode;
+pub use inode::{put_inode, write_inode};
 pub use laws::{written_inode_is_kept, written_inode_is_one_inode, written_zone_is_one_zone};
 pub use mark::{free_inode, free_zone, put_inode_mark, put_zone_mark};
 pub use ready::{quiet_is_ready, steps_join, unmarked_is_unnamed, unmarked_is_unused};

@@ -13,7 +13,7 @@ use Rattle.minix_steps.proofs.inode.write_inode.Goals as goal
 pub read_sector-requires : goal.read_sector-requires
 read_sector-requires g c =
     let place = rw c.layout-2.ensures.value at c.where_inode-place.ensures.place in
-    inode_there c.args.volume.now c.requires.ready c.args.number c.requires.some c.requires.there _ _ place
+    inode_there c.args.volume.now c.args.number c.requires.some c.requires.there _ _ place
 
 pub returns-in_err-read_sector-clause-steps : goal.returns-in_err-read_sector-clause-steps
 returns-in_err-read_sector-clause-steps g c =
@@ -22,13 +22,13 @@ returns-in_err-read_sector-clause-steps g c =
 pub write_beside-requires-clause-no_super : goal.write_beside-requires-clause-no_super
 write_beside-requires-clause-no_super g c =
     let place = rw c.layout-2.ensures.value at c.where_inode-place.ensures.place in
-    inode_no_super c.args.volume.now c.requires.ready c.args.number c.requires.some c.requires.there _ _ place
+    inode_no_super c.args.volume.now c.args.number c.requires.some c.requires.there _ _ place
 
 pub write_beside-requires-clause-inside : goal.write_beside-requires-clause-inside
 write_beside-requires-clause-inside g c =
     let place = rw c.layout-2.ensures.value at c.where_inode-place.ensures.place in
     let put = rw (c.layout.ensures.value, c.from.ensures) at c.put_inode.ensures.bytes in
-    inode_inside_mid c.args.volume.now c.requires.ready c.args.number c.requires.some c.requires.there _ _ place
+    inode_inside_mid c.args.volume.now c.args.number c.requires.some c.requires.there _ _ place
     c.read_sector.new.self c.read_sector.ensures.same c.read_sector.new.into c.put_inode.new.sector _ c.in_ok-read_sector.ensures.bytes put
 
 pub write_beside-requires-clause-harmless : goal.write_beside-requires-clause-harmless
@@ -36,15 +36,15 @@ write_beside-requires-clause-harmless g c =
     let place = rw c.layout-2.ensures.value at c.where_inode-place.ensures.place in
     let put = rw (c.layout.ensures.value, c.from.ensures) at c.put_inode.ensures.bytes in
     let long = rw c.layout.ensures.value at c.put_inode.ensures.length in
-    inode_harmless_mid c.args.volume.now c.requires.ready c.args.number c.requires.some c.requires.there _ _ place
+    inode_harmless_mid c.args.volume.now c.args.number c.requires.some c.requires.there _ _ place
     c.read_sector.new.self c.read_sector.ensures.same c.read_sector.new.into c.put_inode.new.sector _ c.in_ok-read_sector.ensures.bytes put
-    c.requires.unnamed long
+    c.requires.ready c.requires.unnamed long
 
 pub returns-clause-writes : goal.returns-clause-writes
 returns-clause-writes g c =
     let place = rw c.layout-2.ensures.value at c.where_inode-place.ensures.place in
     let put = rw (c.layout.ensures.value, c.from.ensures) at c.put_inode.ensures.bytes in
-    inode_writes c.args.volume.now c.requires.ready c.args.number c.requires.some c.requires.there _ _ place
+    inode_writes c.args.volume.now c.args.number c.requires.some c.requires.there _ _ place
     c.read_sector.new.self c.read_sector.ensures.same c.read_sector.new.into c.put_inode.new.sector _ c.in_ok-read_sector.ensures.bytes put
     c.write_beside.new.volume c.write_beside.result c.read_sector.ensures.later c.write_beside.ensures.writes
 

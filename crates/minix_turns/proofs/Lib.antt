@@ -1,3 +1,9 @@
 pub mod TurnLemmas
 pub mod PartLemmas
 pub mod EntryLemmas
+pub mod FieldLemmas
+pub mod SeenLemmas
+pub mod JoinedLemmas
+pub mod InodeLemmas
+pub mod NameLemmas
+pub mod ReplaceLemmas

@@ -1,5 +1,5 @@
 -- What a turn of a part of a zone leaves.
-use Rattle.std.specs.Prelude.{◌≡◌, ◌⊎◌, ◌+◌, ◌*◌, ◌/◌, ◌%◌, ℕ, List, ◌++◌}
+use Rattle.std.specs.Prelude.{◌≡◌, ◌⊎◌, ◌+◌, ◌*◌, ◌/◌, ◌%◌, ℕ, List, ◌++◌, Result}
 use Rattle.disk_trait.specs.declared.disks.Disks.{Ghosts}
 use Rattle.disk_trait.specs.Past.{Image}
 use Rattle.disk_trait.specs.Moments.{now}
@@ -9,12 +9,28 @@ use Rattle.lilo_model.specs.MinixParts.{sector_of}
 use Rattle.minix_layout.specs.View.{kind_view}
 use Rattle.minix_zones.specs.Volume.{volume_view, past_of}
 use Rattle.minix_zones.specs.declared.volume.Volume.{Volume}
+use Rattle.minix_turns.specs.Turns.{Turns}
 use Rattle.minix_zone_bytes_laws.specs.Part.{HasZonePart, number_bytes, offset_of_number}
 
 -- the bytes of the sector with a part of a zone now, with others in place of that part
 abbrev pub part_rewritten : {D : Type 0} {disks : Ghosts D} → Volume D disks → ℕ → ℕ → List ℕ → List ℕ
 part_rewritten volume zone offset bytes =
     with_part (sector_of (volume_view volume) (now (past_of volume)) (zone_sector zone + offset / 512)) (offset % 512) bytes
+
+-- a call wrote these bytes into a part of a zone, and flushed
+abbrev pub TurnsPart : {D E : Type 0} {disks : Ghosts D} → Volume D disks → Volume D disks → ℕ → ℕ → List ℕ → E → Result (Unit {0}) E → Type 0
+TurnsPart old new zone offset bytes error result =
+    Turns old new (zone_sector zone + offset / 512) (part_rewritten old zone offset bytes) error result
+
+-- the same of a number in an indirect zone
+abbrev pub TurnsNumber : {D E : Type 0} {disks : Ghosts D} → Volume D disks → Volume D disks → ℕ → ℕ → ℕ → E → Result (Unit {0}) E → Type 0
+TurnsNumber old new zone index number error result =
+    TurnsPart old new zone (offset_of_number (kind_view old.layout.kind) index) (number_bytes (kind_view old.layout.kind) number) error result
+
+-- and of an entry of a block
+abbrev pub TurnsEntry : {D E : Type 0} {disks : Ghosts D} → Volume D disks → Volume D disks → ℕ → ℕ → List ℕ → E → Result (Unit {0}) E → Type 0
+TurnsEntry old new zone index bytes error result =
+    TurnsPart old new zone (entry_size (kind_view old.layout.kind) * index) bytes error result
 
 -- an image has other bytes in a part of a zone, and all others of the volume as it is now
 abbrev pub HasPart : {D : Type 0} {disks : Ghosts D} → Volume D disks → Image → ℕ → ℕ → List ℕ → Type 0

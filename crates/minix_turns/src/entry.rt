@@ -5,7 +5,8 @@ ghost use Rattle.lilo_model.specs.MinixEntries.{entries_per_block};
 ghost use Rattle.lilo_model.specs.MinixLayout.{name_size, entry_size};
 ghost use Rattle.minix_entry_bytes_laws.specs.Written.{entry_bytes};
 ghost use Rattle.minix_layout.specs.View.{kind_view};
-ghost use Rattle.minix_turns.specs.Part.{HasEntryPart, WithOrWithoutEntry, IsEntry};
+ghost use Rattle.minix_turns.specs.Names.{PastUnseen, MakesName, MakesDirectory, RedirectsName, RemovesName};
+ghost use Rattle.minix_turns.specs.Part.{TurnsEntry, HasEntryPart, WithOrWithoutEntry, IsEntry};
 ghost use Rattle.minix_zone_bytes_laws.specs.Part.{free_bytes};
 ghost use Rattle.minix_zones.specs.Volume.{past_of, HasDeviceCause};
 
@@ -30,12 +31,30 @@ pub fn turn_free<D: Disks>(
     requires below { zone < volume.old.layout.zones }
     requires there { index < entries_per_block (kind_view volume.old.layout.kind) }
     requires quiet { IsQuiet (past_of volume.old) }
+    ensures turns { TurnsEntry volume.old volume.new zone index (free_bytes (kind_view volume.old.layout.kind))
+        ZoneFault.Device result }
     ensures any_moment { LeavesOnly (past_of volume.old) (past_of volume.new)
         (WithOrWithoutEntry volume.old zone index (free_bytes (kind_view volume.old.layout.kind))) }
     ensures entry { IsTold (past_of volume.old) → OnOk result (HasEntryPart volume.old (now (past_of volume.new))
         zone index (free_bytes (kind_view volume.old.layout.kind))) }
     ensures quiet { OnOk result (IsQuiet (past_of volume.new)) }
     ensures device { HasDeviceCause volume.old volume.new ZoneFault.Device result }
+
+    // At a place past a directory's size no name sees it; at one below, it takes a name away.
+    ensures past { PastUnseen volume.old volume.new zone index }
+    ensures removes { RemovesName volume.old volume.new zone index result }
+{
+    write_free(volume, zone, index)
+}
+
+// The same, by the kind.
+fn write_free<D: Disks>(volume: &mut Volume<'_, D>, zone: u32, index: u16) -> Result<(), ZoneFault>
+    requires from { volume.old.layout.first ≤ zone }
+    requires below { zone < volume.old.layout.zones }
+    requires there { index < entries_per_block (kind_view volume.old.layout.kind) }
+    requires quiet { IsQuiet (past_of volume.old) }
+    ensures { TurnsEntry volume.old volume.new zone index (free_bytes (kind_view volume.old.layout.kind))
+        ZoneFault.Device result }
 {
     match volume.layout().kind {
         FsKind::V1Short | FsKind::V2Short => turn_part(volume, zone, 16 * index, &[0; 16]),
@@ -61,12 +80,38 @@ pub fn turn_entry<D: Disks>(
     requires there { index < entries_per_block (kind_view volume.old.layout.kind) }
     requires short { length name.now ≤ name_size (kind_view volume.old.layout.kind) }
     requires quiet { IsQuiet (past_of volume.old) }
+    ensures turns { TurnsEntry volume.old volume.new zone index (entry_bytes (kind_view volume.old.layout.kind) number name.now)
+        ZoneFault.Device result }
     ensures any_moment { LeavesOnly (past_of volume.old) (past_of volume.new)
         (WithOrWithoutEntry volume.old zone index (entry_bytes (kind_view volume.old.layout.kind) number name.now)) }
     ensures entry { IsTold (past_of volume.old) → OnOk result (HasEntryPart volume.old (now (past_of volume.new))
         zone index (entry_bytes (kind_view volume.old.layout.kind) number name.now)) }
     ensures quiet { OnOk result (IsQuiet (past_of volume.new)) }
     ensures device { HasDeviceCause volume.old volume.new ZoneFault.Device result }
+
+    // What it does to names.
+    ensures makes { MakesName volume.old volume.new zone index number name.now result }
+    ensures makes_directory { MakesDirectory volume.old volume.new zone index number name.now result }
+    ensures redirects { RedirectsName volume.old volume.new zone index number name.now result }
+{
+    write_entry(volume, zone, index, number, name)
+}
+
+// The same, by the kind.
+fn write_entry<D: Disks>(
+    volume: &mut Volume<'_, D>,
+    zone: u32,
+    index: u16,
+    number: u16,
+    name: &[u8],
+) -> Result<(), ZoneFault>
+    requires from { volume.old.layout.first ≤ zone }
+    requires below { zone < volume.old.layout.zones }
+    requires there { index < entries_per_block (kind_view volume.old.layout.kind) }
+    requires short { length name.now ≤ name_size (kind_view volume.old.layout.kind) }
+    requires quiet { IsQuiet (past_of volume.old) }
+    ensures { TurnsEntry volume.old volume.new zone index (entry_bytes (kind_view volume.old.layout.kind) number name.now)
+        ZoneFault.Device result }
 {
     match volume.layout().kind {
         FsKind::V1Short | FsKind::V2Short => {

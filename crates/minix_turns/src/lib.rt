@@ -3,11 +3,17 @@
 #![tactic(auto)]
 
 mod entry;
+mod inode;
+mod joined;
 mod number;
 mod part;
+mod replace;
 mod sector;
 
 pub use entry::{turn_entry, turn_free};
+pub use inode::{turn_inode, turn_links, turn_pointer, turn_size};
+pub use joined::{path_is_led_after, path_stays_led, steps_are_unseen, unseen_calls_join};
 pub use number::turn_number;
 pub use part::turn_part;
+pub use replace::{EntryPlace, turn_replace};
 pub use sector::turn;

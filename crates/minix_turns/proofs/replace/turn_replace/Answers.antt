@@ -1,0 +1,14 @@
+use Rattle.std.proofs.Common.{rules}
+use Rattle.minix_zones.specs.declared.zone_fault.ZoneFault.TheVariants.{Device}
+use Rattle.minix_turns.proofs.ReplaceLemmas.{replace_refused, replace_done}
+use Rattle.minix_turns.proofs.replace.turn_replace.Goals as goal
+
+pub returns-in_err-turn_entry-clause-replaces : goal.returns-in_err-turn_entry-clause-replaces
+returns-in_err-turn_entry-clause-replaces g c outer directory to_place from_place former gone may =
+    replace_refused c.args.volume.now c.args.to c.args.from c.args.number c.args.name.now outer directory to_place from_place former gone may
+    c.turn_entry.new.volume _ c.from_residual.result (λ P. search rules) c.turn_entry.ensures.redirects
+
+pub returns-clause-replaces : goal.returns-clause-replaces
+returns-clause-replaces g c outer directory to_place from_place former gone may =
+    replace_done c.args.volume.now c.args.to c.args.from c.args.number c.args.name.now outer directory to_place from_place former gone may
+    c.ranges.number.fits c.requires.from.there c.turn_entry.new.volume c.turn_free.new.volume c.in_ok-turn_entry.ensures.redirects c.in_ok-turn_entry.ensures.entry Device c.turn_free.result c.turn_free.ensures.turns

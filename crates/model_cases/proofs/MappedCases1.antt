@@ -73,3 +73,8 @@ mapped_options_that_are_absent = refl
 pub mapped_a_message_that_ends_too_early : mapped_sectors (disks_of (fixture_menu ++ (patch_at 0 110 504 (replicate 8 0) ∷ []))) (machine_of (disk_with 4096 16 63 ∷ disk_with 2000 4 17 ∷ [])) (record { disk = 0; start = 0; count = 4096 }) ≡ on 0 (0 ∷ 94 ∷ 95 ∷ 96 ∷ 97 ∷ 110 ∷ 120 ∷ 99 ∷ 100 ∷ 82 ∷ 83 ∷ 84 ∷ 101 ∷ 86 ∷ 87 ∷ 102 ∷ 104 ∷ 103 ∷ 82 ∷ 83 ∷ 84 ∷ 99 ∷ 106 ∷ 105 ∷ 82 ∷ 83 ∷ 84 ∷ 107 ∷ 108 ∷ 124 ∷ 125 ∷ 98 ∷ 109 ∷ 112 ∷ []) ++ on 1 (63 ∷ 0 ∷ []) ++ on 0 (109 ∷ 114 ∷ 113 ∷ []) ++ on 1 (17 ∷ [])
 unfolding number16 number32 is_zero has_ranges has_address is_slot is_one_slot chs_of address_of slot_of some_slot slot_at slot_bytes to_chs to_lba sector_at sectors_of place_at slot_make could_be_one link_at section file_content is_bootable has_signature has_options has_names has_slots has_no_message has_whole_message has_message has_zeros is_whole timeout_of table_slots boot_of boot_at is_set entry_name is_printable is_name has_flags has_video has_length has_main has_initrd has_extra is_entry descriptor_of entry_bytes same_name repeats breaks table_at entry_places map_places mapped_sectors
 mapped_a_message_that_ends_too_early = refl
+
+-- a first table sector past the disk
+pub mapped_a_first_table_sector_past_the_disk : mapped_sectors (disks_of (fixture_l2 ++ (patch_at 0 0 48 (hex 8 0x0380010000100000) ∷ []))) (machine_of (disk_with 4096 16 63 ∷ [])) (record { disk = 0; start = 0; count = 4096 }) ≡ on 0 (0 ∷ 94 ∷ [])
+unfolding number16 number32 is_zero has_ranges has_address is_slot is_one_slot chs_of address_of slot_of some_slot slot_at slot_bytes to_chs to_lba sector_at sectors_of place_at slot_make could_be_one link_at section file_content is_bootable has_signature has_options has_names has_slots has_no_message has_whole_message has_message has_zeros is_whole timeout_of table_slots boot_of boot_at is_set entry_name is_printable is_name has_flags has_video has_length has_main has_initrd has_extra is_entry descriptor_of entry_bytes same_name repeats breaks table_at entry_places map_places mapped_sectors
+mapped_a_first_table_sector_past_the_disk = refl

@@ -1,4 +1,5 @@
 pub mod Boots
 pub mod Headline
+pub mod InstallVerdict
 pub mod Planned
 pub mod Writes

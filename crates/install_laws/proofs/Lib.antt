@@ -1,3 +1,4 @@
+pub mod Answered
 pub mod Headline
 pub mod Outside
 pub mod Planned

@@ -1,3 +1,4 @@
+pub mod Answered
 pub mod Boots
 pub mod Headline
 pub mod InstallVerdict

@@ -1,4 +1,5 @@
 // What follows of the promises of an installation's steps.
+ghost use Rattle.install_laws.specs.Answered.{AnsweredLaw, RefusedLaw};
 ghost use Rattle.install_laws.specs.Headline.{HeadlineLaw};
 ghost use Rattle.install_laws.specs.Planned.{AcceptedMeansLaw, MeansLaw};
 ghost use Rattle.install_laws.specs.Writes.{OutsideLaw, SparesLaw};
@@ -28,4 +29,15 @@ pub fn clear_map_is_spared()
 /// A write to a sector that isn't a volume's leaves it sound, with the same Names.
 pub fn write_outside_keeps_a_volume()
     ensures { OutsideLaw }
+{}
+
+/// An installation that is answered passed each of its checks: it is sound and apart, its names may be replaced, what it
+/// maps and the map's own places are accepted, and there is room.
+pub fn answered_installation_passed_its_checks()
+    ensures { AnsweredLaw }
+{}
+
+/// One that is refused has a status from 2 to 5.
+pub fn refused_installation_has_a_status_of_its_checks()
+    ensures { RefusedLaw }
 {}

@@ -1,3 +1,11 @@
+mod InstallCases1
+mod InstallCases2
+mod InstallCases3
+mod InstallCases4
+mod InstallCases5
+mod InstallCases6
+mod InstallCases7
+mod InstallCases8
 mod LiesCases1
 mod LiesCases2
 mod LiesCases3

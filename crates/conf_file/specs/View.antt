@@ -1,11 +1,16 @@
--- When an answer is the model's.
-use Rattle.std.specs.Prelude.{◌≡◌, ℕ, List, Result, Ok, Err}
+-- When an answer is the model's, and where memory may be lacking.
+use Rattle.std.specs.Prelude.{◌≡◌, ℕ, List, Option, Result, Ok, Err}
+use Rattle.lilo_model.specs.Devices.{Device}
+use Rattle.lilo_model.specs.Disks.{Image, Machine, Span}
 use Rattle.lilo_model.specs.Faults.{Rose}
 use Rattle.lilo_model.specs.ConfVerdict as model
 use Rattle.lilo_model.specs.Refusal as refusals
 use Rattle.lilo_model.specs.Refusal.{Refusal}
+use Rattle.lilo_model.specs.MinixParts.{Volume, volume_at, parts_of}
+use Rattle.lilo_model.specs.VolumeSearch.{Located, volume_place}
 use Rattle.mbr_table.specs.View.{device_view}
 use Rattle.mbr_table.specs.declared.table_fault.TableFault.TheVariants as tables
+use Rattle.minix_tree.specs.File.{LeadsToFile}
 use Rattle.minix_tree.specs.declared.tree_fault.TreeFault.{TreeFault}
 use Rattle.minix_tree.specs.declared.tree_fault.TreeFault.TheVariants as trees
 use Rattle.minix_zones.specs.declared.zone_fault.ZoneFault.TheVariants as zones
@@ -44,7 +49,17 @@ HasCause before now (faults.Place tables.Device) = Rose before now
 HasCause before now faults.Device = Rose before now
 HasCause before now fault = Unit {0}
 
--- a refusal of a path is told so
+-- a path leads to a regular file on the volume that lies here
+abbrev pub LeadsToFileOn : Image → Span → List ℕ → Type 0
+LeadsToFileOn image span path =
+    (volume : Volume) × (volume_at image span ≡ Ok volume) × LeadsToFile volume.layout (parts_of volume image) path
+
+-- a path leads to a regular file on the volume of a run
+abbrev pub LeadsToConf : Image → Machine → Option Device → List ℕ → Type 0
+LeadsToConf image machine root path =
+    (place : Located) × (volume_place image machine root ≡ Ok place) × LeadsToFileOn image place.span path
+
+-- a refusal of a path is reported so
 abbrev pub IsTreeFault : TreeFault → FileFault → Type 0
 IsTreeFault (trees.NotFound position) told = told ≡ faults.Missing
 IsTreeFault (trees.Zone zones.Device) told = told ≡ faults.Device

@@ -1,16 +1,19 @@
 // The text of a configuration.
-ghost use Rattle.std.specs.Prelude.{◌≡◌, ◌≤◌, option_map, IfErr};
-ghost use Rattle.disk_trait.specs.Past.{Told, SameDisks};
+ghost use Rattle.std.specs.Prelude.{◌≡◌, ◌≤◌, option_map, IfErr, IsErrOf};
+ghost use Rattle.disk_trait.specs.Past.{Told};
+ghost use Rattle.disk_trait.specs.Calls.{SameOf};
+ghost use Rattle.sector_address.specs.Machine.{OnDisks};
 ghost use Rattle.lilo_model.specs.Faults.{Rose};
 ghost use Rattle.lilo_model.specs.Checks.{with_fault};
 ghost use Rattle.lilo_model.specs.ConfVerdict.{conf_file, file_on, path_refusal};
 ghost use Rattle.lilo_model.specs.MinixFind.{file_at};
 ghost use Rattle.lilo_model.specs.MinixParts.{parts_of};
-ghost use Rattle.mbr_table.specs.View.{device_view, span_view, machine_of};
+ghost use Rattle.mbr_table.specs.View.{device_view, span_view};
 ghost use Rattle.minix_layout.specs.View.{super_view};
 ghost use Rattle.minix_zones.specs.Volume.{volume_view, past_of, faults_of, SameVolume};
 ghost use Rattle.minix_search.specs.View.{HasRoom};
-ghost use Rattle.conf_file.specs.View.{Gives, GivesText, HasCause, IsTreeFault};
+ghost use Rattle.minix_tree.specs.File.{LeadsToFile};
+ghost use Rattle.conf_file.specs.View.{Gives, GivesText, HasCause, IsTreeFault, LeadsToFileOn, LeadsToConf};
 
 use crate::file_fault::FileFault;
 use conf_text::Text;
@@ -35,8 +38,8 @@ pub struct ConfFile {
 ///
 /// # Errors
 ///
-/// In this order: there is no volume, its superblock is refused, the path is. A disk that failed is told where it failed,
-/// and want of memory where the file is read.
+/// In this order: there is no volume, its superblock is refused, the path is. A disk that failed is reported where it
+/// failed, and out of memory where a regular file is read.
 #[tactic(auto, unfolding(lilo_model::specs::ConfVerdict::conf_file))]
 pub fn read_conf_file<D: Disks>(
     alloc: Global,
@@ -45,15 +48,17 @@ pub fn read_conf_file<D: Disks>(
     path: &[u8],
 ) -> Result<ConfFile, FileFault>
     // What is read.
-    ensures file { Told (D.past disks.old) (λ now. Gives path.now result
-        (conf_file now (machine_of (D.size_of disks.old) (D.geometry_of disks.old)) (option_map device_view root) path.now)) }
+    ensures file { OnDisks D.Disks disks.old (λ now machine. Gives path.now result
+        (conf_file now machine (option_map device_view root) path.now)) }
 
     // When it is refused.
+    ensures memory { IsErrOf result FileFault.Memory → OnDisks D.Disks disks.old (λ now machine.
+        LeadsToConf now machine (option_map device_view root) path.now) }
     ensures cause { IfErr result (HasCause (D.faults disks.old) (D.faults disks.new)) }
     ensures later { D.faults disks.old ≤ D.faults disks.new }
 
     // Nothing else happens.
-    ensures same { SameDisks D.past D.size_of D.count_of D.geometry_of disks.old disks.new }
+    ensures same { SameOf D.Disks disks.old disks.new }
 {
     match find_volume(disks, root) {
         Ok(place) => {
@@ -78,9 +83,11 @@ fn text_on<D: Disks>(
 ) -> Result<Text, FileFault>
     requires { HasRoom (D.size_of disks.old span.disk) span }
     ensures text { Told (D.past disks.old) (λ now. GivesText path.now result (file_on now (span_view span) path.now)) }
+    ensures memory { IsErrOf result FileFault.Memory → Told (D.past disks.old) (λ now.
+        LeadsToFileOn now (span_view span) path.now) }
     ensures cause { IfErr result (HasCause (D.faults disks.old) (D.faults disks.new)) }
     ensures later { D.faults disks.old ≤ D.faults disks.new }
-    ensures same { SameDisks D.past D.size_of D.count_of D.geometry_of disks.old disks.new }
+    ensures same { SameOf D.Disks disks.old disks.new }
 {
     match Volume::attach(disks, span) {
         Ok(mut volume) => text_in(alloc, &mut volume, path),
@@ -97,6 +104,8 @@ fn text_in<D: Disks>(
 ) -> Result<Text, FileFault>
     ensures text { Told (past_of volume.old) (λ now. GivesText path.now result (with_fault (path_refusal path.now)
         (file_at (super_view volume.old.layout) (parts_of (volume_view volume.old) now) path.now))) }
+    ensures memory { IsErrOf result FileFault.Memory → Told (past_of volume.old) (λ now.
+        LeadsToFile (super_view volume.old.layout) (parts_of (volume_view volume.old) now) path.now) }
     ensures cause { IfErr result (HasCause (faults_of volume.old) (faults_of volume.new)) }
     ensures later { faults_of volume.old ≤ faults_of volume.new }
     ensures same { SameVolume volume.old volume.new }
@@ -107,7 +116,7 @@ fn text_in<D: Disks>(
     }
 }
 
-// How a refusal of a path is told.
+// How a refusal of a path is reported.
 fn file_fault(fault: &TreeFault) -> FileFault
     ensures { IsTreeFault fault.now result }
 {

@@ -41,7 +41,7 @@ fn put(disks: &mut MemDisks, sector: u32, pieces: &[(usize, &[u8])])
 }
 
 // A volume of version 1 with names of 14 bytes from sector 0 on: 16 inodes, 32 zones, the first data zone 5. The root
-// in zone 5 has the file `conf`, whose text stands in zone 6.
+// in zone 5 has the file `conf`, whose text lies in zone 6.
 fn volume(disks: &mut MemDisks, zones: u8)
     requires { disks.old.events ≡ [] }
     ensures { disks.new.events ≡ [] }
@@ -80,8 +80,8 @@ fn the_file_of_a_path_is_read(rt: HostRuntime) -> Result<(), Fail> {
 // No call has this number.
 const NONE: u64 = u64::MAX;
 
-// The search reads the superblock by call 0, and the volume reads it again by call 1. On the file's way stand the root,
-// the two halves of its zone, the file's inode and the two halves of its own zone: calls 2 to 7.
+// The search reads the superblock by call 0, and the volume reads it again by call 1. On the way to the file are the
+// root, the two halves of its zone, the inode of the file and the two halves of its own zone: calls 2 to 7.
 #[test]
 fn each_refusal_is_told(rt: HostRuntime) -> Result<(), Fail> {
     let whole = Device {

@@ -1,13 +1,15 @@
 // A command on a device.
 ghost use Rattle.std.specs.Prelude.{◌≡◌, ◌≤◌, Err, IfErr};
-ghost use Rattle.disk_trait.specs.Past.{Told, SameDisks};
+ghost use Rattle.disk_trait.specs.Past.{Told};
+ghost use Rattle.disk_trait.specs.Calls.{SameOf};
+ghost use Rattle.sector_address.specs.Machine.{OnDisks};
 ghost use Rattle.stream_trait.specs.Shows.{HasFailed};
 ghost use Rattle.lilo_model.specs.MinixParts.{parts_of};
 ghost use Rattle.lilo_model.specs.LdiskWords.{device_of};
 ghost use Rattle.lilo_model.specs.LdiskVerdict.{verdict_on, command_verdict};
 ghost use Rattle.minix_layout.specs.View.{super_view};
 ghost use Rattle.minix_zones.specs.Volume.{volume_view, past_of, faults_of, SameVolume};
-ghost use Rattle.mbr_table.specs.View.{device_view, machine_of};
+ghost use Rattle.mbr_table.specs.View.{device_view};
 ghost use Rattle.ldisk_run.specs.Pieces.{sink_of, held_by};
 ghost use Rattle.ldisk_run.specs.Run.{HasCause, IsZoneHalt, Does};
 ghost use Rattle.ldisk_run.specs.View.{command_view};
@@ -30,14 +32,14 @@ pub(crate) fn carry_out<D: Disks, O: Sink>(
     disks: &mut D,
     out: &mut Pieces<'_, O>,
 ) -> Result<(), Halt>
-    ensures does { Told (D.past disks.old) (λ now. Does
-        (command_verdict now (machine_of (D.size_of disks.old) (D.geometry_of disks.old))
+    ensures does { OnDisks D.Disks disks.old (λ now machine. Does
+        (command_verdict now machine
         (command_view command.entry)) result
         (held_by O.taken O.faults out.old) (held_by O.taken O.faults out.new)) }
     ensures no_disk { D.size_of disks.old 0 ≡ 0 → result ≡ Err Halt.Refused }
     ensures cause { IfErr result (HasCause (D.faults disks.old) (D.faults disks.new)) }
     ensures later { D.faults disks.old ≤ D.faults disks.new }
-    ensures same { SameDisks D.past D.size_of D.count_of D.geometry_of disks.old disks.new }
+    ensures same { SameOf D.Disks disks.old disks.new }
     ensures sink { HasFailed (sink_of O.taken O.faults out.old) (sink_of O.taken O.faults out.new) }
     ensures same_reference { out.new.out.out.ghost_name ≡ out.old.out.out.ghost_name }
 {

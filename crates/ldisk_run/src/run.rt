@@ -1,12 +1,12 @@
 // The top call: what the program `ldisk` does with its words.
 ghost use Rattle.std.specs.Prelude.{◌≡◌, ◌↔◌, ◌≤◌, None, IsSome, IsTrue};
-ghost use Rattle.disk_trait.specs.Past.{Told, SameDisks};
+ghost use Rattle.disk_trait.specs.Calls.{SameOf};
+ghost use Rattle.sector_address.specs.Machine.{OnDisks};
 ghost use Rattle.lilo_model.specs.Faults.{Rose};
 ghost use Rattle.stream_trait.specs.Sink.{Takes};
 ghost use Rattle.stream_trait.specs.Shows.{HasFailed};
 ghost use Rattle.lilo_model.specs.LdiskWords.{asked_at};
 ghost use Rattle.lilo_model.specs.LdiskVerdict.{ldisk_verdict};
-ghost use Rattle.mbr_table.specs.View.{machine_of};
 ghost use Rattle.ldisk_run.specs.Pieces.{sink_of, held_by};
 ghost use Rattle.ldisk_run.specs.Run.{Does, DoesAs, Answers, Tells, is_status, is_command_status};
 
@@ -45,17 +45,17 @@ pub fn ldisk<D: Disks, I: Source, O: Sink>(
     now: u32,
 ) -> u8
     // Where the disks tell what they hold, the status is the verdict's, but for faults.
-    ensures status { Told (D.past disks.old) (λ now. Answers
-        (ldisk_verdict now (machine_of (D.size_of disks.old) (D.geometry_of disks.old)) words.now) result) }
+    ensures status { OnDisks D.Disks disks.old (λ now machine. Answers
+        (ldisk_verdict now machine words.now) result) }
     ensures device { result ≡ 8 → Rose (D.faults disks.old) (D.faults disks.new) }
     ensures sink { result ≡ 12 → Rose (O.faults out.old) (O.faults out.new) }
 
     // The text goes with the status. Only a failed sink or disk may have cut it short.
-    ensures text { Told (D.past disks.old) (λ now. Tells
-        (ldisk_verdict now (machine_of (D.size_of disks.old) (D.geometry_of disks.old)) words.now) result
+    ensures text { OnDisks D.Disks disks.old (λ now machine. Tells
+        (ldisk_verdict now machine words.now) result
         (O.taken out.old) (O.taken out.new) (O.faults out.old) (O.faults out.new)) }
-    ensures whole { result ≡ 0 → Told (D.past disks.old) (λ now. Takes (O.taken out.old)
-        (ldisk_verdict now (machine_of (D.size_of disks.old) (D.geometry_of disks.old)) words.now).text
+    ensures whole { result ≡ 0 → OnDisks D.Disks disks.old (λ now machine. Takes (O.taken out.old)
+        (ldisk_verdict now machine words.now).text
         (O.taken out.new)) }
 
     // Whatever the disks tell, these are the statuses, and what words or an absent disk decide is known.
@@ -64,7 +64,7 @@ pub fn ldisk<D: Disks, I: Source, O: Sink>(
     ensures no_disk { D.size_of disks.old 0 ≡ 0 → IsSome (asked_at words.now) → result ≡ 3 }
 
     // Nothing else happens.
-    ensures same { SameDisks D.past D.size_of D.count_of D.geometry_of disks.old disks.new }
+    ensures same { SameOf D.Disks disks.old disks.new }
     ensures later { D.faults disks.old ≤ D.faults disks.new }
     ensures source { source.new ≡ source.old }
 {
@@ -78,15 +78,15 @@ pub fn ldisk<D: Disks, I: Source, O: Sink>(
 /// Carries out words, and answers the status, whether or not the sink failed.
 #[tactic(auto, unfolding(lilo_model::specs::LdiskVerdict::ldisk_verdict))]
 fn run_words<D: Disks, O: Sink>(words: &Words, disks: &mut D, out: &mut Pieces<'_, O>) -> u8
-    ensures does { Told (D.past disks.old) (λ now. DoesAs
-        (ldisk_verdict now (machine_of (D.size_of disks.old) (D.geometry_of disks.old)) words.now) result
+    ensures does { OnDisks D.Disks disks.old (λ now machine. DoesAs
+        (ldisk_verdict now machine words.now) result
         (held_by O.taken O.faults out.old) (held_by O.taken O.faults out.new)) }
     ensures known { IsTrue (is_command_status result) }
     ensures usage { (result ≡ 1) ↔ (asked_at words.now ≡ None) }
     ensures no_disk { D.size_of disks.old 0 ≡ 0 → IsSome (asked_at words.now) → result ≡ 3 }
     ensures device { result ≡ 8 → Rose (D.faults disks.old) (D.faults disks.new) }
     ensures later { D.faults disks.old ≤ D.faults disks.new }
-    ensures same { SameDisks D.past D.size_of D.count_of D.geometry_of disks.old disks.new }
+    ensures same { SameOf D.Disks disks.old disks.new }
     ensures sink { HasFailed (sink_of O.taken O.faults out.old) (sink_of O.taken O.faults out.new) }
     ensures same_reference { out.new.out.out.ghost_name ≡ out.old.out.out.ghost_name }
 {

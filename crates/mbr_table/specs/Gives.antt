@@ -1,4 +1,4 @@
--- How what was read from disks stands to what the model gives.
+-- How what was read from disks compares with what the model gives.
 use Rattle.std.specs.Prelude.{◌≡◌, ℕ, ◌==◌, Bool, true, false, Result, Ok, Err}
 use Rattle.lilo_model.specs.Partitions as model
 use Rattle.mbr_table.specs.declared.table_fault.TableFault.{TableFault}

@@ -1,3 +1,4 @@
+pub mod Chain
 pub mod Gives
 pub mod Laws
 pub mod Listed

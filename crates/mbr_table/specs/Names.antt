@@ -1,4 +1,4 @@
--- The number behind a disk's name, read digit by digit.
+-- The number after a disk's name, read digit by digit.
 use Rattle.std.specs.Prelude.{ℕ, ◌+◌, ◌-◌, ◌*◌, ◌&&◌, if◌then◌else◌, List, [], ◌∷◌, Option, Some, None}
 use Rattle.lilo_model.specs.Bytes.{is_between}
 
@@ -11,7 +11,7 @@ unfoldable pub two_digits : ℕ → ℕ → Option ℕ
 two_digits ten unit =
     if is_between 49 57 ten && is_between 48 57 unit then Some ((ten - 48) * 10 + (unit - 48)) else None
 
--- the partition whose number stands behind the disk's name, where it has at most two digits
+-- the partition whose number comes after the disk's name, where it has at most two digits
 unfoldable pub partition_at : List ℕ → Option ℕ
 partition_at [] = Some 0
 partition_at (unit ∷ []) = one_digit unit

@@ -1,7 +1,6 @@
 -- For which plain value of the model each value of this crate stands.
-use Rattle.std.specs.Prelude.{ℕ, List, map}
+use Rattle.std.specs.Prelude.{List, map}
 use Rattle.disk_trait.specs.declared.disks.Span.{Span}
-use Rattle.disk_trait.specs.declared.geometry.Geometry.{Geometry}
 use Rattle.lilo_model.specs.Devices as devices
 use Rattle.lilo_model.specs.Disks as disks
 use Rattle.lilo_model.specs.Partitions as model
@@ -47,10 +46,3 @@ table_fault_view faults.UnknownDevice = model.UnknownDevice
 table_fault_view (faults.NoPartition number) = model.NoPartition number
 table_fault_view (faults.NoDisk disk) = model.NoDisk disk
 table_fault_view faults.Device = model.Device
-
--- disks of these sizes and geometries, as the model has them
-abbrev pub machine_of : (ℕ → ℕ) → (ℕ → Geometry) → disks.Machine
-machine_of size geometry = record {
-  size_of = size;
-  geometry_of = λ disk. record { heads = (geometry disk).heads; sectors = (geometry disk).sectors };
-}

@@ -1,9 +1,13 @@
 // The chain of tables inside an extended partition.
-ghost use Rattle.std.specs.Prelude.{◌≡◌, ◌^◌, ◌≤◌, ◌<◌, [], ◌∷◌, ◌++◌, nat_eq, ◌+◌, length, All, Some, option_map, option_to_list, IfOk, IfErr, IfSome, IsErrOf, IsTrue};
+ghost use Rattle.std.specs.Prelude.{◌≡◌, ◌^◌, ◌≤◌, ◌<◌, [], ◌++◌, nat_eq, ◌+◌, length, All, option_map, option_to_list};
+ghost use Rattle.std.specs.Prelude.{IfOk, IfErr, IfSome, IsErrOf, IsTrue};
 ghost use Rattle.std.specs.List.{list_any};
-ghost use Rattle.disk_trait.specs.Past.{Told, SameDisks};
+ghost use Rattle.disk_trait.specs.Past.{Told};
+ghost use Rattle.disk_trait.specs.Calls.{SameOf};
 ghost use Rattle.lilo_model.specs.Faults.{Rose};
-ghost use Rattle.lilo_model.specs.Partitions.{table_entries, link_of, linked_sector, chain_from, chain_entries, logical_from, chain_tables};
+ghost use Rattle.lilo_model.specs.Partitions.{table_entries, link_of, linked_sector, chain_entries, logical_from};
+ghost use Rattle.lilo_model.specs.Partitions.{chain_tables};
+ghost use Rattle.mbr_table.specs.Chain.{first_tables};
 ghost use Rattle.mbr_table.specs.Gives.{Gives, is_of_disk};
 ghost use Rattle.mbr_table.specs.Listed.{AreListed};
 ghost use Rattle.mbr_table.specs.View.{table_view, partitions_view};
@@ -19,7 +23,7 @@ pub fn table_at<D: Disks>(disks: &mut D, disk: u8, sector: u64) -> Result<Table4
     requires { sector < D.size_of disks.old disk }
     ensures table { Told (D.past disks.old) (λ now. Gives table_view result (table_entries sector (now disk sector))) }
     ensures refusal { IfErr result (λ fault. IsTrue (is_of_disk fault)) }
-    ensures same { SameDisks D.past D.size_of D.count_of D.geometry_of disks.old disks.new }
+    ensures same { SameOf D.Disks disks.old disks.new }
     ensures later { D.faults disks.old ≤ D.faults disks.new }
     ensures device { IsErrOf result TableFault.Device → Rose (D.faults disks.old) (D.faults disks.new) }
 {
@@ -30,10 +34,10 @@ pub fn table_at<D: Disks>(disks: &mut D, disk: u8, sector: u64) -> Result<Table4
     read_table(&bytes, sector)
 }
 
-/// The tables inside an extended partition. No sector is kept but the highest: a table above all those in front of it
-/// isn't one of them. For any other the chain is followed again from its first table on. So where the tables rise, as
-/// they do on a disk that was partitioned in order, each is read once; else a table is read once more for each table
-/// behind it that doesn't rise.
+/// The tables inside an extended partition. No sector is kept but the highest: a table above all those before it isn't
+/// one of them. For any other the chain is followed again from its first table on. So where the tables rise, as they do
+/// on a disk that was partitioned in order, each is read once; else a table is read once more for each table after it
+/// that doesn't rise.
 #[derive(Clone, Copy)]
 pub struct Chain {
     pub disk: SizedDisk,
@@ -51,14 +55,14 @@ impl Chain {
         Some(u64::from(self.outer) + u64::from(entry.start))
     }
 
-    // The sector to which the link of the table in a sector leads. Behind a table past the disk's end there is none.
+    // The sector to which the link of the table in a sector leads. After a table past the disk's end there is none.
     #[tactic(auto, unfolding(lilo_model::specs::Partitions::linked_sector))]
     fn linked<D: Disks>(self, disks: &mut D, sector: u64) -> Result<Option<u64>, TableFault>
         requires { self.disk.size ≡ D.size_of disks.old self.disk.disk }
         ensures linked { IfOk result (λ linked. Told (D.past disks.old) (λ now.
             linked ≡ linked_sector (now self.disk.disk) self.disk.size self.outer sector)) }
         ensures refusal { IfErr result (λ fault. fault ≡ TableFault.Device) }
-        ensures same { SameDisks D.past D.size_of D.count_of D.geometry_of disks.old disks.new }
+        ensures same { SameOf D.Disks disks.old disks.new }
         ensures later { D.faults disks.old ≤ D.faults disks.new }
         ensures device { IsErrOf result TableFault.Device → Rose (D.faults disks.old) (D.faults disks.new) }
     {
@@ -73,10 +77,10 @@ impl Chain {
     // Whether a sector is that of one of the first so many tables.
     fn is_among<D: Disks>(self, disks: &mut D, tables: u64, sector: u64) -> Result<bool, TableFault>
         requires { self.disk.size ≡ D.size_of disks.old self.disk.disk }
-        ensures found { IfOk result (λ found. Told (D.past disks.old) (λ now. found ≡ list_any (nat_eq sector)
-            (chain_from (linked_sector (now self.disk.disk) self.disk.size self.outer) tables (Some self.outer)))) }
+        ensures found { IfOk result (λ found. Told (D.past disks.old) (λ now.
+            found ≡ list_any (nat_eq sector) (first_tables now self tables))) }
         ensures refusal { IfErr result (λ fault. fault ≡ TableFault.Device) }
-        ensures same { SameDisks D.past D.size_of D.count_of D.geometry_of disks.old disks.new }
+        ensures same { SameOf D.Disks disks.old disks.new }
         ensures later { D.faults disks.old ≤ D.faults disks.new }
         ensures device { IsErrOf result TableFault.Device → Rose (D.faults disks.old) (D.faults disks.new) }
     {
@@ -102,12 +106,12 @@ impl Chain {
         sector: u64,
     ) -> Result<bool, TableFault>
         requires size { self.disk.size ≡ D.size_of disks.old self.disk.disk }
-        requires highest { Told (D.past disks.old) (λ now. All (λ earlier. earlier ≤ highest)
-            (chain_from (linked_sector (now self.disk.disk) self.disk.size self.outer) tables (Some self.outer))) }
-        ensures found { IfOk result (λ found. Told (D.past disks.old) (λ now. found ≡ list_any (nat_eq sector)
-            (chain_from (linked_sector (now self.disk.disk) self.disk.size self.outer) tables (Some self.outer)))) }
+        requires highest { Told (D.past disks.old) (λ now.
+            All (λ earlier. earlier ≤ highest) (first_tables now self tables)) }
+        ensures found { IfOk result (λ found. Told (D.past disks.old) (λ now.
+            found ≡ list_any (nat_eq sector) (first_tables now self tables))) }
         ensures refusal { IfErr result (λ fault. fault ≡ TableFault.Device) }
-        ensures same { SameDisks D.past D.size_of D.count_of D.geometry_of disks.old disks.new }
+        ensures same { SameOf D.Disks disks.old disks.new }
         ensures later { D.faults disks.old ≤ D.faults disks.new }
         ensures device { IsErrOf result TableFault.Device → Rose (D.faults disks.old) (D.faults disks.new) }
     {
@@ -117,7 +121,7 @@ impl Chain {
         self.is_among(disks, tables, sector)
     }
 
-    // The table in a sector, which stands behind so many tables of the chain.
+    // The table in a sector, which comes after so many tables of the chain.
     #[tactic(auto, unfolding(lilo_model::specs::Partitions::chain_entries))]
     fn table<D: Disks>(
         self,
@@ -127,13 +131,13 @@ impl Chain {
         sector: u64,
     ) -> Result<Table4, TableFault>
         requires size { self.disk.size ≡ D.size_of disks.old self.disk.disk }
-        requires highest { Told (D.past disks.old) (λ now. All (λ earlier. earlier ≤ highest)
-            (chain_from (linked_sector (now self.disk.disk) self.disk.size self.outer) tables (Some self.outer))) }
-        ensures table { Told (D.past disks.old) (λ now. Gives table_view result (chain_entries (now self.disk.disk) self.disk.size
-            (chain_from (linked_sector (now self.disk.disk) self.disk.size self.outer) tables (Some self.outer)) sector)) }
+        requires highest { Told (D.past disks.old) (λ now.
+            All (λ earlier. earlier ≤ highest) (first_tables now self tables)) }
+        ensures table { Told (D.past disks.old) (λ now. Gives table_view result
+            (chain_entries (now self.disk.disk) self.disk.size (first_tables now self tables) sector)) }
         ensures inside { IfOk result (λ table. sector < self.disk.size) }
         ensures refusal { IfErr result (λ fault. IsTrue (is_of_disk fault)) }
-        ensures same { SameDisks D.past D.size_of D.count_of D.geometry_of disks.old disks.new }
+        ensures same { SameOf D.Disks disks.old disks.new }
         ensures later { D.faults disks.old ≤ D.faults disks.new }
         ensures device { IsErrOf result TableFault.Device → Rose (D.faults disks.old) (D.faults disks.new) }
     {
@@ -155,7 +159,7 @@ impl Chain {
             (chain_tables (now self.disk.disk) self.disk.size self.outer))) }
         ensures listed { IfOk result (λ found. AreListed self.disk.disk self.disk.size 5 64 found.items) }
         ensures refusal { IfErr result (λ fault. IsTrue (is_of_disk fault)) }
-        ensures same { SameDisks D.past D.size_of D.count_of D.geometry_of disks.old disks.new }
+        ensures same { SameOf D.Disks disks.old disks.new }
         ensures later { D.faults disks.old ≤ D.faults disks.new }
         ensures device { IsErrOf result TableFault.Device → Rose (D.faults disks.old) (D.faults disks.new) }
     {

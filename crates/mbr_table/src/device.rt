@@ -83,7 +83,7 @@ fn disk_of(name: &[u8]) -> Option<u8>
     }
 }
 
-// The partition whose number stands behind a disk's name, or 0 for nothing.
+// The partition whose number comes after a disk's name, or 0 for nothing.
 fn partition_of(number: &[u8]) -> Option<u8>
     ensures { result ≡ partition_at number.now }
 {

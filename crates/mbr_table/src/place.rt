@@ -1,12 +1,14 @@
 // The partitions of a disk, and where a device lies.
 ghost use Rattle.std.specs.Prelude.{◌≡◌, ℕ, ◌↔◌, ◌≤◌, ◌++◌, Ok, All, IfOk, IfErr, IsErrOf, IsTrue};
-ghost use Rattle.disk_trait.specs.Past.{Told, SameDisks};
+ghost use Rattle.disk_trait.specs.Past.{Told};
+ghost use Rattle.disk_trait.specs.Calls.{SameOf};
+ghost use Rattle.sector_address.specs.Machine.{OnDisks};
 ghost use Rattle.lilo_model.specs.Faults.{Rose};
 ghost use Rattle.lilo_model.specs.Checks.{seen};
 ghost use Rattle.lilo_model.specs.Partitions.{partitions_of, logical_partitions, link_of, numbered_span, span_of};
 ghost use Rattle.mbr_table.specs.Gives.{Gives, is_of_disk, is_of_device};
 ghost use Rattle.mbr_table.specs.Listed.{IsOnDisk, AreListed, disk_span};
-ghost use Rattle.mbr_table.specs.View.{device_view, table_view, span_view, partitions_view, table_fault_view, machine_of};
+ghost use Rattle.mbr_table.specs.View.{device_view, table_view, span_view, partitions_view, table_fault_view};
 
 use crate::chain::{Chain, table_at};
 use crate::device::Device;
@@ -20,12 +22,12 @@ use disk_trait::{Disks, Span};
 /// and from 5 on come the logical ones inside the first of these that is extended.
 ///
 /// The first refusal that is met is answered. A table is read once where the tables of the logical partitions rise;
-/// else it is read once more for each table behind it that doesn't rise.
+/// else it is read once more for each table after it that doesn't rise.
 #[tactic(auto, unfolding(lilo_model::specs::Partitions::partitions_of))]
 pub fn partitions<D: Disks>(disks: &mut D, disk: u8) -> Result<ArrayVec<Partition, 63>, TableFault>
     // What is listed.
-    ensures partitions { Told (D.past disks.old) (λ now. Gives (λ found. partitions_view found.items) result
-        (partitions_of now (machine_of (D.size_of disks.old) (D.geometry_of disks.old)) disk)) }
+    ensures partitions { OnDisks D.Disks disks.old (λ now machine. Gives (λ found. partitions_view found.items) result
+        (partitions_of now machine disk)) }
     ensures listed { IfOk result (λ found. AreListed disk (D.size_of disks.old disk) 1 64 found.items) }
 
     // When it is refused.
@@ -36,7 +38,7 @@ pub fn partitions<D: Disks>(disks: &mut D, disk: u8) -> Result<ArrayVec<Partitio
     ensures unread { D.size_of disks.old disk ≡ 0 → D.faults disks.new ≡ D.faults disks.old }
 
     // Nothing else happens.
-    ensures same { SameDisks D.past D.size_of D.count_of D.geometry_of disks.old disks.new }
+    ensures same { SameOf D.Disks disks.old disks.new }
 {
     let size = disks.size(disk);
     if size == 0 {
@@ -53,11 +55,11 @@ fn partitions_on<D: Disks>(
 ) -> Result<ArrayVec<Partition, 63>, TableFault>
     requires size { disk.size ≡ D.size_of disks.old disk.disk }
     requires some { 1 ≤ disk.size }
-    ensures partitions { Told (D.past disks.old) (λ now. Gives (λ found. partitions_view found.items) result
-        (partitions_of now (machine_of (D.size_of disks.old) (D.geometry_of disks.old)) disk.disk)) }
+    ensures partitions { OnDisks D.Disks disks.old (λ now machine. Gives (λ found. partitions_view found.items) result
+        (partitions_of now machine disk.disk)) }
     ensures listed { IfOk result (λ found. AreListed disk.disk disk.size 1 64 found.items) }
     ensures refusal { IfErr result (λ fault. IsTrue (is_of_disk fault)) }
-    ensures same { SameDisks D.past D.size_of D.count_of D.geometry_of disks.old disks.new }
+    ensures same { SameOf D.Disks disks.old disks.new }
     ensures later { D.faults disks.old ≤ D.faults disks.new }
     ensures device { IsErrOf result TableFault.Device → Rose (D.faults disks.old) (D.faults disks.new) }
 {
@@ -78,7 +80,7 @@ fn logical_in<D: Disks>(
         (logical_partitions (now disk.disk) disk.size disk.disk (link_of (table_view table.now)))) }
     ensures listed { IfOk result (λ found. AreListed disk.disk disk.size 5 64 found.items) }
     ensures refusal { IfErr result (λ fault. IsTrue (is_of_disk fault)) }
-    ensures same { SameDisks D.past D.size_of D.count_of D.geometry_of disks.old disks.new }
+    ensures same { SameOf D.Disks disks.old disks.new }
     ensures later { D.faults disks.old ≤ D.faults disks.new }
     ensures device { IsErrOf result TableFault.Device → Rose (D.faults disks.old) (D.faults disks.new) }
 {
@@ -110,8 +112,8 @@ fn joined(
 #[tactic(auto, unfolding(lilo_model::specs::Partitions::span_of))]
 pub fn place_of<D: Disks>(disks: &mut D, device: Device) -> Result<Span, TableFault>
     // Where it lies.
-    ensures place { Told (D.past disks.old) (λ now. Gives span_view result
-        (span_of now (machine_of (D.size_of disks.old) (D.geometry_of disks.old)) (device_view device))) }
+    ensures place { OnDisks D.Disks disks.old (λ now machine. Gives span_view result
+        (span_of now machine (device_view device))) }
     ensures whole { device.partition ≡ 0 → 1 ≤ D.size_of disks.old device.disk
         → result ≡ Ok (disk_span device.disk (D.size_of disks.old device.disk)) }
     ensures inside { IfOk result (λ span. IsOnDisk device.disk (D.size_of disks.old device.disk) span) }
@@ -125,7 +127,7 @@ pub fn place_of<D: Disks>(disks: &mut D, device: Device) -> Result<Span, TableFa
     ensures unread { device.partition ≡ 0 → D.faults disks.new ≡ D.faults disks.old }
 
     // Nothing else happens.
-    ensures same { SameDisks D.past D.size_of D.count_of D.geometry_of disks.old disks.new }
+    ensures same { SameOf D.Disks disks.old disks.new }
 {
     let size = disks.size(device.disk);
     if size == 0 {

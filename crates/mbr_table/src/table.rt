@@ -2,7 +2,8 @@
 ghost use Rattle.std.specs.Prelude.{◌≡◌, ◌+◌, ◌≤◌, option_map, IfErr, IfSome, IsTrue};
 ghost use Rattle.lilo_model.specs.Checks.{seen};
 ghost use Rattle.lilo_model.specs.BootSector.{is_bootable};
-ghost use Rattle.lilo_model.specs.Partitions.{is_used, is_extended, entry_at, entries_of, table_entries, is_link, is_plain, link_of, logical_of};
+ghost use Rattle.lilo_model.specs.Partitions.{is_used, is_extended, entry_at, entries_of, table_entries, is_link};
+ghost use Rattle.lilo_model.specs.Partitions.{is_plain, link_of, logical_of};
 ghost use Rattle.mbr_table.specs.View.{entry_view, table_view, table_fault_view};
 
 use crate::table_fault::TableFault;

@@ -15,7 +15,7 @@ use Rattle.minix_search.specs.declared.volume_fault.VolumeFault.TheVariants.{NoV
 abbrev pub located_view : Located → model.Located
 located_view found = record { device = device_view found.device; span = span_view found.span }
 
--- how a refusal of partition tables is told
+-- how a refusal of partition tables is reported
 abbrev pub told_fault : TableFault → DeviceFault
 told_fault fault = device_fault (table_fault_view fault)
 
@@ -24,7 +24,7 @@ abbrev pub Tells : {A : Type 0} → TableFault → (DeviceFault → A) → A →
 Tells faults.Device told given = Unit {0}
 Tells fault told given = given ≡ told (told_fault fault)
 
--- whether a refusal tells that a disk's sector 0 is no table
+-- whether a refusal says that a disk's sector 0 is no table
 abbrev pub has_no_table : TableFault → Bool
 has_no_table (faults.NoSignature sector) = sector == 0
 has_no_table fault = false

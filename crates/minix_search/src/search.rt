@@ -1,11 +1,15 @@
 // The search for a volume.
-ghost use Rattle.std.specs.Prelude.{◌≡◌, ◌∷◌, [], ◌+◌, ◌≤◌, nat_le, true, Ok, option_map, find, All, IfOk, IfErr, IsErrOf, IfSome};
-ghost use Rattle.disk_trait.specs.Past.{Told, SameDisks};
+ghost use Rattle.std.specs.Prelude.{◌≡◌, ◌∷◌, [], ◌+◌, ◌≤◌, nat_le, true, Ok, option_map, find, All};
+ghost use Rattle.std.specs.Prelude.{IfOk, IfErr, IsErrOf, IfSome};
+ghost use Rattle.disk_trait.specs.Past.{Told};
+ghost use Rattle.disk_trait.specs.Calls.{SameOf};
+ghost use Rattle.sector_address.specs.Machine.{OnDisks};
 ghost use Rattle.lilo_model.specs.Faults.{Rose};
 ghost use Rattle.lilo_model.specs.Devices.{last_partition};
 ghost use Rattle.lilo_model.specs.Partitions.{partitions_of};
-ghost use Rattle.lilo_model.specs.VolumeSearch.{has_magic, holds_volume, searched_partitions, searched_on, ends_search, first_volume, named_volume, volume_place};
-ghost use Rattle.mbr_table.specs.View.{device_view, span_view, partition_view, partitions_view, machine_of};
+ghost use Rattle.lilo_model.specs.VolumeSearch.{has_magic, holds_volume, searched_partitions, searched_on};
+ghost use Rattle.lilo_model.specs.VolumeSearch.{ends_search, first_volume, named_volume, volume_place};
+ghost use Rattle.mbr_table.specs.View.{device_view, span_view, partition_view, partitions_view};
 ghost use Rattle.mbr_table.specs.Listed.{IsOnDisk};
 ghost use Rattle.minix_search.specs.View.{Gives, Ends, HasRoom, has_no_table};
 
@@ -42,8 +46,8 @@ pub struct Located {
 #[tactic(auto, unfolding(lilo_model::specs::VolumeSearch::volume_place))]
 pub fn find_volume<D: Disks>(disks: &mut D, root: Option<Device>) -> Result<Located, VolumeFault>
     // What is found.
-    ensures volume { Told (D.past disks.old) (λ now. Gives result
-        (volume_place now (machine_of (D.size_of disks.old) (D.geometry_of disks.old)) (option_map device_view root))) }
+    ensures volume { OnDisks D.Disks disks.old (λ now machine. Gives result
+        (volume_place now machine (option_map device_view root))) }
     ensures room { IfOk result (λ found. HasRoom (D.size_of disks.old found.span.disk) found.span) }
 
     // When it is refused.
@@ -52,7 +56,7 @@ pub fn find_volume<D: Disks>(disks: &mut D, root: Option<Device>) -> Result<Loca
     ensures later { D.faults disks.old ≤ D.faults disks.new }
 
     // Nothing else happens.
-    ensures same { SameDisks D.past D.size_of D.count_of D.geometry_of disks.old disks.new }
+    ensures same { SameOf D.Disks disks.old disks.new }
 {
     match root {
         Some(device) => named_volume(disks, device),
@@ -63,13 +67,13 @@ pub fn find_volume<D: Disks>(disks: &mut D, root: Option<Device>) -> Result<Loca
 // A device that is named, where it has room for a volume.
 #[tactic(auto, unfolding(lilo_model::specs::VolumeSearch::named_volume))]
 fn named_volume<D: Disks>(disks: &mut D, device: Device) -> Result<Located, VolumeFault>
-    ensures volume { Told (D.past disks.old) (λ now. Gives result
-        (named_volume now (machine_of (D.size_of disks.old) (D.geometry_of disks.old)) (device_view device))) }
+    ensures volume { OnDisks D.Disks disks.old (λ now machine. Gives result
+        (named_volume now machine (device_view device))) }
     ensures room { IfOk result (λ found. HasRoom (D.size_of disks.old found.span.disk) found.span) }
     ensures device { IsErrOf result (VolumeFault.Place TableFault.Device)
         → Rose (D.faults disks.old) (D.faults disks.new) }
     ensures later { D.faults disks.old ≤ D.faults disks.new }
-    ensures same { SameDisks D.past D.size_of D.count_of D.geometry_of disks.old disks.new }
+    ensures same { SameOf D.Disks disks.old disks.new }
 {
     match place_of(disks, device) {
         Ok(span) => {
@@ -84,13 +88,13 @@ fn named_volume<D: Disks>(disks: &mut D, device: Device) -> Result<Located, Volu
 
 // The first device that has a volume.
 fn first_volume<D: Disks>(disks: &mut D) -> Result<Located, VolumeFault>
-    ensures volume { Told (D.past disks.old) (λ now. Gives result
-        (first_volume now (machine_of (D.size_of disks.old) (D.geometry_of disks.old)))) }
+    ensures volume { OnDisks D.Disks disks.old (λ now machine. Gives result
+        (first_volume now machine)) }
     ensures room { IfOk result (λ found. HasRoom (D.size_of disks.old found.span.disk) found.span) }
     ensures device { IsErrOf result (VolumeFault.Place TableFault.Device)
         → Rose (D.faults disks.old) (D.faults disks.new) }
     ensures later { D.faults disks.old ≤ D.faults disks.new }
-    ensures same { SameDisks D.past D.size_of D.count_of D.geometry_of disks.old disks.new }
+    ensures same { SameOf D.Disks disks.old disks.new }
 {
     for disk in 0..DISKS {
         match volume_on(disks, disk) {
@@ -105,13 +109,13 @@ fn first_volume<D: Disks>(disks: &mut D) -> Result<Located, VolumeFault>
 // The first device of a disk that has a volume: the whole disk, or a partition.
 #[tactic(auto, unfolding(lilo_model::specs::VolumeSearch::searched_on))]
 fn volume_on<D: Disks>(disks: &mut D, disk: u8) -> Result<Option<Located>, TableFault>
-    ensures volume { Told (D.past disks.old) (λ now. Ends result (find (ends_search now)
-        (searched_on now (machine_of (D.size_of disks.old) (D.geometry_of disks.old)) disk))) }
+    ensures volume { OnDisks D.Disks disks.old (λ now machine. Ends result (find (ends_search now)
+        (searched_on now machine disk))) }
     ensures room { IfOk result (λ found. IfSome found
         (λ found. HasRoom (D.size_of disks.old found.span.disk) found.span)) }
     ensures device { IsErrOf result TableFault.Device → Rose (D.faults disks.old) (D.faults disks.new) }
     ensures later { D.faults disks.old ≤ D.faults disks.new }
-    ensures same { SameDisks D.past D.size_of D.count_of D.geometry_of disks.old disks.new }
+    ensures same { SameOf D.Disks disks.old disks.new }
 {
     let count = disks.size(disk);
     if count == 0 {
@@ -133,13 +137,13 @@ fn volume_on<D: Disks>(disks: &mut D, disk: u8) -> Result<Option<Located>, Table
 #[tactic(auto, unfolding(lilo_model::specs::VolumeSearch::searched_partitions))]
 fn volume_in_table<D: Disks>(disks: &mut D, disk: u8) -> Result<Option<Located>, TableFault>
     requires { 1 ≤ D.size_of disks.old disk }
-    ensures volume { Told (D.past disks.old) (λ now. Ends result (find (ends_search now)
-        (searched_partitions disk (partitions_of now (machine_of (D.size_of disks.old) (D.geometry_of disks.old)) disk)))) }
+    ensures volume { OnDisks D.Disks disks.old (λ now machine. Ends result (find (ends_search now)
+        (searched_partitions disk (partitions_of now machine disk)))) }
     ensures room { IfOk result (λ found. IfSome found
         (λ found. HasRoom (D.size_of disks.old found.span.disk) found.span)) }
     ensures device { IsErrOf result TableFault.Device → Rose (D.faults disks.old) (D.faults disks.new) }
     ensures later { D.faults disks.old ≤ D.faults disks.new }
-    ensures same { SameDisks D.past D.size_of D.count_of D.geometry_of disks.old disks.new }
+    ensures same { SameOf D.Disks disks.old disks.new }
 {
     match partitions(disks, disk) {
         Ok(found) => volume_among(disks, disk, found.as_slice()),
@@ -153,7 +157,7 @@ fn volume_in_table<D: Disks>(disks: &mut D, disk: u8) -> Result<Option<Located>,
     }
 }
 
-// Whether a refusal tells that a disk's sector 0 is no table.
+// Whether a refusal says that a disk's sector 0 is no table.
 fn has_no_table(fault: TableFault) -> bool
     ensures { result ≡ has_no_table fault }
 {
@@ -182,7 +186,7 @@ fn volume_among<D: Disks>(
         (λ found. HasRoom (D.size_of disks.old found.span.disk) found.span)) }
     ensures device { IsErrOf result TableFault.Device → Rose (D.faults disks.old) (D.faults disks.new) }
     ensures later { D.faults disks.old ≤ D.faults disks.new }
-    ensures same { SameDisks D.past D.size_of D.count_of D.geometry_of disks.old disks.new }
+    ensures same { SameOf D.Disks disks.old disks.new }
 {
     for partition in partitions {
         match volume_at(disks, disk, partition) {
@@ -195,7 +199,8 @@ fn volume_among<D: Disks>(
 }
 
 // A partition, where it has a name and a volume.
-#[tactic(auto, unfolding(lilo_model::specs::VolumeSearch::searched_partitions, lilo_model::specs::VolumeSearch::ends_search))]
+#[tactic(auto, unfolding(lilo_model::specs::VolumeSearch::searched_partitions))]
+#[tactic(auto, unfolding(lilo_model::specs::VolumeSearch::ends_search))]
 fn volume_at<D: Disks>(
     disks: &mut D,
     disk: u8,
@@ -208,7 +213,7 @@ fn volume_at<D: Disks>(
         (λ found. HasRoom (D.size_of disks.old found.span.disk) found.span)) }
     ensures device { IsErrOf result TableFault.Device → Rose (D.faults disks.old) (D.faults disks.new) }
     ensures later { D.faults disks.old ≤ D.faults disks.new }
-    ensures same { SameDisks D.past D.size_of D.count_of D.geometry_of disks.old disks.new }
+    ensures same { SameOf D.Disks disks.old disks.new }
 {
     if !has_name(disk, partition.number) {
         return Ok(None);
@@ -242,7 +247,7 @@ fn holds_volume<D: Disks>(disks: &mut D, span: &Span) -> Result<bool, TableFault
     ensures refused { IfErr result (λ fault. fault ≡ TableFault.Device) }
     ensures device { IsErrOf result TableFault.Device → Rose (D.faults disks.old) (D.faults disks.new) }
     ensures later { D.faults disks.old ≤ D.faults disks.new }
-    ensures same { SameDisks D.past D.size_of D.count_of D.geometry_of disks.old disks.new }
+    ensures same { SameOf D.Disks disks.old disks.new }
 {
     let size = disks.size(span.disk);
     let on_disk = span.count <= size && span.start <= size - span.count;
@@ -258,7 +263,8 @@ fn holds_volume<D: Disks>(disks: &mut D, span: &Span) -> Result<bool, TableFault
 }
 
 // Whether a sector has a magic number of a superblock.
-#[tactic(auto, unfolding(lilo_model::specs::VolumeSearch::has_magic, lilo_model::specs::MinixLayout::super_at, lilo_model::specs::MinixLayout::super_in, lilo_model::specs::MinixLayout::super_checks))]
+#[tactic(auto, unfolding(lilo_model::specs::VolumeSearch::has_magic, lilo_model::specs::MinixLayout::super_at))]
+#[tactic(auto, unfolding(lilo_model::specs::MinixLayout::super_in, lilo_model::specs::MinixLayout::super_checks))]
 fn has_magic(sector: &Sector, sectors: u64) -> bool
     ensures { result ≡ has_magic sector.now }
 {

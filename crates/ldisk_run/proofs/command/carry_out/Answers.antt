@@ -3,7 +3,7 @@ use Rattle.std.proofs.Common.{◌≡◌, ◌≤◌, Ok, Err, rules, arith, refl}
 use Rattle.disk_trait.specs.Past.{SameDisks}
 use Rattle.lilo_model.specs.LdiskVerdict.{room_of, command_verdict}
 use Rattle.lilo_model.specs.MinixParts.{volume_at}
-use Rattle.mbr_table.specs.View.{device_view, span_view, machine_of}
+use Rattle.mbr_table.specs.View.{device_view, span_view}
 use Rattle.mbr_table.proofs.ToldLemmas.{told_before, same_twice}
 use Rattle.minix_zones.specs.View.{Refuses}
 use Rattle.ldisk_run.specs.Pieces.{held_by}
@@ -12,12 +12,13 @@ use Rattle.ldisk_run.specs.View.{command_view}
 use Rattle.ldisk_run.proofs.CommandLemmas.{held_of, rose_before, room_halted, volume_halted}
 use Rattle.ldisk_run.proofs.HaltLemmas.{zone_cause}
 use Rattle.disk_trait.proofs.ToldLemmas.{told_map, told_both}
+use Rattle.sector_address.specs.Machine.{machine_of}
 use Rattle.ldisk_run.proofs.command.carry_out.Goals as goal
 
 pub returns-in_err-span-clause-does : goal.returns-in_err-span-clause-does
 returns-in_err-span-clause-does g c =
     let disks = c.args.disks.now in
-    let machine = machine_of (g.D.Disks.size_of disks) (g.D.Disks.geometry_of disks) in
+    let machine = machine_of g.D.Disks disks in
     let command = command_view c.args.command in
     let device = device_view c.device_of.result in
     let held = held_by g.O.Sink.taken g.O.Sink.faults c.args.out.now in
@@ -31,7 +32,7 @@ pub returns-in-Err-clause-does : goal.returns-in-Err-clause-does
 returns-in-Err-clause-does g c =
     let disks = c.args.disks.now in
     let mid = c.find_room.new.disks in
-    let machine = machine_of (g.D.Disks.size_of disks) (g.D.Disks.geometry_of disks) in
+    let machine = machine_of g.D.Disks disks in
     let command = command_view c.args.command in
     let device = device_view c.device_of.result in
     let span = span_view c.in_ok-span.span in

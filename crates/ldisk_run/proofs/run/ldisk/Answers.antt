@@ -3,18 +3,18 @@ use Rattle.std.proofs.Common.{◌≡◌, false, rules}
 use Rattle.disk_trait.specs.Past.{Told}
 use Rattle.stream_trait.specs.Shows.{answer_of}
 use Rattle.lilo_model.specs.LdiskVerdict.{ldisk_verdict}
-use Rattle.mbr_table.specs.View.{machine_of}
 use Rattle.ldisk_run.specs.Pieces.{sink_of, held_by}
 use Rattle.ldisk_run.specs.Run.{DoesAs, Tells}
 use Rattle.ldisk_run.proofs.CommandLemmas.{held_of, tells}
 use Rattle.disk_trait.proofs.ToldLemmas.{told_map}
+use Rattle.sector_address.specs.Machine.{machine_of}
 use Rattle.ldisk_run.proofs.run.ldisk.Goals as goal
 
 pub returns-clause-text : goal.returns-clause-text
 returns-clause-text g c =
     let o = g.O.Sink in
     let disks = c.args.disks.now in
-    let machine = machine_of (g.D.Disks.size_of disks) (g.D.Disks.geometry_of disks) in
+    let machine = machine_of g.D.Disks disks in
     let words = c.args.words.now in
     let status = c.run_words-status.result in
     let failed = c.failed-sink_failed.result in

@@ -1,7 +1,8 @@
 -- Where the search of all partitions ends is where that of those that are left does.
 use Rattle.std.proofs.Common.{◌≡◌, ◌≤◌, drop}
 use Rattle.std.specs.Prelude.{find, Ok}
-use Rattle.disk_trait.specs.Past.{Told, SameDisks}
+use Rattle.disk_trait.specs.Past.{Told}
+use Rattle.disk_trait.specs.Calls.{SameOf}
 use Rattle.lilo_model.specs.VolumeSearch.{searched_partitions, ends_search}
 use Rattle.mbr_table.specs.View.{partitions_view}
 use Rattle.minix_search.proofs.search.volume_among.Given as goal
@@ -13,6 +14,6 @@ invariant-loop-partition g l =
       left :
           Told (disks.past l.fn.disks) (λ now. find (ends_search now) (searched_partitions l.disk (Ok (partitions_view l.partitions)))
           ≡ find (ends_search now) (searched_partitions l.disk (Ok (partitions_view (drop l.partition-index l.partitions)))));
-      same : SameDisks disks.past disks.size_of disks.count_of disks.geometry_of l.fn.disks l.disks;
+      same : SameOf disks l.fn.disks l.disks;
       later : disks.faults l.fn.disks ≤ disks.faults l.disks;
     }

@@ -1,6 +1,7 @@
 use Rattle.std.proofs.Common.{◌≡◌, ◌≤◌, ◌<◌, ◌+◌, ◌-◌, ◌^◌, [], ◌∷◌, ◌++◌, length}
 use Rattle.std.specs.Prelude.{Some, All}
-use Rattle.disk_trait.specs.Past.{Told, SameDisks}
+use Rattle.disk_trait.specs.Past.{Told}
+use Rattle.disk_trait.specs.Calls.{SameOf}
 use Rattle.lilo_model.specs.Partitions.{linked_sector, chain_from, chain_tables, logical_from}
 use Rattle.mbr_table.specs.Listed.{AreListed}
 use Rattle.mbr_table.specs.View.{partitions_view}
@@ -19,6 +20,6 @@ invariant-loop-tables g l =
       few : length l.found.items ≤ 59;
       small : l.sector < 2 ^ 34;
       listed : AreListed l.self.disk.disk l.self.disk.size 5 (length l.found.items + 5) l.found.items;
-      same : SameDisks disks.past disks.size_of disks.count_of disks.geometry_of l.fn.disks l.disks;
+      same : SameOf disks l.fn.disks l.disks;
       later : disks.faults l.fn.disks ≤ disks.faults l.disks;
     }

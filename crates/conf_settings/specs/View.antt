@@ -6,6 +6,7 @@ use Rattle.lilo_model.specs.ConfRefusal as refusals
 use Rattle.lilo_model.specs.ConfSettings as settings
 use Rattle.conf_text.specs.View.{text_fault_view}
 use Rattle.conf_settings.specs.declared.option.Opt.{Opt}
+use Rattle.conf_settings.specs.declared.option.Places.{Places}
 use Rattle.conf_settings.specs.declared.option.Opt.TheVariants as options
 use Rattle.conf_settings.specs.declared.option.Takes.{Takes}
 use Rattle.conf_settings.specs.declared.option.Takes.TheVariants as takes
@@ -94,7 +95,11 @@ takes_view (takes.Shown most) = model.AShown most
 takes_view takes.LeftOut = model.LeftOut
 takes_view takes.Unknown = model.Unknown
 
--- where options stand
+-- where an option may come
+abbrev pub places_view : Places → model.Places
+places_view places = record { in_global = places.global; in_image = places.image; in_other = places.other }
+
+-- where options are
 abbrev pub part_view : Part → model.Part
 part_view parts.Global = model.GlobalPart
 part_view parts.Image = model.ImagePart

@@ -19,4 +19,4 @@ pub use reader::read_settings;
 pub use reason::{ConfFault, ConfReason, ReasonText};
 pub use setting::{Cut, Given, Setting, SettingList};
 pub use text_numbers::{number_between, video_mode};
-pub use value::{is_name, is_path, is_shown, is_text, is_value, last_part, root_at, whole_disk_at};
+pub use value::{is_name, is_path, is_value, last_part, root_at, whole_disk_at};

@@ -2,8 +2,9 @@
 ghost use Rattle.std.specs.Prelude.{◌≡◌, ◌≤◌, ℕ, length, find, bytes_eq};
 ghost use Rattle.std.specs.Option.{option_map};
 ghost use Rattle.lilo_model.specs.ConfOptions as model;
-ghost use Rattle.lilo_model.specs.ConfOptions.{opt_name, option_at, takes_of, opens, is_of_disk, is_of_name, excluded_by, same_option};
-ghost use Rattle.conf_settings.specs.View.{opt_view, takes_view, part_view};
+ghost use Rattle.lilo_model.specs.ConfOptions.{opt_name, option_at, takes_of, places_of, same_option};
+ghost use Rattle.lilo_model.specs.ConfOptions.{opens, is_of_disk, is_of_name, excluded_by};
+ghost use Rattle.conf_settings.specs.View.{opt_view, takes_view, places_view, part_view};
 
 /// An option of lilo.conf, by its name.
 #[derive(Clone, Copy, Debug, PartialEq, Eq)]
@@ -67,7 +68,7 @@ pub enum Opt {
     Other,
 }
 
-/// What an option takes behind an equals sign.
+/// What an option takes after an equals sign.
 #[derive(Clone, Copy, Debug, PartialEq, Eq)]
 pub enum Takes {
     /// It takes no value.
@@ -92,7 +93,7 @@ pub enum Takes {
     Unknown,
 }
 
-/// Where options stand: in the part before all sections, in an image's section, or in another system's.
+/// Where options are: in the part before all sections, in an image's section, or in another system's.
 #[derive(Clone, Copy, Debug, PartialEq, Eq)]
 pub enum Part {
     Global,
@@ -100,8 +101,61 @@ pub enum Part {
     Other,
 }
 
+// Where an option may come.
+#[derive(Clone, Copy)]
+pub(crate) struct Places {
+    pub(crate) global: bool,
+    pub(crate) image: bool,
+    pub(crate) other: bool,
+}
+
+const GLOBAL: Places = Places {
+    global: true,
+    image: false,
+    other: false,
+};
+
+// Before all sections, and in an image's.
+const IMAGES: Places = Places {
+    global: true,
+    image: true,
+    other: false,
+};
+
+const ANYWHERE: Places = Places {
+    global: true,
+    image: true,
+    other: true,
+};
+
+const IMAGE: Places = Places {
+    global: false,
+    image: true,
+    other: false,
+};
+
+const OTHER: Places = Places {
+    global: false,
+    image: false,
+    other: true,
+};
+
+// In any section.
+const SECTIONS: Places = Places {
+    global: false,
+    image: true,
+    other: true,
+};
+
+// It opens a section, or isn't taken.
+const NOWHERE: Places = Places {
+    global: false,
+    image: false,
+    other: false,
+};
+
 // All options but `Other`.
-const ALL: [Opt; 55] = [
+const ALL: &[Opt] = &[
     Opt::Boot,
     Opt::Map,
     Opt::Install,
@@ -164,73 +218,84 @@ impl Opt {
     pub fn of(word: &[u8]) -> Opt
         ensures { opt_view result ≡ option_at word.now }
     {
-        find_option(&ALL, word).unwrap_or(Opt::Other)
+        find_option(ALL, word).unwrap_or(Opt::Other)
+    }
+
+    // Its name, or `text` for `Other`; what it takes after an equals sign; and where it may come.
+    #[tactic(auto, unfolding(crate::specs::View::row_of))]
+    fn row(self) -> (&'static [u8], Takes, Places)
+        ensures name { result.0.now ≡ opt_name (opt_view self) }
+        ensures takes { takes_view result.1 ≡ takes_of (opt_view self) }
+        ensures places { places_view result.2 ≡ places_of (opt_view self) }
+        ensures short { length result.0.now ≤ 12 }
+    {
+        match self {
+            Opt::Boot => (b"boot", Takes::Device, GLOBAL),
+            Opt::Map => (b"map", Takes::Path, GLOBAL),
+            Opt::Install => (b"install", Takes::Path, GLOBAL),
+            Opt::Backup => (b"backup", Takes::Path, GLOBAL),
+            Opt::ForceBackup => (b"force-backup", Takes::Path, GLOBAL),
+            Opt::Message => (b"message", Takes::Path, GLOBAL),
+            Opt::Compact => (b"compact", Takes::Nothing, GLOBAL),
+            Opt::Linear => (b"linear", Takes::Nothing, GLOBAL),
+            Opt::Lba32 => (b"lba32", Takes::Nothing, GLOBAL),
+            Opt::Prompt => (b"prompt", Takes::Nothing, GLOBAL),
+            Opt::Nowarn => (b"nowarn", Takes::Nothing, GLOBAL),
+            Opt::IgnoreTable => (b"ignore-table", Takes::Nothing, GLOBAL),
+            Opt::FixTable => (b"fix-table", Takes::Nothing, GLOBAL),
+            Opt::Default => (b"default", Takes::Name, GLOBAL),
+            Opt::Delay => (b"delay", Takes::Number { low: 0, high: 65534 }, GLOBAL),
+            Opt::Timeout => (b"timeout", Takes::Number { low: 0, high: 65534 }, GLOBAL),
+            Opt::Verbose => (b"verbose", Takes::Number { low: 0, high: 65535 }, GLOBAL),
+            Opt::Disk => (b"disk", Takes::WholeDisk, GLOBAL),
+            Opt::Bios => (b"bios", Takes::Bios, NOWHERE),
+            Opt::Sectors => (b"sectors", Takes::Number { low: 1, high: 63 }, NOWHERE),
+            Opt::Heads => (b"heads", Takes::Number { low: 1, high: 255 }, NOWHERE),
+            Opt::Cylinders => (b"cylinders", Takes::Number { low: 1, high: 65535 }, NOWHERE),
+            Opt::Image => (b"image", Takes::Path, NOWHERE),
+            Opt::OtherDevice => (b"other", Takes::Device, NOWHERE),
+            Opt::Label => (b"label", Takes::Name, SECTIONS),
+            Opt::Alias => (b"alias", Takes::Name, SECTIONS),
+            Opt::Initrd => (b"initrd", Takes::Path, IMAGES),
+            Opt::Root => (b"root", Takes::Root, IMAGES),
+            Opt::ReadOnly => (b"read-only", Takes::Nothing, IMAGES),
+            Opt::ReadWrite => (b"read-write", Takes::Nothing, IMAGES),
+            Opt::Append => (b"append", Takes::Text, IMAGES),
+            Opt::Literal => (b"literal", Takes::Text, IMAGE),
+            Opt::Vga => (b"vga", Takes::Video, IMAGES),
+            Opt::Password => (b"password", Takes::Shown(31), ANYWHERE),
+            Opt::Restricted => (b"restricted", Takes::Nothing, ANYWHERE),
+            Opt::Optional => (b"optional", Takes::Nothing, ANYWHERE),
+            Opt::Lock => (b"lock", Takes::Nothing, ANYWHERE),
+            Opt::Fallback => (b"fallback", Takes::Shown(255), ANYWHERE),
+            Opt::Table => (b"table", Takes::Device, OTHER),
+            Opt::Loader => (b"loader", Takes::Path, OTHER),
+            Opt::Serial => (b"serial", Takes::LeftOut, NOWHERE),
+            Opt::Keytable => (b"keytable", Takes::LeftOut, NOWHERE),
+            Opt::Change => (b"change", Takes::LeftOut, NOWHERE),
+            Opt::ChangeRules => (b"change-rules", Takes::LeftOut, NOWHERE),
+            Opt::Ramdisk => (b"ramdisk", Takes::LeftOut, NOWHERE),
+            Opt::Disktab => (b"disktab", Takes::LeftOut, NOWHERE),
+            Opt::SingleKey => (b"single-key", Takes::LeftOut, NOWHERE),
+            Opt::Bitmap => (b"bitmap", Takes::LeftOut, NOWHERE),
+            Opt::BmpColors => (b"bmp-colors", Takes::LeftOut, NOWHERE),
+            Opt::BmpTable => (b"bmp-table", Takes::LeftOut, NOWHERE),
+            Opt::BmpTimer => (b"bmp-timer", Takes::LeftOut, NOWHERE),
+            Opt::Unsafe => (b"unsafe", Takes::LeftOut, NOWHERE),
+            Opt::Range => (b"range", Takes::LeftOut, NOWHERE),
+            Opt::Partition => (b"partition", Takes::LeftOut, NOWHERE),
+            Opt::MapDrive => (b"map-drive", Takes::LeftOut, NOWHERE),
+            Opt::Other => (b"text", Takes::Unknown, NOWHERE),
+        }
     }
 
     /// Its name, and `text` for `Other`.
-    #[tactic(auto, unfolding(lilo_model::specs::ConfOptions::opt_name))]
     pub fn name(self) -> &'static [u8]
         ensures name { result.now ≡ opt_name (opt_view self) }
         ensures short { length result.now ≤ 12 }
     {
-        match self {
-            Opt::Boot => b"boot",
-            Opt::Map => b"map",
-            Opt::Install => b"install",
-            Opt::Backup => b"backup",
-            Opt::ForceBackup => b"force-backup",
-            Opt::Message => b"message",
-            Opt::Compact => b"compact",
-            Opt::Linear => b"linear",
-            Opt::Lba32 => b"lba32",
-            Opt::Prompt => b"prompt",
-            Opt::Nowarn => b"nowarn",
-            Opt::IgnoreTable => b"ignore-table",
-            Opt::FixTable => b"fix-table",
-            Opt::Default => b"default",
-            Opt::Delay => b"delay",
-            Opt::Timeout => b"timeout",
-            Opt::Verbose => b"verbose",
-            Opt::Disk => b"disk",
-            Opt::Bios => b"bios",
-            Opt::Sectors => b"sectors",
-            Opt::Heads => b"heads",
-            Opt::Cylinders => b"cylinders",
-            Opt::Image => b"image",
-            Opt::OtherDevice => b"other",
-            Opt::Label => b"label",
-            Opt::Alias => b"alias",
-            Opt::Initrd => b"initrd",
-            Opt::Root => b"root",
-            Opt::ReadOnly => b"read-only",
-            Opt::ReadWrite => b"read-write",
-            Opt::Append => b"append",
-            Opt::Literal => b"literal",
-            Opt::Vga => b"vga",
-            Opt::Password => b"password",
-            Opt::Restricted => b"restricted",
-            Opt::Optional => b"optional",
-            Opt::Lock => b"lock",
-            Opt::Fallback => b"fallback",
-            Opt::Table => b"table",
-            Opt::Loader => b"loader",
-            Opt::Serial => b"serial",
-            Opt::Keytable => b"keytable",
-            Opt::Change => b"change",
-            Opt::ChangeRules => b"change-rules",
-            Opt::Ramdisk => b"ramdisk",
-            Opt::Disktab => b"disktab",
-            Opt::SingleKey => b"single-key",
-            Opt::Bitmap => b"bitmap",
-            Opt::BmpColors => b"bmp-colors",
-            Opt::BmpTable => b"bmp-table",
-            Opt::BmpTimer => b"bmp-timer",
-            Opt::Unsafe => b"unsafe",
-            Opt::Range => b"range",
-            Opt::Partition => b"partition",
-            Opt::MapDrive => b"map-drive",
-            Opt::Other => b"text",
-        }
+        let (name, _, _) = self.row();
+        name
     }
 
     /// Whether it is another.
@@ -241,165 +306,25 @@ impl Opt {
         self as u8 == other as u8
     }
 
-    /// What it takes behind an equals sign.
-    #[tactic(auto, unfolding(lilo_model::specs::ConfOptions::takes_of))]
+    /// What it takes after an equals sign.
     pub fn takes(self) -> Takes
         ensures { takes_view result ≡ takes_of (opt_view self) }
     {
-        match self {
-            Opt::Boot | Opt::OtherDevice | Opt::Table => Takes::Device,
-            Opt::Disk => Takes::WholeDisk,
-            Opt::Map
-            | Opt::Install
-            | Opt::Backup
-            | Opt::ForceBackup
-            | Opt::Message
-            | Opt::Image
-            | Opt::Initrd
-            | Opt::Loader => Takes::Path,
-            Opt::Default | Opt::Label | Opt::Alias => Takes::Name,
-            Opt::Delay | Opt::Timeout => Takes::Number {
-                low: 0,
-                high: 65534,
-            },
-            Opt::Verbose => Takes::Number {
-                low: 0,
-                high: 65535,
-            },
-            Opt::Bios => Takes::Bios,
-            Opt::Sectors => Takes::Number { low: 1, high: 63 },
-            Opt::Heads => Takes::Number { low: 1, high: 255 },
-            Opt::Cylinders => Takes::Number {
-                low: 1,
-                high: 65535,
-            },
-            Opt::Root => Takes::Root,
-            Opt::Append | Opt::Literal => Takes::Text,
-            Opt::Vga => Takes::Video,
-            Opt::Password => Takes::Shown(31),
-            Opt::Fallback => Takes::Shown(255),
-            Opt::Compact
-            | Opt::Linear
-            | Opt::Lba32
-            | Opt::Prompt
-            | Opt::Nowarn
-            | Opt::IgnoreTable
-            | Opt::FixTable
-            | Opt::ReadOnly
-            | Opt::ReadWrite
-            | Opt::Restricted
-            | Opt::Optional
-            | Opt::Lock => Takes::Nothing,
-            Opt::Serial
-            | Opt::Keytable
-            | Opt::Change
-            | Opt::ChangeRules
-            | Opt::Ramdisk
-            | Opt::Disktab
-            | Opt::SingleKey
-            | Opt::Bitmap
-            | Opt::BmpColors
-            | Opt::BmpTable
-            | Opt::BmpTimer
-            | Opt::Unsafe
-            | Opt::Range
-            | Opt::Partition
-            | Opt::MapDrive => Takes::LeftOut,
-            Opt::Other => Takes::Unknown,
-        }
+        let (_, takes, _) = self.row();
+        takes
     }
 
-    /// Whether it may stand in a part.
+    /// Whether it may come in a part.
+    #[tactic(auto, unfolding(lilo_model::specs::ConfOptions::stands_in))]
     pub fn stands_in(self, part: Part) -> bool
         ensures { result ≡ model.stands_in (part_view part) (opt_view self) }
     {
+        let (_, _, places) = self.row();
         match part {
-            Part::Global => self.is_global(),
-            Part::Image => self.is_of_image(),
-            Part::Other => self.is_of_other(),
+            Part::Global => places.global,
+            Part::Image => places.image,
+            Part::Other => places.other,
         }
-    }
-
-    // Whether it may stand before all sections.
-    #[tactic(auto, unfolding(lilo_model::specs::ConfOptions::stands_in, lilo_model::specs::ConfOptions::places_of))]
-    fn is_global(self) -> bool
-        ensures { result ≡ model.stands_in model.GlobalPart (opt_view self) }
-    {
-        matches!(
-            self,
-            Opt::Boot
-                | Opt::Map
-                | Opt::Install
-                | Opt::Backup
-                | Opt::ForceBackup
-                | Opt::Message
-                | Opt::Compact
-                | Opt::Linear
-                | Opt::Lba32
-                | Opt::Prompt
-                | Opt::Nowarn
-                | Opt::IgnoreTable
-                | Opt::FixTable
-                | Opt::Default
-                | Opt::Delay
-                | Opt::Timeout
-                | Opt::Verbose
-                | Opt::Disk
-                | Opt::Initrd
-                | Opt::Root
-                | Opt::ReadOnly
-                | Opt::ReadWrite
-                | Opt::Append
-                | Opt::Vga
-                | Opt::Password
-                | Opt::Restricted
-                | Opt::Optional
-                | Opt::Lock
-                | Opt::Fallback
-        )
-    }
-
-    // Whether it may stand in an image's section.
-    #[tactic(auto, unfolding(lilo_model::specs::ConfOptions::stands_in, lilo_model::specs::ConfOptions::places_of))]
-    fn is_of_image(self) -> bool
-        ensures { result ≡ model.stands_in model.ImagePart (opt_view self) }
-    {
-        matches!(
-            self,
-            Opt::Label
-                | Opt::Alias
-                | Opt::Initrd
-                | Opt::Root
-                | Opt::ReadOnly
-                | Opt::ReadWrite
-                | Opt::Append
-                | Opt::Literal
-                | Opt::Vga
-                | Opt::Password
-                | Opt::Restricted
-                | Opt::Optional
-                | Opt::Lock
-                | Opt::Fallback
-        )
-    }
-
-    // Whether it may stand in another system's section.
-    #[tactic(auto, unfolding(lilo_model::specs::ConfOptions::stands_in, lilo_model::specs::ConfOptions::places_of))]
-    fn is_of_other(self) -> bool
-        ensures { result ≡ model.stands_in model.OtherPart (opt_view self) }
-    {
-        matches!(
-            self,
-            Opt::Label
-                | Opt::Alias
-                | Opt::Password
-                | Opt::Restricted
-                | Opt::Optional
-                | Opt::Lock
-                | Opt::Fallback
-                | Opt::Table
-                | Opt::Loader
-        )
     }
 
     /// Whether it opens a section.

@@ -33,7 +33,7 @@ pub fn is_name(text: &[u8]) -> bool
 
 /// Whether a text may stand on a command line: its bytes are from 0x20, without 0x7F.
 #[tactic(auto, unfolding(lilo_model::specs::ConfValues::is_text))]
-pub fn is_text(text: &[u8]) -> bool
+pub(crate) fn is_text(text: &[u8]) -> bool
     ensures { result ≡ model.is_text text.now }
 {
     text.iter().all(|byte| 0x20 <= *byte && *byte != 0x7F)
@@ -41,7 +41,7 @@ pub fn is_text(text: &[u8]) -> bool
 
 /// Whether a text can be typed at the prompt, and has a byte and at most so many.
 #[tactic(auto, unfolding(lilo_model::specs::ConfValues::is_shown))]
-pub fn is_shown(most: u8, text: &[u8]) -> bool
+pub(crate) fn is_shown(most: u8, text: &[u8]) -> bool
     ensures { result ≡ model.is_shown most text.now }
 {
     1 <= text.len() && text.len() <= usize::from(most) && are_between(0x20, 0x7E, text)

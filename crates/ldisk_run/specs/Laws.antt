@@ -1,4 +1,4 @@
--- What `ls` prints, in words of a directory's entries, and `get`, in those of a file.
+-- What `ls` prints of a directory's entries, and `get` of a file.
 use Rattle.std.specs.Prelude.{◌≡◌, ◌↔◌, ◌≤◌, ◌<◌, ℕ, List, [], length, flat_map, if◌then◌else◌, Ok}
 use Rattle.lilo_model.specs.MinixLayout.{Super, Inode}
 use Rattle.lilo_model.specs.MinixParts.{Parts}

@@ -7,7 +7,7 @@ use Rattle.lilo_model.specs.MinixEntries.{Entry}
 use Rattle.lilo_model.specs.LdiskVerdict.{silent, checked, then_piece, entry_text}
 use Rattle.minix_tree.specs.Directory.{block_entries}
 
--- the texts of some entries behind what was printed before them
+-- the texts of some entries after what was printed before them
 unfoldable pub lines_behind : Super → Parts → Verdict → List Entry → Verdict
 lines_behind super parts before [] = before
 lines_behind super parts before (entry ∷ entries) =

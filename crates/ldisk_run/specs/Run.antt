@@ -1,4 +1,4 @@
--- How what was done stands to what the definitions give.
+-- How what was done compares with what the definitions give.
 use Rattle.std.specs.Prelude.{◌≡◌, ◌⊎◌, ◌==◌, ℕ, Bool, List, [], ◌∷◌, Option, Result, Ok, Err, IsErr}
 use Rattle.std.specs.List.{list_any}
 use Rattle.lilo_model.specs.Faults.{Rose}
@@ -27,17 +27,17 @@ abbrev pub Gives : {A B F : Type 0} → (A → B) → Result A Halt → Result B
 Gives view (Ok value) found = found ≡ Ok (view value)
 Gives view (Err halt) found = Halts halt found
 
--- how a refusal of partition tables is told
+-- how a refusal of partition tables is reported
 abbrev pub IsTableHalt : TableFault → Halt → Type 0
 IsTableHalt tables.Device halt = halt ≡ Device
 IsTableHalt fault halt = halt ≡ Refused
 
--- how a refusal of a superblock, an inode or a zone is told
+-- how a refusal of a superblock, an inode or a zone is reported
 abbrev pub IsZoneHalt : ZoneFault → Halt → Type 0
 IsZoneHalt zones.Device halt = halt ≡ Device
 IsZoneHalt fault halt = halt ≡ Refused
 
--- how a refusal of a path or a file is told
+-- how a refusal of a path or a file is reported
 abbrev pub IsTreeHalt : TreeFault → Halt → Type 0
 IsTreeHalt (trees.Zone fault) halt = IsZoneHalt fault halt
 IsTreeHalt fault halt = halt ≡ Refused
@@ -49,7 +49,7 @@ HasCause before now Refused = Unit {0}
 
 -- ---- a command
 
--- It was done as its verdict says, or the disk failed and a front of the verdict's text was added.
+-- It was done as its verdict says, or the disk failed and a prefix of the verdict's text was added.
 abbrev pub Does : Verdict → Result (Unit {0}) Halt → Held → Held → Type 0
 Does verdict (Ok done) old new = (verdict.status ≡ 0) × Adds old verdict.text new
 Does verdict (Err Refused) old new = (verdict.status ≡ 3) × Adds old verdict.text new
@@ -72,7 +72,7 @@ DoesAs verdict status old new =
 abbrev pub Answers : Verdict → ℕ → Type 0
 Answers verdict status = (status ≡ verdict.status) ⊎ ((status ≡ 8) ⊎ ((status ≡ 12) × (verdict.status ≡ 0)))
 
--- The verdict's text goes with its status, or 12 in the place of 0, and a front of it with 8.
+-- The verdict's text goes with its status, or 12 in the place of 0, and a prefix of it with 8.
 abbrev pub Tells : Verdict → ℕ → Option (List ℕ) → Option (List ℕ) → ℕ → ℕ → Type 0
 Tells verdict status old new before now =
     (((status ≡ verdict.status) ⊎ ((status ≡ 12) × (verdict.status ≡ 0))) × Prints old verdict.text new before now)

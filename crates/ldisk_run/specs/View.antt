@@ -10,6 +10,6 @@ abbrev pub command_view : Command → model.Command
 command_view (Get device path) = model.Get (device_view device) path.now
 command_view (Ls device path) = model.Ls (device_view device) path.now
 
--- what words ask for
+-- what arguments ask for
 abbrev pub asked_view : Asked → model.Asked
 asked_view asked = record { image = asked.image.now; sectors = asked.sectors; command = command_view asked.command }

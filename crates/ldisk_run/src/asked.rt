@@ -1,4 +1,4 @@
-// What words ask for.
+// What arguments ask for.
 ghost use Rattle.std.specs.Prelude.{◌≡◌, if◌then◌else◌, option_map, Some, None};
 ghost use Rattle.lilo_model.specs.LdiskWords.{is_volume_path, command_of, asked_at};
 ghost use Rattle.lilo_model.specs.Devices.{device_at};
@@ -17,7 +17,7 @@ pub enum Command<'a> {
     Ls { device: Device, path: &'a [u8] },
 }
 
-/// What words ask for.
+/// What arguments ask for.
 #[derive(Clone, Copy, Debug, PartialEq, Eq)]
 pub struct Asked<'a> {
     /// The file that holds the disk.
@@ -27,7 +27,7 @@ pub struct Asked<'a> {
     pub command: Command<'a>,
 }
 
-/// What words ask for: `ls IMAGE DEVICE PATH` or `get IMAGE DEVICE PATH`. Words that aren't so ask for nothing.
+/// What arguments ask for: `ls IMAGE DEVICE PATH` or `get IMAGE DEVICE PATH`. Any others ask for nothing.
 #[tactic(auto, unfolding(lilo_model::specs::LdiskWords::asked_at, lilo_model::specs::LdiskWords::asked_by))]
 pub fn ask(words: &Words) -> Option<Asked<'_>>
     ensures { option_map asked_view result ≡ asked_at words.now }

@@ -32,15 +32,14 @@ pub(crate) fn carry_out<D: Disks, O: Sink>(
     disks: &mut D,
     out: &mut Pieces<'_, O>,
 ) -> Result<(), Halt>
-    ensures does { OnDisks D.Disks disks.old (λ now machine. Does
-        (command_verdict now machine
-        (command_view command.entry)) result
-        (held_by O.taken O.faults out.old) (held_by O.taken O.faults out.new)) }
+    ensures does { OnDisks D.Disks disks.old (λ now machine.
+        Does (command_verdict now machine (command_view command.entry)) result
+        (held_by O.Sink out.old) (held_by O.Sink out.new)) }
     ensures no_disk { D.size_of disks.old 0 ≡ 0 → result ≡ Err Halt.Refused }
     ensures cause { IfErr result (HasCause (D.faults disks.old) (D.faults disks.new)) }
     ensures later { D.faults disks.old ≤ D.faults disks.new }
     ensures same { SameOf D.Disks disks.old disks.new }
-    ensures sink { HasFailed (sink_of O.taken O.faults out.old) (sink_of O.taken O.faults out.new) }
+    ensures sink { HasFailed (sink_of O.Sink out.old) (sink_of O.Sink out.new) }
     ensures same_reference { out.new.out.out.ghost_name ≡ out.old.out.out.ghost_name }
 {
     let span = find_room(disks, device_of(&command))?;
@@ -50,7 +49,7 @@ pub(crate) fn carry_out<D: Disks, O: Sink>(
     }
 }
 
-// How it is told that there is no volume. The disks are handed back.
+// How it is reported that there is no volume. The disks are handed back.
 fn refused<D: Disks>(disks: &mut D, fault: ZoneFault) -> Halt
     ensures told { IsZoneHalt fault result }
     ensures same { disks.new ≡ disks.old }
@@ -68,11 +67,11 @@ fn carry_out_on<D: Disks, O: Sink>(
     ensures does { Told (past_of volume.old) (λ now. Does
         (verdict_on (super_view volume.old.layout) (parts_of (volume_view volume.old) now)
         (command_view command.entry)) result
-        (held_by O.taken O.faults out.old) (held_by O.taken O.faults out.new)) }
+        (held_by O.Sink out.old) (held_by O.Sink out.new)) }
     ensures cause { IfErr result (HasCause (faults_of volume.old) (faults_of volume.new)) }
     ensures later { faults_of volume.old ≤ faults_of volume.new }
     ensures same { SameVolume volume.old volume.new }
-    ensures sink { HasFailed (sink_of O.taken O.faults out.old) (sink_of O.taken O.faults out.new) }
+    ensures sink { HasFailed (sink_of O.Sink out.old) (sink_of O.Sink out.new) }
     ensures same_reference { out.new.out.out.ghost_name ≡ out.old.out.out.ghost_name }
 {
     match command {

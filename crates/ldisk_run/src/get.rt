@@ -29,11 +29,11 @@ pub(crate) fn get<D: Disks, O: Sink>(
 ) -> Result<(), Halt>
     ensures does { Told (past_of volume.old) (λ now. Does
         (get_verdict (super_view volume.old.layout) (parts_of (volume_view volume.old) now) path.now) result
-        (held_by O.taken O.faults out.old) (held_by O.taken O.faults out.new)) }
+        (held_by O.Sink out.old) (held_by O.Sink out.new)) }
     ensures cause { IfErr result (HasCause (faults_of volume.old) (faults_of volume.new)) }
     ensures later { faults_of volume.old ≤ faults_of volume.new }
     ensures same { SameVolume volume.old volume.new }
-    ensures sink { HasFailed (sink_of O.taken O.faults out.old) (sink_of O.taken O.faults out.new) }
+    ensures sink { HasFailed (sink_of O.Sink out.old) (sink_of O.Sink out.new) }
     ensures same_reference { out.new.out.out.ghost_name ≡ out.old.out.out.ghost_name }
 {
     let stat = find_file(volume, path)?;
@@ -67,11 +67,11 @@ fn put_file<D: Disks, O: Sink>(
     ensures does { Told (past_of volume.old) (λ now. Does
         (file_verdict (super_view volume.old.layout) (parts_of (volume_view volume.old) now)
         (inode_view stat.now.node)) result
-        (held_by O.taken O.faults out.old) (held_by O.taken O.faults out.new)) }
+        (held_by O.Sink out.old) (held_by O.Sink out.new)) }
     ensures cause { IfErr result (HasCause (faults_of volume.old) (faults_of volume.new)) }
     ensures later { faults_of volume.old ≤ faults_of volume.new }
     ensures same { SameVolume volume.old volume.new }
-    ensures sink { HasFailed (sink_of O.taken O.faults out.old) (sink_of O.taken O.faults out.new) }
+    ensures sink { HasFailed (sink_of O.Sink out.old) (sink_of O.Sink out.new) }
     ensures same_reference { out.new.out.out.ghost_name ≡ out.old.out.out.ghost_name }
 {
     let mut held = HeldZones::of(volume);
@@ -95,12 +95,12 @@ fn put_block<D: Disks, O: Sink>(
     ensures does { Told (past_of volume.old) (λ now. Does (piece_verdict
         (file_block (super_view volume.old.layout) (parts_of (volume_view volume.old) now)
         (inode_view stat.now.node) index)) result
-        (held_by O.taken O.faults out.old) (held_by O.taken O.faults out.new)) }
+        (held_by O.Sink out.old) (held_by O.Sink out.new)) }
     ensures held { AreHeld volume.new held.new }
     ensures cause { IfErr result (HasCause (faults_of volume.old) (faults_of volume.new)) }
     ensures later { faults_of volume.old ≤ faults_of volume.new }
     ensures same { SameVolume volume.old volume.new }
-    ensures sink { HasFailed (sink_of O.taken O.faults out.old) (sink_of O.taken O.faults out.new) }
+    ensures sink { HasFailed (sink_of O.Sink out.old) (sink_of O.Sink out.new) }
     ensures same_reference { out.new.out.out.ghost_name ≡ out.old.out.out.ghost_name }
 {
     let mut block = [0; 1024];

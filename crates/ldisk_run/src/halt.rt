@@ -15,7 +15,7 @@ pub(crate) enum Halt {
     Refused,
 }
 
-/// How a refusal of partition tables is told.
+/// How a refusal of partition tables is reported.
 pub(crate) fn table_halt(fault: TableFault) -> Halt
     ensures { IsTableHalt fault result }
 {
@@ -25,7 +25,7 @@ pub(crate) fn table_halt(fault: TableFault) -> Halt
     }
 }
 
-/// How a refusal of a superblock, an inode or a zone is told.
+/// How a refusal of a superblock, an inode or a zone is reported.
 pub(crate) fn zone_halt(fault: ZoneFault) -> Halt
     ensures { IsZoneHalt fault result }
 {
@@ -35,7 +35,7 @@ pub(crate) fn zone_halt(fault: ZoneFault) -> Halt
     }
 }
 
-/// How a refusal of a path or a file is told.
+/// How a refusal of a path or a file is reported.
 pub(crate) fn tree_halt(fault: TreeFault) -> Halt
     ensures { IsTreeHalt fault result }
 {

@@ -1,7 +1,7 @@
-//! What the program `ldisk` does with its words, over disks and a sink of text that the caller gives: it lists
+//! What the program `ldisk` does with its arguments, over disks and a sink of text that the caller gives: it lists
 //! directories and prints files of a Minix volume.
 //!
-//! [`ldisk`] is the top call, and [`ask`] says what words ask for.
+//! [`ldisk`] is the top call, and [`ask`] says what arguments ask for.
 #![tactic(auto)]
 
 mod asked;

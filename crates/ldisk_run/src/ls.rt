@@ -28,7 +28,7 @@ use minix_tree::{
 use minix_zones::Volume;
 use stream_trait::Sink;
 
-/// What stands in a line before the name: a letter, a space, a size of up to ten digits, and a space.
+/// What a line has before the name: a letter, a space, a size of up to ten digits, and a space.
 type Head = ArrayVec<u8, 13>;
 
 /// Lists the directory at a path.
@@ -40,11 +40,11 @@ pub(crate) fn ls<D: Disks, O: Sink>(
 ) -> Result<(), Halt>
     ensures does { Told (past_of volume.old) (λ now. Does
         (ls_verdict (super_view volume.old.layout) (parts_of (volume_view volume.old) now) path.now) result
-        (held_by O.taken O.faults out.old) (held_by O.taken O.faults out.new)) }
+        (held_by O.Sink out.old) (held_by O.Sink out.new)) }
     ensures cause { IfErr result (HasCause (faults_of volume.old) (faults_of volume.new)) }
     ensures later { faults_of volume.old ≤ faults_of volume.new }
     ensures same { SameVolume volume.old volume.new }
-    ensures sink { HasFailed (sink_of O.taken O.faults out.old) (sink_of O.taken O.faults out.new) }
+    ensures sink { HasFailed (sink_of O.Sink out.old) (sink_of O.Sink out.new) }
     ensures same_reference { out.new.out.out.ghost_name ≡ out.old.out.out.ghost_name }
 {
     let stat = find_directory(volume, path)?;
@@ -78,11 +78,11 @@ fn put_directory<D: Disks, O: Sink>(
     ensures does { Told (past_of volume.old) (λ now. Does
         (listing_verdict (super_view volume.old.layout) (parts_of (volume_view volume.old) now)
         (inode_view stat.now.node)) result
-        (held_by O.taken O.faults out.old) (held_by O.taken O.faults out.new)) }
+        (held_by O.Sink out.old) (held_by O.Sink out.new)) }
     ensures cause { IfErr result (HasCause (faults_of volume.old) (faults_of volume.new)) }
     ensures later { faults_of volume.old ≤ faults_of volume.new }
     ensures same { SameVolume volume.old volume.new }
-    ensures sink { HasFailed (sink_of O.taken O.faults out.old) (sink_of O.taken O.faults out.new) }
+    ensures sink { HasFailed (sink_of O.Sink out.old) (sink_of O.Sink out.new) }
     ensures same_reference { out.new.out.out.ghost_name ≡ out.old.out.out.ghost_name }
 {
     let kind = volume.layout().kind;
@@ -104,11 +104,11 @@ fn put_entries<D: Disks, O: Sink>(
     ensures does { Told (past_of volume.old) (λ now. Does
         (block_verdict (super_view volume.old.layout) (parts_of (volume_view volume.old) now)
         (inode_view stat.now.node) index) result
-        (held_by O.taken O.faults out.old) (held_by O.taken O.faults out.new)) }
+        (held_by O.Sink out.old) (held_by O.Sink out.new)) }
     ensures cause { IfErr result (HasCause (faults_of volume.old) (faults_of volume.new)) }
     ensures later { faults_of volume.old ≤ faults_of volume.new }
     ensures same { SameVolume volume.old volume.new }
-    ensures sink { HasFailed (sink_of O.taken O.faults out.old) (sink_of O.taken O.faults out.new) }
+    ensures sink { HasFailed (sink_of O.Sink out.old) (sink_of O.Sink out.new) }
     ensures same_reference { out.new.out.out.ghost_name ≡ out.old.out.out.ghost_name }
 {
     let mut block = [0; 1024];
@@ -129,11 +129,11 @@ fn put_each<D: Disks, O: Sink>(
     ensures does { Told (past_of volume.old) (λ now. Does
         (lines_behind (super_view volume.old.layout) (parts_of (volume_view volume.old) now) (silent 0)
         (map without_place entries.entry)) result
-        (held_by O.taken O.faults out.old) (held_by O.taken O.faults out.new)) }
+        (held_by O.Sink out.old) (held_by O.Sink out.new)) }
     ensures cause { IfErr result (HasCause (faults_of volume.old) (faults_of volume.new)) }
     ensures later { faults_of volume.old ≤ faults_of volume.new }
     ensures same { SameVolume volume.old volume.new }
-    ensures sink { HasFailed (sink_of O.taken O.faults out.old) (sink_of O.taken O.faults out.new) }
+    ensures sink { HasFailed (sink_of O.Sink out.old) (sink_of O.Sink out.new) }
     ensures same_reference { out.new.out.out.ghost_name ≡ out.old.out.out.ghost_name }
 {
     for entry in entries {
@@ -152,11 +152,11 @@ fn put_entry<D: Disks, O: Sink>(
     ensures does { Told (past_of volume.old) (λ now. Does (piece_verdict
         (entry_text (super_view volume.old.layout) (parts_of (volume_view volume.old) now)
         (entry_with entry.now.inode entry.now.name.now))) result
-        (held_by O.taken O.faults out.old) (held_by O.taken O.faults out.new)) }
+        (held_by O.Sink out.old) (held_by O.Sink out.new)) }
     ensures cause { IfErr result (HasCause (faults_of volume.old) (faults_of volume.new)) }
     ensures later { faults_of volume.old ≤ faults_of volume.new }
     ensures same { SameVolume volume.old volume.new }
-    ensures sink { HasFailed (sink_of O.taken O.faults out.old) (sink_of O.taken O.faults out.new) }
+    ensures sink { HasFailed (sink_of O.Sink out.old) (sink_of O.Sink out.new) }
     ensures same_reference { out.new.out.out.ghost_name ≡ out.old.out.out.ghost_name }
 {
     if entry.inode == 0 || is_dots(entry.name) {
@@ -197,9 +197,9 @@ fn is_dots(name: &[u8]) -> bool
 /// Adds the line of an entry.
 #[tactic(auto, unfolding(lilo_model::specs::LdiskVerdict::entry_line))]
 fn put_line<O: Sink>(inode: &Inode, name: &[u8], out: &mut Pieces<'_, O>)
-    ensures adds { Adds (held_by O.taken O.faults out.old) (entry_line (inode_view inode.now) name.now)
-        (held_by O.taken O.faults out.new) }
-    ensures sink { HasFailed (sink_of O.taken O.faults out.old) (sink_of O.taken O.faults out.new) }
+    ensures adds { Adds (held_by O.Sink out.old) (entry_line (inode_view inode.now) name.now)
+        (held_by O.Sink out.new) }
+    ensures sink { HasFailed (sink_of O.Sink out.old) (sink_of O.Sink out.new) }
     ensures same_reference { out.new.out.out.ghost_name ≡ out.old.out.out.ghost_name }
 {
     out.put(line_head(inode).as_slice());
@@ -207,7 +207,7 @@ fn put_line<O: Sink>(inode: &Inode, name: &[u8], out: &mut Pieces<'_, O>)
     out.put(b"\n");
 }
 
-/// What stands in a line before the name.
+/// What a line has before the name.
 fn line_head(inode: &Inode) -> Head
     ensures { result.items
         ≡ kind_letter (inode_view inode.now) ∷ (codes " " ++ decimal (inode_view inode.now).size ++ codes " ") }

@@ -25,10 +25,10 @@ impl<'o, O: Sink> Pieces<'o, O> {
         }
     }
 
-    /// Adds a text behind what is held, which is shown first where there is no room for both.
+    /// Adds a text after what is held, which is shown first where there is no room for both.
     pub(crate) fn put(&mut self, bytes: &[u8])
-        ensures adds { Adds (held_by O.taken O.faults self.old) bytes.now (held_by O.taken O.faults self.new) }
-        ensures sink { HasFailed (sink_of O.taken O.faults self.old) (sink_of O.taken O.faults self.new) }
+        ensures adds { Adds (held_by O.Sink self.old) bytes.now (held_by O.Sink self.new) }
+        ensures sink { HasFailed (sink_of O.Sink self.old) (sink_of O.Sink self.new) }
         ensures same_reference { self.new.out.out.ghost_name ≡ self.old.out.out.ghost_name }
     {
         if self.held.try_extend_from_slice(bytes).is_ok() {
@@ -42,8 +42,7 @@ impl<'o, O: Sink> Pieces<'o, O> {
 
     /// Shows what is held.
     pub(crate) fn show(&mut self)
-        ensures shown { Shows (sink_of O.taken O.faults self.old) self.old.held.items
-            (sink_of O.taken O.faults self.new) }
+        ensures shown { Shows (sink_of O.Sink self.old) self.old.held.items (sink_of O.Sink self.new) }
         ensures empty { self.new.held.items ≡ [] }
         ensures same_reference { self.new.out.out.ghost_name ≡ self.old.out.out.ghost_name }
     {

@@ -1,4 +1,4 @@
-// Where a volume may stand.
+// Where a volume may lie.
 ghost use Rattle.std.specs.Prelude.{◌≡◌, ◌≤◌, ◌+◌, Err, IfOk, IfErr};
 ghost use Rattle.disk_trait.specs.Calls.{SameOf};
 ghost use Rattle.sector_address.specs.Machine.{OnDisks};

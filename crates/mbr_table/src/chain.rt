@@ -19,7 +19,7 @@ use arrayvec::ArrayVec;
 use disk_trait::{DiskFault, Disks};
 
 /// Reads the table in a sector of a disk.
-pub fn table_at<D: Disks>(disks: &mut D, disk: u8, sector: u64) -> Result<Table4, TableFault>
+pub(crate) fn table_at<D: Disks>(disks: &mut D, disk: u8, sector: u64) -> Result<Table4, TableFault>
     requires { sector < D.size_of disks.old disk }
     ensures table { Told (D.past disks.old) (λ now. Gives table_view result (table_entries sector (now disk sector))) }
     ensures refusal { IfErr result (λ fault. IsTrue (is_of_disk fault)) }
@@ -152,7 +152,7 @@ impl Chain {
 
     /// The logical partitions.
     #[tactic(auto, unfolding(lilo_model::specs::Partitions::chain_tables))]
-    pub fn logical<D: Disks>(self, disks: &mut D) -> Result<ArrayVec<Partition, 59>, TableFault>
+    pub(crate) fn logical<D: Disks>(self, disks: &mut D) -> Result<ArrayVec<Partition, 59>, TableFault>
         requires { self.disk.size ≡ D.size_of disks.old self.disk.disk }
         ensures partitions { Told (D.past disks.old) (λ now. Gives (λ found. partitions_view found.items) result
             (logical_from (now self.disk.disk) self.disk.size self.disk.disk 5 []

@@ -74,7 +74,7 @@ impl SizedDisk {
     }
 
     /// The partitions that a table's entries are, 1 to 4.
-    pub fn primary(self, table: &Table4) -> Result<ArrayVec<Partition, 4>, TableFault>
+    pub(crate) fn primary(self, table: &Table4) -> Result<ArrayVec<Partition, 4>, TableFault>
         ensures partitions { seen (λ found. partitions_view found.items) table_fault_view result
             ≡ listed_from self.size self.disk 1 (table_view table.now) }
         ensures listed { IfOk result (λ found. AreListed self.disk self.size 1 5 found.items) }
@@ -92,7 +92,7 @@ impl SizedDisk {
     }
 
     /// The logical partition of a table of the chain, if there is one. Its start counts from the table's sector.
-    pub fn logical(
+    pub(crate) fn logical(
         self,
         sector: u64,
         number: u8,

@@ -49,7 +49,7 @@ fn has_signature(sector: &Sector) -> bool
 
 /// The table in a sector, whether or not it has a signature.
 #[tactic(auto, unfolding(lilo_model::specs::Partitions::entries_of))]
-pub fn unsigned_table(sector: &Sector) -> Table4
+pub(crate) fn unsigned_table(sector: &Sector) -> Table4
     ensures { table_view result ≡ entries_of sector.now }
 {
     Table4 {
@@ -79,14 +79,14 @@ fn entry_at(sector: &Sector, at: usize) -> Entry
 
 impl Entry {
     /// Whether it isn't empty.
-    pub fn is_used(&self) -> bool
+    pub(crate) fn is_used(&self) -> bool
         ensures { result ≡ is_used (entry_view self.now) }
     {
         self.kind != 0 && self.count != 0
     }
 
     /// Whether its type is that of an extended partition.
-    pub fn is_extended(&self) -> bool
+    pub(crate) fn is_extended(&self) -> bool
         ensures { result ≡ is_extended self.now.kind }
     {
         matches!(self.kind, 0x05 | 0x0F | 0x85)
@@ -113,7 +113,7 @@ impl Entry {
 impl Table4 {
     /// The first entry that is an extended partition: the one that is followed, or a link.
     #[tactic(auto, unfolding(lilo_model::specs::Partitions::link_of))]
-    pub fn link(&self) -> Option<Entry>
+    pub(crate) fn link(&self) -> Option<Entry>
         ensures { option_map entry_view result ≡ link_of (table_view self.now) }
     {
         for entry in &self.entries {
@@ -126,7 +126,7 @@ impl Table4 {
 
     /// The first entry that is another partition.
     #[tactic(auto, unfolding(lilo_model::specs::Partitions::logical_of))]
-    pub fn logical(&self) -> Option<Entry>
+    pub(crate) fn logical(&self) -> Option<Entry>
         ensures entry { option_map entry_view result ≡ logical_of (table_view self.now) }
         ensures used { IfSome result (λ entry. 1 ≤ entry.count) }
     {

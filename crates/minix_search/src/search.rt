@@ -200,7 +200,6 @@ fn volume_among<D: Disks>(
 
 // A partition, where it has a name and a volume.
 #[tactic(auto, unfolding(lilo_model::specs::VolumeSearch::searched_partitions))]
-#[tactic(auto, unfolding(lilo_model::specs::VolumeSearch::ends_search))]
 fn volume_at<D: Disks>(
     disks: &mut D,
     disk: u8,
@@ -263,8 +262,6 @@ fn holds_volume<D: Disks>(disks: &mut D, span: &Span) -> Result<bool, TableFault
 }
 
 // Whether a sector has a magic number of a superblock.
-#[tactic(auto, unfolding(lilo_model::specs::VolumeSearch::has_magic, lilo_model::specs::MinixLayout::super_at))]
-#[tactic(auto, unfolding(lilo_model::specs::MinixLayout::super_in, lilo_model::specs::MinixLayout::super_checks))]
 fn has_magic(sector: &Sector, sectors: u64) -> bool
     ensures { result ≡ has_magic sector.now }
 {

@@ -1,6 +1,6 @@
 -- A refusal of the device or of its superblock is one of the command.
 use Rattle.std.proofs.Common.{◌≡◌, ◌≤◌, Ok, Err, rules, arith, refl}
-use Rattle.disk_trait.specs.Past.{SameDisks}
+use Rattle.disk_trait.specs.Calls.{SameOf}
 use Rattle.lilo_model.specs.LdiskVerdict.{room_of, command_verdict}
 use Rattle.lilo_model.specs.MinixParts.{volume_at}
 use Rattle.mbr_table.specs.View.{device_view, span_view}
@@ -21,7 +21,7 @@ returns-in_err-span-clause-does g c =
     let machine = machine_of g.D.Disks disks in
     let command = command_view c.args.command in
     let device = device_view c.device_of.result in
-    let held = held_by g.O.Sink.taken g.O.Sink.faults c.args.out.now in
+    let held = held_by g.O.Sink c.args.out.now in
     let halt = c.in_err-span.field-0.0 in
     let given : c.from_residual.result ≡ Err halt = search rules in
     rw given
@@ -36,7 +36,7 @@ returns-in-Err-clause-does g c =
     let command = command_view c.args.command in
     let device = device_view c.device_of.result in
     let span = span_view c.in_ok-span.span in
-    let held = held_by g.O.Sink.taken g.O.Sink.faults c.args.out.now in
+    let held = held_by g.O.Sink c.args.out.now in
     let fault = c.in-Err.fault in
     let halt = c.refused.result in
     told_both (g.D.Disks.past disks) (λ now. room_of now machine device ≡ Ok span) (λ now. Refuses fault (volume_at now span))
@@ -66,6 +66,6 @@ pub returns-in-Err-clause-same : goal.returns-in-Err-clause-same
 returns-in-Err-clause-same g c =
     let d = g.D.Disks in
     let found = c.in-Err.disks.now in
-    held_of (λ disks. SameDisks d.past d.size_of d.count_of d.geometry_of c.args.disks.now disks) found
+    held_of (λ disks. SameOf d c.args.disks.now disks) found
     (same_twice d.past d.size_of d.count_of d.geometry_of c.args.disks.now c.find_room.new.disks found c.in_ok-span.ensures.same c.in-Err.ensures.same)
     (search rules)

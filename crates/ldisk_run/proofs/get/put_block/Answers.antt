@@ -17,7 +17,7 @@ use Rattle.ldisk_run.proofs.get.put_block.Goals as goal
 pub returns-in-Err-clause-does : goal.returns-in-Err-clause-does
 returns-in-Err-clause-does g c =
     let volume = c.args.volume.now in
-    let held = held_by g.O.Sink.taken g.O.Sink.faults c.args.out.now in
+    let held = held_by g.O.Sink c.args.out.now in
     let fault = c.in-Err.fault in
     let halt = c.tree_halt.result in
     let block = λ (now : Image). file_block (super_view volume.layout) (parts_of (volume_view volume) now) (inode_view c.args.stat.now.node) c.args.index in

@@ -20,7 +20,7 @@ blocks node volume now = file_block volume.layout (parts_of volume now) (inode_v
 pub loop-index-init : goal.loop-index-init
 unfolding printed
 loop-index-init g c = record {
-  told = told_all _ (λ now. Added (printed (blocks c.args.stat.now.node (volume_view c.args.volume.now) now) 0) (held_by g.O.Sink.taken g.O.Sink.faults c.args.out.now) (held_by g.O.Sink.taken g.O.Sink.faults c.args.out.now)) (λ now. (refl, adds_nothing _));
+  told = told_all _ (λ now. Added (printed (blocks c.args.stat.now.node (volume_view c.args.volume.now) now) 0) (held_by g.O.Sink c.args.out.now) (held_by g.O.Sink c.args.out.now)) (λ now. (refl, adds_nothing _));
   same = search rules;
   held = search rules;
   later = search rules;
@@ -34,7 +34,7 @@ returns-in_err-put_block-clause-does g c =
     let node = c.args.stat.now.node in
     let index = c.loop-index.index in
     let old = c.args.volume.now in
-    let held = held_by g.O.Sink.taken g.O.Sink.faults in
+    let held = held_by g.O.Sink in
     let halt = c.in_err-put_block.field-0.0 in
     let given : c.from_residual.result ≡ Err halt = search rules in
     let fits : index + 1 ≤ blocks_for node.size = omega (arith, c.div_ceil-blocks.ensures) in
@@ -47,7 +47,7 @@ pub loop-index-preserved : goal.loop-index-preserved
 loop-index-preserved g c =
     let node = c.args.stat.now.node in
     let index = c.loop-index.index in
-    let held = held_by g.O.Sink.taken g.O.Sink.faults in
+    let held = held_by g.O.Sink in
     record {
       told = told_behind c.args.volume.now c.loop-index.volume (λ v now. printed (blocks node v now) index) (λ v now. piece_verdict (blocks node v now index)) (λ v now. printed (blocks node v now) (index + 1)) (Ok tt) (held c.args.out.now) (held c.loop-index.out) (held c.put_block.new.out)
           (λ v now. piece_more (blocks node v now) index) c.loop-index.invariant.same c.loop-index.invariant.told c.in_ok-put_block.ensures.does;
@@ -62,7 +62,7 @@ pub returns-clause-does : goal.returns-clause-does
 unfolding file_verdict
 returns-clause-does g c =
     let node = c.args.stat.now.node in
-    let held = held_by g.O.Sink.taken g.O.Sink.faults in
+    let held = held_by g.O.Sink in
     let all : c.loop-index.index ≡ blocks_for node.size = omega (arith, c.div_ceil-blocks.ensures) in
     told_verdict (past_of c.args.volume.now) (λ now. printed (blocks node (volume_view c.args.volume.now) now) c.loop-index.index) (λ now. printed (blocks node (volume_view c.args.volume.now) now) (blocks_for node.size)) (Ok tt) (held c.args.out.now) (held c.loop-index.out)
     (λ now. ap (printed (blocks node (volume_view c.args.volume.now) now)) all) c.loop-index.invariant.told

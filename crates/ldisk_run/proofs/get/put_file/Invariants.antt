@@ -13,8 +13,8 @@ use Rattle.ldisk_run.proofs.get.put_file.Given as goal
 
 abbrev pub invariant-loop-index : goal.invariant-loop-index
 invariant-loop-index g l =
-    let held = held_by g.O.Sink.taken g.O.Sink.faults in
-    let sink = sink_of g.O.Sink.taken g.O.Sink.faults in
+    let held = held_by g.O.Sink in
+    let sink = sink_of g.O.Sink in
     record {
       told : Told (past_of l.fn.volume) (λ now. let so_far = printed (file_block (super_view l.fn.volume.layout) (parts_of (volume_view l.fn.volume) now) (inode_view l.stat.node)) l.index in (so_far.status ≡ 0) × Adds (held l.fn.out) so_far.text (held l.out));
       same : SameVolume l.fn.volume l.volume;

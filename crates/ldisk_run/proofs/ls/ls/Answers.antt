@@ -16,4 +16,4 @@ returns-in_err-stat-clause-does g c =
     let given : c.from_residual.result ≡ Err halt = search rules in
     rw given
     (told_halted (past_of volume) (λ now. directory_found (super_view volume.layout) (parts_of (volume_view volume) now) c.args.path.now)
-    (λ now. listing_verdict (super_view volume.layout) (parts_of (volume_view volume) now)) halt (held_by g.O.Sink.taken g.O.Sink.faults c.args.out.now) c.in_err-stat.ensures.found)
+    (λ now. listing_verdict (super_view volume.layout) (parts_of (volume_view volume) now)) halt (held_by g.O.Sink c.args.out.now) c.in_err-stat.ensures.found)

@@ -49,7 +49,7 @@ pub loop-index-init : goal.loop-index-init
 loop-index-init g c =
     let node = c.args.stat.now.node in
     let volume = c.args.volume.now in
-    let held = held_by g.O.Sink.taken g.O.Sink.faults c.args.out.now in
+    let held = held_by g.O.Sink c.args.out.now in
     record {
       told = told_all _ (λ now. Added (blocks node 0 (volume_view volume) now) held held)
           (λ now. let none = blocks_none (volume_view volume).layout (parts_of (volume_view volume) now) (inode_view node) in
@@ -65,7 +65,7 @@ returns-in_err-put_entries-clause-does g c =
     let node = c.args.stat.now.node in
     let index = c.loop-index.index in
     let old = c.args.volume.now in
-    let held = held_by g.O.Sink.taken g.O.Sink.faults in
+    let held = held_by g.O.Sink in
     let halt = c.in_err-put_entries.field-0.0 in
     let given : c.from_residual.result ≡ Err halt = search rules in
     let below : index < directory_blocks (volume_view old).layout.kind (inode_view node).size = search rules in
@@ -80,7 +80,7 @@ loop-index-preserved g c =
     let node = c.args.stat.now.node in
     let index = c.loop-index.index in
     let old = c.args.volume.now in
-    let held = held_by g.O.Sink.taken g.O.Sink.faults in
+    let held = held_by g.O.Sink in
     let below : index < directory_blocks (volume_view old).layout.kind (inode_view node).size = search rules in
     record {
       told = told_blocks old c.loop-index.volume node index (Ok tt) (held c.args.out.now) (held c.loop-index.out) (held c.put_entries.new.out)
@@ -95,7 +95,7 @@ pub returns-clause-does : goal.returns-clause-does
 returns-clause-does g c =
     let node = c.args.stat.now.node in
     let old = c.args.volume.now in
-    let held = held_by g.O.Sink.taken g.O.Sink.faults in
+    let held = held_by g.O.Sink in
     let all : c.loop-index.index ≡ directory_blocks (volume_view old).layout.kind (inode_view node).size = search rules in
     told_verdict (past_of old) (blocks node c.loop-index.index (volume_view old)) (listing node (volume_view old)) (Ok tt) (held c.args.out.now) (held c.loop-index.out)
     (λ now. ap (blocks_printed (volume_view old).layout (parts_of (volume_view old) now) (inode_view node)) all

@@ -21,7 +21,7 @@ use Rattle.ldisk_run.proofs.ls.put_each.Goals as goal
 pub loop-entry-init : goal.loop-entry-init
 loop-entry-init g c =
     let volume = c.args.volume.now in
-    let held = held_by g.O.Sink.taken g.O.Sink.faults c.args.out.now in
+    let held = held_by g.O.Sink c.args.out.now in
     let same : c.into_iter-entry-iterator.result ≡ c.args.entries = search rules in
     record {
       can_next = tt;
@@ -47,7 +47,7 @@ done_first old mid entry result b c same done =
 pub loop-entry-preserved : goal.loop-entry-preserved
 loop-entry-preserved g c =
     let old = c.args.volume.now in
-    let held = held_by g.O.Sink.taken g.O.Sink.faults in
+    let held = held_by g.O.Sink in
     let entry = entry_view c.in-Some.entry in
     let rest = c.loop-entry.entry-iterator in
     let behind = c.next.new.self in
@@ -71,7 +71,7 @@ loop-entry-preserved g c =
 pub returns-in_err-put_entry-clause-does : goal.returns-in_err-put_entry-clause-does
 returns-in_err-put_entry-clause-does g c =
     let old = c.args.volume.now in
-    let held = held_by g.O.Sink.taken g.O.Sink.faults in
+    let held = held_by g.O.Sink in
     let entry = entry_view c.in-Some.entry in
     let rest = c.loop-entry.entry-iterator in
     let behind = c.next.new.self in
@@ -90,7 +90,7 @@ returns-in_err-put_entry-clause-does g c =
 pub returns-clause-does : goal.returns-clause-does
 returns-clause-does g c =
     let old = c.args.volume.now in
-    let held = held_by g.O.Sink.taken g.O.Sink.faults in
+    let held = held_by g.O.Sink in
     let rest = c.loop-entry.entry-iterator in
     let all = c.args.entries in
     let none : rest ≡ [] = search rules in

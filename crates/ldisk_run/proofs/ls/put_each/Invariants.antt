@@ -11,8 +11,8 @@ use Rattle.ldisk_run.proofs.ls.put_each.Given as goal
 
 abbrev pub invariant-loop-entry : goal.invariant-loop-entry
 invariant-loop-entry g l =
-    let held = held_by g.O.Sink.taken g.O.Sink.faults in
-    let sink = sink_of g.O.Sink.taken g.O.Sink.faults in
+    let held = held_by g.O.Sink in
+    let sink = sink_of g.O.Sink in
     record {
       can_next : (goal.iterator-loop-entry g).can_next l.entry-iterator;
       is_finite : (goal.iterator-loop-entry g).is_finite l.entry-iterator;

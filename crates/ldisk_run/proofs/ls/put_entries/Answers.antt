@@ -23,7 +23,7 @@ returns-in-Err-clause-does g c =
     let halt = c.tree_halt.result in
     let super = super_view volume.layout in
     told_halted (past_of volume) (λ now. block_entries super (parts_of (volume_view volume) now) (inode_view c.args.stat.now.node) c.args.index)
-    (λ now. lines_behind super (parts_of (volume_view volume) now) (silent 0)) halt (held_by g.O.Sink.taken g.O.Sink.faults c.args.out.now)
+    (λ now. lines_behind super (parts_of (volume_view volume) now) (silent 0)) halt (held_by g.O.Sink c.args.out.now)
     (told_map (past_of volume) (λ now. Refuses fault (with_fault Zone (block_entries super (parts_of (volume_view volume) now) (inode_view c.args.stat.now.node) c.args.index)))
     (λ now. Halts halt (block_entries super (parts_of (volume_view volume) now) (inode_view c.args.stat.now.node) c.args.index))
     (λ now refused. halts_untold halt Zone (block_entries super (parts_of (volume_view volume) now) (inode_view c.args.stat.now.node) c.args.index)

@@ -10,7 +10,7 @@ use Rattle.ldisk_run.proofs.ls.put_line.Goals as goal
 pub returns-clause-adds : goal.returns-clause-adds
 unfolding entry_line
 returns-clause-adds g c =
-    let held = held_by g.O.Sink.taken g.O.Sink.faults in
+    let held = held_by g.O.Sink in
     let inode = inode_view c.args.inode.now in
     let head = kind_letter inode ∷ (codes " " ++ decimal inode.size ++ codes " ") in
     let name = c.args.name.now in

@@ -24,10 +24,10 @@ returns-clause-text g c =
     rw c.answer.ensures
     (held_of (λ out. Told (g.D.Disks.past disks) (λ now. Tells (ldisk_verdict now machine words) (answer_of status failed) (o.taken c.args.out.now) (o.taken out) (o.faults c.args.out.now) (o.faults out))) last
     (held_of (λ out. Told (g.D.Disks.past disks) (λ now. Tells (ldisk_verdict now machine words) (answer_of status failed) (o.taken out) (o.taken last) (o.faults out) (o.faults last))) first
-    (told_map (g.D.Disks.past disks) (λ now. DoesAs (ldisk_verdict now machine words) status (held_by o.taken o.faults c.new-pieces.result) (held_by o.taken o.faults c.run_words-status.new.out))
+    (told_map (g.D.Disks.past disks) (λ now. DoesAs (ldisk_verdict now machine words) status (held_by o c.new-pieces.result) (held_by o c.run_words-status.new.out))
     (λ now. Tells (ldisk_verdict now machine words) (answer_of status failed) (o.taken first) (o.taken last) (o.faults first) (o.faults last))
-    (λ now does. tells (ldisk_verdict now machine words) status failed (held_by o.taken o.faults c.new-pieces.result) (held_by o.taken o.faults c.run_words-status.new.out)
-    (sink_of o.taken o.faults c.show.new.self) does c.new-pieces.ensures.empty fine c.show.ensures.shown)
+    (λ now does. tells (ldisk_verdict now machine words) status failed (held_by o c.new-pieces.result) (held_by o c.run_words-status.new.out)
+    (sink_of o c.show.new.self) does c.new-pieces.ensures.empty fine c.show.ensures.shown)
     c.run_words-status.ensures.does)
     (search rules))
     (search rules))

@@ -10,7 +10,7 @@ pub returns-then-is_err-clause-adds : goal.returns-then-is_err-clause-adds
 returns-then-is_err-clause-adds g c =
     let before = c.args.self.now.held.items in
     let bytes = c.args.bytes.now in
-    let sink = sink_of g.O.Sink.taken g.O.Sink.faults in
+    let sink = sink_of g.O.Sink in
     let same : c.try_extend_from_slice.new.self ≡ c.args.self.now.held = search rules in
     let none : c.try_extend_from_slice-2.new.self.items ≡ [] = search rules in
     let shown : Shows (sink c.args.self.now) before (sink c.show.new.self) =

@@ -118,7 +118,8 @@ fn text_in<D: Disks>(
 
 // How a refusal of a path is reported.
 fn file_fault(fault: &TreeFault) -> FileFault
-    ensures { IsTreeFault fault.now result }
+    ensures told { IsTreeFault fault.now result }
+    ensures memory { result ≡ FileFault.Memory → fault.now ≡ TreeFault.Memory }
 {
     match fault {
         TreeFault::NotFound(_) => FileFault::Missing,

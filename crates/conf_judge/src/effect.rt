@@ -7,14 +7,15 @@ ghost use Rattle.conf_settings.specs.View.{opt_view, settings_view};
 use crate::part::{given_text, has_option, part_kind, value_of};
 use conf_settings::{Opt, Setting, last_part};
 
-/// The value that is in effect in a section: its own, or else the global one where the option may stand there.
+/// The value that is in effect in a section: its own, or else the global one where the option may be there.
 #[tactic(auto, unfolding(lilo_model::specs::Conf::effect_value))]
 pub fn effect_value<'a>(
     option: Opt,
     front: &'a [Setting],
     section: &'a [Setting],
 ) -> Option<&'a [u8]>
-    ensures { option_copied result ≡ model.effect_value (opt_view option) (settings_view front.now) (settings_view section.now) }
+    ensures { option_copied result
+        ≡ model.effect_value (opt_view option) (settings_view front.now) (settings_view section.now) }
 {
     match value_of(option, section) {
         Some(text) => Some(text),

@@ -1,7 +1,7 @@
 //! Which settings of a lilo.conf are refused, and what is in effect in its parts.
 //!
-//! The names and the sense of the options are lilo.conf(5)'s. The order of what is tested, and what is in effect where a
-//! section and the global part both speak, are this project's own.
+//! The names and the sense of the options are lilo.conf(5)'s. The order of what is tested, and what is in effect where
+//! a section and the global part both speak, are this project's own.
 #![tactic(auto)]
 
 mod effect;

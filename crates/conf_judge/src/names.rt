@@ -1,4 +1,4 @@
-// Names of sections that are refused behind others, and a default that is none of them.
+// Names of sections that are refused after others, and a default that is none of them.
 ghost use Rattle.std.specs.Prelude.{◌≡◌, ◌≤◌, ◌+◌, [], length, flat_map};
 ghost use Rattle.std.specs.Option.{option_map};
 ghost use Rattle.lilo_model.specs.Checks.{with_fault};
@@ -15,7 +15,7 @@ use conf_settings::{ConfFault, ConfReason, Opt, Setting};
 // The most names.
 const NAMES_LIMIT: usize = 19;
 
-/// The first refusal of the names of sections, each behind those before it.
+/// The first refusal of the names of sections, each after those before it.
 pub fn names_refusal(sections: &[&[Setting]]) -> Option<ConfFault>
     ensures { names_view result (names_of sections.now)
         ≡ with_fault Some (model.names_from [] (lists_view sections.now)) }
@@ -30,7 +30,7 @@ pub fn names_refusal(sections: &[&[Setting]]) -> Option<ConfFault>
     None
 }
 
-/// Why a configuration is refused as a whole, the names of its sections being told apart.
+/// Why a configuration is refused as a whole, where the names of its sections are fine.
 pub fn default_refusal(front: &[Setting], sections: &[&[Setting]]) -> Option<ConfFault>
     ensures { option_map fault_view result ≡ option_map Some
         (model.default_refusal (settings_view front.now) (names_of sections.now)) }
@@ -50,7 +50,8 @@ pub fn default_refusal(front: &[Setting], sections: &[&[Setting]]) -> Option<Con
 
 // Why a default is refused beside the names of sections.
 fn wanted_refusal(front: &[Setting], wanted: &[u8], sections: &[&[Setting]]) -> Option<ConfFault>
-    ensures { option_map fault_view result ≡ option_map Some (wanted_refusal (settings_view front.now) wanted.now (names_of sections.now)) }
+    ensures { option_map fault_view result
+        ≡ option_map Some (wanted_refusal (settings_view front.now) wanted.now (names_of sections.now)) }
 {
     if has_name(wanted, sections) {
         None
@@ -63,7 +64,7 @@ fn wanted_refusal(front: &[Setting], wanted: &[u8], sections: &[&[Setting]]) -> 
     }
 }
 
-// Why the names of a section are refused behind those of others, which are so many.
+// Why the names of a section are refused after those of others, which are so many.
 #[tactic(auto, unfolding(lilo_model::specs::Conf::names_reason))]
 fn names_reason(before: &[&[Setting]], count: usize, section: &[Setting]) -> Option<ConfFault>
     requires count { count ≡ length (names_of before.now) }
@@ -85,9 +86,13 @@ fn names_reason(before: &[&[Setting]], count: usize, section: &[Setting]) -> Opt
     }
 }
 
-// The refusal of a name of a section that stands before.
+// The refusal of a name that an earlier section has.
 fn repeated(option: Opt, section: &[Setting]) -> ConfFault
-    ensures { result ≡ record { reason = ConfReason.RepeatedName; option = option; line = model.opening_line (settings_view section.now) } }
+    ensures { result ≡ record {
+      reason = ConfReason.RepeatedName;
+      option = option;
+      line = model.opening_line (settings_view section.now);
+    } }
 {
     ConfFault {
         reason: ConfReason::RepeatedName,
@@ -125,7 +130,7 @@ fn names_count(section: &[Setting]) -> usize
     }
 }
 
-// Whether a name stands among those of sections.
+// Whether a name is among those of sections.
 fn has_name(name: &[u8], sections: &[&[Setting]]) -> bool
     ensures { result ≡ model.has_name name.now (names_of sections.now) }
 {

@@ -1,4 +1,4 @@
-// The settings of a part: those before all sections, or those of a section with the one that opens it at their front.
+// The settings of a part: those before all sections, or those of a section, of which the first opens it.
 ghost use Rattle.std.specs.Prelude.{◌≡◌, ◌≤◌, length};
 ghost use Rattle.std.specs.List.{prefix_len, take_while};
 ghost use Rattle.std.specs.Option.{option_map, option_copied};
@@ -9,7 +9,7 @@ ghost use Rattle.conf_settings.specs.View.{opt_view, part_view, given_view, sett
 
 use conf_settings::{Given, Opt, Part, Setting};
 
-/// The value that stands behind an option.
+/// The value that comes after an option.
 #[tactic(auto, unfolding(lilo_model::specs::ConfJudge::given_text))]
 pub fn given_text(given: &Given) -> Option<&[u8]>
     ensures { option_copied result ≡ model.given_text (given_view given.now) }
@@ -22,12 +22,13 @@ pub fn given_text(given: &Given) -> Option<&[u8]>
 
 /// The first setting of an option.
 pub fn setting_of(option: Opt, settings: &[Setting]) -> Option<&Setting>
-    ensures { option_map setting_view (option_copied result) ≡ model.setting_of (opt_view option) (settings_view settings.now) }
+    ensures { option_map setting_view (option_copied result)
+        ≡ model.setting_of (opt_view option) (settings_view settings.now) }
 {
     settings.iter().find(|setting| setting.option.is(option))
 }
 
-/// Whether an option stands among settings.
+/// Whether an option is among settings.
 pub fn has_option(option: Opt, settings: &[Setting]) -> bool
     ensures { result ≡ model.has_option (opt_view option) (settings_view settings.now) }
 {
@@ -56,7 +57,7 @@ pub fn line_of(option: Opt, settings: &[Setting]) -> u32
     }
 }
 
-/// The part that settings stand in.
+/// The part that settings are in.
 #[tactic(auto, unfolding(lilo_model::specs::ConfJudge::part_kind))]
 pub fn part_kind(settings: &[Setting]) -> Part
     ensures { part_view result ≡ model.part_kind (settings_view settings.now) }
@@ -79,14 +80,15 @@ fn opened_part(option: Opt) -> Part
     }
 }
 
-/// The settings at the front that tell something of a disk.
+/// The first settings, as long as they are details of a disk.
 pub fn disk_details(settings: &[Setting]) -> &[Setting]
-    ensures { settings_view result.now ≡ take_while (λ setting. is_of_disk setting.option) (settings_view settings.now) }
+    ensures { settings_view result.now
+        ≡ take_while (λ setting. is_of_disk setting.option) (settings_view settings.now) }
 {
     &settings[..details_length(settings)]
 }
 
-// How many settings at the front tell something of a disk.
+// How many of the first settings are details of a disk.
 fn details_length(settings: &[Setting]) -> usize
     ensures value { result ≡ prefix_len (λ setting. is_of_disk (opt_view setting.option)) settings.now }
     ensures within { result ≤ length settings.now }

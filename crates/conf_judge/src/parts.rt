@@ -14,7 +14,7 @@ use std::alloc::{AllocError, Global};
 pub struct Parts<'a> {
     /// Those before all sections.
     pub front: &'a [Setting],
-    /// Those of each section, the one that opens it at their front.
+    /// Those of each section, of which the first opens it.
     pub sections: Vec<&'a [Setting]>,
 }
 
@@ -37,7 +37,8 @@ pub fn parts_of(alloc: Global, settings: &[Setting]) -> Result<Parts<'_>, AllocE
 // The sections of settings, of which the first opens one.
 fn sections_of(alloc: Global, settings: &[Setting]) -> Result<Vec<&[Setting]>, AllocError>
     requires { (model.parts_of (settings_view settings.now)).front ≡ [] }
-    ensures { IfOk result (λ sections. lists_view sections.items ≡ (model.parts_of (settings_view settings.now)).sections) }
+    ensures { IfOk result (λ sections.
+        lists_view sections.items ≡ (model.parts_of (settings_view settings.now)).sections) }
 {
     let mut sections = Vec::new(alloc);
     let mut at = 0;
@@ -59,7 +60,7 @@ fn section_length(settings: &[Setting]) -> usize
     1 + front_length(&settings[1..])
 }
 
-// How many settings stand before all that open sections.
+// How many settings come before all that open sections.
 fn front_length(settings: &[Setting]) -> usize
     ensures value { result ≡ prefix_len (λ setting. not (opens (opt_view setting.option))) settings.now }
     ensures within { result ≤ length settings.now }

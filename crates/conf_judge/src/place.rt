@@ -1,11 +1,12 @@
-// Settings that are refused where they stand, by those before them in their part.
+// Settings that are refused where they are, by those before them in their part.
 ghost use Rattle.std.specs.Prelude.{◌≡◌, ◌≤◌, ℕ, length, []};
 ghost use Rattle.std.specs.Option.{option_map};
 ghost use Rattle.std.specs.List.{list_any};
 ghost use Rattle.lilo_model.specs.ConfJudge as model;
 ghost use Rattle.lilo_model.specs.ConfOptions.{takes_of};
 ghost use Rattle.lilo_model.specs.ConfSettings.{Bare, Sign};
-ghost use Rattle.conf_settings.specs.View.{opt_view, takes_view, reason_view, fault_view, given_view, setting_view, settings_view};
+ghost use Rattle.conf_settings.specs.View.{opt_view, takes_view, reason_view, fault_view, given_view};
+ghost use Rattle.conf_settings.specs.View.{setting_view, settings_view};
 
 use crate::part::{given_text, has_option, part_kind};
 use conf_settings::{
@@ -15,7 +16,7 @@ use conf_settings::{
 // The most bytes of a name.
 pub(crate) const NAME_LIMIT: usize = 15;
 
-/// The first refusal of settings where they stand.
+/// The first refusal of settings where they are.
 pub fn settings_refusal(settings: &[Setting]) -> Option<ConfFault>
     ensures { option_map fault_view result ≡ option_map Some (model.settings_refusal [] (settings_view settings.now)) }
 {
@@ -35,7 +36,7 @@ pub fn settings_refusal(settings: &[Setting]) -> Option<ConfFault>
     None
 }
 
-// What is wrong with a setting, behind others of its part.
+// What is wrong with a setting, after others of its part.
 #[tactic(auto, unfolding(lilo_model::specs::ConfJudge::setting_reason))]
 fn setting_reason(own: &[Setting], setting: &Setting) -> Option<ConfReason>
     ensures { option_map reason_view result ≡ option_map Some
@@ -52,7 +53,7 @@ fn setting_reason(own: &[Setting], setting: &Setting) -> Option<ConfReason>
     }
 }
 
-// What is wrong with an option of a part, behind others of it.
+// What is wrong with an option of a part, after others of it.
 #[tactic(auto, unfolding(lilo_model::specs::ConfJudge::part_reason))]
 fn part_reason(own: &[Setting], setting: &Setting) -> Option<ConfReason>
     ensures { option_map reason_view result ≡ option_map Some
@@ -81,7 +82,7 @@ fn excluded_in(own: &[Setting], option: Opt) -> Option<Opt>
     }
 }
 
-// What is wrong with a `disk`, behind others of its part.
+// What is wrong with a `disk`, after others of its part.
 #[tactic(auto, unfolding(lilo_model::specs::ConfJudge::disk_reason))]
 fn disk_reason(own: &[Setting], setting: &Setting) -> Option<ConfReason>
     ensures { option_map reason_view result ≡ option_map Some
@@ -129,7 +130,7 @@ fn setting_disk(setting: &Setting) -> Option<u8>
     }
 }
 
-// What is wrong with what is told of a disk, behind others of its part.
+// What is wrong with a detail of a disk, after others of its part.
 #[tactic(auto, unfolding(lilo_model::specs::ConfJudge::detail_reason))]
 fn detail_reason(own: &[Setting], setting: &Setting) -> Option<ConfReason>
     ensures { option_map reason_view result ≡ option_map Some
@@ -155,7 +156,7 @@ fn group_disk(own: &[Setting]) -> Option<u8>
     }
 }
 
-// The settings at the end that tell something of a disk.
+// The last settings, as far back as they are details of a disk.
 #[tactic(auto, unfolding(lilo_model::specs::ConfJudge::details_of))]
 fn details_of(own: &[Setting]) -> &[Setting]
     ensures { settings_view result.now ≡ model.details_of (settings_view own.now) }
@@ -163,7 +164,7 @@ fn details_of(own: &[Setting]) -> &[Setting]
     &own[own.len() - details_count(own)..]
 }
 
-// How many settings at the end tell something of a disk.
+// How many of the last settings are details of a disk.
 #[tactic(auto, unfolding(lilo_model::specs::ConfJudge::details_count))]
 fn details_count(own: &[Setting]) -> usize
     ensures value { result ≡ model.details_count (settings_view own.now) }

@@ -12,7 +12,8 @@ use conf_settings::{ConfFault, ConfReason, Opt, Setting, is_name, last_part};
 
 /// The first refusal of sections as wholes.
 pub fn sections_refusal(front: &[Setting], sections: &[&[Setting]]) -> Option<ConfFault>
-    ensures { option_map fault_view result ≡ option_map Some (model.sections_refusal (settings_view front.now) (lists_view sections.now)) }
+    ensures { option_map fault_view result
+        ≡ option_map Some (model.sections_refusal (settings_view front.now) (lists_view sections.now)) }
 {
     for section in sections {
         if let Some(fault) = section_refusal(front, section) {
@@ -25,7 +26,8 @@ pub fn sections_refusal(front: &[Setting], sections: &[&[Setting]]) -> Option<Co
 // Why a section is refused as a whole.
 #[tactic(auto, unfolding(lilo_model::specs::Conf::section_refusal))]
 fn section_refusal(front: &[Setting], section: &[Setting]) -> Option<ConfFault>
-    ensures { option_map fault_view result ≡ option_map Some (model.section_refusal (settings_view front.now) (settings_view section.now)) }
+    ensures { option_map fault_view result
+        ≡ option_map Some (model.section_refusal (settings_view front.now) (settings_view section.now)) }
 {
     if let Some(reason) = label_reason(section) {
         Some(ConfFault {

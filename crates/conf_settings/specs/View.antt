@@ -105,7 +105,7 @@ part_view parts.Global = model.GlobalPart
 part_view parts.Image = model.ImagePart
 part_view parts.Other = model.OtherPart
 
--- what is wrong; want of memory is nothing of a configuration
+-- what is wrong; out of memory is nothing of a configuration
 abbrev pub reason_view : ConfReason → Option refusals.ConfReason
 reason_view reasons.Unknown = Some refusals.Unknown
 reason_view reasons.LeftOut = Some refusals.LeftOut
@@ -129,7 +129,7 @@ abbrev pub fault_view : ConfFault → Option refusals.ConfRefusal
 fault_view fault =
     option_map (λ reason. record { reason = reason; option = opt_view fault.option; line = fault.line }) (reason_view fault.reason)
 
--- what stands behind an option
+-- what comes after an option
 abbrev pub given_view : Given → settings.Given
 given_view givens.Bare = settings.Bare
 given_view givens.Sign = settings.Sign
@@ -144,7 +144,7 @@ setting_view setting =
 abbrev pub settings_view : List Setting → List settings.Setting
 settings_view list = map setting_view list
 
--- settings, and the refusal behind them, are these of the model
+-- settings, and the refusal after them, are these of the model
 pub record IsCut (cut : Cut) (model : settings.Settings) : Type 0 where
   pub settings : settings_view cut.settings ≡ model.settings
   pub refusal : option_map fault_view cut.refusal ≡ option_map Some model.refusal

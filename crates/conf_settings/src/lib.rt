@@ -1,4 +1,4 @@
-//! The settings of a lilo.conf: its options with what stands behind them, in order, and what their values mean.
+//! The settings of a lilo.conf: its options with what comes after them, in order, and what their values mean.
 //!
 //! The names and the sense of the options are lilo.conf(5)'s. The exact rules, the ranges and what is refused are
 //! this project's own. Lines count from 1.

@@ -1,4 +1,4 @@
-// The line that tells a refusal.
+// The line that reports a refusal.
 ghost use Rattle.std.specs.Prelude.{◌≡◌, ◌≤◌, ◌+◌, ◌++◌, length, codes, decimal, IfSome};
 ghost use Rattle.lilo_model.specs.ConfRefusal.{config_line};
 ghost use Rattle.lilo_model.specs.ConfOptions.{opt_name};
@@ -8,11 +8,12 @@ use crate::reason::{ConfFault, ConfReason, ReasonText};
 use arrayvec::ArrayVec;
 use itoa::Buffer;
 
-/// `OPTION: REASON at line N`, as a refusal is told.
+/// `OPTION: REASON at line N`, as a refusal is reported.
 #[tactic(auto, unfolding(lilo_model::specs::ConfRefusal::config_line))]
 pub fn config_line(fault: ConfFault) -> ArrayVec<u8, 64>
     ensures line { IfSome (fault_view fault) (λ refusal. result.items ≡ config_line refusal) }
-    ensures memory { fault.reason ≡ ConfReason.Memory → result.items ≡ opt_name (opt_view fault.option) ++ codes ": " ++ codes "memory" ++ codes " at line " ++ decimal fault.line }
+    ensures memory { fault.reason ≡ ConfReason.Memory → result.items ≡ opt_name (opt_view fault.option)
+        ++ codes ": " ++ codes "memory" ++ codes " at line " ++ decimal fault.line }
     ensures short { length result.items ≤ 54 }
 {
     let mut line = ArrayVec::new();

@@ -1,4 +1,4 @@
-// The options that are told apart.
+// The options that are known, each by its name.
 ghost use Rattle.std.specs.Prelude.{◌≡◌, ◌≤◌, ℕ, length, find, bytes_eq};
 ghost use Rattle.std.specs.Option.{option_map};
 ghost use Rattle.lilo_model.specs.ConfOptions as model;
@@ -221,80 +221,12 @@ impl Opt {
         find_option(ALL, word).unwrap_or(Opt::Other)
     }
 
-    // Its name, or `text` for `Other`; what it takes after an equals sign; and where it may come.
-    #[tactic(auto, unfolding(crate::specs::View::row_of))]
-    fn row(self) -> (&'static [u8], Takes, Places)
-        ensures name { result.0.now ≡ opt_name (opt_view self) }
-        ensures takes { takes_view result.1 ≡ takes_of (opt_view self) }
-        ensures places { places_view result.2 ≡ places_of (opt_view self) }
-        ensures short { length result.0.now ≤ 12 }
-    {
-        match self {
-            Opt::Boot => (b"boot", Takes::Device, GLOBAL),
-            Opt::Map => (b"map", Takes::Path, GLOBAL),
-            Opt::Install => (b"install", Takes::Path, GLOBAL),
-            Opt::Backup => (b"backup", Takes::Path, GLOBAL),
-            Opt::ForceBackup => (b"force-backup", Takes::Path, GLOBAL),
-            Opt::Message => (b"message", Takes::Path, GLOBAL),
-            Opt::Compact => (b"compact", Takes::Nothing, GLOBAL),
-            Opt::Linear => (b"linear", Takes::Nothing, GLOBAL),
-            Opt::Lba32 => (b"lba32", Takes::Nothing, GLOBAL),
-            Opt::Prompt => (b"prompt", Takes::Nothing, GLOBAL),
-            Opt::Nowarn => (b"nowarn", Takes::Nothing, GLOBAL),
-            Opt::IgnoreTable => (b"ignore-table", Takes::Nothing, GLOBAL),
-            Opt::FixTable => (b"fix-table", Takes::Nothing, GLOBAL),
-            Opt::Default => (b"default", Takes::Name, GLOBAL),
-            Opt::Delay => (b"delay", Takes::Number { low: 0, high: 65534 }, GLOBAL),
-            Opt::Timeout => (b"timeout", Takes::Number { low: 0, high: 65534 }, GLOBAL),
-            Opt::Verbose => (b"verbose", Takes::Number { low: 0, high: 65535 }, GLOBAL),
-            Opt::Disk => (b"disk", Takes::WholeDisk, GLOBAL),
-            Opt::Bios => (b"bios", Takes::Bios, NOWHERE),
-            Opt::Sectors => (b"sectors", Takes::Number { low: 1, high: 63 }, NOWHERE),
-            Opt::Heads => (b"heads", Takes::Number { low: 1, high: 255 }, NOWHERE),
-            Opt::Cylinders => (b"cylinders", Takes::Number { low: 1, high: 65535 }, NOWHERE),
-            Opt::Image => (b"image", Takes::Path, NOWHERE),
-            Opt::OtherDevice => (b"other", Takes::Device, NOWHERE),
-            Opt::Label => (b"label", Takes::Name, SECTIONS),
-            Opt::Alias => (b"alias", Takes::Name, SECTIONS),
-            Opt::Initrd => (b"initrd", Takes::Path, IMAGES),
-            Opt::Root => (b"root", Takes::Root, IMAGES),
-            Opt::ReadOnly => (b"read-only", Takes::Nothing, IMAGES),
-            Opt::ReadWrite => (b"read-write", Takes::Nothing, IMAGES),
-            Opt::Append => (b"append", Takes::Text, IMAGES),
-            Opt::Literal => (b"literal", Takes::Text, IMAGE),
-            Opt::Vga => (b"vga", Takes::Video, IMAGES),
-            Opt::Password => (b"password", Takes::Shown(31), ANYWHERE),
-            Opt::Restricted => (b"restricted", Takes::Nothing, ANYWHERE),
-            Opt::Optional => (b"optional", Takes::Nothing, ANYWHERE),
-            Opt::Lock => (b"lock", Takes::Nothing, ANYWHERE),
-            Opt::Fallback => (b"fallback", Takes::Shown(255), ANYWHERE),
-            Opt::Table => (b"table", Takes::Device, OTHER),
-            Opt::Loader => (b"loader", Takes::Path, OTHER),
-            Opt::Serial => (b"serial", Takes::LeftOut, NOWHERE),
-            Opt::Keytable => (b"keytable", Takes::LeftOut, NOWHERE),
-            Opt::Change => (b"change", Takes::LeftOut, NOWHERE),
-            Opt::ChangeRules => (b"change-rules", Takes::LeftOut, NOWHERE),
-            Opt::Ramdisk => (b"ramdisk", Takes::LeftOut, NOWHERE),
-            Opt::Disktab => (b"disktab", Takes::LeftOut, NOWHERE),
-            Opt::SingleKey => (b"single-key", Takes::LeftOut, NOWHERE),
-            Opt::Bitmap => (b"bitmap", Takes::LeftOut, NOWHERE),
-            Opt::BmpColors => (b"bmp-colors", Takes::LeftOut, NOWHERE),
-            Opt::BmpTable => (b"bmp-table", Takes::LeftOut, NOWHERE),
-            Opt::BmpTimer => (b"bmp-timer", Takes::LeftOut, NOWHERE),
-            Opt::Unsafe => (b"unsafe", Takes::LeftOut, NOWHERE),
-            Opt::Range => (b"range", Takes::LeftOut, NOWHERE),
-            Opt::Partition => (b"partition", Takes::LeftOut, NOWHERE),
-            Opt::MapDrive => (b"map-drive", Takes::LeftOut, NOWHERE),
-            Opt::Other => (b"text", Takes::Unknown, NOWHERE),
-        }
-    }
-
     /// Its name, and `text` for `Other`.
     pub fn name(self) -> &'static [u8]
         ensures name { result.now ≡ opt_name (opt_view self) }
         ensures short { length result.now ≤ 12 }
     {
-        let (name, _, _) = self.row();
+        let (name, _, _) = row_of(self);
         name
     }
 
@@ -310,7 +242,7 @@ impl Opt {
     pub fn takes(self) -> Takes
         ensures { takes_view result ≡ takes_of (opt_view self) }
     {
-        let (_, takes, _) = self.row();
+        let (_, takes, _) = row_of(self);
         takes
     }
 
@@ -319,7 +251,7 @@ impl Opt {
     pub fn stands_in(self, part: Part) -> bool
         ensures { result ≡ model.stands_in (part_view part) (opt_view self) }
     {
-        let (_, _, places) = self.row();
+        let (_, _, places) = row_of(self);
         match part {
             Part::Global => places.global,
             Part::Image => places.image,
@@ -335,7 +267,7 @@ impl Opt {
         matches!(self, Opt::Image | Opt::OtherDevice)
     }
 
-    /// Whether it tells something of the disk of its group.
+    /// Whether it is a detail of the disk of its group.
     #[tactic(auto, unfolding(lilo_model::specs::ConfOptions::is_of_disk))]
     pub fn is_of_disk(self) -> bool
         ensures { result ≡ is_of_disk (opt_view self) }
@@ -373,4 +305,100 @@ fn find_option(options: &[Opt], word: &[u8]) -> Option<Opt>
     ensures { result ≡ find (λ option. bytes_eq word.now (opt_name (opt_view option))) options.now }
 {
     options.iter().copied().find(|option| word == option.name())
+}
+
+// What is known of an option: its name, or `text` for `Other`; what it takes after an equals sign; where it may come.
+#[tactic(auto, unfolding(crate::specs::Row::opt_name, crate::specs::Row::takes_of, crate::specs::Row::places_of))]
+fn row_of(option: Opt) -> (&'static [u8], Takes, Places)
+    ensures name { result.0.now ≡ opt_name (opt_view option) }
+    ensures takes { takes_view result.1 ≡ takes_of (opt_view option) }
+    ensures places { places_view result.2 ≡ places_of (opt_view option) }
+    ensures short { length result.0.now ≤ 12 }
+{
+    match option {
+        Opt::Boot => (b"boot", Takes::Device, GLOBAL),
+        Opt::Map => (b"map", Takes::Path, GLOBAL),
+        Opt::Install => (b"install", Takes::Path, GLOBAL),
+        Opt::Backup => (b"backup", Takes::Path, GLOBAL),
+        Opt::ForceBackup => (b"force-backup", Takes::Path, GLOBAL),
+        Opt::Message => (b"message", Takes::Path, GLOBAL),
+        Opt::Compact => (b"compact", Takes::Nothing, GLOBAL),
+        Opt::Linear => (b"linear", Takes::Nothing, GLOBAL),
+        Opt::Lba32 => (b"lba32", Takes::Nothing, GLOBAL),
+        Opt::Prompt => (b"prompt", Takes::Nothing, GLOBAL),
+        Opt::Nowarn => (b"nowarn", Takes::Nothing, GLOBAL),
+        Opt::IgnoreTable => (b"ignore-table", Takes::Nothing, GLOBAL),
+        Opt::FixTable => (b"fix-table", Takes::Nothing, GLOBAL),
+        Opt::Default => (b"default", Takes::Name, GLOBAL),
+        Opt::Delay => (
+            b"delay",
+            Takes::Number {
+                low: 0,
+                high: 65534,
+            },
+            GLOBAL,
+        ),
+        Opt::Timeout => (
+            b"timeout",
+            Takes::Number {
+                low: 0,
+                high: 65534,
+            },
+            GLOBAL,
+        ),
+        Opt::Verbose => (
+            b"verbose",
+            Takes::Number {
+                low: 0,
+                high: 65535,
+            },
+            GLOBAL,
+        ),
+        Opt::Disk => (b"disk", Takes::WholeDisk, GLOBAL),
+        Opt::Bios => (b"bios", Takes::Bios, NOWHERE),
+        Opt::Sectors => (b"sectors", Takes::Number { low: 1, high: 63 }, NOWHERE),
+        Opt::Heads => (b"heads", Takes::Number { low: 1, high: 255 }, NOWHERE),
+        Opt::Cylinders => (
+            b"cylinders",
+            Takes::Number {
+                low: 1,
+                high: 65535,
+            },
+            NOWHERE,
+        ),
+        Opt::Image => (b"image", Takes::Path, NOWHERE),
+        Opt::OtherDevice => (b"other", Takes::Device, NOWHERE),
+        Opt::Label => (b"label", Takes::Name, SECTIONS),
+        Opt::Alias => (b"alias", Takes::Name, SECTIONS),
+        Opt::Initrd => (b"initrd", Takes::Path, IMAGES),
+        Opt::Root => (b"root", Takes::Root, IMAGES),
+        Opt::ReadOnly => (b"read-only", Takes::Nothing, IMAGES),
+        Opt::ReadWrite => (b"read-write", Takes::Nothing, IMAGES),
+        Opt::Append => (b"append", Takes::Text, IMAGES),
+        Opt::Literal => (b"literal", Takes::Text, IMAGE),
+        Opt::Vga => (b"vga", Takes::Video, IMAGES),
+        Opt::Password => (b"password", Takes::Shown(31), ANYWHERE),
+        Opt::Restricted => (b"restricted", Takes::Nothing, ANYWHERE),
+        Opt::Optional => (b"optional", Takes::Nothing, ANYWHERE),
+        Opt::Lock => (b"lock", Takes::Nothing, ANYWHERE),
+        Opt::Fallback => (b"fallback", Takes::Shown(255), ANYWHERE),
+        Opt::Table => (b"table", Takes::Device, OTHER),
+        Opt::Loader => (b"loader", Takes::Path, OTHER),
+        Opt::Serial => (b"serial", Takes::LeftOut, NOWHERE),
+        Opt::Keytable => (b"keytable", Takes::LeftOut, NOWHERE),
+        Opt::Change => (b"change", Takes::LeftOut, NOWHERE),
+        Opt::ChangeRules => (b"change-rules", Takes::LeftOut, NOWHERE),
+        Opt::Ramdisk => (b"ramdisk", Takes::LeftOut, NOWHERE),
+        Opt::Disktab => (b"disktab", Takes::LeftOut, NOWHERE),
+        Opt::SingleKey => (b"single-key", Takes::LeftOut, NOWHERE),
+        Opt::Bitmap => (b"bitmap", Takes::LeftOut, NOWHERE),
+        Opt::BmpColors => (b"bmp-colors", Takes::LeftOut, NOWHERE),
+        Opt::BmpTable => (b"bmp-table", Takes::LeftOut, NOWHERE),
+        Opt::BmpTimer => (b"bmp-timer", Takes::LeftOut, NOWHERE),
+        Opt::Unsafe => (b"unsafe", Takes::LeftOut, NOWHERE),
+        Opt::Range => (b"range", Takes::LeftOut, NOWHERE),
+        Opt::Partition => (b"partition", Takes::LeftOut, NOWHERE),
+        Opt::MapDrive => (b"map-drive", Takes::LeftOut, NOWHERE),
+        Opt::Other => (b"text", Takes::Unknown, NOWHERE),
+    }
 }

@@ -2,7 +2,8 @@
 ghost use Rattle.std.specs.Prelude.{◌≡◌, ◌≤◌, Some, [], IfNone, length, count_by, take, ◌==◌, IfOk};
 ghost use Rattle.lilo_model.specs.ConfTokens.{line_at};
 ghost use Rattle.lilo_model.specs.ConfOptions.{takes_of};
-ghost use Rattle.lilo_model.specs.ConfSettings.{fault_place, text_refusal, given_of, signed_cut, valued_cut, flag_cut, taken_cut, token_cut, setting_cut, text_settings};
+ghost use Rattle.lilo_model.specs.ConfSettings.{fault_place, text_refusal, given_of, signed_cut, valued_cut, flag_cut};
+ghost use Rattle.lilo_model.specs.ConfSettings.{taken_cut, token_cut, setting_cut, text_settings};
 ghost use Rattle.conf_text.specs.View.{text_fault_view, token_view, piece_view};
 ghost use Rattle.std.specs.Option.{option_map};
 ghost use Rattle.conf_settings.specs.View.{opt_view, takes_view, fault_view, given_view, IsCut};
@@ -14,7 +15,7 @@ use crate::setting::{Cut, Given, Setting, SettingList};
 use conf_text::{TextFault, Token, TokenKind, Tokens, plain};
 use std::alloc::{AllocError, Global};
 
-// What stands first among tokens.
+// What comes first among tokens.
 #[derive(Drop)]
 enum Step {
     End,
@@ -22,7 +23,7 @@ enum Step {
     First(Setting),
 }
 
-/// The settings of a text, and the refusal that stands behind them.
+/// The settings of a text, and the refusal that comes after them.
 ///
 /// # Errors
 ///
@@ -56,7 +57,7 @@ pub fn read_settings(alloc: Global, text: &[u8]) -> Result<Cut, AllocError>
     }
 }
 
-// The first setting, behind an option.
+// The first setting, after an option.
 #[tactic(auto, unfolding(lilo_model::specs::ConfSettings::setting_cut))]
 fn next_step(
     alloc: Global,
@@ -65,7 +66,8 @@ fn next_step(
     begun: Opt,
 ) -> Result<Step, AllocError>
     requires { length text.now ≤ 65536 }
-    ensures { IfOk result (λ step. step_view step tokens.new ≡ Some (setting_cut text.now (opt_view begun) tokens.old)) }
+    ensures { IfOk result (λ step. step_view step tokens.new
+        ≡ Some (setting_cut text.now (opt_view begun) tokens.old)) }
 {
     match next_of(tokens) {
         None => Ok(Step::End),
@@ -83,7 +85,8 @@ fn token_step(
     token: Token<'_>,
 ) -> Result<Step, AllocError>
     requires { length text.now ≤ 65536 }
-    ensures { IfOk result (λ step. step_view step tokens.new ≡ Some (token_cut text.now (token_view token.entry) tokens.old)) }
+    ensures { IfOk result (λ step. step_view step tokens.new
+        ≡ Some (token_cut text.now (token_view token.entry) tokens.old)) }
 {
     match token.kind {
         TokenKind::Word => option_step(alloc, text, tokens, Opt::of(token.bytes), token.line),
@@ -93,7 +96,7 @@ fn token_step(
     }
 }
 
-// The setting of an option on a line, by what stands behind its word.
+// The setting of an option on a line, by what comes after its word.
 #[tactic(auto, unfolding(lilo_model::specs::ConfSettings::taken_cut))]
 fn option_step(
     alloc: Global,
@@ -103,7 +106,8 @@ fn option_step(
     line: u32,
 ) -> Result<Step, AllocError>
     requires { length text.now ≤ 65536 }
-    ensures { IfOk result (λ step. step_view step tokens.new ≡ Some (taken_cut text.now (opt_view option) (takes_of (opt_view option)) line tokens.old)) }
+    ensures { IfOk result (λ step. step_view step tokens.new
+        ≡ Some (taken_cut text.now (opt_view option) (takes_of (opt_view option)) line tokens.old)) }
 {
     match option.takes() {
         Takes::Unknown => Ok(refused(ConfReason::Unknown, Opt::Other, line)),
@@ -135,7 +139,8 @@ fn valued_step(
     line: u32,
 ) -> Result<Step, AllocError>
     requires { length text.now ≤ 65536 }
-    ensures { IfOk result (λ step. step_view step tokens.new ≡ Some (valued_cut text.now (opt_view option) line tokens.old)) }
+    ensures { IfOk result (λ step. step_view step tokens.new
+        ≡ Some (valued_cut text.now (opt_view option) line tokens.old)) }
 {
     match next_of(tokens) {
         None => Ok(first(option, Given::Bare, line)),
@@ -147,7 +152,7 @@ fn valued_step(
     }
 }
 
-// What stands behind an option's equals sign.
+// What comes after an option's equals sign.
 #[tactic(auto, unfolding(lilo_model::specs::ConfSettings::signed_cut))]
 fn signed_step(
     alloc: Global,
@@ -157,7 +162,8 @@ fn signed_step(
     line: u32,
 ) -> Result<Step, AllocError>
     requires { length text.now ≤ 65536 }
-    ensures { IfOk result (λ step. step_view step tokens.new ≡ Some (signed_cut text.now (opt_view option) line tokens.old)) }
+    ensures { IfOk result (λ step. step_view step tokens.new
+        ≡ Some (signed_cut text.now (opt_view option) line tokens.old)) }
 {
     match next_of(tokens) {
         None => Ok(first(option, Given::Sign, line)),
@@ -169,7 +175,7 @@ fn signed_step(
     }
 }
 
-// The next of some tokens, with the pieces as its front.
+// The next of some tokens, which is the first of their pieces.
 fn next_of<'a>(tokens: &mut Tokens<'a>) -> Option<Result<Token<'a>, TextFault>>
     ensures pieces { tokens.old ≡ with_front (option_map piece_view result) tokens.new }
     ensures end { IfNone result (tokens.new ≡ []) }
@@ -177,7 +183,7 @@ fn next_of<'a>(tokens: &mut Tokens<'a>) -> Option<Result<Token<'a>, TextFault>>
     tokens.next()
 }
 
-// What a token gives behind an equals sign.
+// What a token gives after an equals sign.
 #[tactic(auto, unfolding(lilo_model::specs::ConfSettings::given_of))]
 fn given_of(alloc: Global, token: &Token<'_>) -> Result<Given, AllocError>
     ensures { IfOk result (λ given. given_view given ≡ given_of (token_view token.now)) }
@@ -238,7 +244,7 @@ fn line_at(text: &[u8], place: usize) -> u32
     newlines_before(text, place) as u32 + 1
 }
 
-// How many newlines stand before a place.
+// How many newlines come before a place.
 fn newlines_before(text: &[u8], place: usize) -> usize
     ensures count { result ≡ count_by (λ byte. byte == 10) (take place text.now) }
     ensures few { result ≤ length text.now }

@@ -13,21 +13,21 @@ pub enum ConfReason {
     Unknown,
     /// The option is one of LILO that isn't taken here.
     LeftOut,
-    /// It stands a second time.
+    /// It comes a second time.
     Repeated,
     /// It wants a value and has none.
     NoValue,
     /// Its value is out of its range, or it has one and wants none.
     BadValue,
-    /// It may not stand there.
+    /// It may not be there.
     Misplaced,
     /// The name has too many bytes.
     NameTooLong,
-    /// The name stands a second time.
+    /// The name comes a second time.
     RepeatedName,
     /// There are more names than a map holds.
     TooManyNames,
-    /// It may not stand beside this option.
+    /// It may not be given beside this option.
     Excludes(Opt),
     /// The default is no name.
     NoDefault,
@@ -63,7 +63,8 @@ impl ConfReason {
     /// Its text.
     #[tactic(auto, unfolding(lilo_model::specs::ConfRefusal::conf_reason_text))]
     pub fn text(self) -> ReasonText
-        ensures text { IfSome (reason_view self) (λ reason. result.words.now ++ result.other.now ≡ conf_reason_text reason) }
+        ensures text { IfSome (reason_view self) (λ reason.
+            result.words.now ++ result.other.now ≡ conf_reason_text reason) }
         ensures memory { IfNone (reason_view self) (result.words.now ++ result.other.now ≡ codes "memory") }
         ensures short { length (result.words.now ++ result.other.now) ≤ 21 }
     {

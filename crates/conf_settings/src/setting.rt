@@ -1,11 +1,11 @@
-// Settings: options with what stands behind them.
+// Settings: options with what comes after them.
 use crate::option::Opt;
 use crate::reason::ConfFault;
 use conf_text::Text;
 use std::alloc::{AllocError, Global};
 use std::marker::Model;
 
-/// What stands behind an option.
+/// What comes after an option.
 #[derive(Drop)]
 pub enum Given {
     /// No equals sign.
@@ -16,7 +16,7 @@ pub enum Given {
     Value(Text),
 }
 
-/// An option, what stands behind it, and its line.
+/// An option, what comes after it, and its line.
 #[derive(Drop)]
 pub struct Setting {
     pub option: Opt,
@@ -30,7 +30,7 @@ pub struct SettingList {
     settings: Vec<Setting>,
 }
 
-/// The settings of a text, and the refusal that stands behind them, where there is one.
+/// The settings of a text, and the refusal that comes after them, where there is one.
 #[derive(Drop)]
 pub struct Cut {
     pub settings: SettingList,

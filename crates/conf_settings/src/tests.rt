@@ -1,6 +1,7 @@
+use crate::value::is_text;
 use crate::{
-    ConfFault, ConfReason, Given, Opt, Setting, Takes, config_line, is_name, is_path, is_text,
-    is_value, last_part, read_settings, root_at, whole_disk_at,
+    ConfFault, ConfReason, Given, Opt, Setting, Takes, config_line, is_name, is_path, is_value,
+    last_part, read_settings, root_at, whole_disk_at,
 };
 use conf_text::TextFault;
 use std::alloc::{AllocError, Global};
@@ -113,7 +114,7 @@ fn texts_have_the_bytes_of_their_kind(rt: HostRuntime) {
     assert_eq!(rt; last_part(b"linux"), b"linux".as_slice());
 }
 
-// What is wanted behind an option.
+// What is wanted after an option.
 #[derive(Clone, Copy)]
 enum Wanted<'a> {
     Bare,
@@ -133,7 +134,7 @@ fn is_setting(setting: &Setting, wanted: (Opt, Wanted<'_>, u32)) -> bool {
     setting.option == wanted.0 && is_given(&setting.given, wanted.1) && setting.line == wanted.2
 }
 
-// Whether a text has these settings, and behind them this refusal or its end.
+// Whether a text has these settings, and after them this refusal or its end.
 fn has(
     alloc: Global,
     text: &[u8],
@@ -176,7 +177,8 @@ fn settings_have_their_values(rt: HostRuntime) -> Result<(), Fail> {
         (Opt::Label, Wanted::Bare, 7),
     ];
     let text =
-        b"# first\nboot = /dev/hda prompt\nimage=/boot/linux\n append=\"a\\\"b\\\\c\"\nappend= a=b\nlabel==\nlabel linux\n";
+        b"# first\nboot = /dev/hda prompt\nimage=/boot/linux\n append=\"a\\\"b\\\\c\"\nappend= a=b\nlabel==\n\
+        label linux\n";
     assert!(rt; has(rt.alloc(), text, &wanted, None)?);
     assert!(rt; has(rt.alloc(), b"", &[], None)?);
     assert!(rt;

@@ -1,4 +1,4 @@
-// What the texts behind options mean.
+// What the values of options mean.
 ghost use Rattle.std.specs.Prelude.{◌≡◌, ◌≤◌, ◌==◌, not, length};
 ghost use Rattle.std.specs.List.{list_all};
 ghost use Rattle.lilo_model.specs.Bytes.{is_between};
@@ -31,7 +31,7 @@ pub fn is_name(text: &[u8]) -> bool
     !text.is_empty() && are_between(0x21, 0x7E, text)
 }
 
-/// Whether a text may stand on a command line: its bytes are from 0x20, without 0x7F.
+/// Whether a text may be on a command line: its bytes are from 0x20, without 0x7F.
 #[tactic(auto, unfolding(lilo_model::specs::ConfValues::is_text))]
 pub(crate) fn is_text(text: &[u8]) -> bool
     ensures { result ≡ model.is_text text.now }
@@ -100,7 +100,7 @@ pub fn is_value(takes: Takes, disk: u8, text: &[u8]) -> bool
     }
 }
 
-/// The part of a path behind its last slash, or all where it has none.
+/// The part of a path after its last slash, or all where it has none.
 #[tactic(auto, unfolding(lilo_model::specs::ConfValues::last_part))]
 pub fn last_part(path: &[u8]) -> &[u8]
     ensures { result.now ≡ model.last_part path.now }
@@ -108,7 +108,7 @@ pub fn last_part(path: &[u8]) -> &[u8]
     &path[path.len() - last_length(path)..]
 }
 
-// How many bytes of a path stand behind its last slash, all where it has none.
+// How many bytes of a path come after its last slash, all where it has none.
 #[tactic(auto, unfolding(lilo_model::specs::ConfValues::last_length))]
 fn last_length(path: &[u8]) -> usize
     ensures value { result ≡ model.last_length path.now }

@@ -1,14 +1,16 @@
 //! Updates of disks that a stop may interrupt, in the words of moments.
 #![tactic(auto)]
 
-ghost use Rattle.std.specs.Prelude.{◌≡◌, ◌⊎◌, ◌<◌, ◌≤◌, ℕ, List, length, EachIndex, SomeIndex, slice_index, OnOk, IsErrOf};
+ghost use Rattle.std.specs.Prelude.{◌≡◌, ◌⊎◌, ◌<◌, ◌≤◌, ℕ, List, length, EachIndex, SomeIndex, slice_index};
+ghost use Rattle.std.specs.Prelude.{OnOk, IsErrOf};
 ghost use Rattle.disk_trait.specs.Past.{Image, with_sector};
 ghost use Rattle.disk_trait.specs.Moments.{IsTold, now, MayLeave, IsQuiet, LeavesOnly};
 ghost use Rattle.lilo_model.specs.Faults.{Rose};
 ghost use Rattle.disk_trait.specs.Calls.{HasCauseOf, HasRangeCauseOf};
 ghost use Rattle.disk_trait.specs.NotWritten.{NotWritten};
 ghost use Rattle.disk_trait.specs.Range.{IsPastEnd, SameOutside, IsWritten};
-ghost use Rattle.disk_example.specs.Example.{IsOldFirstOrBoth, IsWithOrWithout, BootsAsBeforeOr, filled, IsNoneOf, IsFreeOf, BringsAbout};
+ghost use Rattle.disk_example.specs.Example.{IsOldFirstOrBoth, IsWithOrWithout, BootsAsBeforeOr};
+ghost use Rattle.disk_example.specs.Example.{filled, IsNoneOf, IsFreeOf, BringsAbout};
 
 use disk_trait::{DiskFault, Disks, flush, write, write_and_flush, write_range};
 use sector_parts::Sector;
@@ -27,8 +29,8 @@ pub fn write_in_turn<D: Disks>(
     ensures failed { IsErrOf result DiskFault.Failed → Rose (D.faults disks.old) (D.faults disks.new) }
     ensures out_of_range { IsErrOf result DiskFault.OutOfRange
         → (D.size_of disks.old disk ≤ a) ⊎ (D.size_of disks.old disk ≤ b) }
-    ensures any_moment { IsTold (D.past disks.old)
-        → LeavesOnly (D.past disks.old) (D.past disks.new) (IsOldFirstOrBoth (now (D.past disks.old)) disk a first.now b second.now) }
+    ensures any_moment { IsTold (D.past disks.old) → LeavesOnly (D.past disks.old) (D.past disks.new)
+        (IsOldFirstOrBoth (now (D.past disks.old)) disk a first.now b second.now) }
     ensures both { IsTold (D.past disks.old)
         → OnOk result (now (D.past disks.new)
         ≡ with_sector (with_sector (now (D.past disks.old)) disk a first.now) disk b second.now) }
@@ -50,8 +52,8 @@ pub fn stage<D: Disks>(
     ensures any_moment { LeavesOnly (D.past disks.old) (D.past disks.new)
         (SameOutside disk start (length sectors.now) (now (D.past disks.old))) }
     ensures size { D.size_of disks.new ≡ D.size_of disks.old }
-    ensures staged { IsTold (D.past disks.old)
-        → OnOk result (IsWritten disk start sectors.now (length sectors.now) (now (D.past disks.old)) (now (D.past disks.new))) }
+    ensures staged { IsTold (D.past disks.old) → OnOk result (IsWritten disk start sectors.now
+        (length sectors.now) (now (D.past disks.old)) (now (D.past disks.new))) }
     ensures quiet { OnOk result (IsQuiet (D.past disks.new)) }
     ensures told { IsTold (D.past disks.old) → IsTold (D.past disks.new) }
 {
@@ -126,10 +128,12 @@ pub fn install<D: Disks, B: Boot>(
     ensures failed { IsErrOf result DiskFault.Failed → Rose (D.faults disks.old) (D.faults disks.new) }
     ensures out_of_range { IsErrOf result DiskFault.OutOfRange
         → IsPastEnd (D.size_of disks.old disk) start (length sectors.now) ⊎ (D.size_of disks.old disk ≤ last) }
-    ensures any_moment { (meant : List ℕ → ℕ) → BringsAbout B.boots (now (D.past disks.old)) disk start sectors.now last from.now meant
+    ensures any_moment { (meant : List ℕ → ℕ)
+        → BringsAbout B.boots (now (D.past disks.old)) disk start sectors.now last from.now meant
         → IsTold (D.past disks.old)
         → LeavesOnly (D.past disks.old) (D.past disks.new) (BootsAsBeforeOr B.boots (now (D.past disks.old)) meant) }
-    ensures after { (meant : List ℕ → ℕ) → BringsAbout B.boots (now (D.past disks.old)) disk start sectors.now last from.now meant
+    ensures after { (meant : List ℕ → ℕ)
+        → BringsAbout B.boots (now (D.past disks.old)) disk start sectors.now last from.now meant
         → IsTold (D.past disks.old)
         → OnOk result ((c : Image) → MayLeave (D.past disks.new) c → B.boots c ≡ meant) }
 {

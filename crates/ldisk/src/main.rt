@@ -1,8 +1,8 @@
 //! `ldisk COMMAND IMAGE ..`: files on a Minix volume in a disk image.
 //!
 //! `ls IMAGE DEVICE PATH` lists a directory, and `get IMAGE DEVICE PATH` prints a file. The image is the disk hda. All
-//! text goes to standard output, and the exit status is that of the words, 14 for an image that can't be used, or 13 for
-//! want of memory.
+//! text goes to standard output, and the exit status is that of the arguments, 14 for an image that can't be used, or
+//! 13 where memory doesn't suffice.
 #![tactic(auto)]
 
 use disk_trait::{FileDisks, Geometry};

@@ -16,7 +16,7 @@ mount_view mounts.Unsaid = model.Unsaid
 mount_view mounts.ReadOnly = model.ReadOnlyMount
 mount_view mounts.ReadWrite = model.ReadWriteMount
 
--- what is told of a disk
+-- what is said of a disk
 abbrev pub disk_view : DiskSection → model.DiskSection
 disk_view disk = record {
   device = device_view disk.device;
@@ -26,7 +26,7 @@ disk_view disk = record {
   line = disk.line;
 }
 
--- what is told of disks
+-- what is said of disks
 abbrev pub disks_view : List DiskSection → List model.DiskSection
 disks_view disks = map disk_view disks
 

@@ -1,8 +1,8 @@
-// What is told of disks.
+// What is said of disks.
 use mbr_table::Device;
 use std::marker::Model;
 
-/// What is told of a disk.
+/// What is said of a disk.
 #[derive(Clone, Copy, Debug, PartialEq, Eq)]
 pub struct DiskSection {
     pub device: Device,
@@ -15,7 +15,7 @@ pub struct DiskSection {
     pub line: u32,
 }
 
-/// What is told of disks, in order. To a contract it is the list of it.
+/// What is said of disks, in order. To a contract it is the list of it.
 #[derive(Drop)]
 pub struct DiskList {
     disks: Vec<DiskSection>,
@@ -40,7 +40,7 @@ impl DiskList {
         DiskList { disks: items }
     }
 
-    /// What is told, disk by disk.
+    /// What is said, disk by disk.
     pub fn items(&self) -> &[DiskSection]
         ensures { result.now ≡ self.now }
     {

@@ -57,7 +57,7 @@ fn read_config(alloc: Global, cut: &Cut) -> Result<Config, ConfFault>
     }
 }
 
-// The configuration of parts, once none of their settings is refused where it stands.
+// The configuration of parts, once none of their settings is refused where it is.
 #[tactic(auto, unfolding(lilo_model::specs::Conf::whole_of))]
 fn whole_of(alloc: Global, parts: &Parts<'_>) -> Result<Config, ConfFault>
     ensures { Gives result (whole_of (parts_view parts.now)) }

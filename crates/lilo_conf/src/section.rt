@@ -30,15 +30,15 @@ pub struct Section {
     /// The number of the root's device.
     pub root: Option<u16>,
     pub mount: Mount,
-    /// What goes behind on the command line.
+    /// What goes last on the command line.
     pub append: Option<Text>,
-    /// What stands on it in place of all that the other options say.
+    /// What it is in place of all that the other options say.
     pub literal: Option<Text>,
     /// The video mode.
     pub vga: Option<u16>,
     /// What is asked for before it boots, 1 to 31 bytes.
     pub password: Option<Text>,
-    /// Whether the password is asked for only where words are typed behind the name.
+    /// Whether the password is asked for only where words are typed after the name.
     pub restricted: bool,
     /// Whether it is left out where its file isn't there.
     pub optional: bool,

@@ -1,4 +1,4 @@
-// What settings tell of disks.
+// What settings say of disks.
 ghost use Rattle.std.specs.Prelude.{◌≡◌, IfOk, if◌then◌else◌, None};
 ghost use Rattle.std.specs.Option.{option_map, option_and_then};
 ghost use Rattle.lilo_model.specs.Conf as model;
@@ -17,7 +17,7 @@ use conf_settings::{Opt, Setting};
 use mbr_table::Device;
 use std::alloc::{AllocError, Global};
 
-/// What settings tell of disks.
+/// What settings say of disks.
 pub(crate) fn disks_of(alloc: Global, settings: &[Setting]) -> Result<DiskList, AllocError>
     ensures { IfOk result (λ disks. disks_view disks ≡ model.disks_of (settings_view settings.now)) }
 {
@@ -30,10 +30,11 @@ pub(crate) fn disks_of(alloc: Global, settings: &[Setting]) -> Result<DiskList, 
     Ok(DiskList::new(disks))
 }
 
-// What is told of a disk by a setting and those behind it.
+// What is said of a disk by a setting and those after it.
 fn disk_at(setting: &Setting, behind: &[Setting]) -> Option<DiskSection>
     ensures { option_map disk_view result
-        ≡ (if same_option (setting_view setting.now).option options.Disk then model.disk_of (setting_view setting.now) (settings_view behind.now) else None) }
+        ≡ (if same_option (setting_view setting.now).option options.Disk
+        then model.disk_of (setting_view setting.now) (settings_view behind.now) else None) }
 {
     if setting.option.is(Opt::Disk) {
         disk_of(setting, behind)
@@ -42,7 +43,7 @@ fn disk_at(setting: &Setting, behind: &[Setting]) -> Option<DiskSection>
     }
 }
 
-// What is told of a disk by a `disk` and the settings behind it.
+// What is said of a disk by a `disk` and the settings after it.
 #[tactic(auto, unfolding(lilo_model::specs::Conf::disk_of))]
 fn disk_of(setting: &Setting, behind: &[Setting]) -> Option<DiskSection>
     ensures { option_map disk_view result ≡ model.disk_of (setting_view setting.now) (settings_view behind.now) }

@@ -41,7 +41,8 @@ pub(crate) fn effect_text(
     front: &[Setting],
     section: &[Setting],
 ) -> Result<Option<Text>, AllocError>
-    ensures { IfOk result (λ text. text ≡ model.effect_value (opt_view option) (settings_view front.now) (settings_view section.now)) }
+    ensures { IfOk result (λ text.
+        text ≡ model.effect_value (opt_view option) (settings_view front.now) (settings_view section.now)) }
 {
     owned(alloc, effect_value(option, front, section))
 }
@@ -59,7 +60,8 @@ pub(crate) fn number_of(most: u16, option: Opt, settings: &[Setting]) -> Option<
 
 /// The device that an option names.
 pub(crate) fn device_from(option: Opt, settings: &[Setting]) -> Option<Device>
-    ensures { option_map device_view result ≡ option_and_then device_at (model.value_of (opt_view option) (settings_view settings.now)) }
+    ensures { option_map device_view result
+        ≡ option_and_then device_at (model.value_of (opt_view option) (settings_view settings.now)) }
 {
     match value_of(option, settings) {
         Some(text) => known_device(text),

@@ -1,4 +1,4 @@
-//! `read_conf FILE TIMES`: reads a lilo.conf so many times, and tells the names of its sections or what refuses it.
+//! `read_conf FILE TIMES`: reads a lilo.conf so many times, and prints the names of its sections or what refuses it.
 //! Status 1 where it is refused, or where the file or a word can't be used.
 #![tactic(auto)]
 

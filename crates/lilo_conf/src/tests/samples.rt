@@ -215,7 +215,8 @@ fn a_section_comes_before_the_global_part(rt: HostRuntime) {
 }
 
 const ON_ONE_LINE: &[u8] =
-    b"map=\"/boot/my map\" force-backup=/boot/old append=x vga=extended optional lock image=/a append=\"a\\\"b\\\\c\" root=/dev/sda3 vga=5 image=/b/c label=C other=/dev/hdb";
+    b"map=\"/boot/my map\" force-backup=/boot/old append=x vga=extended optional lock \
+    image=/a append=\"a\\\"b\\\\c\" root=/dev/sda3 vga=5 image=/b/c label=C other=/dev/hdb";
 
 #[test]
 fn values_are_without_their_escapes(rt: HostRuntime) {

@@ -6,4 +6,4 @@ use Rattle.conf_settings.proofs.option.Opt.of.Goals as goal
 
 pub returns : goal.returns
 unfolding all_options
-returns c = rw c.unwrap_or.ensures (option_at-found c.args.word.now ALL c.find_option.result refl c.find_option.ensures)
+returns c = rw c.unwrap_or.ensures (option_at-found c.args.word.now ALL.now c.find_option.result refl c.find_option.ensures)

@@ -1,5 +1,5 @@
 -- Text that is put in large pieces: what was shown already, and what is held for a later piece.
-use Rattle.std.specs.Prelude.{◌≡◌, List, ◌++◌}
+use Rattle.std.specs.Prelude.{◌≡◌, ℕ, List, ◌++◌}
 use Rattle.stream_trait.specs.Shows as shown
 use Rattle.stream_trait.specs.Shows.{SinkState, Shows}
 use Rattle.stream_trait.specs.declared.sink.Sink.{Ghosts}

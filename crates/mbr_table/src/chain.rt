@@ -152,7 +152,10 @@ impl Chain {
 
     /// The logical partitions.
     #[tactic(auto, unfolding(lilo_model::specs::Partitions::chain_tables))]
-    pub(crate) fn logical<D: Disks>(self, disks: &mut D) -> Result<ArrayVec<Partition, 59>, TableFault>
+    pub(crate) fn logical<D: Disks>(
+        self,
+        disks: &mut D,
+    ) -> Result<ArrayVec<Partition, 59>, TableFault>
         requires { self.disk.size ≡ D.size_of disks.old self.disk.disk }
         ensures partitions { Told (D.past disks.old) (λ now. Gives (λ found. partitions_view found.items) result
             (logical_from (now self.disk.disk) self.disk.size self.disk.disk 5 []

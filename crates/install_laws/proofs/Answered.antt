@@ -23,7 +23,8 @@ use Rattle.lilo_model.specs.VolumeSearch as search
 use Rattle.lilo_model.specs.VolumeSearch.{Located, VolumeFault, volume_place}
 use Rattle.lilo_model.specs.ConfVerdict.{volume_refusal, path_refusal, file_on, place_at}
 use Rattle.map_laws.proofs.Accepted.{not-ok, both-pass, required}
-use Rattle.install_laws.specs.InstallVerdict.{RoomFault, Links, InstallRefusal, Reading, NotSound, NotApart, BadName, NoPlan, NoRoom, Begun, Answer, boot_device, begun_by, may_settle, answer_of, install_checks, install_answer, install_status}
+use Rattle.write_model.specs.Wish as rooms
+use Rattle.install_laws.specs.InstallVerdict.{InstallRefusal, Reading, NotSound, NotApart, BadName, NoPlan, NoLink, NoRoom, Begun, Answer, boot_device, begun_by, may_settle, answer_of, install_checks, install_answer, install_status}
 use Rattle.install_laws.specs.Answered.{IsAnswered, AnsweredLaw, RefusedLaw}
 
 abbrev said : {A F : Type 0} → A → Result A F
@@ -51,7 +52,7 @@ plan-is image machine volume span config time plan is =
     let addresses = both-pass (address_checks machine all) (λ c. Ok all) plan helds.2 in
     value-is all plan addresses.2
 
-module _ (image : Image) (machine : Machine) (walk : Inode → List (Result Visit ZoneFault)) (room : OwnNames → plans.Plan → Result (List DiskSector) RoomFault) (time : ℕ) (begun : Begun) (answer : Answer) where
+module _ (image : Image) (machine : Machine) (walk : Inode → List (Result Visit ZoneFault)) (room : OwnNames → plans.Plan → Result (List DiskSector) rooms.Refusal) (time : ℕ) (begun : Begun) (answer : Answer) where
   abbrev all : plans.Plan
   all = planned image machine begun.volume begun.config time
 
@@ -65,7 +66,7 @@ module _ (image : Image) (machine : Machine) (walk : Inode → List (Result Visi
       let one = both-pass (with_fault NotSound survey) _ answer is in
       let two = both-pass (with_fault NotApart apart) _ answer one.2 in
       let three = both-pass (with_fault BadName own) _ answer two.2 in
-      let four = both-pass (require (may_settle image machine begun.volume walk begun.span three.0.map) (NoRoom Links)) _ answer three.2 in
+      let four = both-pass (require (may_settle image machine begun.volume walk begun.span three.0.map) NoLink) _ answer three.2 in
       let five = both-pass (with_fault NoPlan plan) _ answer four.2 in
       let six = both-pass (with_fault NoRoom (room three.0 five.0)) _ answer five.2 in
       let seven = both-pass (with_fault NoPlan (own_places_check begun.config machine six.0)) _ answer six.2 in
@@ -76,7 +77,7 @@ module _ (image : Image) (machine : Machine) (walk : Inode → List (Result Visi
         apart = passes NotApart apart two.0 two.1;
         names = three.0;
         named = passes BadName own three.0 three.1;
-        settles = required (may_settle image machine begun.volume walk begun.span three.0.map) (NoRoom Links) four.1;
+        settles = required (may_settle image machine begun.volume walk begun.span three.0.map) NoLink four.1;
         plan = passes NoPlan plan five.0 five.1 ∙ ap Ok (sym planned_is);
         places = six.0;
         chosen = ap (room three.0) planned_is ∙ passes NoRoom (room three.0 five.0) six.0 six.1;
@@ -163,7 +164,7 @@ required-as : {F : Type 0} → (P : F → Type 0) (test : Bool) (fault refusal :
 required-as P true fault refusal is holds = absurd (not-err is)
 required-as P false fault refusal is holds = subst P (fault-is fault refusal is) holds
 
-checks-refuse : (image : Image) (machine : Machine) (walk : Inode → List (Result Visit ZoneFault)) (room : OwnNames → plans.Plan → Result (List DiskSector) RoomFault) (time : ℕ) (begun : Begun) (refusal : InstallRefusal)
+checks-refuse : (image : Image) (machine : Machine) (walk : Inode → List (Result Visit ZoneFault)) (room : OwnNames → plans.Plan → Result (List DiskSector) rooms.Refusal) (time : ℕ) (begun : Begun) (refusal : InstallRefusal)
     → install_checks image machine walk room time begun ≡ Err refusal → IsRefusal refusal
 unfolding install_checks
 checks-refuse image machine walk room time begun refusal is =
@@ -177,8 +178,8 @@ checks-refuse image machine walk room time begun refusal is =
     (λ is. told-as IsRefusal NotApart apart refusal is (λ fault. (omega arith, omega arith)))
     (λ a is. one-refuses IsRefusal (with_fault BadName own) _ refusal is
     (λ is. told-as IsRefusal BadName own refusal is (λ fault. (omega arith, omega arith)))
-    (λ names is. one-refuses IsRefusal (require (may_settle image machine begun.volume walk begun.span names.map) (NoRoom Links)) _ refusal is
-    (λ is. required-as IsRefusal (may_settle image machine begun.volume walk begun.span names.map) (NoRoom Links) refusal is (omega arith, omega arith))
+    (λ names is. one-refuses IsRefusal (require (may_settle image machine begun.volume walk begun.span names.map) NoLink) _ refusal is
+    (λ is. required-as IsRefusal (may_settle image machine begun.volume walk begun.span names.map) NoLink refusal is (omega arith, omega arith))
     (λ b is. one-refuses IsRefusal (with_fault NoPlan plan) _ refusal is
     (λ is. told-as IsRefusal NoPlan plan refusal is plan-refusal)
     (λ plan is. one-refuses IsRefusal (with_fault NoRoom (room names plan)) _ refusal is
@@ -192,7 +193,7 @@ unfolding install_answer
 refused_law image machine root path room time refusal is =
     one-refuses IsRefusal (with_fault Reading (begun_by image machine root path)) _ refusal is
     (λ is. told-reading (begun_by image machine root path) refl is)
-    (λ begun is. checks-refuse image machine (Rattle.lilo_model.specs.MinixWalk.visits begun.volume.layout (parts_of begun.volume image)) room time begun refusal is)
+    (λ begun is. checks-refuse image machine (Rattle.lilo_model.specs.MinixWalk.visits begun.volume.layout (parts_of begun.volume image)) (room begun) time begun refusal is)
   where
     told-reading : (read : Result Begun Refusal) → begun_by image machine root path ≡ read → with_fault Reading read ≡ refused {A = Begun} refusal → IsRefusal refusal
     told-reading (Ok begun) is none = absurd (not-err none)

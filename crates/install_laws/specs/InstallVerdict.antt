@@ -1,8 +1,9 @@
 -- What an installation and `-t` answer and print, as if nothing failed: one list of checks, in order, of which the first
--- refusal decides. They speak of what the disks hold at the entry. Where the map's sectors are to lie, or why there is no
--- room for the new files, is given to the list: it is the choice that a writer of files makes. (This project's own.)
-use Rattle.std.specs.Prelude.{ℕ, ◌+◌, ◌-◌, ◌*◌, ◌/◌, ◌==◌, nat_le, nat_lt, Bool, true, false, not, ◌&&◌, ◌||◌, if◌then◌else◌, List, [], ◌∷◌, ◌++◌, flat_map, codes, decimal, is_some, unwrap_or, Option, Some, None, Result, Ok, Err}
-use Rattle.std.specs.List.{list_any, list_all}
+-- refusal decides. They speak of what the disks hold at the entry; the room for the new files is that of the volume once
+-- it is settled. (This project's own.)
+use Rattle.std.specs.Prelude.{ℕ, ◌+◌, ◌-◌, ◌*◌, ◌/◌, ◌%◌, ◌==◌, nat_le, nat_lt, Bool, true, false, not, ◌&&◌, ◌||◌, if◌then◌else◌, List, [], ◌∷◌, ◌++◌, map, flat_map, length, slice_index, codes, decimal, is_some, unwrap_or, Option, Some, None, Result, Ok, Err}
+use Rattle.std.specs.List.{list_any, list_all, range_with_len}
+use Rattle.std.specs.Option.{option_to_list}
 use Rattle.lilo_model.specs.Checks.{◌>>=◌, require, with_fault}
 use Rattle.lilo_model.specs.Disks.{Image, Machine, Span, DiskSector}
 use Rattle.lilo_model.specs.Devices.{Device}
@@ -10,8 +11,8 @@ use Rattle.lilo_model.specs.Slots.{AddressFault, place_at}
 use Rattle.lilo_model.specs.BootSector.{BootSector, MapFault, boot_at}
 use Rattle.lilo_model.specs.ConfOptions.{Opt, opt_name}
 use Rattle.lilo_model.specs.Conf.{Config, ConfSection, conf_at}
-use Rattle.lilo_model.specs.MinixLayout.{Kind, Inode, is_v1, table_start, table_blocks, super_sector}
-use Rattle.lilo_model.specs.MinixParts.{Volume, Parts, ZoneFault, parts_of, volume_at, is_directory, is_file}
+use Rattle.lilo_model.specs.MinixLayout.{Kind, Super, Inode, is_v1, table_start, table_blocks, super_sector}
+use Rattle.lilo_model.specs.MinixParts.{Volume, Parts, ZoneFault, parts_of, volume_at, is_directory, is_file, blocks_for}
 use Rattle.lilo_model.specs.MinixFind as find
 use Rattle.lilo_model.specs.MinixFind.{TreeFault}
 use Rattle.lilo_model.specs.MinixNames.{reached, names_in}
@@ -22,25 +23,20 @@ use Rattle.lilo_model.specs.NamePlaces.{with_tilde}
 use Rattle.lilo_model.specs.Apart.{apart_checks}
 use Rattle.lilo_model.specs.Settled.{PathRefusal, OwnNames, is_foreign, own_names}
 use Rattle.lilo_model.specs.Meant.{default_place}
-use Rattle.lilo_model.specs.Plan.{MappedSection, Plan, plan_names}
+use Rattle.lilo_model.specs.Plan.{MappedSection, Plan, map_size, plan_names}
 use Rattle.lilo_model.specs.Planned.{mapped_section}
 use Rattle.lilo_model.specs.PlanRefusal.{PlanFault, plan_at, own_places_check, plan_status, plan_text}
 use Rattle.lilo_model.specs.Refusal as refusals
 use Rattle.lilo_model.specs.Refusal.{Refusal, refusal_status, refusal_line}
 use Rattle.lilo_model.specs.Verdict.{Verdict, name_line}
 use Rattle.lilo_model.specs.VolumeSearch.{volume_place}
+use Rattle.write_model.specs.Wish as rooms
+use Rattle.write_model.specs.Wish.{Wish, Overlooked, Taken}
+use Rattle.write_model.specs.Places.{most_size}
+use Rattle.write_model.specs.Choice.{left_zones, choose, taken_with}
 use Rattle.lilo_model.specs.ConfVerdict.{volume_refusal, path_refusal, file_on, place_at as device_place}
 
 -- ---- refusals
-
--- why there is no room for the backup or the map
-pub data RoomFault : Type 0 where
-  -- so many zones are needed, and so many are free
-  NoSpace : (need found : ℕ) → RoomFault
-  NoInode : RoomFault
-  NameTooLong : RoomFault
-  -- an inode has as many links as it may have
-  Links : RoomFault
 
 -- why an installation is refused, in the order of its checks
 pub data InstallRefusal : Type 0 where
@@ -54,7 +50,10 @@ pub data InstallRefusal : Type 0 where
   BadName : PathRefusal → InstallRefusal
   -- no map is planned
   NoPlan : PlanFault → InstallRefusal
-  NoRoom : RoomFault → InstallRefusal
+  -- settling's rename needs a link more than an inode may have
+  NoLink : InstallRefusal
+  -- of the backup or the map
+  NoRoom : rooms.Refusal → InstallRefusal
 
 -- the exit status
 abbrev pub install_status : InstallRefusal → ℕ
@@ -63,6 +62,7 @@ install_status (NotSound fault) = 3
 install_status (NotApart option) = 4
 install_status (BadName refusal) = 3
 install_status (NoPlan fault) = plan_status fault
+install_status NoLink = 5
 install_status (NoRoom fault) = 5
 
 -- what is printed of the path of a file that is to be replaced
@@ -74,12 +74,13 @@ name_refusal_line path fault = refusal_line (path_refusal path fault)
 abbrev pub plan_kind : ℕ → List ℕ
 plan_kind status = if status == 3 then codes "volume: " else codes "address: "
 
--- what is missing
-abbrev pub room_text : RoomFault → List ℕ
-room_text (NoSpace need found) = codes "need " ++ decimal need ++ codes ", found " ++ decimal found
-room_text NoInode = codes "no inode"
-room_text NameTooLong = codes "name"
-room_text Links = codes "links"
+-- what is missing. The last two never come: the names are absent or overlooked, and the volume is sound.
+abbrev pub room_text : rooms.Refusal → List ℕ
+room_text (rooms.NoSpace need found) = codes "need " ++ decimal need ++ codes ", found " ++ decimal found
+room_text rooms.NoInode = codes "no inode"
+room_text rooms.NameTooLong = codes "name"
+room_text rooms.Exists = []
+room_text (rooms.Tree fault) = []
 
 -- what is printed
 unfoldable pub install_line : InstallRefusal → List ℕ
@@ -88,6 +89,7 @@ install_line (NotSound fault) = codes "lilo: volume: survey\n"
 install_line (NotApart option) = codes "lilo: address: " ++ opt_name option ++ codes " is not apart\n"
 install_line (BadName refusal) = name_refusal_line refusal.path refusal.fault
 install_line (NoPlan fault) = codes "lilo: " ++ plan_kind (plan_status fault) ++ plan_text fault ++ codes "\n"
+install_line NoLink = codes "lilo: space: links\n"
 install_line (NoRoom fault) = codes "lilo: space: " ++ room_text fault ++ codes "\n"
 
 -- ---- what is read first
@@ -196,6 +198,106 @@ may_settle image machine volume walk span path =
     || not (is_some (inode_of image volume path))
     || has_link_left volume (parts_of volume image) (inode_of image volume (with_tilde path))
 
+-- ---- room
+
+-- a zone holds one of some sectors
+abbrev pub is_of_places : Volume → List DiskSector → ℕ → Bool
+is_of_places volume places zone =
+    list_any
+    (λ place. is_of_volume volume place && ((place.sector - volume.span.start) / 2 == zone))
+    places
+
+-- what is kept out at first: the zones that a boot of the present map may look at, and names that count as away
+abbrev pub taken_first : Volume → List DiskSector → List Overlooked → Taken
+taken_first volume places overlooked = record {
+  has_zone = is_of_places volume places;
+  has_inode = λ number. false;
+  promises = [];
+  overlooked = overlooked;
+}
+
+-- the directory and the name that a path ends with
+abbrev pub directory_of : Super → Parts → List (List ℕ) → ℕ
+directory_of super parts [] = 1
+directory_of super parts (name ∷ directory) = unwrap_or (reached super parts directory) 1
+
+abbrev pub last_name : List (List ℕ) → List ℕ
+last_name [] = []
+last_name (name ∷ directory) = name
+
+-- the mode of a file that an installation makes
+abbrev pub file_mode : ℕ
+file_mode = 33188
+
+-- a file of so many bytes at a path
+abbrev pub file_wish : Super → Parts → List (List ℕ) → ℕ → ℕ → Wish
+file_wish super parts path size time = record {
+  mode = file_mode;
+  length = size;
+  holes = [];
+  time = time;
+  directory = directory_of super parts path;
+  name = last_name path;
+}
+
+-- what is taken once the backup is chosen, where one is to be made at a path
+abbrev pub taken_after : Super → Parts → Taken → ℕ → Option (List (List ℕ)) → Result Taken rooms.Refusal
+taken_after super parts taken time None = Ok taken
+taken_after super parts taken time (Some path) =
+    choose super parts taken (file_wish super parts path 512 time)
+    >>= λ choice. Ok (taken_with taken (directory_of super parts path) choice)
+
+-- where the backup is made: under `force-backup=` with `~`, else where nothing is at its name
+abbrev pub made_backup : Super → Parts → Bool → Option (List (List ℕ)) → Option (List (List ℕ))
+made_backup super parts forced None = None
+made_backup super parts true (Some path) = Some (with_tilde path)
+made_backup super parts false (Some path) = if is_some (reached super parts path) then None else Some path
+
+-- where each 512 bytes lie of a file whose blocks have these zones
+abbrev pub sectors_of_blocks : Span → List ℕ → ℕ → List DiskSector
+sectors_of_blocks span blocks count =
+    map
+    (λ index. record { disk = span.disk; sector = span.start + (2 * slice_index blocks (index / 2) + index % 2) })
+    (range_with_len 0 count)
+
+-- the places of a map of so many sectors, once the backup is chosen
+unfoldable pub room_on : Volume → Parts → Taken → ℕ → Option (List (List ℕ)) → List (List ℕ) → ℕ → Result (List DiskSector) rooms.Refusal
+room_on volume parts first time backup path sectors = do
+  taken ← taken_after volume.layout parts first time backup
+  fits ← require (nat_le (512 * sectors) (most_size volume.layout.kind)) (rooms.NoSpace (blocks_for (512 * sectors)) (length (left_zones volume.layout parts taken.has_zone)))
+  choice ← choose volume.layout parts taken (file_wish volume.layout parts (with_tilde path) (512 * sectors) time)
+  Ok (sectors_of_blocks volume.span choice.blocks sectors)
+
+-- the names that settling would take away: `map~`, and the stale copy of a forced backup
+abbrev pub overlooked_at : Super → Parts → List (List ℕ) → List Overlooked
+overlooked_at super parts path =
+    record { directory = directory_of super parts (with_tilde path); name = last_name (with_tilde path) } ∷ []
+
+abbrev pub stale_names : Super → Parts → Bool → OwnNames → List Overlooked
+stale_names super parts forced names =
+    overlooked_at super parts names.map
+    ++ (if forced then flat_map (overlooked_at super parts) (option_to_list names.backup) else [])
+
+-- the room on the volume once it is settled, and on the volume as it is
+unfoldable pub install_room : Image → Machine → Image → ℕ → Begun → OwnNames → Plan → Result (List DiskSector) rooms.Refusal
+install_room image machine settled time begun names plan =
+    let parts : Parts = parts_of begun.volume settled in
+    room_on begun.volume parts (taken_first begun.volume (mapped_sectors image machine begun.span) []) time
+    (made_backup begun.volume.layout parts (is_some begun.config.force_backup) names.backup)
+    names.map
+    (map_size plan machine)
+
+unfoldable pub test_room : Image → Machine → ℕ → Begun → OwnNames → Plan → Result (List DiskSector) rooms.Refusal
+test_room image machine time begun names plan =
+    let parts : Parts = parts_of begun.volume image in
+    let forced : Bool = is_some begun.config.force_backup in
+    room_on begun.volume parts
+    (taken_first begun.volume (mapped_sectors image machine begun.span) (stale_names begun.volume.layout parts forced names))
+    time
+    (made_backup begun.volume.layout parts forced names.backup)
+    names.map
+    (map_size plan machine)
+
 -- ---- the list of checks
 
 -- what is printed of a plan
@@ -225,22 +327,22 @@ answer_of image machine begun met plan = record {
 }
 
 -- The checks from the survey on, by what a walk over an inode meets, and by the room that there is for what is planned
-unfoldable pub install_checks : Image → Machine → (Inode → List (Result Visit ZoneFault)) → (OwnNames → Plan → Result (List DiskSector) RoomFault) → ℕ → Begun → Result Answer InstallRefusal
+unfoldable pub install_checks : Image → Machine → (Inode → List (Result Visit ZoneFault)) → (OwnNames → Plan → Result (List DiskSector) rooms.Refusal) → ℕ → Begun → Result Answer InstallRefusal
 install_checks image machine walk room time begun = do
   met ← with_fault NotSound (survey_of (record { super = begun.volume.layout; parts = parts_of begun.volume image; walk = walk }))
   a ← with_fault NotApart (apart_checks image machine begun.volume begun.config begun.boot)
   names ← with_fault BadName (own_names (names_in begun.volume image) begun.config begun.boot (is_foreign (image begun.span.disk begun.span.start)))
-  b ← require (may_settle image machine begun.volume walk begun.span names.map) (NoRoom Links)
+  b ← require (may_settle image machine begun.volume walk begun.span names.map) NoLink
   plan ← with_fault NoPlan (plan_at image machine begun.volume begun.span begun.config time)
   places ← with_fault NoRoom (room names plan)
   c ← with_fault NoPlan (own_places_check begun.config machine places)
   Ok (answer_of image machine begun met plan)
 
--- the answer of an installation, or of `-t`, with the walk of a volume's own
-unfoldable pub install_answer : Image → Machine → Option Device → List ℕ → (OwnNames → Plan → Result (List DiskSector) RoomFault) → ℕ → Result Answer InstallRefusal
+-- the answer of an installation, or of `-t`, by the room for what is planned
+unfoldable pub install_answer : Image → Machine → Option Device → List ℕ → (Begun → OwnNames → Plan → Result (List DiskSector) rooms.Refusal) → ℕ → Result Answer InstallRefusal
 install_answer image machine root path room time = do
   begun ← with_fault Reading (begun_by image machine root path)
-  install_checks image machine (visits begun.volume.layout (parts_of begun.volume image)) room time begun
+  install_checks image machine (visits begun.volume.layout (parts_of begun.volume image)) (room begun) time begun
 
 -- ---- what is printed
 
@@ -276,10 +378,12 @@ abbrev pub verdict_by : (Answer → List ℕ) → Result Answer InstallRefusal �
 verdict_by text (Ok answer) = record { status = 0; text = text answer }
 verdict_by text (Err refusal) = record { status = install_status refusal; text = install_line refusal }
 
--- the verdict of an installation
-unfoldable pub install_verdict : Image → Machine → Option Device → List ℕ → (OwnNames → Plan → Result (List DiskSector) RoomFault) → ℕ → Verdict
-install_verdict image machine root path room time = verdict_by answer_text (install_answer image machine root path room time)
+-- the verdict of an installation, by the image that its settling leaves
+unfoldable pub install_verdict : Image → Machine → Option Device → List ℕ → Image → ℕ → Verdict
+install_verdict image machine root path settled time =
+    verdict_by answer_text (install_answer image machine root path (install_room image machine settled time) time)
 
--- and that of `-t`, with the room that the volume has as it is
-unfoldable pub test_verdict : Image → Machine → Option Device → List ℕ → (OwnNames → Plan → Result (List DiskSector) RoomFault) → ℕ → Verdict
-test_verdict image machine root path room time = verdict_by test_text (install_answer image machine root path room time)
+-- and that of `-t`
+unfoldable pub test_verdict : Image → Machine → Option Device → List ℕ → ℕ → Verdict
+test_verdict image machine root path time =
+    verdict_by test_text (install_answer image machine root path (test_room image machine time) time)

@@ -5,5 +5,7 @@ pub mod FieldLemmas
 pub mod SeenLemmas
 pub mod JoinedLemmas
 pub mod InodeLemmas
+pub mod LinkLemmas
+pub mod PastLemmas
 pub mod NameLemmas
 pub mod ReplaceLemmas

@@ -1,11 +1,12 @@
 -- A turn of a number or of an entry, by what it does to names.
-use Rattle.std.proofs.Common.{◌≡◌, ◌≢◌, ◌≤◌, ◌<◌, ◌*◌, ◌/◌, ◌%◌, ◌+◌, ◌^◌, ℕ, List, ◌∷◌, length, None, Result, sym, ◌∙◌, subst, subst₂, arith}
+use Rattle.std.proofs.Common.{◌≡◌, ◌≢◌, ◌≤◌, ◌<◌, ◌*◌, ◌/◌, ◌%◌, ◌+◌, ◌^◌, ℕ, List, ◌∷◌, length, None, Result, sym, ◌∙◌, ap, subst, subst₂, arith}
 use Rattle.disk_trait.specs.declared.disks.Disks.{Ghosts}
 use Rattle.disk_trait.specs.Past.{Image}
 use Rattle.disk_trait.specs.Moments.{now}
-use Rattle.lilo_model.specs.MinixEntries.{entry_of, entries_per_block}
+use Rattle.disk_trait.proofs.MomentLemmas.{on_ok}
+use Rattle.lilo_model.specs.MinixEntries.{Entry, entry_of, entries_per_block}
 use Rattle.lilo_model.specs.MinixLayout.{entry_size, name_size, number_size, numbers_in_zone, zone_sector}
-use Rattle.lilo_model.specs.MinixNames.{pointer}
+use Rattle.lilo_model.specs.MinixNames.{pointer, entry}
 use Rattle.lilo_model.specs.MinixParts as model
 use Rattle.lilo_model.specs.MinixParts.{Pointer}
 use Rattle.minix_entry_bytes_laws.specs.Written.{entry_bytes, place_of_entry, HasEntryBytes}
@@ -15,10 +16,12 @@ use Rattle.minix_entry_laws.specs.Only.{zone_of_entry}
 use Rattle.minix_layout.specs.View.{kind_view, super_view}
 use Rattle.minix_steps.specs.Written.{with_sector_of, parts_now}
 use Rattle.minix_steps.proofs.RegionLemmas.{zone_behind}
-use Rattle.minix_turns.specs.Names.{HooksUnseen, IsPlaceAt, PastUnseen, MakesName, MakesDirectory, RedirectsName, RemovesName}
+use Rattle.minix_turns.specs.Names.{HooksUnseen, IsPlaceAt, PastUnseen, PastFree, MakesName, MakesDirectory, RedirectsName, RemovesName}
 use Rattle.minix_turns.specs.Part.{part_rewritten, TurnsNumber, TurnsEntry}
 use Rattle.minix_turns.proofs.EntryLemmas.{entry-long}
+use Rattle.minix_turns.proofs.PastLemmas.{past_entry}
 use Rattle.minix_turns.proofs.JoinedLemmas.{turn_unseen, turn_leads}
+use Rattle.minix_turns.proofs.PastLemmas.{past_entry}
 use Rattle.minix_turns.proofs.PartLemmas.{entry_has, number_has}
 use Rattle.minix_zone_bytes_laws.specs.Part.{HasZonePart, number_bytes, offset_of_number, offset_in_block}
 use Rattle.minix_zone_bytes_laws.proofs.Unseen.{seen_number_law, seen_past_law}
@@ -80,6 +83,13 @@ module _ {D E : Type 0} {disks : Ghosts D} (old new : Volume D disks) (zone inde
   past_unseen directory place may =
       turn_unseen old new _ _ error result turns (λ told. (may told).at.sound)
       (λ told. seen_past_law (volume_view old) (now (past_of old)) With directory place bytes (may told).at.sound (may told).past size (has-part directory place (may told).at))
+
+  pub past_free : (entry_of (kind_view old.layout.kind) bytes).inode ≡ 0 → PastFree old new zone index result
+  past_free free directory place may told =
+      let P : Image → Type 0 = λ image. (entry (super_view old.layout) (model.parts_of (volume_view old) image) directory place).inode ≡ 0 in
+      on_ok result _ _ (turns.written told)
+      (λ is. subst P (sym is)
+      (ap (λ (e : Entry). e.inode) (past_entry (volume_view old) (now (past_of old)) With directory place bytes (may told).at.sound (may told).past size (has-part directory place (may told).at)) ∙ free))
 
   pub removes : (entry_of (kind_view old.layout.kind) bytes).inode ≡ 0 → RemovesName old new zone index result
   removes free outer directory place number name may =

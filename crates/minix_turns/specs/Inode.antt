@@ -1,9 +1,11 @@
 -- Turns of an inode, and which of them no name sees.
-use Rattle.std.specs.Prelude.{◌≡◌, ◌<◌, ◌^◌, ℕ, if◌then◌else◌, List, [], Result}
+use Rattle.std.specs.Prelude.{◌≡◌, ◌≤◌, ◌<◌, ◌+◌, ◌^◌, ℕ, if◌then◌else◌, List, [], Result}
 use Rattle.disk_trait.specs.declared.disks.Disks.{Ghosts}
 use Rattle.disk_trait.specs.Moments.{now}
-use Rattle.lilo_model.specs.MinixLayout.{Kind, Inode, is_v1, inode_place, number_size}
-use Rattle.lilo_model.specs.MinixNames.{Named, IsSound}
+use Rattle.lilo_model.specs.MinixLayout.{Kind, Super, Inode, is_v1, inode_place, number_size}
+use Rattle.lilo_model.specs.MinixNames.{Named, Sound, IsSound}
+use Rattle.lilo_model.specs.MinixParts.{Parts}
+use Rattle.minix_entry_laws.specs.Enter.{HasLinkMore}
 use Rattle.minix_growth_laws.specs.Changes.{AreEnough, MaySize, MayHook}
 use Rattle.minix_growth_laws.specs.Grows.{pointer_at, Deeper}
 use Rattle.minix_layout.specs.View.{super_view}
@@ -49,3 +51,16 @@ pub record MayHaveTop {D : Type 0} {disks : Ghosts D} (volume : Volume D disks) 
   pub lies : IsNamedNow volume number inode
   pub hooks : MayHook (super_view volume.layout) (parts_now volume) number (pointer_at top []) zone more
   pub sized : MaySize (super_view volume.layout) (parts_now volume) number size
+
+-- ---- links that are enough
+
+-- those that a sound volume has, and more
+abbrev pub RaisedLinksLaw : Type 0
+RaisedLinksLaw =
+    (super : Super) (parts : Parts) (number links : ℕ) → Sound super parts → (parts.node number).links ≤ links → AreEnough super parts number links
+
+-- one less, where an inode had a link more than names
+abbrev pub LoweredLinksLaw : Type 0
+LoweredLinksLaw =
+    (super : Super) (old new : Parts) (number links : ℕ) → HasLinkMore super old new number → (old.node number).links ≡ links + 1
+    → AreEnough super new number links

@@ -1,10 +1,11 @@
 -- Turns of a number of an indirect zone and of an entry, by what they do to names: no name sees them, or one path changes
 -- whole.
-use Rattle.std.specs.Prelude.{◌≡◌, ◌%◌, ℕ, List, ◌∷◌, Some, None, Result}
+use Rattle.std.specs.Prelude.{◌≡◌, ◌%◌, ℕ, List, ◌∷◌, Some, None, Result, OnOk}
 use Rattle.disk_trait.specs.declared.disks.Disks.{Ghosts}
 use Rattle.disk_trait.specs.Moments.{IsTold, now}
 use Rattle.lilo_model.specs.MinixEntries.{entries_per_block}
-use Rattle.lilo_model.specs.MinixNames.{Directory, pointer, thing, IsSound}
+use Rattle.lilo_model.specs.MinixNames.{Directory, entry, pointer, thing, IsSound}
+use Rattle.lilo_model.specs.MinixParts as model
 use Rattle.lilo_model.specs.MinixParts.{Pointer}
 use Rattle.minix_entry_bytes_laws.specs.Written.{FitsEntry, IsPlaced}
 use Rattle.minix_entry_laws.specs.Enter.{MayStand, DirectoryMayStand, MayEnter, MayRemove}
@@ -48,6 +49,12 @@ pub record IsPastAt {D : Type 0} {disks : Ghosts D} (volume : Volume D disks) (d
 abbrev pub PastUnseen : {D : Type 0} {disks : Ghosts D} → Volume D disks → Volume D disks → ℕ → ℕ → Type 0
 PastUnseen old new zone index =
     (directory place : ℕ) → (IsTold (past_of old) → IsPastAt old directory place zone index) → Unseen old new
+
+-- and the entry there is free, once the call is done
+abbrev pub PastFree : {D E : Type 0} {disks : Ghosts D} → Volume D disks → Volume D disks → ℕ → ℕ → Result (Unit {0}) E → Type 0
+PastFree old new zone index result =
+    (directory place : ℕ) → (IsTold (past_of old) → IsPastAt old directory place zone index) → IsTold (past_of old)
+    → OnOk result ((entry (super_view old.layout) (model.parts_of (volume_view old) (now (past_of new))) directory place).inode ≡ 0)
 
 -- ---- an entry
 

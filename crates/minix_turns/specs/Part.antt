@@ -6,11 +6,12 @@ use Rattle.disk_trait.specs.Moments.{now}
 use Rattle.lilo_model.specs.Bytes.{part_of, with_part, bytes16, filled_bytes}
 use Rattle.lilo_model.specs.MinixLayout.{entry_size, zone_sector}
 use Rattle.lilo_model.specs.MinixParts.{sector_of}
+use Rattle.minix_entry_bytes_laws.specs.Written.{entry_bytes}
 use Rattle.minix_layout.specs.View.{kind_view}
 use Rattle.minix_zones.specs.Volume.{volume_view, past_of}
 use Rattle.minix_zones.specs.declared.volume.Volume.{Volume}
 use Rattle.minix_turns.specs.Turns.{Turns}
-use Rattle.minix_zone_bytes_laws.specs.Part.{HasZonePart, number_bytes, offset_of_number}
+use Rattle.minix_zone_bytes_laws.specs.Part.{HasZonePart, number_bytes, offset_of_number, free_bytes}
 
 -- the bytes of the sector with a part of a zone now, with others in place of that part
 abbrev pub part_rewritten : {D : Type 0} {disks : Ghosts D} → Volume D disks → ℕ → ℕ → List ℕ → List ℕ
@@ -31,6 +32,14 @@ TurnsNumber old new zone index number error result =
 abbrev pub TurnsEntry : {D E : Type 0} {disks : Ghosts D} → Volume D disks → Volume D disks → ℕ → ℕ → List ℕ → E → Result (Unit {0}) E → Type 0
 TurnsEntry old new zone index bytes error result =
     TurnsPart old new zone (entry_size (kind_view old.layout.kind) * index) bytes error result
+
+-- one with an inode and a name, or a free one
+abbrev pub TurnsNamedEntry : {D E : Type 0} {disks : Ghosts D} → Volume D disks → Volume D disks → ℕ → ℕ → ℕ → List ℕ → E → Result (Unit {0}) E → Type 0
+TurnsNamedEntry old new zone index number name error result =
+    TurnsEntry old new zone index (entry_bytes (kind_view old.layout.kind) number name) error result
+
+abbrev pub TurnsFreeEntry : {D E : Type 0} {disks : Ghosts D} → Volume D disks → Volume D disks → ℕ → ℕ → E → Result (Unit {0}) E → Type 0
+TurnsFreeEntry old new zone index error result = TurnsEntry old new zone index (free_bytes (kind_view old.layout.kind)) error result
 
 -- an image has other bytes in a part of a zone, and all others of the volume as it is now
 abbrev pub HasPart : {D : Type 0} {disks : Ghosts D} → Volume D disks → Image → ℕ → ℕ → List ℕ → Type 0

@@ -5,8 +5,8 @@ ghost use Rattle.lilo_model.specs.MinixEntries.{entries_per_block};
 ghost use Rattle.lilo_model.specs.MinixLayout.{name_size, entry_size};
 ghost use Rattle.minix_entry_bytes_laws.specs.Written.{entry_bytes};
 ghost use Rattle.minix_layout.specs.View.{kind_view};
-ghost use Rattle.minix_turns.specs.Names.{PastUnseen, MakesName, MakesDirectory, RedirectsName, RemovesName};
-ghost use Rattle.minix_turns.specs.Part.{TurnsEntry, HasEntryPart, WithOrWithoutEntry, IsEntry};
+ghost use Rattle.minix_turns.specs.Names.{PastFree, PastUnseen, MakesName, MakesDirectory, RedirectsName, RemovesName};
+ghost use Rattle.minix_turns.specs.Part.{TurnsNamedEntry, TurnsFreeEntry, HasEntryPart, WithOrWithoutEntry, IsEntry};
 ghost use Rattle.minix_zone_bytes_laws.specs.Part.{free_bytes};
 ghost use Rattle.minix_zones.specs.Volume.{past_of, HasDeviceCause};
 
@@ -31,8 +31,7 @@ pub fn turn_free<D: Disks>(
     requires below { zone < volume.old.layout.zones }
     requires there { index < entries_per_block (kind_view volume.old.layout.kind) }
     requires quiet { IsQuiet (past_of volume.old) }
-    ensures turns { TurnsEntry volume.old volume.new zone index (free_bytes (kind_view volume.old.layout.kind))
-        ZoneFault.Device result }
+    ensures turns { TurnsFreeEntry volume.old volume.new zone index ZoneFault.Device result }
     ensures any_moment { LeavesOnly (past_of volume.old) (past_of volume.new)
         (WithOrWithoutEntry volume.old zone index (free_bytes (kind_view volume.old.layout.kind))) }
     ensures entry { IsTold (past_of volume.old) → OnOk result (HasEntryPart volume.old (now (past_of volume.new))
@@ -40,8 +39,9 @@ pub fn turn_free<D: Disks>(
     ensures quiet { OnOk result (IsQuiet (past_of volume.new)) }
     ensures device { HasDeviceCause volume.old volume.new ZoneFault.Device result }
 
-    // At a place past a directory's size no name sees it; at one below, it takes a name away.
+    // At a place past a directory's size no name sees it, and the entry is free; at one below, it takes a name away.
     ensures past { PastUnseen volume.old volume.new zone index }
+    ensures past_free { PastFree volume.old volume.new zone index result }
     ensures removes { RemovesName volume.old volume.new zone index result }
 {
     write_free(volume, zone, index)
@@ -53,8 +53,7 @@ fn write_free<D: Disks>(volume: &mut Volume<'_, D>, zone: u32, index: u16) -> Re
     requires below { zone < volume.old.layout.zones }
     requires there { index < entries_per_block (kind_view volume.old.layout.kind) }
     requires quiet { IsQuiet (past_of volume.old) }
-    ensures { TurnsEntry volume.old volume.new zone index (free_bytes (kind_view volume.old.layout.kind))
-        ZoneFault.Device result }
+    ensures { TurnsFreeEntry volume.old volume.new zone index ZoneFault.Device result }
 {
     match volume.layout().kind {
         FsKind::V1Short | FsKind::V2Short => turn_part(volume, zone, 16 * index, &[0; 16]),
@@ -80,8 +79,7 @@ pub fn turn_entry<D: Disks>(
     requires there { index < entries_per_block (kind_view volume.old.layout.kind) }
     requires short { length name.now ≤ name_size (kind_view volume.old.layout.kind) }
     requires quiet { IsQuiet (past_of volume.old) }
-    ensures turns { TurnsEntry volume.old volume.new zone index (entry_bytes (kind_view volume.old.layout.kind) number name.now)
-        ZoneFault.Device result }
+    ensures turns { TurnsNamedEntry volume.old volume.new zone index number name.now ZoneFault.Device result }
     ensures any_moment { LeavesOnly (past_of volume.old) (past_of volume.new)
         (WithOrWithoutEntry volume.old zone index (entry_bytes (kind_view volume.old.layout.kind) number name.now)) }
     ensures entry { IsTold (past_of volume.old) → OnOk result (HasEntryPart volume.old (now (past_of volume.new))
@@ -110,8 +108,7 @@ fn write_entry<D: Disks>(
     requires there { index < entries_per_block (kind_view volume.old.layout.kind) }
     requires short { length name.now ≤ name_size (kind_view volume.old.layout.kind) }
     requires quiet { IsQuiet (past_of volume.old) }
-    ensures { TurnsEntry volume.old volume.new zone index (entry_bytes (kind_view volume.old.layout.kind) number name.now)
-        ZoneFault.Device result }
+    ensures { TurnsNamedEntry volume.old volume.new zone index number name.now ZoneFault.Device result }
 {
     match volume.layout().kind {
         FsKind::V1Short | FsKind::V2Short => {

@@ -5,6 +5,7 @@
 mod entry;
 mod inode;
 mod joined;
+mod laws;
 mod number;
 mod part;
 mod replace;
@@ -13,6 +14,7 @@ mod sector;
 pub use entry::{turn_entry, turn_free};
 pub use inode::{turn_inode, turn_links, turn_pointer, turn_size};
 pub use joined::{path_is_led_after, path_stays_led, steps_are_unseen, unseen_calls_join};
+pub use laws::{lowered_links_are_enough, raised_links_are_enough};
 pub use number::turn_number;
 pub use part::turn_part;
 pub use replace::{EntryPlace, turn_replace};

@@ -10,3 +10,4 @@ mod RootLemmas
 mod StepLemmas
 mod TableLemmas
 mod ZoneLoop
+pub mod SoundLemmas

@@ -1,4 +1,5 @@
 pub mod Findings
+pub mod Sound
 pub mod Step
 pub mod Tables
 pub mod View

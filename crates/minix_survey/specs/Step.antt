@@ -5,12 +5,12 @@ use Rattle.disk_trait.specs.Past.{Image, Told}
 use Rattle.disk_trait.specs.declared.disks.Disks.{Ghosts}
 use Rattle.lilo_model.specs.MinixFind.{TreeFault as TreeRefusal}
 use Rattle.lilo_model.specs.MinixLayout.{Super, is_size, reach}
-use Rattle.lilo_model.specs.MinixParts.{Parts, ZoneFault as ZoneRefusal, parts_of, is_directory, zone_at}
+use Rattle.lilo_model.specs.MinixParts.{Parts, ZoneFault as ZoneRefusal, parts_of, is_directory, zone_at, block_at}
 use Rattle.lilo_model.specs.MinixEntries.{Entry, entry_with}
 use Rattle.lilo_model.specs.MinixNames.{entry}
 use Rattle.lilo_model.specs.MinixWalk.{Visit}
 use Rattle.lilo_model.specs.MinixSurvey as model
-use Rattle.lilo_model.specs.MinixSurvey.{Surveyable, Met, surveyable, judged, survey, survey_walk, with_all, with_entry, with_directory}
+use Rattle.lilo_model.specs.MinixSurvey.{Surveyable, Met, surveyable, judged, survey, survey_walk, zones_of, with_zones, with_all, with_entry, with_directory}
 use Rattle.minix_layout.specs.View.{kind_view, super_view, inode_view}
 use Rattle.minix_layout.specs.declared.inode.Inode.{Inode}
 use Rattle.minix_zones.specs.declared.zone_fault.ZoneFault.TheVariants as zones
@@ -35,6 +35,10 @@ use Rattle.minix_survey.specs.View.{spot_view, Refuses, HasSurveyCause}
 abbrev pub seen_in : {D : Type 0} {disks : Ghosts D} → Volume D disks → Image → Surveyable
 seen_in volume now = surveyable (super_view volume.layout) (parts_of (volume_view volume) now)
 
+-- what is said of a volume, by what the disks hold now
+abbrev pub OfVolume : {D : Type 0} {disks : Ghosts D} → Volume D disks → (Super → Parts → Type 0) → Type 0
+OfVolume volume Is = Told (past_of volume) (λ now. Is (super_view volume.layout) (parts_of (volume_view volume) now))
+
 -- An answer is the judgment of what was met: after Ok all of it is good, and the tables have it.
 abbrev pub Answers : Result (Unit {0}) SurveyFault → Tables → Surveyable → List Met → Type 0
 Answers (Ok done) tables volume met = (judged volume met ≡ Ok tt) × Tells tables met
@@ -54,17 +58,33 @@ pub record Steps {D : Type 0} {disks : Ghosts D} (old new : Volume D disks) (bef
 
 -- ---- what is known of an inode
 
+-- an inode with a number is what it is on the disks
+abbrev pub IsNodeAt : {D : Type 0} {disks : Ghosts D} → Volume D disks → ℕ → Inode → Type 0
+IsNodeAt volume inode node = Told (past_of volume) (λ now. inode_view node ≡ (parts_of (volume_view volume) now).node inode)
+
 -- what is known of an inode that is come to, by what it is on the disks
 pub record IsNodeOf {D : Type 0} {disks : Ghosts D} (volume : Volume D disks) (spot : Spot) (node : Inode) : Type 0 where
   pub some : 1 ≤ spot.inode
   pub there : spot.inode ≤ volume.layout.inodes
   pub sized : is_size (kind_view volume.layout.kind) node.size ≡ true
-  pub is : Told (past_of volume) (λ now. inode_view node ≡ (parts_of (volume_view volume) now).node spot.inode)
+  pub is : IsNodeAt volume spot.inode node
   pub root : spot.inode ≡ 1 → is_directory (inode_view node) ≡ true
 
 -- all from an inode on
 abbrev pub all_from : Spot → Surveyable → List Met → List Met
 all_from spot volume met = with_all volume (65 - spot.level) (spot_view spot) met
+
+-- an inode that is reached
+abbrev pub inode_from : Spot → Surveyable → List Met → List Met
+inode_from spot volume met = model.Reaches (spot_view spot) ∷ met
+
+-- the zones of an inode
+abbrev pub zones_from : ℕ → Surveyable → List Met → List Met
+zones_from inode volume met = with_zones inode (zones_of volume inode) met
+
+-- one of them
+abbrev pub zone_from : ℕ → walked.Visit → Surveyable → List Met → List Met
+zone_from inode visit volume met = model.Refers inode (Ok (walks.visit_view visit)) ∷ met
 
 -- what a survey answers is what the model finds
 abbrev pub Finds : Result Findings SurveyFault → Super → Parts → Type 0
@@ -96,6 +116,14 @@ done (Err fault) = Err fault
 abbrev pub entry_seen : DirEntry → Entry
 entry_seen entry = entry_with entry.inode entry.name.now
 
+-- an entry by itself
+abbrev pub entry_alone : Spot → ℕ → DirEntry → List Met → List Met
+entry_alone spot place entry met = model.Stands (spot_view spot) place (entry_seen entry) ∷ met
+
+-- the end of a directory
+abbrev pub end_alone : Spot → ℕ → List Met → List Met
+end_alone spot places met = model.Ends (spot_view spot) places ∷ met
+
 -- so many entries of a directory from a place on
 abbrev pub more_entries : (model.Spot → List Met → List Met) → model.Spot → (ℕ → Entry) → ℕ → ℕ → List Met → List Met
 more_entries visit directory at start zero met = met
@@ -114,6 +142,10 @@ entries_from spot start count volume met =
 -- all entries of a directory, and its end
 abbrev pub directory_from : Spot → Surveyable → List Met → List Met
 directory_from spot volume met = with_directory (with_all volume (64 - spot.level)) volume (spot_view spot) true met
+
+-- the bytes of a block, or its refusal
+abbrev pub block_seen : {D : Type 0} {disks : Ghosts D} → Volume D disks → Image → Inode → ℕ → Result (List ℕ) ZoneRefusal
+block_seen volume now node index = block_at (super_view volume.layout) (parts_of (volume_view volume) now) (inode_view node) index
 
 -- no block of an inode is refused
 abbrev pub AreGiven : Surveyable → ℕ → Type 0

@@ -12,8 +12,8 @@ pub enum SurveyFault {
     /// An inode that is named isn't marked.
     UnmarkedInode(u32),
     /// An entry of this directory at this place, counted from 0 over all places, names an inode that isn't there or
-    /// has no mode; or names the root or a directory that has a name elsewhere; or has the name of an earlier one; or is
-    /// a wrong `.` or `..`. Where one of these two is missing, the place is the number of places.
+    /// has no mode; or names the root or a directory that has a name elsewhere; or has the name of an earlier one; or
+    /// is a wrong `.` or `..`. Where one of these two is missing, the place is the number of places.
     BadLink(u32, u32),
     /// An inode has fewer links than names.
     FewLinks(u32),

@@ -70,7 +70,8 @@ impl Tables {
 
     /// An inode is reached.
     pub(crate) fn reach(&mut self, spot: Spot) -> Result<(), AllocError>
-        ensures { OnOk result ((met : List Met) → Tells self.old met → Tells self.new (Reaches (spot_view spot) ∷ met)) }
+        ensures { OnOk result ((met : List Met) → Tells self.old met
+            → Tells self.new (Reaches (spot_view spot) ∷ met)) }
     {
         self.reached.insert(spot.inode)?;
         Ok(())

@@ -10,7 +10,8 @@ use std::test::Fail;
 type Piece = (u32, usize, &'static [u8]);
 
 // A volume of version 1 with names of 30 bytes: 16 inodes, the first data zone 5. The root has the files a (2) and c
-// (4) and the directories p (3) and b (5), and b has the files x (6) and y (7). Each of the seven has one zone, 5 to 11.
+// (4) and the directories p (3) and b (5), and b has the files x (6) and y (7). Each of the seven has one zone, 5 to
+// 11.
 const SOUND: &[Piece] = &[
     (2, 0, b"\x10\0\x80\0\x01\0\x01\0\x05"),
     (2, 13, b"\x1c\x08\x10\x8f\x13\x01"),

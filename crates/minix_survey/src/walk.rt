@@ -1,5 +1,6 @@
 // The walk of a survey.
-ghost use Rattle.std.specs.Prelude.{◌≡◌, ◌≤◌, ◌<◌, ◌*◌, ◌≢◌, ◌∷◌, ◌==◌, ◌&&◌, ◌||◌, nat_lt, true, false, Ok, IfOk, IfErr, IfSome, OnOk, OnSome};
+ghost use Rattle.std.specs.Prelude.{◌≡◌, ◌≤◌, ◌<◌, ◌*◌, ◌≢◌, ◌==◌, ◌&&◌, ◌||◌, nat_lt, true, false, Ok};
+ghost use Rattle.std.specs.Prelude.{IfOk, IfErr, IfSome, OnOk, OnSome};
 ghost use Rattle.disk_trait.specs.Past.{Told};
 ghost use Rattle.lilo_model.specs.MinixLayout.{is_size, reach};
 ghost use Rattle.lilo_model.specs.MinixFind.{readable};
@@ -10,7 +11,11 @@ ghost use Rattle.minix_layout.specs.View.{kind_view, super_view, inode_view};
 ghost use Rattle.minix_zones.specs.View.{IsDataZone};
 ghost use Rattle.minix_zones.specs.Volume.{volume_view, past_of, faults_of, SameVolume};
 ghost use Rattle.minix_zones.specs.Walk.{visit_view, rest_of, turns_left};
-ghost use Rattle.minix_survey.specs.Step.{Steps, StepsAlone, Finds, IsNodeOf, AreGiven, IsFailed, IsReadRefusal, IsBlockRefusal, WalksOn, seen_in, done, entry_seen, all_from, entry_from, entries_from, directory_from};
+ghost use Rattle.minix_survey.specs.Step.{Steps, StepsAlone, Finds, OfVolume, IsNodeOf, IsNodeAt, AreGiven};
+ghost use Rattle.minix_survey.specs.Step.{IsFailed, IsReadRefusal, IsBlockRefusal, WalksOn, seen_in, block_seen, done};
+ghost use Rattle.minix_survey.specs.Step.{entry_seen, all_from, inode_from, zones_from, zone_from, entry_from};
+ghost use Rattle.minix_survey.specs.Step.{entries_from, entry_alone, end_alone, directory_from};
+ghost use Rattle.minix_survey.specs.Sound.{SaysSound};
 ghost use Rattle.minix_survey.specs.Tables.{reached_in};
 ghost use Rattle.minix_survey.specs.View.{spot_view, HasSurveyCause};
 
@@ -31,14 +36,24 @@ use std::alloc::Global;
 /// Directories are nested below at most so many others, the root counted.
 const DEPTH: u32 = 64;
 
-/// What is found on a volume with which nothing is wrong.
+/// What is found on a volume with which nothing is wrong: a sound one.
 ///
 /// # Errors
 ///
 /// The first thing that is wrong, as `SurveyFault` says; or the disk failed, or there is no memory.
 pub fn survey<D: Disks>(alloc: Global, volume: &mut Volume<'_, D>) -> Result<Findings, SurveyFault>
-    ensures found { Told (past_of volume.old) (λ now. Finds result (super_view volume.old.layout)
-        (parts_of (volume_view volume.old) now)) }
+    ensures found { OfVolume volume.old (Finds result) }
+    ensures sound { OfVolume volume.old (SaysSound result) }
+    ensures cause { IfErr result (HasSurveyCause (faults_of volume.old) (faults_of volume.new)) }
+    ensures later { faults_of volume.old ≤ faults_of volume.new }
+    ensures same { SameVolume volume.old volume.new }
+{
+    survey_root(alloc, volume)
+}
+
+/// The root, and all from it on.
+fn survey_root<D: Disks>(alloc: Global, volume: &mut Volume<'_, D>) -> Result<Findings, SurveyFault>
+    ensures found { OfVolume volume.old (Finds result) }
     ensures cause { IfErr result (HasSurveyCause (faults_of volume.old) (faults_of volume.new)) }
     ensures later { faults_of volume.old ≤ faults_of volume.new }
     ensures same { SameVolume volume.old volume.new }
@@ -85,7 +100,7 @@ fn meet_inode<D: Disks>(
     node: &Inode,
 ) -> Result<(), SurveyFault>
     requires node { IsNodeOf volume.old spot node.now }
-    ensures steps { Steps volume.old volume.new tables.old tables.new result (λ seen met. Reaches (spot_view spot) ∷ met) }
+    ensures steps { Steps volume.old volume.new tables.old tables.new result (inode_from spot) }
     ensures level { OnOk result (is_directory (inode_view node.now) ≡ true → spot.level ≤ 64) }
 {
     let marked = is_marked_inode(volume, spot.inode)?;
@@ -107,8 +122,8 @@ fn meet_zones<D: Disks>(
     inode: u32,
     node: &Inode,
 ) -> Result<(), SurveyFault>
-    requires { Told (past_of volume.old) (λ now. inode_view node.now ≡ (parts_of (volume_view volume.old) now).node inode) }
-    ensures steps { Steps volume.old volume.new tables.old tables.new result (λ seen met. with_zones inode (zones_of seen inode) met) }
+    requires { IsNodeAt volume.old inode node.now }
+    ensures steps { Steps volume.old volume.new tables.old tables.new result (zones_from inode) }
     ensures given { OnOk result (has_zones (inode_view node.now) ≡ true
         → Told (past_of volume.old) (λ now. AreGiven (seen_in volume.old now) inode)) }
 {
@@ -130,7 +145,7 @@ fn meet_zone<D: Disks>(
     visit: Visit,
 ) -> Result<(), SurveyFault>
     requires { IsDataZone volume.old.layout visit.zone }
-    ensures { Steps volume.old volume.new tables.old tables.new result (λ seen met. Refers inode (Ok (visit_view visit)) ∷ met) }
+    ensures { Steps volume.old volume.new tables.old tables.new result (zone_from inode visit) }
 {
     let marked = is_marked_zone(volume, visit.zone)?;
     if !marked {
@@ -233,7 +248,7 @@ fn meet_dots(
 ) -> Result<(), SurveyFault>
     requires some { entry.now.inode ≢ 0 }
     requires dots { is_dots entry.now.name.now ≡ true }
-    ensures { StepsAlone tables.old tables.new result (λ met. Stands (spot_view spot) place (entry_seen entry.now) ∷ met) }
+    ensures { StepsAlone tables.old tables.new result (entry_alone spot place entry.now) }
 {
     let right = right_inode(spot, entry.name);
     if entry.inode != right {
@@ -258,12 +273,11 @@ fn meet_name<D: Disks>(
     requires some { entry.now.inode ≢ 0 }
     requires plain { is_dots entry.now.name.now ≡ false }
     ensures steps { Steps volume.old volume.new tables.old tables.new (done result)
-        (λ seen met. Stands (spot_view spot) place (entry_seen entry.now) ∷ met) }
+        (λ seen. entry_alone spot place entry.now) }
     ensures there { OnOk result (entry.now.inode ≤ volume.old.layout.inodes) }
     ensures no_root { OnOk result (entry.now.inode ≢ 1) }
     ensures sized { IfOk result (λ node. is_size (kind_view volume.old.layout.kind) node.size ≡ true) }
-    ensures node { IfOk result (λ node. Told (past_of volume.old)
-        (λ now. inode_view node ≡ (parts_of (volume_view volume.old) now).node entry.now.inode)) }
+    ensures node { IfOk result (IsNodeAt volume.old entry.now.inode) }
 {
     if entry.inode > u32::from(volume.layout().inodes) {
         return Err(SurveyFault::BadLink(spot.inode, place));
@@ -287,7 +301,7 @@ fn meet_name<D: Disks>(
 
 /// The end of a directory of so many places: `.` and `..` stand in it.
 fn meet_end(alloc: Global, tables: &Tables, spot: Spot, places: u32) -> Result<(), SurveyFault>
-    ensures { StepsAlone tables.now tables.now result (λ met. Ends (spot_view spot) places ∷ met) }
+    ensures { StepsAlone tables.now tables.now result (end_alone spot places) }
 {
     let here = tables.has_entry(alloc, spot.inode, b".")?;
     if !here {
@@ -377,8 +391,7 @@ fn is_marked_zone<D: Disks>(volume: &mut Volume<'_, D>, zone: u32) -> Result<boo
 fn read_inode<D: Disks>(volume: &mut Volume<'_, D>, inode: u32) -> Result<Inode, SurveyFault>
     requires some { 1 ≤ inode }
     requires there { inode ≤ volume.old.layout.inodes }
-    ensures node { IfOk result (λ node. Told (past_of volume.old)
-        (λ now. inode_view node ≡ (parts_of (volume_view volume.old) now).node inode)) }
+    ensures node { IfOk result (IsNodeAt volume.old inode) }
     ensures sized { IfOk result (λ node. is_size (kind_view volume.old.layout.kind) node.size ≡ true) }
     ensures refused { IfErr result (λ fault. Told (past_of volume.old) (λ now. IsReadRefusal fault
         (readable (super_view volume.old.layout) (parts_of (volume_view volume.old) now) inode))) }
@@ -400,10 +413,10 @@ fn read_block<D: Disks>(
     into: &mut [u8; 1024],
 ) -> Result<(), SurveyFault>
     requires { index < reach (kind_view volume.old.layout.kind) }
-    ensures bytes { OnOk result (Told (past_of volume.old) (λ now. block_at (super_view volume.old.layout)
-        (parts_of (volume_view volume.old) now) (inode_view node.now) index ≡ Ok into.new)) }
-    ensures refused { IfErr result (λ fault. Told (past_of volume.old) (λ now. IsBlockRefusal fault
-        (block_at (super_view volume.old.layout) (parts_of (volume_view volume.old) now) (inode_view node.now) index))) }
+    ensures bytes { OnOk result (Told (past_of volume.old)
+        (λ now. block_seen volume.old now node.now index ≡ Ok into.new)) }
+    ensures refused { IfErr result (λ fault. Told (past_of volume.old)
+        (λ now. IsBlockRefusal fault (block_seen volume.old now node.now index))) }
     ensures cause { IfErr result (HasSurveyCause (faults_of volume.old) (faults_of volume.new)) }
     ensures later { faults_of volume.old ≤ faults_of volume.new }
     ensures same { SameVolume volume.old volume.new }

@@ -32,7 +32,7 @@ module _ (One Other : EntryPlace → Type 0) (at : EntryPlace) (to : (other : En
       by_case (inr is) = is
 
   -- some places without one
-  record Without (all : List EntryPlace) : Type 0 where
+  pub record Without (all : List EntryPlace) : Type 0 where
     pub rest : List EntryPlace
     pub keeps : (other : EntryPlace) → IsNewPlace other all → IsNewPlace other rest
     pub apart : AreApart rest
@@ -60,7 +60,7 @@ module _ (One Other : EntryPlace → Type 0) (at : EntryPlace) (to : (other : En
         count = omega (arith, few);
       }
 
-  without : (all : List EntryPlace) → AreApart all → Each One all → Without all
+  pub without : (all : List EntryPlace) → AreApart all → Each One all → Without all
   without [] apart each = record { rest = []; keeps = λ x new. tt; apart = tt; each = tt; count = omega arith }
   without (other ∷ others) apart each = without-by other others (to other each.0) apart each.1 (without others apart.1 each.1)
 

@@ -1,0 +1,11 @@
+pub mod Lists
+pub mod Walk
+pub mod Good
+pub mod Places
+pub mod Stops
+pub mod Pointers
+pub mod OkSound
+pub mod SoundStops
+pub mod SoundOk
+pub mod Law
+pub mod Findings

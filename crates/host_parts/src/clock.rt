@@ -2,7 +2,7 @@
 use std::time::SystemTime;
 
 /// The seconds since the start of 1970, as far as they go.
-pub fn moment(rt: &HostRuntime) -> u32 {
+pub fn now_seconds(rt: &HostRuntime) -> u32 {
     let Ok(now) = SystemTime::now(rt) else {
         return 0;
     };

@@ -6,7 +6,7 @@
 #![tactic(auto)]
 
 use disk_trait::{FileDisks, Geometry};
-use host_parts::{StartFault, arguments, moment, open_image};
+use host_parts::{StartFault, arguments, now_seconds, open_image};
 use ldisk_run::{ask, ldisk};
 use std::fs::File;
 use std::process::ExitCode;
@@ -39,7 +39,7 @@ fn run(rt: &HostRuntime) -> Result<u8, StartFault> {
     };
     let mut source = StdSource::new(rt.stdin());
     let mut out = StdSink::new(rt.stdout());
-    let now = moment(rt);
+    let now = now_seconds(rt);
     Ok(ldisk(alloc, &words, &mut disks, &mut source, &mut out, now))
 }
 

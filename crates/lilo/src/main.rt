@@ -1,15 +1,15 @@
 //! `lilo IMAGE.. -- WORD..`: LILO over disk images, on a modelled PC.
 //!
 //! An IMAGE is `path`, `path:heads:sectors`, or `-` for an absent disk; the images are disks 0 to 3.
-//! Without `--` every word is an image. All text goes to standard output, faults included, and the exit
-//! status is that of the words, 1 for one that isn't UTF-8, 14 for an image that can't be used, or 13 where
+//! Without `--` every argument is an image. All text goes to standard output, faults included, and the exit
+//! status is that of the arguments, 1 for one that isn't UTF-8, 14 for an image that can't be used, or 13 where
 //! memory doesn't suffice.
 #![tactic(auto)]
 
 mod image;
 
 use disk_trait::{Disks, FileDisks};
-use host_parts::{StartFault, arguments, moment};
+use host_parts::{StartFault, arguments, now_seconds};
 use image::open_image;
 use lilo_run::{Ram, boots, lilo};
 use std::fs::File;
@@ -44,13 +44,13 @@ fn run(rt: &HostRuntime) -> Result<u8, StartFault> {
     let mut out = StdSink::new(rt.stdout());
     let memory = if boots(&words) { MEMORY } else { LEAST_MEMORY };
     let mut ram = Ram::new(alloc, memory)?;
-    let now = moment(rt);
+    let now = now_seconds(rt);
     Ok(lilo(
         alloc, &words, &mut disks, &mut keys, &mut out, &mut ram, now,
     ))
 }
 
-/// Opens the images, and keeps the words behind the first `--`.
+/// Opens the images, and keeps the arguments after the first `--`.
 fn sort_arguments(
     rt: &HostRuntime,
     disks: &mut FileDisks<File>,

@@ -27,3 +27,4 @@ pub mod AcceptedKernels
 pub mod AcceptedSections
 pub mod AcceptedWhole
 pub mod Laid
+pub mod Holder

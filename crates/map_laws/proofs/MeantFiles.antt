@@ -20,6 +20,14 @@ use Rattle.std.proofs.lemmas.List.FromFn.{length-range_with_len}
 use Rattle.map_laws.specs.Files.{AreKept, FileLaw, OptionalFileLaw}
 use Rattle.map_laws.proofs.FileAgain.{held_bytes, sector_bytes, length-sectors, blocks-sectors, file-sectors}
 
+-- a regular file has zones
+pub zones-of : (directory file link : Bool) → file ≡ true → (directory || file || link) ≡ true
+zones-of directory file link is = rw is (by directory)
+  where
+    by : (directory : Bool) → (directory || true || link) ≡ true
+    by true = refl
+    by false = refl
+
 module _ (volume : Volume) (image : Image) (sound : IsSound volume image) where
   abbrev parts : Parts
   parts = parts_of volume image
@@ -52,13 +60,6 @@ module _ (volume : Volume) (image : Image) (sound : IsSound volume image) where
       by-found (Err fault) (Err other) agrees = refl
 
   module _ (number : ℕ) (named : Named volume.layout parts number) (is_regular : is_file (parts.node number) ≡ true) where
-    zones-of : (directory file link : Bool) → file ≡ true → (directory || file || link) ≡ true
-    zones-of directory file link is = rw is (by directory)
-      where
-        by : (directory : Bool) → (directory || true || link) ≡ true
-        by true = refl
-        by false = refl
-
     pub in-range : (index zone : ℕ) → zone_number volume.layout parts number (index / 2) ≡ zone → zone ≢ 0 → zone < volume.layout.zones
     unfolding zone_number IsSound
     in-range index zone is some =

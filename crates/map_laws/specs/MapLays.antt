@@ -11,6 +11,7 @@ use Rattle.lilo_model.specs.MinixNames.{IsSound, reached}
 use Rattle.lilo_model.specs.NamePlaces.{with_tilde}
 use Rattle.lilo_model.specs.Plan.{Plan, map_size}
 use Rattle.lilo_model.specs.Planned.{inode_places, planned}
+use Rattle.lilo_model.specs.Settled.{Held}
 use Rattle.lilo_model.specs.Lays.{Lays, tail_place}
 use Rattle.boot_laws.specs.SameOn.{SameOn}
 use Rattle.map_laws.specs.Lies.{MapLies}
@@ -65,3 +66,10 @@ LaysStaysLaw =
     → line_at (bytes_at c p0) ≡ Ok other
     → HoldsMap c machine volume plan path (p0 ∷ (p1 ∷ (p2 ∷ (p3 ∷ (p4 ∷ rest)))))
     → Lays c machine volume span plan path present
+
+-- an image that has Lays is Held: the file that holds the map has the table of its boot sector
+abbrev pub LaysHeldLaw : Type 0
+LaysHeldLaw =
+    (image : Image) (machine : Machine) (volume : Volume) (span : Span) (plan : Plan) (path : List (List ℕ)) (present : List ℕ)
+    → Lays image machine volume span plan path present
+    → Held image machine volume span path

@@ -10,7 +10,7 @@ ghost use Rattle.map_laws.specs.Compact.{CompactLaw};
 ghost use Rattle.map_laws.specs.Files.{FileLaw, OptionalFileLaw};
 ghost use Rattle.map_laws.specs.Lies.{MapLaw};
 ghost use Rattle.map_laws.specs.Lines.{LinesLaw};
-ghost use Rattle.map_laws.specs.MapLays.{AcceptedLaysLaw, LaysLaw, LaysStaysLaw, PlannedLaysLaw};
+ghost use Rattle.map_laws.specs.MapLays.{AcceptedLaysLaw, LaysHeldLaw, LaysLaw, LaysStaysLaw, PlannedLaysLaw};
 ghost use Rattle.map_laws.specs.MapStays.{MapStaysLaw};
 ghost use Rattle.map_laws.specs.PlannedLies.{PlannedLaw};
 ghost use Rattle.map_laws.specs.Shows.{ShowsLaw};
@@ -100,4 +100,9 @@ pub fn accepted_plan_has_lays()
 /// Lays stays where the map's sectors, its boot sector's and its files' stay.
 pub fn map_that_stays_has_lays()
     ensures { LaysStaysLaw }
+{}
+
+/// An image that has Lays is Held.
+pub fn image_with_lays_is_held()
+    ensures { LaysHeldLaw }
 {}

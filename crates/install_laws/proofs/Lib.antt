@@ -3,3 +3,4 @@ pub mod Headline
 pub mod Outside
 pub mod Planned
 pub mod Writes
+pub mod ClearTest

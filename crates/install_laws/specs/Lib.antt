@@ -4,3 +4,4 @@ pub mod Headline
 pub mod InstallVerdict
 pub mod Planned
 pub mod Writes
+pub mod ClearTest

@@ -1,5 +1,6 @@
 // What follows of the promises of an installation's steps.
 ghost use Rattle.install_laws.specs.Answered.{AnsweredLaw, RefusedLaw};
+ghost use Rattle.install_laws.specs.ClearTest.{ClearTestLaw};
 ghost use Rattle.install_laws.specs.Headline.{HeadlineLaw};
 ghost use Rattle.install_laws.specs.Planned.{AcceptedMeansLaw, MeansLaw};
 ghost use Rattle.install_laws.specs.Writes.{OutsideLaw, SparesLaw};
@@ -40,4 +41,9 @@ pub fn answered_installation_passed_its_checks()
 /// One that is refused has a status from 2 to 5.
 pub fn refused_installation_has_a_status_of_its_checks()
     ensures { RefusedLaw }
+{}
+
+/// The test of Clear by which an installation warns passes exactly where the present map is Clear.
+pub fn clear_test_is_clear()
+    ensures { ClearTestLaw }
 {}

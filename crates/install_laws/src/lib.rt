@@ -6,7 +6,7 @@ mod laws;
 
 pub use laws::{
     accepted_plan_means_its_configuration, answered_installation_passed_its_checks,
-    clear_map_is_spared, planned_map_means_its_configuration,
+    clear_map_is_spared, clear_test_is_clear, planned_map_means_its_configuration,
     refused_installation_has_a_status_of_its_checks, stop_leaves_what_boots_as_before_or_as_meant,
     write_outside_keeps_a_volume,
 };

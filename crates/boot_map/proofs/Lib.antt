@@ -3,3 +3,4 @@ pub mod FirstBelow
 pub mod FlagLemmas
 pub mod SlotLemmas
 pub mod TableLemmas
+pub mod TableWritten

@@ -1,11 +1,14 @@
 -- What bytes that may be a slot are decoded to.
-use Rattle.std.proofs.Common.{◌≡◌, ℕ, List, [], ◌∷◌, Bool, true, false, refl, arith}
-use Rattle.std.specs.Prelude.{◌==◌, Option, Some, None, Result, Ok, Err, if◌then◌else◌}
-use Rattle.lilo_model.specs.Bytes.{is_zero}
+use Rattle.std.proofs.Common.{◌≡◌, ℕ, ◌+◌, List, [], ◌∷◌, ◌++◌, length, map, Bool, true, false, refl, sym, ap, ◌∙◌, arith, append_assoc, append-nil, length-append}
+use Rattle.std.specs.List.{concat}
+use Rattle.std.specs.Prelude.{◌==◌, slice_index_or, Option, Some, None, Result, Ok, Err, if◌then◌else◌}
+use Rattle.lilo_model.specs.Bytes.{is_zero, with_part}
 use Rattle.lilo_model.specs.Slots as model
-use Rattle.lilo_model.specs.Slots.{is_slot, is_one_slot, has_ranges, slot_of, slot_at}
+use Rattle.lilo_model.specs.Slots.{is_slot, is_one_slot, has_ranges, slot_of, slot_at, slot_bytes}
 use Rattle.sector_address.specs.View.{slot_view}
 use Rattle.sector_address.specs.declared.slot.Slot.{Slot}
+use Rattle.map_again_laws.proofs.Parts.{written-first, written-next}
+use Rattle.map_again_laws.proofs.SlotAgain.{length-slot}
 use Rattle.boot_map.specs.Ranges.{IsOneSector}
 
 -- a slot isn't all zeros, since its mode is at least 1
@@ -62,3 +65,28 @@ slot_of-ranges bytes slot same one =
     let count : slot.count ≡ (slot_of bytes).count = cc in
     let disk : slot.disk ≡ (slot_of bytes).disk = cc in
     (grind arith, grind arith)
+
+-- the bytes of three slots are 24
+pub length-three : (slots : List Slot) → length slots ≡ 3 → length (concat (map slot_bytes (map slot_view slots))) ≡ 24
+length-three (one ∷ (two ∷ (three ∷ []))) is =
+    length-append (slot_bytes (slot_view one)) (slot_bytes (slot_view two) ++ (slot_bytes (slot_view three) ++ []))
+    ∙ ap (λ n. length (slot_bytes (slot_view one)) + n) (length-append (slot_bytes (slot_view two)) (slot_bytes (slot_view three) ++ []) ∙ ap (λ n. length (slot_bytes (slot_view two)) + n) (length-append (slot_bytes (slot_view three)) []))
+    ∙ omega (arith, length-slot (slot_view one), length-slot (slot_view two), length-slot (slot_view three))
+length-three _ is = absurd (omega (arith, is))
+
+-- three slots that are written one after the other
+pub three-put :
+    (slots : List Slot) (d1 d2 d3 : Slot) (bytes first second third : List ℕ) → length slots ≡ 3 → length bytes ≡ 512
+    → first ≡ with_part bytes 0x30 (slot_bytes (slot_view (slice_index_or slots 0 d1)))
+    → second ≡ with_part first 0x38 (slot_bytes (slot_view (slice_index_or slots 1 d2)))
+    → third ≡ with_part second 0x40 (slot_bytes (slot_view (slice_index_or slots 2 d3)))
+    → third ≡ with_part bytes 0x30 (concat (map slot_bytes (map slot_view slots)))
+three-put (a ∷ (b ∷ (d ∷ []))) d1 d2 d3 bytes first second third is size e1 e2 e3 =
+    let w = written-first bytes (slot_bytes (slot_view a)) first 0x30 8 size e1 (length-slot (slot_view a)) in
+    let w = written-next w (slot_bytes (slot_view b)) second 0x38 8 e2 (length-slot (slot_view b)) refl (omega arith) in
+    let w = written-next w (slot_bytes (slot_view d)) third 0x40 8 e3 (length-slot (slot_view d)) refl (omega arith) in
+    w.is
+    ∙ ap (with_part bytes 0x30)
+    (append_assoc (slot_bytes (slot_view a)) (slot_bytes (slot_view b)) (slot_bytes (slot_view d))
+    ∙ ap (λ last. slot_bytes (slot_view a) ++ (slot_bytes (slot_view b) ++ last)) (sym (append-nil (slot_bytes (slot_view d)))))
+three-put _ d1 d2 d3 bytes first second third is size e1 e2 e3 = absurd (omega (arith, is))

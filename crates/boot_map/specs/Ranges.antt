@@ -1,7 +1,10 @@
--- What a caller may rest on in the fields that were read.
-use Rattle.std.specs.Prelude.{◌≡◌, ◌≤◌, true, ◌||◌, if◌then◌else◌, is_some, length, IfSome}
+-- What a caller may rest on in the fields that were read, and what a writer asks of them.
+use Rattle.std.specs.Prelude.{◌≡◌, ◌≤◌, true, ◌||◌, if◌then◌else◌, is_some, length, All, IfSome}
 use Rattle.lilo_model.specs.Table.{other_flag, password_flag, fallback_flag, initrd_flag, table_flag, has_flag}
+use Rattle.sector_address.specs.View.{slot_view}
+use Rattle.sector_address.specs.Whole.{IsSlot}
 use Rattle.sector_address.specs.declared.slot.Slot.{Slot}
+use Rattle.boot_map.specs.declared.boot_sector.BootSector.{BootSector}
 use Rattle.boot_map.specs.declared.descriptor.Descriptor.{Descriptor}
 use Rattle.boot_map.specs.declared.default_line.DefaultLine.{DefaultLine}
 use Rattle.boot_map.specs.declared.default_line.DefaultLine.TheVariants.{Empty, Once, Kept}
@@ -37,3 +40,22 @@ abbrev pub IsLine : DefaultLine → Type 0
 IsLine Empty = Unit
 IsLine (Once text) = (1 ≤ length text.items) × (length text.items ≤ 255)
 IsLine (Kept text) = (1 ≤ length text.items) × (length text.items ≤ 255)
+
+-- eight bytes can name a slot
+abbrev pub IsWritable : Slot → Type 0
+IsWritable slot = IsSlot (slot_view slot)
+
+-- a boot sector's slots can be written, and its table has three sectors
+pub record HasMapSlots (boot : BootSector) : Type 0 where
+  pub line : IsWritable boot.line
+  pub zero_sector : IsWritable boot.zero
+  pub message : IfSome boot.message IsWritable
+  pub table : All IsWritable boot.table.items
+  pub three : length boot.table.items ≡ 3
+
+-- the slots of a descriptor can be written
+pub record HasEntrySlots (entry : Descriptor) : Type 0 where
+  pub options : IsWritable entry.options
+  pub first : IsWritable entry.first
+  pub initrd : IfSome entry.initrd IsWritable
+  pub extra : IfSome entry.extra IsWritable

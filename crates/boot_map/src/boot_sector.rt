@@ -1,17 +1,23 @@
-ghost use Rattle.std.specs.Prelude.{◌≡◌, ◌<◌, ◌≤◌, true, length, map, All, IfSome, IfOk};
+ghost use Rattle.std.specs.Prelude.{◌≡◌, ◌<◌, ◌≤◌, true, length, map, Ok, All, IfSome, IfOk};
+ghost use Rattle.std.specs.List.{concat};
+ghost use Rattle.lilo_model.specs.Bytes.{with_part};
+ghost use Rattle.lilo_model.specs.Slots.{slot_bytes};
 ghost use Rattle.lilo_model.specs.BootSector.{has_signature, has_options, has_names, has_slots, has_no_message};
 ghost use Rattle.lilo_model.specs.BootSector.{has_whole_message, has_message, has_zeros, is_whole, timeout_of};
 ghost use Rattle.lilo_model.specs.BootSector.{table_slots, boot_of, boot_at};
+ghost use Rattle.lilo_model.specs.BootSector.{flag_number, timeout_number, merged_sector};
+ghost use Rattle.lilo_model.specs.Restored.{restored_sector};
+ghost use Rattle.map_again_laws.specs.Fits.{FitsBoot};
 ghost use Rattle.lilo_model.specs.Checks.{seen};
 ghost use Rattle.sector_address.specs.View.{slot_view};
 ghost use Rattle.boot_map.specs.View.{boot_view, map_fault_view};
-ghost use Rattle.boot_map.specs.Ranges.{IsOneSector};
+ghost use Rattle.boot_map.specs.Ranges.{IsOneSector, IsWritable, HasMapSlots};
 
 use crate::map_fault::MapFault;
-use crate::one_slot::{is_one_slot, is_zero, slot_of, some_slot};
+use crate::one_slot::{is_one_slot, is_zero, put_some_slot, slot_of, some_slot};
 use arrayvec::ArrayVec;
 use sector_address::Slot;
-use sector_parts::{Sector, part, u16_at, u32_at};
+use sector_parts::{Sector, part, put_part, put_u16, put_u32, u16_at, u32_at};
 
 /// The fields of a boot sector.
 #[derive(Clone, Debug, PartialEq, Eq, Drop)]
@@ -68,6 +74,73 @@ impl BootSector {
             return Err(MapFault::BadTable(255));
         }
         Ok(boot_of(sector))
+    }
+
+    /// Writes the boot sector: the fields, bytes 128 to 439 of a sector with code, and bytes 440 to 509, with the
+    /// partition table, of the sector that is there.
+    #[tactic(auto, unfolding(lilo_model::specs::BootSector::merged_sector, lilo_model::specs::BootSector::field_bytes))]
+    pub fn merge(&self, code: &Sector, present: &Sector, into: &mut Sector)
+        requires slots { HasMapSlots self.now }
+        ensures bytes { into.new ≡ merged_sector (boot_view self.now) code.now present.now }
+        ensures again { FitsBoot (boot_view self.now) → boot_at into.new ≡ Ok (boot_view self.now) }
+    {
+        put_part(into, 0, b"\xEB\x7ELILO");
+        put_u16(into, 6, self.version);
+        put_u32(into, 8, self.time);
+        put_u16(into, 0x0C, flag_number(self.prompt));
+        put_u16(into, 0x0E, self.delay);
+        put_u16(into, 0x10, timeout_number(self.timeout));
+        put_u16(into, 0x12, self.names);
+        put_u16(into, 0x14, self.message_length);
+        put_u16(into, 0x16, self.message_chain);
+        self.line.put(into, 0x18);
+        self.zero.put(into, 0x20);
+        put_some_slot(self.message, into, 0x28);
+        put_table_slots(&self.table, into);
+        put_part(into, 0x48, &[0; 24]);
+        put_u16(into, 0x60, self.default_entry);
+        put_part(into, 0x62, &[0; 30]);
+        put_part(into, 128, part(code, 128, 312));
+        put_part(into, 440, part(present, 440, 70));
+        put_part(into, 510, b"\x55\xAA");
+    }
+}
+
+/// Writes the sector that was there before the first installation: a backup, with bytes 440 to 509, where the
+/// partition table is, of the sector that is there now.
+#[tactic(auto, unfolding(lilo_model::specs::Restored::restored_sector))]
+pub fn restore(backup: &Sector, present: &Sector, into: &mut Sector)
+    ensures { into.new ≡ restored_sector backup.now present.now }
+{
+    *into = *backup;
+    put_part(into, 440, part(present, 440, 70));
+}
+
+// Writes the slots of the three table sectors.
+fn put_table_slots(slots: &[Slot], sector: &mut Sector)
+    requires three { length slots.now ≡ 3 }
+    requires whole { All IsWritable slots.now }
+    ensures { sector.new ≡ with_part sector.old 0x30 (concat (map slot_bytes (map slot_view slots.now))) }
+{
+    slots[0].put(sector, 0x30);
+    slots[1].put(sector, 0x38);
+    slots[2].put(sector, 0x40);
+}
+
+// The number of the prompt's flag.
+fn flag_number(prompt: bool) -> u16
+    ensures { result ≡ flag_number prompt }
+{
+    u16::from(prompt)
+}
+
+// The number of a timeout, 0xFFFF for none.
+fn timeout_number(timeout: Option<u16>) -> u16
+    ensures { result ≡ timeout_number timeout }
+{
+    match timeout {
+        None => 0xFFFF,
+        Some(tenths) => tenths,
     }
 }
 

@@ -1,13 +1,14 @@
-ghost use Rattle.std.specs.Prelude.{◌≡◌, ◌≤◌, true, length, IfOk};
+ghost use Rattle.std.specs.Prelude.{◌≡◌, ◌≤◌, true, length, Ok, IfOk};
 ghost use Rattle.lilo_model.specs.Checks.{seen};
-ghost use Rattle.lilo_model.specs.LineSector.{is_line, line_of, line_at};
+ghost use Rattle.lilo_model.specs.DefaultLine.{line_text};
+ghost use Rattle.lilo_model.specs.LineSector.{is_line, line_of, line_at, line_bytes, state_number};
 ghost use Rattle.boot_map.specs.View.{line_view, map_fault_view};
 ghost use Rattle.boot_map.specs.Ranges.{IsLine};
 
 use crate::map_fault::MapFault;
 use crate::text::copy_of;
 use arrayvec::ArrayVec;
-use sector_parts::{Sector, part, u16_at};
+use sector_parts::{Sector, part, put_name, put_part, put_u16, u16_at};
 
 /// The default line: what an installation chooses without keys.
 #[derive(Clone, Debug, PartialEq, Eq, Drop)]
@@ -32,6 +33,41 @@ impl DefaultLine {
             return Err(MapFault::BadLine);
         }
         Ok(line_of(sector))
+    }
+
+    /// Writes the sector of the default line.
+    #[tactic(auto, unfolding(lilo_model::specs::LineSector::line_bytes))]
+    pub fn write_into(&self, sector: &mut Sector)
+        ensures bytes { sector.new ≡ line_bytes (line_view self.now) }
+        ensures again { IsLine self.now → line_at sector.new ≡ Ok (line_view self.now) }
+    {
+        let text = self.text();
+        put_part(sector, 0, b"LINE");
+        put_u16(sector, 4, self.state());
+        put_u16(sector, 6, text.len() as u16);
+        put_name(sector, 8, 504, text);
+    }
+
+    // The number of the state.
+    fn state(&self) -> u16
+        ensures { result ≡ state_number (line_view self.now) }
+    {
+        match self {
+            DefaultLine::Empty => 0,
+            DefaultLine::Once(_) => 1,
+            DefaultLine::Kept(_) => 2,
+        }
+    }
+
+    // The text, empty where there is no line.
+    fn text(&self) -> &[u8]
+        ensures text { result.now ≡ line_text (line_view self.now) }
+        ensures fits { length result.now ≤ 470 }
+    {
+        match self {
+            DefaultLine::Empty => &[],
+            DefaultLine::Once(text) | DefaultLine::Kept(text) => text,
+        }
     }
 }
 

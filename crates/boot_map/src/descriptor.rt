@@ -1,15 +1,16 @@
-ghost use Rattle.std.specs.Prelude.{◌≡◌, ◌≤◌, true, length};
+ghost use Rattle.std.specs.Prelude.{◌≡◌, ◌+◌, ◌≤◌, true, length};
 ghost use Rattle.lilo_model.specs.Table.{is_set, entry_name, is_printable, is_name, has_flags, has_video};
-ghost use Rattle.lilo_model.specs.Table.{has_length, has_main, has_initrd, has_extra, is_entry, descriptor_of};
+ghost use Rattle.lilo_model.specs.Table.{has_length, has_main, has_initrd, has_extra, is_entry, descriptor_of, descriptor_bytes};
+ghost use Rattle.lilo_model.specs.Bytes.{with_part};
 ghost use Rattle.boot_map.specs.View.{descriptor_view};
-ghost use Rattle.boot_map.specs.Ranges.{IsNamed, HasSectors, FitsFlags};
+ghost use Rattle.boot_map.specs.Ranges.{IsNamed, HasSectors, FitsFlags, HasEntrySlots};
 
 use crate::flags;
-use crate::one_slot::{is_one_slot, is_zero, slot_of, some_slot};
+use crate::one_slot::{is_one_slot, is_zero, put_some_slot, slot_of, some_slot};
 use crate::text::copy_of;
 use arrayvec::ArrayVec;
 use sector_address::Slot;
-use sector_parts::FieldRef;
+use sector_parts::{FieldRef, Sector, put_name, put_u16, put_u32};
 
 /// What one name starts.
 #[derive(Clone, Debug, PartialEq, Eq, Default, Drop)]
@@ -36,6 +37,29 @@ pub struct Descriptor {
     pub initrd_chain: u16,
     /// Where the sector of the password or the fallback lies, if there is one.
     pub extra: Option<Slot>,
+}
+
+impl Descriptor {
+    // Writes the 64 bytes of a descriptor from an offset of a sector on.
+    #[tactic(auto, unfolding(lilo_model::specs::Table::descriptor_bytes))]
+    pub(crate) fn put(&self, sector: &mut Sector, at: usize)
+        requires inside { at + 64 ≤ 512 }
+        requires slots { HasEntrySlots self.now }
+        ensures bytes { sector.new ≡ with_part sector.old at (descriptor_bytes (descriptor_view self.now)) }
+        ensures long { length (descriptor_bytes (descriptor_view self.now)) ≡ 64 }
+    {
+        put_name(sector, at, 16, &self.name);
+        put_u16(sector, at + 16, self.flags);
+        put_u16(sector, at + 18, self.vga);
+        put_u32(sector, at + 20, self.length);
+        put_u32(sector, at + 24, self.initrd_length);
+        self.options.put(sector, at + 28);
+        self.first.put(sector, at + 36);
+        put_some_slot(self.initrd, sector, at + 44);
+        put_u16(sector, at + 52, self.chain);
+        put_u16(sector, at + 54, self.initrd_chain);
+        put_some_slot(self.extra, sector, at + 56);
+    }
 }
 
 // Whether 64 bytes are a descriptor, whatever the others are.

@@ -1,4 +1,4 @@
-//! The readers of a map's sectors: its boot sector, the descriptor table, the options and extra sectors of
+//! The readers and writers of a map's sectors: its boot sector, the descriptor table, the options and extra sectors of
 //! an entry, and the default line.
 //!
 //! The layouts of these sectors are this project's own; a boot sector ends with the two bytes that a BIOS
@@ -21,7 +21,7 @@ mod table;
 mod tests;
 mod text;
 
-pub use boot_sector::BootSector;
+pub use boot_sector::{BootSector, restore};
 pub use default_line::DefaultLine;
 pub use descriptor::Descriptor;
 pub use extra::Extra;

@@ -1,13 +1,14 @@
 // Slots of one sector, and fields that are all zero.
-ghost use Rattle.std.specs.Prelude.{◌≡◌, ◌||◌, if◌then◌else◌, true, length, Some, None, IfSome};
+ghost use Rattle.std.specs.Prelude.{◌≡◌, ◌+◌, ◌≤◌, ◌||◌, if◌then◌else◌, true, length, Some, None, IfSome};
 ghost use Rattle.std.specs.Option.{option_map};
-ghost use Rattle.lilo_model.specs.Bytes.{is_zero};
-ghost use Rattle.lilo_model.specs.Slots.{is_slot, is_one_slot, slot_of, some_slot};
+ghost use Rattle.lilo_model.specs.Bytes.{is_zero, with_part};
+ghost use Rattle.lilo_model.specs.Slots.{is_slot, is_one_slot, slot_of, some_slot, optional_bytes};
 ghost use Rattle.sector_address.specs.View.{slot_view};
+ghost use Rattle.sector_address.specs.Whole.{IsSlot};
 ghost use Rattle.boot_map.specs.Ranges.{IsOneSector};
 
 use sector_address::Slot;
-use sector_parts::FieldRef;
+use sector_parts::{FieldRef, Sector, put_part};
 
 // Whether all bytes are zero.
 #[tactic(auto, unfolding(lilo_model::specs::Bytes::is_zero))]
@@ -64,5 +65,17 @@ pub(crate) fn some_slot(bytes: &[u8]) -> Option<Slot>
         None
     } else {
         Some(slot_of(bytes))
+    }
+}
+
+// Writes the eight bytes of a slot, zeros for none, from an offset on.
+pub(crate) fn put_some_slot(slot: Option<Slot>, sector: &mut Sector, at: usize)
+    requires inside { at + 8 ≤ 512 }
+    requires whole { IfSome slot (λ slot. IsSlot (slot_view slot)) }
+    ensures { sector.new ≡ with_part sector.old at (optional_bytes (option_map slot_view slot)) }
+{
+    match slot {
+        None => put_part(sector, at, &[0; 8]),
+        Some(slot) => slot.put(sector, at),
     }
 }

@@ -1,8 +1,10 @@
-ghost use Rattle.std.specs.Prelude.{◌≡◌, ◌*◌, ◌<◌, ◌≤◌, length, All, IfOk};
+ghost use Rattle.std.specs.Prelude.{◌≡◌, ◌*◌, ◌<◌, ◌≤◌, length, Ok, All, IfOk};
 ghost use Rattle.lilo_model.specs.Checks.{seen};
 ghost use Rattle.lilo_model.specs.Table.{entry_bytes, same_name, repeats, breaks, table_at};
+ghost use Rattle.lilo_model.specs.Plan.{sectors_of_table};
+ghost use Rattle.map_again_laws.specs.Fits.{FitEntries, HaveNames};
 ghost use Rattle.boot_map.specs.View.{table_view, map_fault_view};
-ghost use Rattle.boot_map.specs.Ranges.{IsNamed, HasSectors, FitsFlags};
+ghost use Rattle.boot_map.specs.Ranges.{IsNamed, HasSectors, FitsFlags, HasEntrySlots};
 
 use crate::boot_sector::BootSector;
 use crate::descriptor::{Descriptor, descriptor_of, entry_name, is_entry};
@@ -38,6 +40,22 @@ impl Table {
             entries.push(descriptor_of(entry_bytes(sectors, place)));
         }
         Ok(Table { entries })
+    }
+
+    /// Writes the entries into the three sectors of a table, eight into each, and zeros after the last.
+    #[tactic(auto, unfolding(lilo_model::specs::Plan::sectors_of_table))]
+    pub fn write_into(&self, sectors: &mut [Sector])
+        requires three { length sectors.old ≡ 3 }
+        requires fits { length self.now.entries.items ≤ 24 }
+        requires slots { All HasEntrySlots self.now.entries.items }
+        ensures bytes { sectors.new ≡ sectors_of_table (table_view self.now) }
+        ensures again { FitEntries (table_view self.now) → HaveNames (table_view self.now)
+            → table_at (length self.now.entries.items) sectors.new ≡ Ok (table_view self.now) }
+    {
+        sectors.copy_from_slice(&[[0; 512]; 3]);
+        for (index, entry) in self.entries.iter().enumerate() {
+            entry.put(&mut sectors[index / 8], index % 8 * 64);
+        }
     }
 }
 

@@ -1,16 +1,93 @@
+ghost use Rattle.std.specs.Prelude.{◌≡◌, length, All};
+ghost use Rattle.boot_map.specs.Ranges.{IsWritable, HasMapSlots, HasEntrySlots};
+
 use crate::fixture::{boot_sector, line_sector, two_entries};
 use crate::text::copy_of;
-use crate::{BootSector, DefaultLine, Extra, MapFault, Options, Table, flags};
+use crate::{BootSector, DefaultLine, Descriptor, Extra, MapFault, Options, Table, flags, restore};
+use arrayvec::ArrayVec;
 use sector_address::{Address, Slot};
 use sector_parts::{put_part, put_u16};
 use std::test::Fail;
 
 // The slot of one sector of the first disk, by its number.
-fn one_sector(number: u32) -> Slot {
+fn one_sector(number: u32) -> Slot
+    ensures { IsWritable result }
+{
     Slot {
         disk: 0,
         count: 1,
         address: Address::Lba32(number),
+    }
+}
+
+// The slots of the three table sectors.
+fn table_slots() -> ArrayVec<Slot, 6>
+    ensures three { length result.items ≡ 3 }
+    ensures slots { All IsWritable result.items }
+{
+    let mut slots = ArrayVec::new();
+    slots.push(one_sector(95));
+    slots.push(one_sector(96));
+    slots.push(one_sector(97));
+    slots
+}
+
+// What the boot sector of one name says.
+fn boot() -> BootSector
+    ensures { HasMapSlots result }
+{
+    BootSector {
+        version: 1,
+        time: 0,
+        prompt: true,
+        delay: 0,
+        timeout: Some(50),
+        names: 1,
+        default_entry: 0,
+        message_length: 0,
+        message_chain: 0,
+        line: one_sector(94),
+        zero: one_sector(98),
+        message: None,
+        table: table_slots(),
+    }
+}
+
+// What the descriptor of `linux` says.
+fn linux() -> Descriptor
+    ensures { HasEntrySlots result }
+{
+    Descriptor {
+        name: copy_of(b"linux"),
+        flags: flags::INITRD,
+        vga: 0,
+        length: 1029,
+        initrd_length: 700,
+        options: one_sector(99),
+        first: one_sector(100),
+        initrd: Some(one_sector(101)),
+        chain: 1,
+        initrd_chain: 1,
+        extra: None,
+    }
+}
+
+// What that of `next` says.
+fn next() -> Descriptor
+    ensures { HasEntrySlots result }
+{
+    Descriptor {
+        name: copy_of(b"next"),
+        flags: flags::FALLBACK,
+        vga: 0,
+        length: 900,
+        initrd_length: 0,
+        options: one_sector(102),
+        first: one_sector(103),
+        initrd: None,
+        chain: 1,
+        initrd_chain: 0,
+        extra: Some(one_sector(104)),
     }
 }
 
@@ -156,4 +233,69 @@ fn default_lines_are_read(rt: HostRuntime) {
     let mut foreign = line_sector(1, 12);
     foreign[3] = b'X';
     assert_eq!(rt; DefaultLine::read(&foreign), Err(MapFault::BadLine));
+}
+
+#[test]
+fn a_boot_sector_is_merged(rt: HostRuntime) {
+    let mut expected = boot_sector();
+    put_part(&mut expected, 128, &[7; 312]);
+    put_part(&mut expected, 440, &[9; 70]);
+    let mut sector = [5; 512];
+    boot().merge(&[7; 512], &[9; 512], &mut sector);
+    assert_eq!(rt; sector, expected);
+}
+
+#[test]
+fn a_backup_is_restored(rt: HostRuntime) {
+    let mut expected = [7; 512];
+    put_part(&mut expected, 440, &[9; 70]);
+    let mut sector = [5; 512];
+    restore(&[7; 512], &[9; 512], &mut sector);
+    assert_eq!(rt; sector, expected);
+}
+
+#[test]
+fn texts_are_written(rt: HostRuntime) {
+    let mut sector = [5; 512];
+    let mut expected = [0; 512];
+    put_part(&mut expected, 0, b"\x0C\0\0\0\0\0\0\0 ro root=301");
+    Options {
+        middle: copy_of(b" ro root=301"),
+    }
+    .write_into(&mut sector);
+    assert_eq!(rt; sector, expected);
+
+    expected = [0; 512];
+    put_part(&mut expected, 0, b"\x03\0\x04\0old");
+    put_part(&mut expected, 480, b"tux1");
+    Extra {
+        fallback: copy_of(b"old"),
+        password: copy_of(b"tux1"),
+    }
+    .write_into(&mut sector);
+    assert_eq!(rt; sector, expected);
+}
+
+#[test]
+fn default_lines_are_written(rt: HostRuntime) {
+    let mut sector = [5; 512];
+    DefaultLine::Kept(copy_of(b"linux single")).write_into(&mut sector);
+    assert_eq!(rt; sector, line_sector(2, 12));
+    DefaultLine::Once(copy_of(b"linux single")).write_into(&mut sector);
+    assert_eq!(rt; sector, line_sector(1, 12));
+    DefaultLine::Empty.write_into(&mut sector);
+    let mut expected = [0; 512];
+    put_part(&mut expected, 0, b"LINE");
+    assert_eq!(rt; sector, expected);
+}
+
+#[test]
+fn tables_are_written(rt: HostRuntime) {
+    let mut entries = ArrayVec::new();
+    entries.push(linux());
+    entries.push(next());
+    let (_, first) = two_entries();
+    let mut sectors = [[5; 512]; 3];
+    Table { entries }.write_into(&mut sectors);
+    assert_eq!(rt; sectors, [first, [0; 512], [0; 512]]);
 }

@@ -1,0 +1,5 @@
+pub mod AskLemmas
+pub mod LawLemmas
+pub mod ShowLemmas
+pub mod SilenceLemmas
+pub mod TaleLemmas

@@ -1,0 +1,4 @@
+pub mod Asking
+pub mod Laws
+pub mod Message
+pub mod Tale

@@ -3,11 +3,12 @@
 //! can't be used.
 #![tactic(auto)]
 
-use disk_trait::{FileDisk, FileDisks, Geometry};
-use mbr_table::{device_of, place_of};
+use disk_trait::{Disks, FileDisk, FileDisks, Geometry};
+use mbr_table::{Device, device_of, place_of};
 use minix_survey::{SurveyFault, survey};
 use minix_tree::TreeFault;
 use minix_zones::Volume;
+use std::alloc::Global;
 use std::fs::File;
 use std::process::ExitCode;
 use std::{env, io};
@@ -41,12 +42,24 @@ fn answer(rt: &HostRuntime) -> Option<Result<(), SurveyFault>> {
     let disk = FileDisk::new(file, Geometry::new(16, 63).ok()?).ok()?;
     let mut disks = FileDisks::new(rt.alloc());
     disks.push(Some(disk)).ok()?;
-    let span = place_of(&mut disks, device).ok()?;
-    if span.count < FEWEST {
-        return None;
-    }
-    match Volume::attach(&mut disks, span) {
-        Ok(mut volume) => Some(survey(rt.alloc(), &mut volume).map(|_| ())),
+    survey_at(rt.alloc(), &mut disks, device)
+}
+
+/// What is wrong with the volume on a device.
+fn survey_at<D: Disks>(
+    alloc: Global,
+    disks: &mut D,
+    device: Device,
+) -> Option<Result<(), SurveyFault>> {
+    let span = match place_of(disks, device) {
+        Ok(span) if span.count >= FEWEST => span,
+        _ => return None,
+    };
+    match Volume::attach(disks, span) {
+        Ok(mut volume) => match survey(alloc, &mut volume) {
+            Ok(_) => Some(Ok(())),
+            Err(fault) => Some(Err(fault)),
+        },
         Err((_, fault)) => Some(Err(SurveyFault::Tree(TreeFault::Zone(fault)))),
     }
 }

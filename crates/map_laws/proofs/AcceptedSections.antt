@@ -26,7 +26,7 @@ use Rattle.lilo_model.specs.PlanRefusal.{PlanFault, each_passes, if_there, devic
 use Rattle.map_laws.specs.Lies.{FileLies, SystemLies, TargetLies}
 use Rattle.map_laws.specs.PlannedLies.{some_target, targets_for, FilesLie}
 use Rattle.map_laws.specs.Accepted.{IsInside, HasVolume, HasZeros, IsSystemLeft, IsSectionLeft}
-use Rattle.map_laws.proofs.Parts.{part-after, part-prefix}
+use Rattle.map_again_laws.proofs.Parts.{part-after, part-prefix}
 use Rattle.map_laws.proofs.MeantFiles.{file-both, inode-named, length-content}
 use Rattle.map_laws.proofs.Accepted.{both-pass, told-ok, all-pass, place-named, accepted_file_law, optional-lies}
 use Rattle.map_laws.proofs.AcceptedKernels.{kernel-accepted}

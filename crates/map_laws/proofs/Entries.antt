@@ -15,7 +15,7 @@ use Rattle.lilo_model.specs.Plan.{MappedFile, MappedSection, slot_to, place_of_s
 use Rattle.map_laws.specs.Shows.{whole, ShowsKernel, ShowsSystem, ShowsTarget, target_middle, ShowsEntry}
 use Rattle.map_laws.specs.Lies.{IsNamed, AreNamed, IsNone, OptionalLies, IsFitSection, TargetLies}
 use Rattle.lilo_model.specs.Lays.{AreAt}
-use Rattle.map_laws.proofs.Texts.{options_again, extra_again}
+use Rattle.map_again_laws.proofs.Texts.{options_again, extra_again}
 use Rattle.map_laws.proofs.Flags.{FlagsAre, flags-are}
 use Rattle.map_laws.proofs.Files.{file-shown, file-still, lie-still}
 

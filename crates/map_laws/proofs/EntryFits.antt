@@ -10,7 +10,7 @@ use Rattle.lilo_model.specs.Meant.{Target, Kernel, System}
 use Rattle.lilo_model.specs.Plan.{MappedFile, MappedSection, slot_to, place_of_sector, section_sectors, slots_for, chain_for, optional_chain, needs_extra, extra_sectors, main_places, initrd_places, file_sectors, optional_sectors, chain_sectors, section_sectors_at, flags_of, descriptor_for}
 use Rattle.map_laws.specs.Lies.{IsOneSlot, AreNamed, FileLies, OptionalLies, IsFitSection, IsName, TargetLies}
 use Rattle.lilo_model.specs.Lays.{AreAt}
-use Rattle.map_laws.proofs.EntryAgain.{FitsOptional, FitsFlags, FitsEntry}
+use Rattle.map_again_laws.specs.Fits.{FitsOptional, FitsFlags, FitsEntry}
 use Rattle.map_laws.proofs.Files.{chain-is, slots-between}
 use Rattle.map_laws.proofs.Entries.{lie-prefix, files-at, flags-of}
 

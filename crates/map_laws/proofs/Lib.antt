@@ -1,11 +1,6 @@
-pub mod Parts
-pub mod SlotAgain
-pub mod Texts
 pub mod SectionAgain
 pub mod FileAgain
-pub mod BootAgain
-pub mod EntryAgain
-pub mod TableAgain
+mod Kept
 pub mod Flags
 pub mod Compact
 pub mod Reckoned

@@ -10,10 +10,10 @@ use Rattle.lilo_model.specs.Section.{SectionFault, Step, Reads, Names, Listing, 
 use Rattle.sector_address.specs.Whole.{IsSlot}
 use Rattle.sector_address.proofs.BytesLemmas.{encode_law}
 use Rattle.lilo_model.specs.Plan.{chain_sectors}
-use Rattle.map_laws.proofs.Parts.{part-prefix, part-between, length-filled}
+use Rattle.map_again_laws.proofs.Parts.{part-prefix, part-between, length-filled}
 use Rattle.map_laws.specs.Lies.{IsOneSlot, IsNamed, AreNamed}
 use Rattle.lilo_model.specs.Lays.{slots_of, slots_at_link, slots_from, chain_slots, AreAt}
-use Rattle.map_laws.proofs.SlotAgain.{length-slot}
+use Rattle.map_again_laws.proofs.SlotAgain.{length-slot}
 
 -- a slot, and the sectors that it names
 pub record Group : Type 0 where

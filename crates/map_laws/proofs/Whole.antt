@@ -19,11 +19,13 @@ use Rattle.lilo_model.specs.Plan.{MappedFile, MappedSection, Plan, slot_to, plac
 use Rattle.map_laws.specs.Shows.{whole, ShowsEntries, Shows}
 use Rattle.map_laws.specs.Lies.{AreNamed, IsNone, OptionalLies, IsFitSection, IsOtherName, AreNames, TargetLies, TargetsLie, entries_for, MapLies, MapLaw}
 use Rattle.lilo_model.specs.Lays.{AreAt}
-use Rattle.map_laws.proofs.TableAgain as table
-use Rattle.map_laws.proofs.TableAgain.{FitEntries, HaveNames}
+use Rattle.map_again_laws.proofs.TableAgain as table
+use Rattle.map_again_laws.specs.Fits as fits
+use Rattle.map_again_laws.specs.Fits.{FitEntries, HaveNames, FitsMessage, FitsBoot}
 use Rattle.map_laws.proofs.Entries.{lie-prefix, lie-suffix, named-drop, none-drop, length-file, length-optional, EntryShown, section-read, slot-read}
-use Rattle.map_laws.proofs.Parts.{length-filled}
-use Rattle.map_laws.proofs.BootAgain.{FitsMessage, FitsBoot, code-again, kept-again, boot_again}
+use Rattle.map_again_laws.proofs.Parts.{length-filled}
+use Rattle.map_again_laws.proofs.BootAgain.{boot_again}
+use Rattle.map_laws.proofs.Kept.{code-again, kept-again}
 use Rattle.map_laws.proofs.Files.{file-shown, chain-is, slots-between}
 use Rattle.map_laws.proofs.Shown.{shows_law}
 use Rattle.map_laws.proofs.EntryFits.{chain-some, first-one, entry-bytes-fit}
@@ -148,7 +150,7 @@ module _ (image : Image) (machine : Machine) (config : Config) (line_place zero_
 
 -- ---- names
 
-other-names : (name : List ℕ) (entries : List Descriptor) → IsOtherName name (map (λ (entry : Descriptor). entry.name) entries) → table.IsOtherName name entries
+other-names : (name : List ℕ) (entries : List Descriptor) → IsOtherName name (map (λ (entry : Descriptor). entry.name) entries) → fits.IsOtherName name entries
 other-names name [] other = tt
 other-names name (entry ∷ entries) other = (other.0, other-names name entries other.1)
 

@@ -6,21 +6,15 @@ use Rattle.lilo_model.specs.Disks.{Image, Machine, Span, DiskSector, bytes_at}
 use Rattle.lilo_model.specs.Conf.{Config, ConfSection}
 use Rattle.lilo_model.specs.Slots.{Slot, place_at}
 use Rattle.lilo_model.specs.Section.{sectors_for}
-use Rattle.lilo_model.specs.Table.{is_printable}
 use Rattle.lilo_model.specs.LineSector.{line_at, line_capacity}
 use Rattle.lilo_model.specs.DefaultLine.{DefaultLine}
 use Rattle.lilo_model.specs.Prompt.{Key}
 use Rattle.lilo_model.specs.Boot.{whole_boot}
-use Rattle.sector_address.specs.Whole.{IsSlot}
+pub use Rattle.map_again_laws.specs.Fits.{IsOneSlot, IsName}
 use Rattle.lilo_model.specs.Meant.{Target, Kernel, System, MenuEntry, Menu, menu_entry, menu_boot, middle_text, default_place}
 use Rattle.lilo_model.specs.ConfLawful.{names_of_section}
 use Rattle.lilo_model.specs.Lays.{AreAt}
 use Rattle.lilo_model.specs.Plan.{MappedFile, MappedSection, Plan, slot_to, slots_for, filled_places, plan_sectors, plan_boot_sector, plan_names}
-
--- a slot of one sector that eight bytes can name
-pub record IsOneSlot (slot : Slot) : Type 0 where
-  pub whole : IsSlot slot
-  pub one : slot.count ≡ 1
 
 -- a slot of one sector names a place
 pub record IsNamed (machine : Machine) (to : DiskSector → Slot) (place : DiskSector) : Type 0 where
@@ -96,9 +90,6 @@ entries_for [] targets = []
 entries_for (mapped ∷ sections) [] = []
 entries_for (mapped ∷ sections) (target ∷ targets) =
     map (menu_entry mapped.section target) (names_of_section mapped.section) ++ entries_for sections targets
-
-abbrev pub IsName : List ℕ → Type 0
-IsName name = (1 ≤ length name) × (length name ≤ 15) × (is_printable name ≡ true)
 
 abbrev pub IsOtherName : List ℕ → List (List ℕ) → Type 0
 IsOtherName name [] = Unit {0}

@@ -1,2 +1,3 @@
 mod OwnLemmas
 mod SmallLemmas
+mod TestLemmas

@@ -57,6 +57,7 @@ unfolding IsSound
 own_names_law volume old image same sound = same-sound volume old image same sound
 
 pub own_sectors_law : OwnSectorsLaw
-own_sectors_law volume old image same =
-    ((λ sound. (own_names_law volume old image same sound).sound),
-    (λ sound. (own_names_law volume image old (λ sector below. sym (same sector below)) sound).sound))
+own_sectors_law volume old image same = (
+  (λ sound. (own_names_law volume old image same sound).sound),
+  (λ sound. (own_names_law volume image old (λ sector below. sym (same sector below)) sound).sound),
+)

@@ -20,7 +20,7 @@ use Rattle.minix_laws.proofs.RootOnly.{RootOnly, root_only-sound}
 use Rattle.minix_layout.specs.View.{super_view}
 use Rattle.minix_zones.specs.Volume.{volume_view, past_of}
 use Rattle.minix_zones.specs.declared.volume.Volume.{Volume}
-use Rattle.minix_steps.specs.Steps.{IsReady, Steps}
+use Rattle.minix_steps.specs.Steps.{IsReady}
 use Rattle.minix_steps.proofs.ReadyLemmas.{quiet_ready, unmarked_unused, unmarked_unnamed}
 use Rattle.minix_stops.specs.Laws.{HasSectorsOf}
 use Rattle.minix_stops.specs.Small.{small_layout, small_volume, small_sector, small_image, with_root_entry, zeros, IsOpen}
@@ -225,22 +225,6 @@ module _ {D : Type 0} {disks : Ghosts D} (volume : Volume D disks) (kind : Kind)
       let both : Ok (volume_view volume) ≡ Ok (small_volume kind) = sym found ∙ small-at kind (now_of past) same in
       now-open cc
 
--- ---- steps keep it open
-
-module _ {D : Type 0} {disks : Ghosts D} (old new : Volume D disks) (was : IsOpen old) (steps : Steps old new) where
-  same-layout : new.layout ≡ old.layout
-  same-layout = steps.kept.same_layout
-
-  pub stays_open : IsOpen new
-  stays_open = record {
-    ready = steps.ready;
-    first = ap (λ l. l.first) same-layout ∙ was.first;
-    zones = ap (λ l. l.zones) same-layout ∙ was.zones;
-    inodes = ap (λ l. l.inodes) same-layout ∙ was.inodes;
-    unused = λ zone from below. steps.unused zone (was.unused zone from below);
-    unnamed = λ number from below. steps.unnamed number (was.unnamed number from below);
-  }
-
 -- ---- the sectors as they are set
 
 cons-eqb : (m n : ℕ) (b : Bool) → (n == m) ≡ b → (8 + m == 8 + n) ≡ b
@@ -270,7 +254,7 @@ pub entries_made : (kind : Kind) (size : ℕ) (one two three four : List ℕ) �
     → four ≡ with_root_entry kind (entry_size kind) above_name (with_root_entry kind 0 here_name zeros)
 entries_made kind size one two three four is first second third fourth =
     let P : ℕ → ℕ → Type 0 = λ n len. with_part (with_part (with_part (with_part zeros 0 (bytes16 1)) 2 (filled_bytes len here_name)) n (bytes16 1)) (n + 2) (filled_bytes len above_name)
-        ≡ with_root_entry kind (entry_size kind) above_name (with_root_entry kind 0 here_name zeros) in
+    ≡ with_root_entry kind (entry_size kind) above_name (with_root_entry kind 0 here_name zeros) in
     let len : size - 2 ≡ name_size kind = omega (arith, is) in
     fourth
     ∙ ap (λ bytes. with_part bytes (size + 2) (filled_bytes (size - 2) above_name))

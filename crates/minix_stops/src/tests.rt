@@ -10,9 +10,10 @@ use disk_trait::{Disks, MemDisks};
 use minix_layout::{FsKind, Inode, where_inode};
 use minix_steps::{put_inode_mark, put_zone_mark, settle, write_inode, write_zone};
 use minix_survey::survey;
-use minix_tree::{entries_per_block, entry_size, lookup_name, read_file, TreeFault};
+use minix_tree::{TreeFault, entries_per_block, entry_size, lookup_name, read_file};
 use minix_turns::{
-    EntryPlace, turn_entry, turn_free, turn_links, turn_number, turn_pointer, turn_replace, turn_size,
+    EntryPlace, turn_entry, turn_free, turn_links, turn_number, turn_pointer, turn_replace,
+    turn_size,
 };
 use minix_zones::{Volume, ZoneFault};
 use sector_parts::{FieldRef, part};
@@ -55,6 +56,7 @@ const STEPS: [Step; 14] = [
 
 const STEP_EVENTS: u32 = 49;
 
+#[tactic(auto, using(crate::proofs::TestLemmas::stays_open))]
 fn spoil(volume: &mut Volume<'_, MemDisks>, zone: u32) -> Result<(), ZoneFault>
     requires open { IsOpen volume.old }
     requires from { 6 ≤ zone }
@@ -66,6 +68,7 @@ fn spoil(volume: &mut Volume<'_, MemDisks>, zone: u32) -> Result<(), ZoneFault>
     settle(volume)
 }
 
+#[tactic(auto, using(crate::proofs::TestLemmas::stays_open))]
 fn fill(volume: &mut Volume<'_, MemDisks>, zone: u32, bytes: &[u8; 1024]) -> Result<(), ZoneFault>
     requires open { IsOpen volume.old }
     requires from { 6 ≤ zone }
@@ -78,6 +81,7 @@ fn fill(volume: &mut Volume<'_, MemDisks>, zone: u32, bytes: &[u8; 1024]) -> Res
     settle(volume)
 }
 
+#[tactic(auto, using(crate::proofs::TestLemmas::stays_open))]
 fn make_file(volume: &mut Volume<'_, MemDisks>, number: u32, zone: u32) -> Result<(), ZoneFault>
     requires open { IsOpen volume.old }
     requires from { 2 ≤ number }
@@ -100,7 +104,11 @@ fn make_file(volume: &mut Volume<'_, MemDisks>, number: u32, zone: u32) -> Resul
     settle(volume)
 }
 
-fn step(rt: &impl Abort, volume: &mut Volume<'_, MemDisks>, step: Step) -> Result<(), ZoneFault>
+fn take_step(
+    rt: &impl Abort,
+    volume: &mut Volume<'_, MemDisks>,
+    step: Step,
+) -> Result<(), ZoneFault>
     requires open { IsOpen volume.old }
     ensures open { IsOpen volume.new }
     ensures quiet { OnOk result (IsQuiet (past_of volume.new)) }
@@ -133,7 +141,7 @@ fn prepare(rt: &impl Abort, volume: &mut Volume<'_, MemDisks>) -> Result<(), Zon
     ensures quiet { OnOk result (IsQuiet (past_of volume.new)) }
 {
     for taken in STEPS {
-        step(rt, volume, taken)?;
+        take_step(rt, volume, taken)?;
     }
     Ok(())
 }
@@ -236,6 +244,7 @@ fn inode_at(volume: &mut Volume<'_, MemDisks>, number: u32) -> Result<Inode, Zon
     }
 }
 
+#[tactic(auto, using(crate::proofs::TestLemmas::same_quiet))]
 fn links(volume: &mut Volume<'_, MemDisks>, number: u32, links: u16) -> Result<(), ZoneFault>
     requires some { 1 ≤ number }
     requires there { number ≤ volume.old.layout.inodes }
@@ -247,6 +256,7 @@ fn links(volume: &mut Volume<'_, MemDisks>, number: u32, links: u16) -> Result<(
     turn_links(volume, number, &inode, links)
 }
 
+#[tactic(auto, using(crate::proofs::TestLemmas::same_quiet))]
 fn size(volume: &mut Volume<'_, MemDisks>, size: u32) -> Result<(), ZoneFault>
     requires there { 1 ≤ volume.old.layout.inodes }
     requires quiet { IsQuiet (past_of volume.old) }
@@ -256,6 +266,7 @@ fn size(volume: &mut Volume<'_, MemDisks>, size: u32) -> Result<(), ZoneFault>
     turn_size(volume, 1, &inode, size)
 }
 
+#[tactic(auto, using(crate::proofs::TestLemmas::same_quiet))]
 fn pointer(
     volume: &mut Volume<'_, MemDisks>,
     top: usize,
@@ -270,11 +281,6 @@ fn pointer(
 {
     let inode = inode_at(volume, 1)?;
     turn_pointer(volume, 1, &inode, top, zone, size)
-}
-
-// Whether a zone has an entry with an index.
-fn has_entry(kind: FsKind, zone: u32, index: u16) -> bool {
-    5 <= zone && zone < 24 && index < entries_per_block(kind)
 }
 
 fn take(rt: &impl Abort, volume: &mut Volume<'_, MemDisks>, turn: Turn) -> Result<(), ZoneFault>
@@ -334,8 +340,8 @@ fn inode_of(alloc: Global, volume: &mut Volume<'_, MemDisks>, path: &[u8]) -> u3
         Err(_) => return u32::MAX,
     };
     match (number, read_file(alloc, volume, path)) {
-        (2, Ok(bytes)) if is_all(bytes.as_slice(), b'a') => 2,
-        (3, Ok(bytes)) if is_all(bytes.as_slice(), b'b') => 3,
+        (2, Ok(bytes)) if is_all(bytes.bytes(), b'a') => 2,
+        (3, Ok(bytes)) if is_all(bytes.bytes(), b'b') => 3,
         _ => u32::MAX,
     }
 }
@@ -441,7 +447,12 @@ fn written(rt: &impl Abort, alloc: Global, kind: FsKind) -> Result<Option<MemDis
 #[test]
 fn each_stop_is_read_back(rt: HostRuntime) -> Result<(), Fail> {
     let alloc = rt.alloc();
-    for kind in [FsKind::V1Short, FsKind::V1Long, FsKind::V2Short, FsKind::V2Long] {
+    for kind in [
+        FsKind::V1Short,
+        FsKind::V1Long,
+        FsKind::V2Short,
+        FsKind::V2Long,
+    ] {
         let Some(disks) = written(&rt, alloc, kind)? else {
             assert!(rt; false);
             return Ok(());
@@ -454,7 +465,10 @@ fn each_stop_is_read_back(rt: HostRuntime) -> Result<(), Fail> {
                     assert!(rt; false, "choice {choice} after {prefix} events of {kind:?}");
                     return Ok(());
                 };
-                assert!(rt; may_be(&names, prefix), "{names:?}, choice {choice} after {prefix} events of {kind:?}");
+                assert!(rt;
+                    may_be(&names, prefix),
+                    "{names:?}, choice {choice} after {prefix} events of {kind:?}"
+                );
                 images = images.saturating_add(1);
             }
         }

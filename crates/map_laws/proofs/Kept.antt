@@ -17,8 +17,8 @@ length-boot : (boot : BootSector) → FitsBoot boot → length (field_bytes boot
 unfolding field_bytes
 length-boot boot fits =
     let slots =
-        length-slots (slot_bytes boot.line) (slot_bytes boot.zero_sector) (optional_bytes boot.message) (slot_bytes fits.one) (slot_bytes fits.two) (slot_bytes fits.three) boot.default_entry
-        (length-slot boot.line) (length-slot boot.zero_sector) (length-optional boot.message) (length-slot fits.one) (length-slot fits.two) (length-slot fits.three) in
+    length-slots (slot_bytes boot.line) (slot_bytes boot.zero_sector) (optional_bytes boot.message) (slot_bytes fits.one) (slot_bytes fits.two) (slot_bytes fits.three) boot.default_entry
+    (length-slot boot.line) (length-slot boot.zero_sector) (length-optional boot.message) (length-slot fits.one) (length-slot fits.two) (length-slot fits.three) in
     rw (fits.table) (omega (arith, slots))
 
 -- the code after them, and what stays of the sector that was there

@@ -59,7 +59,7 @@ pub data InstallRefusal : Type 0 where
 abbrev pub install_status : InstallRefusal → ℕ
 install_status (Reading refusal) = refusal_status refusal
 install_status (NotSound fault) = 3
-install_status (NotApart option) = 4
+install_status (NotApart which) = 4
 install_status (BadName refusal) = 3
 install_status (NoPlan fault) = plan_status fault
 install_status NoLink = 5
@@ -86,7 +86,7 @@ room_text (rooms.Tree fault) = []
 unfoldable pub install_line : InstallRefusal → List ℕ
 install_line (Reading refusal) = refusal_line refusal
 install_line (NotSound fault) = codes "lilo: volume: survey\n"
-install_line (NotApart option) = codes "lilo: address: " ++ opt_name option ++ codes " is not apart\n"
+install_line (NotApart which) = codes "lilo: address: " ++ opt_name which ++ codes " is not apart\n"
 install_line (BadName refusal) = name_refusal_line refusal.path refusal.fault
 install_line (NoPlan fault) = codes "lilo: " ++ plan_kind (plan_status fault) ++ plan_text fault ++ codes "\n"
 install_line NoLink = codes "lilo: space: links\n"

@@ -1,6 +1,9 @@
 -- For which plain value each value of this crate stands.
 use Rattle.std.specs.Prelude.{Option, None, Some}
 use Rattle.std.specs.Option.{option_map}
+use Rattle.std.specs.Borrow.{Bor}
+use Rattle.lilo_model.specs.Slots as slots
+use Rattle.sector_address.specs.Whole.{IsSlot}
 use Rattle.sector_address.specs.declared.slot.Slot.{Slot}
 use Rattle.lilo_model.specs.Section as model
 use Rattle.sector_address.specs.View.{slot_view}
@@ -11,6 +14,14 @@ use Rattle.map_section.specs.declared.section_reader.SectionFault.{SectionFault}
 use Rattle.map_section.specs.declared.section_reader.SectionFault.TheVariants as faults
 use Rattle.map_section.specs.declared.section_reader.Stage.{Stage}
 use Rattle.map_section.specs.declared.section_reader.Stage.TheVariants as stages
+
+-- a slot that eight bytes can name
+abbrev pub IsWritable : Slot → Type 0
+IsWritable slot = IsSlot (slot_view slot)
+
+-- a slot that is lent, or none
+abbrev pub lent_view : Option (Bor Slot) → Option slots.Slot
+lent_view link = option_map (λ link. slot_view link.now) link
 
 -- an answer
 abbrev pub ask_view : Ask → reader.Ask

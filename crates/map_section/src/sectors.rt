@@ -1,14 +1,15 @@
 // The parts of a section sector.
-ghost use Rattle.std.specs.Prelude.{◌≡◌, ℕ, ◌*◌, ◌≤◌, ◌<◌, IfOk, IfSome};
+ghost use Rattle.std.specs.Prelude.{◌≡◌, ℕ, ◌*◌, ◌≤◌, ◌<◌, length, map, All, Ok, IfOk, IfSome};
 ghost use Rattle.std.specs.Option.{option_map};
 ghost use Rattle.lilo_model.specs.Bytes.{part_of};
 ghost use Rattle.lilo_model.specs.Checks.{seen};
-ghost use Rattle.lilo_model.specs.Section.{link_at};
+ghost use Rattle.lilo_model.specs.Section.{link_at, slot_parts, section_bytes};
+ghost use Rattle.lilo_model.specs.Lays.{slots_of};
 ghost use Rattle.lilo_model.specs.Slots.{slot_at};
 ghost use Rattle.sector_address.specs.View.{slot_view, address_fault_view};
 ghost use Rattle.sector_address.specs.Whole.{IsSlot};
 ghost use Rattle.map_section.specs.Reader.{IsLink};
-ghost use Rattle.map_section.specs.View.{section_fault_view};
+ghost use Rattle.map_section.specs.View.{section_fault_view, lent_view, IsWritable};
 
 use crate::SectionFault;
 use sector_address::{AddressFault, Slot};
@@ -23,6 +24,27 @@ pub fn section_sectors(slots: u32) -> u32
     ensures least { (sectors : ℕ) → slots ≤ 63 * sectors → result ≤ sectors }
 {
     slots.div_ceil(u32::from(SLOTS))
+}
+
+/// Fills a section sector with up to 63 slots, zeros after the last, and the link to the next section sector, if there
+/// is one.
+pub fn write_section(slots: &[Slot], link: Option<&Slot>, into: &mut Sector)
+    requires few { length slots.now ≤ 63 }
+    requires slots { All IsWritable slots.now }
+    requires link { IfSome link (λ link. IsWritable link.now) }
+    ensures bytes { into.new ≡ section_bytes (map slot_view slots.now) (lent_view link.entry) }
+    ensures slots { slots_of (slot_parts into.new) ≡ map slot_view slots.now }
+    ensures link { IfSome link.entry (λ link. link.now.count ≡ 1)
+        → (number : ℕ) → link_at number into.new ≡ Ok (lent_view link.entry) }
+{
+    *into = [0; 512];
+    for (index, slot) in slots.iter().enumerate() {
+        slot.put(into, 8 * index);
+    }
+    match link {
+        Some(link) => link.put(into, 504),
+        None => {}
+    }
 }
 
 /// The slot at an index below 64; the one at 63 is the link.

@@ -1,11 +1,16 @@
 ghost use Rattle.std.specs.Prelude.{◌+◌, ◌≤◌};
+ghost use Rattle.map_section.specs.View.{IsWritable};
 
 use super::*;
 use sector_address::{Address, Slot};
 use sector_parts::{Sector, put_part};
 
 // A slot of sectors of the first disk, by number.
-fn slot_of(sector: u32, count: u8) -> Slot {
+fn slot_of(sector: u32, count: u8) -> Slot
+    requires some { 1 ≤ count }
+    requires few { count ≤ 127 }
+    ensures { IsWritable result }
+{
     Slot {
         disk: 0,
         count,
@@ -140,4 +145,19 @@ fn slots_in_two_sectors(rt: HostRuntime) {
     assert!(rt; feed_linked(&mut reader, 200, &second));
     assert_eq!(rt; reader.next(), Ok(Ask::Slot(slot_of(64, 1))));
     assert_eq!(rt; reader.next(), Ok(Ask::Done));
+}
+
+#[test]
+fn a_section_sector_is_written(rt: HostRuntime) {
+    let mut sector = [5; 512];
+    write_section(&[slot_of(20, 3), slot_of(30, 1)], None, &mut sector);
+    let mut expected = [0; 512];
+    put_part(&mut expected, 0, &[3, 0x80, 3, 0, 20, 0, 0, 0]);
+    put_part(&mut expected, 8, &one(30));
+    assert_eq!(rt; sector, expected);
+
+    let link = slot_of(201, 1);
+    write_section(&[slot_of(20, 3), slot_of(30, 1)], Some(&link), &mut sector);
+    put_part(&mut expected, 504, &one(201));
+    assert_eq!(rt; sector, expected);
 }

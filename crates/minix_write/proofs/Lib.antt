@@ -1,0 +1,6 @@
+mod ChooseLemmas
+mod DirectoryLemmas
+mod FileLemmas
+mod GrowthLemmas
+mod PickLemmas
+mod ZonesLemmas

@@ -1,5 +1,5 @@
 -- When a call on disks may refuse.
-use Rattle.std.specs.Prelude.{◌≡◌, ◌↔◌, ◌<◌, ◌≤◌, ℕ, Result, IsErrOf}
+use Rattle.std.specs.Prelude.{◌≡◌, ◌↔◌, ◌≤◌, ℕ, Result, IsErrOf}
 use Rattle.disk_trait.specs.declared.disks.DiskFault.{DiskFault}
 use Rattle.disk_trait.specs.declared.disks.DiskFault.TheVariants.{Failed, OutOfRange}
 use Rattle.lilo_model.specs.Faults.{Rose}

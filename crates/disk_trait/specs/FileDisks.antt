@@ -1,5 +1,6 @@
 -- What is known of disks over image files: how large they are and how they are divided.
-use Rattle.std.specs.Prelude.{ℕ, List, Option, None, unwrap_or, slice_index_or}
+use Rattle.std.specs.Prelude.{ℕ, ◌+◌, ◌-◌, ◌*◌, ◌<◌, ◌≤◌, List, Option, None, unwrap_or, slice_index_or}
+use Rattle.lilo_model.specs.Bytes.{part_of}
 use Rattle.disk_trait.specs.declared.geometry.Geometry.{Geometry}
 use Rattle.disk_trait.specs.Absent.{absent_geometry}
 
@@ -28,3 +29,17 @@ file_sizes_of files disk = (shape_at files.disks disk).sectors
 -- how each disk is divided
 abbrev pub file_geometries_of : FileState → ℕ → Geometry
 file_geometries_of files disk = (shape_at files.disks disk).geometry
+
+-- sectors of a file that were read at once: the first one, how many, and their bytes
+pub record ReadSectors : Type 0 where
+  pub first : ℕ
+  pub count : ℕ
+  pub bytes : List ℕ
+
+-- a sector is among them
+abbrev pub IsHeld : ReadSectors → ℕ → Type 0
+IsHeld held sector = (held.first ≤ sector) × (sector < held.first + held.count)
+
+-- the bytes that were read of a sector
+abbrev pub held_sector : ReadSectors → ℕ → List ℕ
+held_sector held sector = part_of held.bytes ((sector - held.first) * 512) 512

@@ -67,7 +67,7 @@ impl<F: Read + Write + Seek + OpenFile> FileDisk<F> {
         requires { sector < self.old.sectors }
         ensures { self.new ≡ self.old }
     {
-        self.file.read(sector)
+        self.file.read(sector, self.sectors)
     }
 
     /// Writes a sector. After an error any part of it may be written.

@@ -7,6 +7,7 @@
 //! image files.
 #![tactic(auto)]
 
+mod ahead;
 mod disks;
 mod event;
 mod file_disk;

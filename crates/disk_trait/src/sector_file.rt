@@ -1,18 +1,22 @@
 // A file that is read and written by sectors.
-ghost use Rattle.std.specs.Prelude.{◌≡◌, ◌≢◌, ◌*◌, ◌+◌, ◌<◌, ◌^◌, IfOk, OnOk, OnErr, IsOk, Some, None};
+ghost use Rattle.std.specs.Prelude.{◌≡◌, ◌≢◌, ◌*◌, ◌+◌, ◌<◌, ◌≤◌, ◌^◌, IfOk, OnOk, OnErr, IsOk, Some, None};
 ghost use Rattle.std.specs.Io.Seek.{MovesTo};
-ghost use Rattle.std.specs.Io.KnownBytes.{Appends, Consumes};
+ghost use Rattle.std.specs.Io.KnownBytes.{Appends};
+ghost use Rattle.disk_trait.specs.FileDisks.{IsHeld, held_sector};
 
+use crate::ahead::Ahead;
 use sector_parts::Sector;
 use std::fs::OpenFile;
 use std::io;
 use std::io::{ErrorKind, Read, Seek, SeekFrom, Write};
 
-/// A file, and the sector at whose start it is, where that is known. Neighbouring sectors need no seek.
+/// A file, and the sector at whose start it is, where that is known. Neighbouring sectors need no seek, and are
+/// read at once.
 #[derive(Drop)]
 pub(crate) struct SectorFile<F> {
     file: F,
     at: Option<u64>,
+    ahead: Ahead,
 }
 
 impl<F> SectorFile<F> {
@@ -20,23 +24,54 @@ impl<F> SectorFile<F> {
     pub(crate) fn new(file: F) -> SectorFile<F>
         ensures file { result.file ≡ file }
         ensures at { result.at ≡ None }
+        ensures ahead { result.ahead.count ≡ 0 }
     {
-        SectorFile { file, at: None }
+        SectorFile {
+            file,
+            at: None,
+            ahead: Ahead::new(),
+        }
     }
 }
 
 impl<F: Read + Write + Seek + OpenFile> SectorFile<F> {
-    /// Reads a sector. An error is the file's, or says that it ends within the sector; where the file is
-    /// then isn't known.
-    pub(crate) fn read(&mut self, sector: u64) -> io::Result<Sector>
-        requires { sector * 512 < 2 ^ 64 }
-        ensures ok { OnOk result (self.new.at ≡ Some (sector + 1)) }
+    /// Reads a sector of a file with so many. An error is the file's, or says that it ends within the sector; where
+    /// the file is then isn't known. What is read with the sector doesn't fail it.
+    pub(crate) fn read(&mut self, sector: u64, sectors: u64) -> io::Result<Sector>
+        requires within { sector < sectors }
+        requires addressed { sectors * 512 < 2 ^ 64 }
+        ensures ok { IfOk result (λ bytes. IsHeld self.new.ahead sector × (bytes ≡ held_sector self.new.ahead sector)) }
+        ensures held { IsHeld self.old.ahead sector → IsOk result × (self.new ≡ self.old) }
+        ensures err { OnErr result (self.new.at ≡ None) }
+    {
+        if let Some(bytes) = self.ahead.get(sector) {
+            return Ok(bytes);
+        }
+        let count = self.ahead.count_from(sector, sectors);
+        if count > 1
+            && let Ok(bytes) = self.read_ahead(sector, count)
+        {
+            return Ok(bytes);
+        }
+        self.read_ahead(sector, 1)
+    }
+
+    // Reads sectors at once, and holds them.
+    fn read_ahead(&mut self, sector: u64, count: u64) -> io::Result<Sector>
+        requires some { 0 < count }
+        requires few { count ≤ 8 }
+        requires addressed { (sector + count) * 512 < 2 ^ 64 }
+        ensures ok { IfOk result (λ bytes. IsHeld self.new.ahead sector × (bytes ≡ held_sector self.new.ahead sector)) }
+        ensures at { OnOk result (self.new.at ≡ Some (sector + count)) }
         ensures err { OnErr result (self.new.at ≡ None) }
     {
         self.go_to(sector)?;
-        let bytes = read_sector(&mut self.file)?;
-        self.at = Some(sector + 1);
-        Ok(bytes)
+        self.ahead.fill(&mut self.file, sector, count)?;
+        self.at = Some(sector + count);
+        match self.ahead.get(sector) {
+            Some(bytes) => Ok(bytes),
+            None => unreachable!(),
+        }
     }
 
     /// Writes a sector. After an error any part of it may be written, and where the file is isn't known.
@@ -44,7 +79,9 @@ impl<F: Read + Write + Seek + OpenFile> SectorFile<F> {
         requires { sector * 512 < 2 ^ 64 }
         ensures ok { OnOk result (self.new.at ≡ Some (sector + 1)) }
         ensures err { OnErr result (self.new.at ≡ None) }
+        ensures ahead { self.new.ahead.count ≡ 0 }
     {
+        self.ahead.clear();
         self.go_to(sector)?;
         write_sector(&mut self.file, from)?;
         self.at = Some(sector + 1);
@@ -63,6 +100,7 @@ impl<F: Read + Write + Seek + OpenFile> SectorFile<F> {
         ensures elsewhere { self.old.at ≢ Some sector → MovesTo (F.stream_position self.old.file)
             (F.stream_position self.new.file) (sector * 512) result }
         ensures at { self.new.at ≡ None }
+        ensures ahead { self.new.ahead ≡ self.old.ahead }
     {
         if self.at.take() == Some(sector) {
             return Ok(());
@@ -70,21 +108,6 @@ impl<F: Read + Write + Seek + OpenFile> SectorFile<F> {
         self.file.seek(SeekFrom::Start(sector * 512))?;
         Ok(())
     }
-}
-
-// Reads the next sector of a file.
-fn read_sector<F: Read>(file: &mut F) -> io::Result<Sector>
-    ensures { IfOk result (Consumes (F.remaining file.old) (F.remaining file.new)) }
-{
-    let mut bytes = [0; 512];
-    let mut at = 0;
-    while at < 512 {
-        match file.read(&mut bytes[at..])? {
-            0 => return Err(io::Error::from(ErrorKind::UnexpectedEof)),
-            count => at += count,
-        }
-    }
-    Ok(bytes)
 }
 
 // Writes a sector where the file stands.

@@ -17,6 +17,8 @@ struct Calls {
     most: Cell<usize>,
     // How many seeks, reads and writes are made before all fail, and how.
     granted: Cell<u32>,
+    // Which read from here on fails alone, counted from 1 (0: none).
+    refused: Cell<u32>,
     fault: Cell<ErrorKind>,
     syncs_fail: Cell<bool>,
 }
@@ -30,6 +32,7 @@ impl Calls {
             syncs: Cell::new(0),
             most: Cell::new(512),
             granted: Cell::new(u32::MAX),
+            refused: Cell::new(0),
             fault: Cell::new(ErrorKind::Other),
             syncs_fail: Cell::new(false),
         }
@@ -78,6 +81,11 @@ impl CountedFile<'_> {
 impl Read for CountedFile<'_> {
     fn read(&mut self, buf: &mut [u8]) -> io::Result<usize> {
         self.calls.count(&self.calls.reads)?;
+        let refused = self.calls.refused.get();
+        self.calls.refused.set(refused.saturating_sub(1));
+        if refused == 1 {
+            return Err(io::Error::from(ErrorKind::Other));
+        }
         let (start, end) = self.part(buf.len());
         buf[..end - start].copy_from_slice(&self.bytes[start..end]);
         self.at = end;
@@ -166,9 +174,11 @@ fn counted_disks<'c>(
 #[test]
 fn neighbouring_sectors_need_no_seek(rt: HostRuntime) -> Result<(), Fail> {
     let (first, second) = (Calls::new(), Calls::new());
+    first.most.set(LENGTH);
     let mut disks = counted_disks(rt.alloc(), [&first, &second])?;
     assert_eq!(rt; first.taken(), [1, 0, 0]);
-    // Each call, and the seeks, reads and writes of the first file.
+    // Each call, and the seeks, reads and writes of the first file. Sectors 1 to 3 are read at once, and a
+    // sector that was read isn't read again until one is written.
     let run = [
         (Call::Write(0, 0, 9), Ok(0), [1, 0, 1]),
         (Call::Write(0, 1, 8), Ok(0), [0, 0, 1]),
@@ -180,13 +190,34 @@ fn neighbouring_sectors_need_no_seek(rt: HostRuntime) -> Result<(), Fail> {
         (Call::Read(0, 4), OUT_OF_RANGE, [0, 0, 0]),
         (Call::Read(0, 0), Ok(9), [1, 1, 0]),
         (Call::Read(0, 1), Ok(8), [0, 1, 0]),
-        (Call::Read(0, 1), Ok(8), [1, 1, 0]),
-        (Call::Write(0, 2, 6), Ok(0), [0, 0, 1]),
+        (Call::Read(0, 1), Ok(8), [0, 0, 0]),
+        (Call::Read(0, 3), Ok(7), [0, 0, 0]),
+        (Call::Read(0, 2), Ok(3), [0, 0, 0]),
+        (Call::Write(0, 2, 6), Ok(0), [1, 0, 1]),
+        (Call::Read(0, 3), Ok(7), [0, 1, 0]),
         (Call::Read(0, 2), Ok(6), [1, 1, 0]),
+        (Call::Read(0, 3), Ok(7), [0, 1, 0]),
+        (Call::Write(0, 3, 5), Ok(0), [1, 0, 1]),
+        (Call::Read(0, 3), Ok(5), [1, 1, 0]),
+        (Call::Read(0, 1), Ok(8), [1, 1, 0]),
+        (Call::Read(0, 3), Ok(5), [1, 1, 0]),
     ];
     for (call, answer, calls) in run {
         assert_eq!(rt; make(&mut disks, call), answer, "{call:?}");
         assert_eq!(rt; first.taken(), calls, "{call:?}");
+    }
+
+    // Where sectors can't be read at once, the one that was asked for is read alone.
+    first.most.set(512);
+    for granted in 0..2 {
+        let _ = make(&mut disks, Call::Write(0, 3, 5));
+        let _ = make(&mut disks, Call::Read(0, 0));
+        let _ = first.taken();
+        first.refused.set(granted + 1);
+        assert_eq!(rt; make(&mut disks, Call::Read(0, 1)), Ok(8), "{granted}");
+        assert_eq!(rt; first.taken(), [1, granted + 2, 0], "{granted}");
+        assert_eq!(rt; make(&mut disks, Call::Read(0, 1)), Ok(8), "{granted}");
+        assert_eq!(rt; first.taken(), [0, 0, 0], "{granted}");
     }
     Ok(())
 }

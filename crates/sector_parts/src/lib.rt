@@ -6,6 +6,7 @@
 
 mod field_mut;
 mod field_ref;
+mod halves;
 mod lent_part;
 mod sector;
 #[cfg(test)]
@@ -13,5 +14,6 @@ mod tests;
 
 pub use field_mut::FieldMut;
 pub use field_ref::FieldRef;
+pub use halves::{half, half_mut};
 pub use lent_part::{part_mut, put_name};
 pub use sector::{Sector, part, put_part, put_u16, put_u32, u16_at, u32_at};

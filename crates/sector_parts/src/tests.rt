@@ -1,3 +1,6 @@
+ghost use Rattle.std.specs.Prelude.{◌≡◌, ◌≤◌, length};
+ghost use Rattle.lilo_model.specs.Bytes.{part_of, with_part};
+
 use super::*;
 
 #[test]
@@ -57,4 +60,28 @@ fn a_name_fills_its_field(rt: HostRuntime) {
     let mut sector: Sector = [0xFF; 512];
     put_name(&mut sector, 8, 8, b"linux");
     assert_eq!(rt; part(&sector, 7, 10), b"\xFFlinux\0\0\0\xFF".as_slice());
+}
+
+// Writes bytes at the start of a block's second sector.
+fn put_in_second(block: &mut [u8; 1024], bytes: &[u8])
+    requires { length bytes.now ≤ 512 }
+    ensures { block.new ≡ with_part block.old 512 (with_part (part_of block.old 512 512) 0 bytes.now) }
+{
+    put_part(half_mut(block, true), 0, bytes);
+}
+
+#[test]
+fn a_half_is_written_and_the_other_stays(rt: HostRuntime) {
+    let mut block = [7; 1024];
+    put_in_second(&mut block, b"linux");
+    put_u16(half_mut(&mut block, false), 510, 0xAA55);
+    assert_eq!(rt; part(half(&block, true), 0, 6), b"linux\x07".as_slice());
+    assert_eq!(rt;
+        part(half(&block, false), 508, 4),
+        b"\x07\x07\x55\xAA".as_slice()
+    );
+    for (index, byte) in block.iter().enumerate() {
+        let is_written = 510 <= index && index < 517;
+        assert_eq!(rt; *byte == 7, !is_written);
+    }
 }

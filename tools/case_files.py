@@ -1,11 +1,66 @@
-"""What the tools of cases share: their files are written, or compared with what is there."""
+"""What the tools of cases share: lists as terms, theorems that computing proves, and their files, which are written or
+compared with what is there."""
+
+import re
 
 
-def write_or_check(tool, files, old, arguments):
-    """Writes the files and removes the old ones; with --check it reports those that aren't as the tool writes them.
+def listed(terms):
+    """A list as an argument."""
+    return '(%s)' % ' ∷ '.join(terms + ['[]']) if terms else '[]'
 
-    `files` has the text of each path. The answer is the exit status.
+
+def numbers(items):
+    return listed([str(item) for item in items])
+
+
+def flag(value):
+    return 'true' if value else 'false'
+
+
+def maybe(value, term):
+    return 'None' if value is None else '(Some %s)' % term(value)
+
+
+def theorem_names(kind, shown):
+    """A name for each text that says what a case shows."""
+    names, seen = [], {}
+    for text in shown:
+        name = kind + '_' + re.sub(r'[^a-z0-9]+', '_', text.lower()).strip('_')
+        seen[name] = seen.get(name, 0) + 1
+        names.append(name if seen[name] == 1 else '%s_%d' % (name, seen[name]))
+    return names
+
+
+def theorem(name, shows, pairs, unfolding):
+    """The lines of a theorem: the sides of each pair compute to the same."""
+    sides = ['%s ≡ %s' % pair for pair in pairs]
+    statement = sides[0] if len(sides) == 1 else ' × '.join('(%s)' % side for side in sides)
+    proof = 'refl' if len(sides) == 1 else '(%s)' % ', '.join(['refl'] * len(sides))
+    return ['', '-- ' + shows, 'pub %s : %s' % (name, statement), 'unfolding ' + unfolding, '%s = %s' % (name, proof)]
+
+
+def in_files(folder, stem, cases, most, text):
+    """The text of each file of a folder, that has so many of the cases at most."""
+    return {folder / ('%s%d.antt' % (stem, part)): text(cases[at:at + most])
+            for part, at in enumerate(range(0, len(cases), most), 1)}
+
+
+def library_text(folder, stems, files):
+    """The list of a folder's modules: those of these files, and those of other names."""
+    lines = (folder / 'Lib.antt').read_text().split('\n')
+    others = {line for line in lines if line and not re.fullmatch(r'.* (%s)\d+' % '|'.join(stems), line)}
+    return '\n'.join(sorted(others | {'mod ' + path.stem for path in files if path.parent == folder})) + '\n'
+
+
+def write_or_check(tool, stems, files, arguments):
+    """Writes the files, lists them as modules, and removes old ones; with --check it reports what isn't as it would be.
+
+    `stems` has the beginnings of the names of the files in each folder of modules, `files` the text of each path. The
+    answer is the exit status.
     """
+    old = [path for folder, names in stems.items() for name in names for path in folder.glob(name + '[0-9]*.antt')
+           if path not in files]
+    files |= {folder / 'Lib.antt': library_text(folder, names, files) for folder, names in stems.items()}
     if arguments == ['--check']:
         stale = old + [path for path, text in files.items() if not path.exists() or path.read_text() != text]
         for path in stale:

@@ -12,7 +12,7 @@ import pathlib
 import re
 import sys
 
-from case_files import write_or_check
+from case_files import flag, maybe, write_or_check
 
 HERE = pathlib.Path(__file__).resolve().parent
 PROOFS = HERE.parent / 'crates' / 'model_cases' / 'proofs'
@@ -63,14 +63,6 @@ def keys(value, inner=True):
              for part in value]
     term = ' ++ '.join(terms) or '[]'
     return '(%s)' % term if inner and ' ' in term else term
-
-
-def flag(value):
-    return 'true' if value else 'false'
-
-
-def maybe(value, term):
-    return 'None' if value is None else '(Some %s)' % term(value)
 
 
 def number(value):
@@ -151,8 +143,7 @@ def main(arguments):
         body = ''.join(case(value) for value in cases[at:at + CASES_PER_FILE])
         head = HEAD.format(part=part, names=', '.join(needed(body)))
         files[PROOFS / ('ChoiceCases%d.antt' % part)] = used(head, body) + body
-    old = [path for path in PROOFS.glob('ChoiceCases*.antt') if path not in files]
-    return write_or_check('choice_cases.py', files, old, arguments)
+    return write_or_check('choice_cases.py', {PROOFS: ['ChoiceCases']}, files, arguments)
 
 
 if __name__ == '__main__':

@@ -14,11 +14,12 @@ import pathlib
 import re
 import sys
 
-from case_files import write_or_check
-from model_cases import CRATE, TOP, listed, text, words_in
-from survey_cases import fault, node, numbers
+from case_files import in_files, listed, numbers, theorem, theorem_names, write_or_check
+from model_cases import CRATE, TOP, text, words_in
+from survey_cases import fault, volume
 
 DATA = pathlib.Path(__file__).resolve().parent / 'choose_cases.json'
+PROOFS = CRATE / 'proofs'
 A_FILE = 40             # cases a file
 LOW = {'Bytes': None, 'MinixLayout': ['kind_of', 'inode_of'], 'MinixParts': None, 'MinixEntries': None}
 FILES = ['Wish', 'FileZones', 'Places', 'Growth', 'Choice']
@@ -52,19 +53,6 @@ def runs(items):
     for term in reversed(terms[:-1]):
         joined = '%s ++ (%s)' % (term, joined)
     return joined if joined.startswith('(') and len(terms) == 1 else '(%s)' % joined
-
-
-def zone(item):
-    number, pieces = item
-    if pieces == 'full':
-        return 'zone_with %d (replicate 1024 1)' % number
-    return 'zone_with %d (file 1024 %s)' % (number, listed(['piece %d %s' % (at, text(data)) for at, data in pieces]))
-
-
-def volume(case):
-    layout = 'super_with %s %d %d %d %d %d' % tuple(case[key] for key in ('kind', 'inodes', 'zones', 'imap', 'zmap', 'first'))
-    return 'volume_by (%s) %s %s %s %s' % (layout, listed([node(item) for item in case['nodes']]), listed([zone(item) for item in case['bytes']]),
-                                           numbers(case['imarks']), numbers(case['zmarks']))
 
 
 def taken(item):
@@ -121,44 +109,16 @@ def cases_text(named_cases):
     lines.append('use Rattle.model_cases.specs.Sparse.{%s}' % ', '.join(word for word in ('file', 'piece', 'hex') if word in words))
     lines.append('use Rattle.model_cases.specs.Surveys.{super_with, volume_by, node, zone_with}')
     lines.append('use Rattle.model_cases.specs.Choices.{%s}' % ', '.join(word for word in WORDS if word in words))
-    for (name, case), (left, right) in zip(named_cases, pairs):
-        lines += ['', '-- ' + case['shows'], 'pub %s : %s ≡ %s' % (name, left, right), 'unfolding ' + unfolding, '%s = refl' % name]
+    for (name, case), pair in zip(named_cases, pairs):
+        lines += theorem(name, case['shows'], [pair], unfolding)
     return '\n'.join(lines) + '\n'
 
 
-def theorem_names(cases):
-    """A name for each case, by what it shows."""
-    names, seen = [], {}
-    for case in cases:
-        name = 'minix_choose_' + re.sub(r'[^a-z0-9]+', '_', case['shows'].lower().replace(',', '')).strip('_')
-        seen[name] = seen.get(name, 0) + 1
-        names.append(name if seen[name] == 1 else '%s_%d' % (name, seen[name]))
-    return names
-
-
-def library_text(files):
-    """The list of modules, with those that others wrote."""
-    lines = (CRATE / 'proofs' / 'Lib.antt').read_text().split('\n')
-    others = [line for line in lines if line and not re.match('mod ChooseCases', line)]
-    ours = ['mod ' + path.stem for path in files if path.parent.name == 'proofs']
-    return '\n'.join(sorted(others + ours)) + '\n'
-
-
-def all_files():
-    cases = json.loads(DATA.read_text())['cases']
-    named_cases = list(zip(theorem_names(cases), cases))
-    files = {}
-    for part in range(-(-len(cases) // A_FILE)):
-        some = named_cases[part * A_FILE:(part + 1) * A_FILE]
-        files[CRATE / 'proofs' / ('ChooseCases%d.antt' % (part + 1))] = cases_text(some)
-    files[CRATE / 'proofs' / 'Lib.antt'] = library_text(files)
-    return files
-
-
 def main(arguments):
-    files = all_files()
-    old = [path for path in (CRATE / 'proofs').glob('ChooseCases*.antt') if path not in files]
-    return write_or_check('choose_cases.py', files, old, arguments)
+    cases = json.loads(DATA.read_text())['cases']
+    named_cases = list(zip(theorem_names('minix_choose', [case['shows'].replace(',', '') for case in cases]), cases))
+    files = in_files(PROOFS, 'ChooseCases', named_cases, A_FILE, cases_text)
+    return write_or_check('choose_cases.py', {PROOFS: ['ChooseCases']}, files, arguments)
 
 
 if __name__ == '__main__':

@@ -12,7 +12,7 @@ import pathlib
 import re
 import sys
 
-from case_files import write_or_check
+from case_files import flag, listed, maybe, write_or_check
 
 HERE = pathlib.Path(__file__).resolve().parent
 SPECS = HERE.parent / 'crates' / 'lilo_model' / 'specs'
@@ -42,14 +42,6 @@ def text(value):
         else:
             terms.append('(%s[])' % ''.join('%d ∷ ' % ord(byte) for byte in part))
     return '(%s)' % ' ++ '.join(terms) if terms else '[]'
-
-
-def flag(value):
-    return 'true' if value else 'false'
-
-
-def maybe(value, term):
-    return 'None' if value is None else '(Some %s)' % term(value)
 
 
 def device(value):
@@ -87,10 +79,6 @@ def section(value):
         ('append', optional), ('literal', optional), ('vga', lambda one: maybe(one, str)),
         ('password', optional), ('restricted', flag), ('optional', flag), ('lock', flag),
         ('fallback', optional), ('table', lambda one: maybe(one, device)), ('line', str)])
-
-
-def listed(terms):
-    return '(%s)' % ' ∷ '.join(terms + ['[]']) if terms else '[]'
 
 
 def config(value):
@@ -154,8 +142,7 @@ def main(arguments):
     for part, at in enumerate(range(0, len(cases), CASES_PER_FILE), 1):
         body = ''.join(case(value, opened) for value in cases[at:at + CASES_PER_FILE])
         files[PROOFS / ('ConfCases%d.antt' % part)] = used(HEAD.format(part=part) + imports, body) + body
-    old = [path for path in PROOFS.glob('ConfCases*.antt') if path not in files]
-    return write_or_check('conf_cases.py', files, old, arguments)
+    return write_or_check('conf_cases.py', {PROOFS: ['ConfCases']}, files, arguments)
 
 
 if __name__ == '__main__':

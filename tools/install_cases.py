@@ -17,7 +17,7 @@ import sys
 import conf_cases
 import model_cases
 import plan_cases
-from case_files import write_or_check
+from case_files import in_files, theorem, write_or_check
 from model_cases import option, sectors
 
 HERE = pathlib.Path(__file__).resolve().parent
@@ -94,21 +94,16 @@ def file_text(theorems, fixed):
         taken = [name for name in names if name in words]
         rows += ['use Rattle.%s.{%s}' % (source, ', '.join(taken))] if taken else []
     for name, shows, pairs in theorems:
-        sides = ['(%s ≡ %s)' % pair for pair in pairs]
-        proof = 'refl' if len(pairs) == 1 else '(%s)' % ', '.join(['refl'] * len(pairs))
-        rows += ['', '-- ' + shows, 'pub %s : %s' % (name, ' × '.join(sides) if len(sides) > 1 else sides[0][1:-1]),
-                 'unfolding ' + ' '.join(unfolding), '%s = %s' % (name, proof)]
+        rows += theorem(name, shows, pairs, ' '.join(unfolding))
     return '\n'.join(rows) + '\n'
 
 
 def main(arguments):
-    cases, seen = json.loads(DATA.read_text()), {}
+    cases = json.loads(DATA.read_text())
     fixed = set(re.findall(r'^abbrev pub (\w+)', plan_cases.fixtures(json.loads(plan_cases.DATA.read_text())), re.M))
-    theorems = [(plan_cases.named('install', case['shows'], seen), case['shows'], equations(case)) for case in cases]
-    files = {PROOFS / ('InstallCases%d.antt' % part): file_text(theorems[at:at + A_FILE], fixed)
-             for part, at in enumerate(range(0, len(theorems), A_FILE), 1)}
-    old = [path for path in PROOFS.glob('InstallCases[0-9]*.antt') if path not in files]
-    return write_or_check('install_cases.py', files, old, arguments)
+    theorems = plan_cases.named('Install', [(case['shows'], equations(case)) for case in cases])
+    files = in_files(PROOFS, 'InstallCases', theorems, A_FILE, lambda some: file_text(some, fixed))
+    return write_or_check('install_cases.py', {PROOFS: ['InstallCases']}, files, arguments)
 
 
 if __name__ == '__main__':

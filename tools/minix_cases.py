@@ -13,10 +13,11 @@ import pathlib
 import re
 import sys
 
-from case_files import write_or_check
-from model_cases import CRATE, SPECS, listed, option, patches, raw, words_in
+from case_files import in_files, listed, numbers, theorem, theorem_names, write_or_check
+from model_cases import CRATE, SPECS, option, patches, raw, words_in
 
 DATA = pathlib.Path(__file__).resolve().parent / 'minix_cases.json'
+PROOFS = CRATE / 'proofs'
 A_FILE = 40             # cases a file
 # The files whose definitions a kind of case unfolds.
 LAYOUTS = ['Bytes', 'MinixLayout']
@@ -100,10 +101,6 @@ def entry(item):
     return 'entry_with %d %s' % (item[0], text(item[1]))
 
 
-def numbers(items):
-    return listed([str(item) for item in items])
-
-
 def layout(item):
     return 'record { %s }' % '; '.join('%s = %s' % field for field in item.items())
 
@@ -160,24 +157,13 @@ def imports(what, terms, fixtures):
     return lines
 
 
-def theorem_names(what, cases):
-    """A name for each case, by what it shows."""
-    names, seen = [], {}
-    for case in cases:
-        name = 'minix_%s_' % what + re.sub(r'[^a-z0-9]+', '_', case['shows'].lower()).strip('_')
-        seen[name] = seen.get(name, 0) + 1
-        names.append(name if seen[name] == 1 else '%s_%d' % (name, seen[name]))
-    return names
-
-
 def cases_text(what, named_cases, fixtures):
     pairs = [KINDS[what](case) for _, case in named_cases]
     unfolding = ' '.join(word for words in unfolded(what).values() for word in words)
     lines = ['-- Cases of Minix volumes, written by tools/minix_cases.py: %s.' % TITLES[what]]
     lines += imports(what, [side for pair in pairs for side in pair], fixtures)
-    for (name, case), (left, right) in zip(named_cases, pairs):
-        lines += ['', '-- ' + case['shows'], 'pub %s : %s ≡ %s' % (name, left, right),
-                  'unfolding ' + unfolding, '%s = refl' % name]
+    for (name, case), pair in zip(named_cases, pairs):
+        lines += theorem(name, case['shows'], [pair], unfolding)
     return '\n'.join(lines) + '\n'
 
 
@@ -196,35 +182,20 @@ def fixtures_text(data):
     return '\n'.join(lines) + '\n'
 
 
-def module_name(what, part):
-    return 'Minix' + ''.join(word.capitalize() for word in what.split('_')) + 'Cases%d' % (part + 1)
-
-
-def library_text(files):
-    """The list of modules, with those that others wrote."""
-    lines = (CRATE / 'proofs' / 'Lib.antt').read_text().split('\n')
-    others = [line for line in lines if line and not re.match('mod Minix', line)]
-    ours = ['mod ' + path.stem for path in files if path.parent.name == 'proofs']
-    return '\n'.join(sorted(others + ours)) + '\n'
-
-
-def all_files():
-    data = json.loads(DATA.read_text())
-    files = {CRATE / 'specs' / 'MinixFixtures.antt': fixtures_text(data['fixtures'])}
-    for what in KINDS:
-        cases = [case for case in data['cases'] if case['what'] == what]
-        named_cases = list(zip(theorem_names(what, cases), cases))
-        for part in range(-(-len(cases) // A_FILE)):
-            some = named_cases[part * A_FILE:(part + 1) * A_FILE]
-            files[CRATE / 'proofs' / (module_name(what, part) + '.antt')] = cases_text(what, some, data['fixtures'])
-    files[CRATE / 'proofs' / 'Lib.antt'] = library_text(files)
-    return files
+def stem_of(what):
+    return 'Minix' + ''.join(word.capitalize() for word in what.split('_')) + 'Cases'
 
 
 def main(arguments):
-    files = all_files()
-    old = [path for path in (CRATE / 'proofs').glob('Minix*Cases*.antt') if path not in files]
-    return write_or_check('minix_cases.py', files, old, arguments)
+    data = json.loads(DATA.read_text())
+    files = {}
+    for what in KINDS:
+        cases = [case for case in data['cases'] if case['what'] == what]
+        named_cases = list(zip(theorem_names('minix_' + what, [case['shows'] for case in cases]), cases))
+        files |= in_files(PROOFS, stem_of(what), named_cases, A_FILE,
+                          lambda some: cases_text(what, some, data['fixtures']))
+    files[CRATE / 'specs' / 'MinixFixtures.antt'] = fixtures_text(data['fixtures'])
+    return write_or_check('minix_cases.py', {PROOFS: [stem_of(what) for what in KINDS]}, files, arguments)
 
 
 if __name__ == '__main__':

@@ -12,11 +12,12 @@ import re
 import sys
 from pathlib import Path
 
-from case_files import write_or_check
+from case_files import in_files, listed, theorem, theorem_names, write_or_check
 
 TOP = Path(__file__).resolve().parent.parent
 DATA = TOP / 'tools' / 'model_cases'
 CRATE = TOP / 'crates' / 'model_cases'
+PROOFS = CRATE / 'proofs'
 SPECS = TOP / 'crates' / 'lilo_model' / 'specs'
 A_FILE = 40             # cases a file
 WRITERS = {'field_bytes', 'merged_sector', 'descriptor_bytes', 'options_bytes', 'extra_bytes', 'section_bytes'}
@@ -32,10 +33,6 @@ VERDICTS = BOOTS + ['Reason', 'Refusal', 'Verdict']
 
 
 # Terms.
-
-def listed(terms):
-    return '[]' if not terms else '(' + ' ∷ '.join(terms) + ' ∷ [])'
-
 
 def is_plain(data):
     """Whether bytes can be written as a text. One with a `?` is written in hexadecimal, so that a search for holes finds none."""
@@ -371,30 +368,15 @@ def imports(kind, files, terms, fixtures):
     return lines
 
 
-def theorem_names(kind, cases):
-    """A name for each case, by what it shows."""
-    names, seen = [], {}
-    for case in cases:
-        name = kind + '_' + re.sub(r'[^a-z0-9]+', '_', case['shows'].lower().replace("'", '')).strip('_')
-        seen[name] = seen.get(name, 0) + 1
-        names.append(name if seen[name] == 1 else '%s_%d' % (name, seen[name]))
-    return names
-
-
 def cases_text(title, kind, named_cases, fixtures):
     term, files = KINDS[kind]
     pairs = [term(case) for _, case in named_cases]
     unfolding = ' '.join([name for names in unfolded(kind, files).values() for name in names] + text_words(files))
     lines = ['-- Cases of the model, written by tools/model_cases.py: %s.' % title]
     lines += imports(kind, files, [side for pair in pairs for side in pair], fixtures)
-    for (name, case), (left, right) in zip(named_cases, pairs):
-        lines += ['', '-- ' + case['shows'], 'pub %s : %s ≡ %s' % (name, left, right),
-                  'unfolding ' + unfolding, '%s = refl' % name]
+    for (name, case), pair in zip(named_cases, pairs):
+        lines += theorem(name, case['shows'], [pair], unfolding)
     return '\n'.join(lines) + '\n'
-
-
-def module_name(kind, part):
-    return ''.join(word.capitalize() for word in kind.split('_')) + 'Cases%d' % (part + 1)
 
 
 def fixtures_text(data):
@@ -407,41 +389,23 @@ def fixtures_text(data):
     return '\n'.join(lines) + '\n'
 
 
-def all_files():
-    """The text of each file, and the modules of proofs."""
+def stem_of(path):
+    return ''.join(word.capitalize() for word in path.stem.split('_')) + 'Cases'
+
+
+def main(arguments):
     fixtures = json.loads((DATA / 'fixtures.json').read_text())
-    files, modules = {CRATE / 'specs' / 'Fixtures.antt': fixtures_text(fixtures)}, []
+    files, stems = {CRATE / 'specs' / 'Fixtures.antt': fixtures_text(fixtures)}, []
     for path in sorted(DATA.glob('*.json')):
         if path.stem == 'fixtures':
             continue
         data = json.loads(path.read_text())
         kind, cases = data['kind'], data['cases']
-        named_cases = list(zip(theorem_names(kind, cases), cases))
-        for part in range(-(-len(cases) // A_FILE)):
-            modules.append(module_name(path.stem, part))
-            some = named_cases[part * A_FILE:(part + 1) * A_FILE]
-            files[CRATE / 'proofs' / (modules[-1] + '.antt')] = cases_text(data['title'], kind, some, fixtures)
-    return files, modules
-
-
-def is_ours(module):
-    """Whether a module is one that this script writes."""
-    return any(re.fullmatch(module_name(path.stem, 0)[:-1] + '[0-9]+', module) for path in DATA.glob('*.json'))
-
-
-def library_text(modules):
-    """The list of modules, with those that others wrote."""
-    lib = CRATE / 'proofs' / 'Lib.antt'
-    lines = set(lib.read_text().split('\n') if lib.exists() else [])
-    others = {each for each in lines if each and not is_ours(each.split(' ')[-1])}
-    return '\n'.join(sorted(others | {'mod ' + name for name in modules})) + '\n'
-
-
-def main(arguments):
-    files, modules = all_files()
-    files[CRATE / 'proofs' / 'Lib.antt'] = library_text(modules)
-    old = [path for path in (CRATE / 'proofs').glob('*.antt') if is_ours(path.stem) and path not in files]
-    return write_or_check('model_cases.py', files, old, arguments)
+        named_cases = list(zip(theorem_names(kind, [case['shows'].replace("'", '') for case in cases]), cases))
+        stems.append(stem_of(path))
+        files |= in_files(PROOFS, stems[-1], named_cases, A_FILE,
+                          lambda some: cases_text(data['title'], kind, some, fixtures))
+    return write_or_check('model_cases.py', {PROOFS: stems}, files, arguments)
 
 
 if __name__ == '__main__':

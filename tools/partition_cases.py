@@ -12,12 +12,12 @@ import re
 import struct
 import sys
 
-from case_files import write_or_check
+from case_files import listed, write_or_check
 
 HERE = pathlib.Path(__file__).resolve().parent
 PROOFS = HERE.parent / 'crates' / 'model_cases' / 'proofs'
 SPECS = HERE.parent / 'crates' / 'lilo_model' / 'specs'
-MODULE = 'PartitionCases1'
+STEM = 'PartitionCases'
 FAULTS = ['NoSignature', 'OutsideDisk', 'LoopedChain', 'TooMany', 'NoPartition', 'NoDisk']
 
 HEAD = '''-- Cases of partition tables and of names of devices; tools/partition_cases.py writes this file.
@@ -34,10 +34,6 @@ use Rattle.model_cases.specs.Sparse.{{hex, patch_at, disks_of, disk_with, machin
 def unfoldable(name):
     """The definitions of a file that a proof has to unfold."""
     return re.findall(r'^unfoldable pub (\w+)', (SPECS / (name + '.antt')).read_text(), re.M)
-
-
-def listed(terms):
-    return '(%s)' % ' ∷ '.join(terms + ['[]']) if terms else '[]'
 
 
 def image(tables):
@@ -102,14 +98,9 @@ def cases_text():
     return text
 
 
-def library_text():
-    lines = set((PROOFS / 'Lib.antt').read_text().split('\n')) - {''}
-    return '\n'.join(sorted(lines | {'mod ' + MODULE})) + '\n'
-
-
 def main(arguments):
-    files = {PROOFS / (MODULE + '.antt'): cases_text(), PROOFS / 'Lib.antt': library_text()}
-    return write_or_check('partition_cases.py', files, [], arguments)
+    files = {PROOFS / (STEM + '1.antt'): cases_text()}
+    return write_or_check('partition_cases.py', {PROOFS: [STEM]}, files, arguments)
 
 
 if __name__ == '__main__':

@@ -16,8 +16,8 @@ import sys
 
 import conf_cases
 import model_cases
-from case_files import write_or_check
-from model_cases import CRATE, SETUP, SPECS, listed, option, sectors, words_in
+from case_files import in_files, listed, theorem, theorem_names, write_or_check
+from model_cases import CRATE, PROOFS, SETUP, SPECS, sectors, words_in
 
 DATA = pathlib.Path(__file__).resolve().parent / 'plan_cases.json'
 A_FILE = 8              # theorems a file
@@ -128,10 +128,6 @@ def keys(items):
 
 def line(item):
     return item[0] if len(item) == 1 else '(%s %s)' % (item[0], text(item[1]))
-
-
-def region(item):
-    return 'record { address = 0x%x; size = %d }' % tuple(item)
 
 
 def outcome(item):
@@ -423,22 +419,13 @@ def imports(kind, terms, fixed):
     return rows + (['use Rattle.model_cases.specs.PlanFixtures.{%s}' % ', '.join(used)] if used else [])
 
 
-def named(kind, shows, seen):
-    name = kind.lower() + '_' + re.sub(r'[^a-z0-9]+', '_', shows.lower().replace("'", '')).strip('_')
-    seen[name] = seen.get(name, 0) + 1
-    return name if seen[name] == 1 else '%s_%d' % (name, seen[name])
-
-
 def file_text(kind, theorems, fixed):
     unfolding = ' '.join([own for found in unfolded(kind).values() for _, own in found])
     unfolding += ' digits' if kind == 'Refused' else ''
     rows = ['-- Cases of the model, written by tools/plan_cases.py: %s.' % TITLES[kind]]
     rows += imports(kind, [side for _, _, pairs in theorems for pair in pairs for side in pair], fixed)
     for name, shows, pairs in theorems:
-        sides = ['(%s ≡ %s)' % pair for pair in pairs]
-        proof = 'refl' if len(pairs) == 1 else '(%s)' % ', '.join(['refl'] * len(pairs))
-        rows += ['', '-- ' + shows, 'pub %s : %s' % (name, ' × '.join(sides) if len(sides) > 1 else sides[0][1:-1]),
-                 'unfolding ' + unfolding, '%s = %s' % (name, proof)]
+        rows += theorem(name, shows, pairs, unfolding)
     return '\n'.join(rows) + '\n'
 
 
@@ -485,6 +472,12 @@ def used_names(source):
     return conf_cases.used(source[:cut], source[cut:]) + source[cut + 1:]
 
 
+def named(kind, cases):
+    """The name of each case, what it shows, and its equations."""
+    names = theorem_names(kind.lower(), [shows.replace("'", '') for shows, _ in cases])
+    return [(name, shows, pairs) for name, (shows, pairs) in zip(names, cases)]
+
+
 def all_theorems(data):
     plans = data['plans']
     found = {
@@ -495,8 +488,7 @@ def all_theorems(data):
         'Names': [(case['shows'], apart(case)) for case in data['names']],
     }
     for kind, cases in found.items():
-        seen = {}
-        yield kind, [(named(kind, shows, seen), shows, pairs) for shows, pairs in cases]
+        yield kind, named(kind, cases)
 
 
 def main(arguments):
@@ -505,15 +497,12 @@ def main(arguments):
     fixed = set(re.findall(r'^abbrev pub (\w+)', begun, re.M))
     files = {CRATE / 'specs' / 'PlanFixtures.antt': begun}
     for kind, theorems in all_theorems(data):
-        for part, at in enumerate(range(0, len(theorems), A_FILE), 1):
-            path = CRATE / 'proofs' / ('%sCases%d.antt' % (kind, part))
-            files[path] = file_text(kind, theorems[at:at + A_FILE], fixed)
+        files |= in_files(PROOFS, kind + 'Cases', theorems, A_FILE, lambda some: file_text(kind, some, fixed))
     FIXED.update(fixed)
     for part, case in enumerate([case for case in data['plans'] if 'lies' in case], 1):
         files[LAWS / ('LiesCases%d.antt' % part)] = lies_text(case)
-    old = [path for kind in FILES for path in (CRATE / 'proofs').glob(kind + 'Cases[0-9]*.antt') if path not in files]
-    old += [path for path in LAWS.glob('LiesCases*.antt') if path not in files]
-    return write_or_check('plan_cases.py', files, old, arguments)
+    stems = {PROOFS: [kind + 'Cases' for kind in FILES], LAWS: ['LiesCases']}
+    return write_or_check('plan_cases.py', stems, files, arguments)
 
 
 if __name__ == '__main__':

@@ -14,10 +14,11 @@ import pathlib
 import re
 import sys
 
-from case_files import write_or_check
-from model_cases import CRATE, SPECS, listed, text, words_in
+from case_files import in_files, listed, numbers, theorem, theorem_names, write_or_check
+from model_cases import CRATE, SPECS, text, words_in
 
 DATA = pathlib.Path(__file__).resolve().parent / 'survey_cases.json'
+PROOFS = CRATE / 'proofs'
 A_FILE = 40             # cases a file
 FILES = ['Bytes', 'MinixLayout', 'MinixParts', 'MinixEntries', 'MinixNames', 'MinixSurvey']
 CLOSED = {'with_counts', 'super_bytes', 'v1_inode_bytes', 'v2_inode_bytes', 'inode_bytes', 'kept_inode', 'volume_at',
@@ -28,10 +29,6 @@ FAULTS = {
     'MinixParts': ['Layout', 'ZoneOutside'],
     'MinixLayout': ['BadSize', 'FileSize', 'V1Short', 'V1Long', 'V2Short', 'V2Long'],
 }
-
-
-def numbers(items):
-    return listed([str(item) for item in items])
 
 
 def fault(item):
@@ -48,7 +45,10 @@ def node(item):
 
 
 def zone(item):
+    """A zone with pieces of bytes, or one that is full of entries."""
     number, pieces = item
+    if pieces == 'full':
+        return 'zone_with %d (replicate 1024 1)' % number
     return 'zone_with %d (file 1024 %s)' % (number, listed(['piece %d %s' % (at, text(data)) for at, data in pieces]))
 
 
@@ -90,45 +90,17 @@ def cases_text(named_cases):
     lines.append('use Rattle.model_cases.specs.Sparse.{%s}' % ', '.join(word for word in ('file', 'piece', 'hex') if word in words))
     used = [word for word in ('super_with', 'volume_by', 'node', 'zone_with', 'survey_found', 'found', 'owned') if word in words]
     lines.append('use Rattle.model_cases.specs.Surveys.{%s}' % ', '.join(used))
-    for (name, case), (left, right) in zip(named_cases, pairs):
-        lines += ['', '-- ' + case['shows'], 'pub %s : %s ≡ %s' % (name, left, right), 'unfolding ' + unfolding, '%s = refl' % name]
+    for (name, case), pair in zip(named_cases, pairs):
+        lines += theorem(name, case['shows'], [pair], unfolding)
     return '\n'.join(lines) + '\n'
 
 
-def theorem_names(cases):
-    """A name for each case, by what it shows."""
-    names, seen = [], {}
-    for case in cases:
-        shows = case['shows'].lower().replace('..', 'dotdot').replace('. ', 'dot ')
-        name = 'minix_survey_' + re.sub(r'[^a-z0-9]+', '_', shows).strip('_')
-        seen[name] = seen.get(name, 0) + 1
-        names.append(name if seen[name] == 1 else '%s_%d' % (name, seen[name]))
-    return names
-
-
-def library_text(files):
-    """The list of modules, with those that others wrote."""
-    lines = (CRATE / 'proofs' / 'Lib.antt').read_text().split('\n')
-    others = [line for line in lines if line and not re.match('mod SurveyCases', line)]
-    ours = ['mod ' + path.stem for path in files if path.parent.name == 'proofs']
-    return '\n'.join(sorted(others + ours)) + '\n'
-
-
-def all_files():
-    cases = [case for case in json.loads(DATA.read_text())['cases'] if case['checked']]
-    named_cases = list(zip(theorem_names(cases), cases))
-    files = {}
-    for part in range(-(-len(cases) // A_FILE)):
-        some = named_cases[part * A_FILE:(part + 1) * A_FILE]
-        files[CRATE / 'proofs' / ('SurveyCases%d.antt' % (part + 1))] = cases_text(some)
-    files[CRATE / 'proofs' / 'Lib.antt'] = library_text(files)
-    return files
-
-
 def main(arguments):
-    files = all_files()
-    old = [path for path in (CRATE / 'proofs').glob('SurveyCases*.antt') if path not in files]
-    return write_or_check('survey_cases.py', files, old, arguments)
+    cases = [case for case in json.loads(DATA.read_text())['cases'] if case['checked']]
+    shown = [case['shows'].lower().replace('..', 'dotdot').replace('. ', 'dot ') for case in cases]
+    named_cases = list(zip(theorem_names('minix_survey', shown), cases))
+    files = in_files(PROOFS, 'SurveyCases', named_cases, A_FILE, cases_text)
+    return write_or_check('survey_cases.py', {PROOFS: ['SurveyCases']}, files, arguments)
 
 
 if __name__ == '__main__':

@@ -1,7 +1,7 @@
 #!/usr/bin/env python3
 """Writes the cases of command lines, from words_cases.json beside it, as theorems that the check computes:
-crates/model_cases/proofs/WordsCases*.antt. Run tools/model_cases.py after it, which lists the files. With --check
-it writes nothing, and fails where a file isn't as it would be written.
+crates/model_cases/proofs/WordsCases*.antt. With --check it writes nothing, and fails where a file isn't as it would be
+written.
 
 A case has words, and the parts that they ask for, or the place of the first word that is wrong (null at the end)
 with the line that is printed. A device is its disk and its partition.
@@ -12,8 +12,8 @@ import pathlib
 import re
 import sys
 
-from case_files import write_or_check
-from model_cases import CRATE, SPECS, listed, option, raw, theorem_names
+from case_files import flag, in_files, listed, theorem_names, write_or_check
+from model_cases import PROOFS, SPECS, option, raw
 
 DATA = pathlib.Path(__file__).resolve().parent / 'words_cases.json'
 A_FILE = 40             # cases a file
@@ -33,10 +33,6 @@ def texts(values):
 
 def device(value):
     return '(record { disk = %d; partition = %d })' % tuple(value)
-
-
-def flag(value):
-    return 'true' if value else 'false'
 
 
 COMMANDS = {
@@ -91,17 +87,11 @@ def cases_text(named_cases):
     return '\n'.join(lines + body) + '\n'
 
 
-def all_files():
-    cases = json.loads(DATA.read_text())
-    named = list(zip(theorem_names('words', cases), cases))
-    return {CRATE / 'proofs' / ('WordsCases%d.antt' % (at // A_FILE + 1)): cases_text(named[at:at + A_FILE])
-            for at in range(0, len(named), A_FILE)}
-
-
 def main(arguments):
-    files = all_files()
-    old = [path for path in (CRATE / 'proofs').glob('WordsCases*.antt') if path not in files]
-    return write_or_check('words_cases.py', files, old, arguments)
+    cases = json.loads(DATA.read_text())
+    named_cases = list(zip(theorem_names('words', [case['shows'].replace("'", '') for case in cases]), cases))
+    files = in_files(PROOFS, 'WordsCases', named_cases, A_FILE, cases_text)
+    return write_or_check('words_cases.py', {PROOFS: ['WordsCases']}, files, arguments)
 
 
 if __name__ == '__main__':

@@ -9,6 +9,7 @@ pub mod StopLemmas
 pub mod TurnLemmas
 pub mod ReadLemmas
 pub mod SameLemmas
+pub mod SectorLemmas
 pub mod WalkLemmas
 pub mod ZoneLemmas
 pub mod WriteLemmas

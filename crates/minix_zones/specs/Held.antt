@@ -1,5 +1,5 @@
 -- The zones that are held on the way to a block, and what they stand for.
-use Rattle.std.specs.Prelude.{◌≡◌, ◌⊎◌, ℕ, All}
+use Rattle.std.specs.Prelude.{◌≡◌, ◌⊎◌, All}
 use Rattle.disk_trait.specs.Past.{Told}
 use Rattle.disk_trait.specs.declared.disks.Disks.{Ghosts}
 use Rattle.lilo_model.specs.MinixParts.{Parts, parts_of}

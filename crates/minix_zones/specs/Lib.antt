@@ -1,5 +1,6 @@
 pub mod Held
 pub mod Laws
+pub mod Sectors
 pub mod View
 pub mod Volume
 pub mod Walk

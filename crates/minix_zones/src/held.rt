@@ -3,14 +3,17 @@ ghost use Rattle.std.specs.Prelude.{◌≡◌, ◌<◌, ◌≤◌, slice_index, 
 ghost use Rattle.lilo_model.specs.Faults.{Rose};
 ghost use Rattle.disk_trait.specs.Past.{Told};
 ghost use Rattle.lilo_model.specs.MinixLayout.{numbers_in_zone, reach};
-ghost use Rattle.lilo_model.specs.MinixParts.{parts_of, number_below, follow_at, trail_of, inside, zone_at, block_at};
+ghost use Rattle.lilo_model.specs.MinixParts.{parts_of, number_below, follow_at, trail_of, inside, zone_at, block_at, at_pointer};
+ghost use Rattle.lilo_model.specs.MinixWalk.{stop_pointer};
 ghost use Rattle.minix_layout.specs.View.{kind_view, super_view, inode_view};
 ghost use Rattle.minix_zones.specs.View.{Gives, HasZoneCause, zone_number, IsZoneAt, IsInside};
 ghost use Rattle.minix_zones.specs.Volume.{volume_view, past_of, faults_of, SameVolume};
 ghost use Rattle.minix_zones.specs.Held.{AreHeld, IsHeld};
 
 use crate::volume::Volume;
-use crate::zone::{ZoneAt, inside, number_in, numbers_in_zone, put_hole, way_to, zone_or_hole};
+use crate::zone::{
+    ZoneAt, blocks_under, inside, number_in, numbers_in_zone, put_hole, way_to, zone_or_hole,
+};
 use crate::zone_fault::ZoneFault;
 use disk_trait::Disks;
 use minix_layout::Inode;
@@ -166,6 +169,38 @@ impl HeldZones {
             }
             ZoneAt::Zone(zone) => volume.read_zone(zone, into),
         }
+    }
+
+    /// The number that stands this many levels above a block.
+    #[tactic(auto, unfolding(lilo_model::specs::MinixWalk::stop_pointer))]
+    pub(crate) fn number_above<D: Disks>(
+        &mut self,
+        volume: &mut Volume<'_, D>,
+        inode: &Inode,
+        index: u32,
+        level: u32,
+    ) -> Result<u32, ZoneFault>
+        requires level { level ≤ 3 }
+        requires held { AreHeld volume.old self.old }
+        ensures number { Told (past_of volume.old) (λ now. Gives (λ found. found) result
+            (at_pointer (super_view volume.old.layout) (parts_of (volume_view volume.old) now)
+            (inode_view inode.now) (stop_pointer (numbers_in_zone (kind_view volume.old.layout.kind))
+            (record { index = index; level = level })))) }
+        ensures inside { IfOk result (IsInside volume.old.layout) }
+        ensures held { AreHeld volume.new self.new }
+        ensures cause { IfErr result (HasZoneCause (faults_of volume.old) (faults_of volume.new)) }
+        ensures later { faults_of volume.old ≤ faults_of volume.new }
+        ensures same { SameVolume volume.old volume.new }
+    {
+        let kind = volume.layout().kind;
+        let way = way_to(kind, index);
+        let index = way.index / blocks_under(kind, level);
+        self.follow(
+            volume,
+            inode.zones[way.top],
+            way.depth.saturating_sub(level),
+            index,
+        )
     }
 
     // The number that stands this many levels of indirect zones below another one, on the way to a block that

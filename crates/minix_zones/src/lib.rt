@@ -6,6 +6,7 @@
 #![tactic(auto)]
 
 mod held;
+mod held_sectors;
 mod laws;
 #[cfg(test)]
 mod tests;
@@ -23,5 +24,8 @@ pub use laws::{
 pub use visit::Visit;
 pub use volume::Volume;
 pub use walk::Walk;
-pub use zone::{ZoneAt, reach, read_at, zone_at};
+pub use zone::{
+    Way, ZoneAt, blocks_under, inside, number_below, number_in, numbers_in_zone, reach, read_at,
+    way_to, zone_at,
+};
 pub use zone_fault::ZoneFault;

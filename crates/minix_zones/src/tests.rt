@@ -378,3 +378,53 @@ fn each_indirect_zone_is_read_once(rt: HostRuntime) -> Result<(), Fail> {
     assert_eq!(rt; other, Err(ZoneFault::Device));
     Ok(())
 }
+
+// The superblock is call 0, zone 7 calls 1 and 2 for its three numbers, and zone 11 begins with call 3.
+#[test]
+fn held_walk_reads_an_indirect_zone_once(rt: HostRuntime) -> Result<(), Fail> {
+    let failing = Failing {
+        call: 3,
+        made: false,
+    };
+    let mut disks = deep_disks(rt.alloc(), &[failing])?;
+    let mut volume = attach(&rt, &mut disks)?;
+    let mut walk = Walk::new(&INODE, FsKind::V2Long);
+    let mut held = HeldZones::of(&volume);
+    assert_eq!(rt; walk.next_held(&mut volume, &mut held), met(5, 0, false));
+    assert_eq!(rt; walk.next_held(&mut volume, &mut held), met(6, 2, false));
+    assert_eq!(rt; walk.next_held(&mut volume, &mut held), met(7, 7, true));
+    assert_eq!(rt; walk.next_held(&mut volume, &mut held), met(8, 7, false));
+    assert_eq!(rt; walk.next_held(&mut volume, &mut held), met(10, 207, false));
+    assert_eq!(rt; walk.next_held(&mut volume, &mut held), met(11, 263, true));
+    let other = walk.next_held(&mut volume, &mut held);
+    assert_eq!(rt; other, Err(ZoneFault::Device));
+    assert_eq!(rt; walk.next_held(&mut volume, &mut held), Ok(None));
+    Ok(())
+}
+
+// Call 1 reads the sector, call 2 writes it, and calls 3 and 4 read it again. Call 5 fails.
+#[test]
+fn held_sectors_are_read_once(rt: HostRuntime) -> Result<(), Fail> {
+    let failing = Failing {
+        call: 5,
+        made: false,
+    };
+    let mut disks = disks_with(rt.alloc(), 0x2478, &[failing])?;
+    let mut volume = attach(&rt, &mut disks)?;
+    let count = volume.span().count;
+    assert!(rt; 79 < count);
+    let mut sector: Sector = [1; 512];
+    volume.hold_sectors();
+    assert_eq!(rt; volume.read_sector(79, &mut sector), Ok(()));
+    assert!(rt; sector == [0; 512]);
+    assert_eq!(rt; volume.read_sector(79, &mut sector), Ok(()));
+    assert_eq!(rt; volume.write_sector(79, &[5; 512]), Ok(()));
+    assert_eq!(rt; volume.read_sector(79, &mut sector), Ok(()));
+    assert!(rt; sector == [5; 512]);
+    volume.hold_sectors();
+    assert_eq!(rt; volume.read_sector(79, &mut sector), Ok(()));
+    assert_eq!(rt; volume.read_sector(79, &mut sector), Ok(()));
+    assert!(rt; sector == [5; 512]);
+    assert_eq!(rt; volume.read_sector(78, &mut sector), Err(ZoneFault::Device));
+    Ok(())
+}

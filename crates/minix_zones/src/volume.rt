@@ -1,8 +1,10 @@
 // Volumes.
-ghost use Rattle.std.specs.Prelude.{◌≡◌, ◌+◌, ◌*◌, ◌<◌, ◌≤◌, ◌^◌, ◌++◌};
+ghost use Rattle.std.specs.Prelude.{◌≡◌, ◌+◌, ◌*◌, ◌<◌, ◌≤◌, ◌^◌, ◌++◌, true};
+ghost use Rattle.minix_zones.specs.Sectors.{AreNow};
 ghost use Rattle.minix_layout.specs.View.{super_view};
 ghost use Rattle.lilo_model.specs.MinixLayout.{IsSuper};
 
+use crate::held_sectors::HeldSectors;
 use crate::zone_fault::ZoneFault;
 use disk_trait::{DiskFault, Disks, Geometry, Span};
 use minix_layout::{Super, where_zone};
@@ -17,9 +19,13 @@ pub struct Volume<'d, D: Disks> {
     disks: &'d mut D,
     span: Span,
     layout: Super,
+    // Whether sectors that are read are held, and those that are.
+    holds: bool,
+    held: HeldSectors,
     ghost on_disk: { span.start + span.count ≤ D.size_of disks.now span.disk },
     ghost numbered: { span.start + span.count < 2 ^ 64 },
     ghost whole: { IsSuper (super_view layout) span.count },
+    ghost are_held: { holds ≡ true → AreNow (D.past disks.now) span.disk held },
 }
 
 impl<'d, D: Disks> Volume<'d, D> {
@@ -73,6 +79,8 @@ impl<'d, D: Disks> Volume<'d, D> {
                 disks,
                 span,
                 layout,
+                holds: false,
+                held: HeldSectors::none(),
             }),
             Err(fault) => Err((disks, ZoneFault::Layout(fault))),
         }
@@ -87,8 +95,19 @@ impl<'d, D: Disks> Volume<'d, D> {
             disks,
             span: _,
             layout: _,
+            holds: _,
+            held: _,
         } = self;
         disks
+    }
+
+    /// From now on sectors that are read are held, and read once, until something is written.
+    pub fn hold_sectors(&mut self)
+        ensures faults { faults_of self.new ≡ faults_of self.old }
+        ensures same { SameVolume self.old self.new }
+    {
+        self.held = HeldSectors::none();
+        self.holds = true;
     }
 
     /// Its superblock, which passed the checks.
@@ -121,11 +140,15 @@ impl<'d, D: Disks> Volume<'d, D> {
         ensures later { faults_of self.old ≤ faults_of self.new }
         ensures same { SameVolume self.old self.new }
     {
-        match self
-            .disks
-            .read(self.span.disk, self.span.start + sector, into)
-        {
-            Ok(()) => Ok(()),
+        let at = self.span.start + sector;
+        if self.holds && self.held.get(at, into) {
+            return Ok(());
+        }
+        match self.disks.read(self.span.disk, at, into) {
+            Ok(()) => {
+                self.held.hold(at, into);
+                Ok(())
+            }
             Err(_) => Err(ZoneFault::Device),
         }
     }
@@ -143,6 +166,7 @@ impl<'d, D: Disks> Volume<'d, D> {
         ensures writes { WritesSector self.old self.new sector from.now ZoneFault.Device result }
     {
         let sector = self.span.start + sector;
+        self.holds = false;
         match disk_trait::write(self.disks, self.span.disk, sector, from) {
             Ok(()) => Ok(()),
             Err(_) => Err(ZoneFault::Device),
@@ -157,6 +181,7 @@ impl<'d, D: Disks> Volume<'d, D> {
     pub fn sync(&mut self) -> Result<(), ZoneFault>
         ensures syncs { Syncs self.old self.new ZoneFault.Device result }
     {
+        self.holds = false;
         match disk_trait::flush(self.disks) {
             Ok(()) => Ok(()),
             Err(_) => Err(ZoneFault::Device),
@@ -238,6 +263,7 @@ impl<'d, D: Disks> Disks for Volume<'d, D> {
         ensures geometry { geometries_of self.new ≡ geometries_of self.old }
         ensures kept { KeepsVolume self.old self.new }
     {
+        self.holds = false;
         self.disks.write(disk, sector, from)
     }
 
@@ -250,6 +276,7 @@ impl<'d, D: Disks> Disks for Volume<'d, D> {
         ensures geometry { geometries_of self.new ≡ geometries_of self.old }
         ensures kept { KeepsVolume self.old self.new }
     {
+        self.holds = false;
         self.disks.flush()
     }
 

@@ -1,9 +1,10 @@
 // A walk over the zones of an inode.
 ghost use Rattle.std.specs.Prelude.{◌≤◌};
 
+use crate::held::HeldZones;
 use crate::visit::Visit;
 use crate::volume::Volume;
-use crate::zone::{begins, blocks_under, number_above, numbers_in_zone, reach};
+use crate::zone::{begins, blocks_under, reach};
 use crate::zone_fault::ZoneFault;
 use disk_trait::Disks;
 use minix_layout::{FsKind, Inode};
@@ -11,8 +12,8 @@ use minix_layout::{FsKind, Inode};
 /// Three levels of indirect zones lead to a block at most.
 const LEVELS: u32 = 3;
 
-/// A walk over the zones of an inode: each once per pointer, an indirect zone before what it names. It keeps
-/// no zone's bytes, and so each answer is of the volume as it stands then.
+/// A walk over the zones of an inode: each once per pointer, an indirect zone before what it names. `next` keeps no
+/// zone's bytes, and so each answer is of the volume as it stands then.
 #[derive(Clone, Copy, Debug)]
 pub struct Walk {
     inode: Inode,
@@ -34,6 +35,7 @@ impl Walk {
     ghost use Rattle.minix_layout.specs.View.{kind_view, super_view, inode_view};
     ghost use Rattle.minix_zones.specs.View.{HasZoneCause, IsDataZone};
     ghost use Rattle.minix_zones.specs.Volume.{volume_view, past_of, faults_of, SameVolume};
+    ghost use Rattle.minix_zones.specs.Held.{AreHeld};
     ghost use Rattle.minix_zones.specs.Walk.{rest_of, IsEnded, turns_left, HasCome, Meets, Turns};
 
     /// A walk over the zones of an inode of a volume of this kind.
@@ -53,7 +55,6 @@ impl Walk {
     /// # Errors
     ///
     /// `ZoneOutside` with a number that is neither 0 nor a data zone's, or `Device`. The walk has ended then.
-    #[tactic(auto, unfolding(crate::specs::Walk::rest_of))]
     pub fn next<D: Disks>(&mut self, volume: &mut Volume<'_, D>) -> Result<Option<Visit>, ZoneFault>
         // What is met.
         ensures meets { Told (past_of volume.old) (λ now. Meets result
@@ -72,8 +73,44 @@ impl Walk {
         ensures later { faults_of volume.old ≤ faults_of volume.new }
         ensures same { SameVolume volume.old volume.new }
     {
+        let mut held = HeldZones::of(volume);
+        self.next_held(volume, &mut held)
+    }
+
+    /// The next zone, as `next` answers it. The indirect zones on the way to it are held, so that a walk over an inode
+    /// reads each of them once.
+    ///
+    /// # Errors
+    ///
+    /// As `next`.
+    #[tactic(auto, unfolding(crate::specs::Walk::rest_of))]
+    pub fn next_held<D: Disks>(
+        &mut self,
+        volume: &mut Volume<'_, D>,
+        held: &mut HeldZones,
+    ) -> Result<Option<Visit>, ZoneFault>
+        requires held { AreHeld volume.old held.old }
+
+        // What is met, and held.
+        ensures meets { Told (past_of volume.old) (λ now. Meets result
+            (rest_of (super_view volume.old.layout) (parts_of (volume_view volume.old) now) self.old)
+            (rest_of (super_view volume.old.layout) (parts_of (volume_view volume.old) now) self.new)) }
+        ensures data { IfOk result (λ met. IfSome met (λ visit. IsDataZone volume.old.layout visit.zone)) }
+        ensures held { AreHeld volume.new held.new }
+
+        // When it ends.
+        ensures fewer { IfOk result (λ met. OnSome met (turns_left self.new < turns_left self.old)) }
+        ensures none { IfOk result (λ met. IfNone met (IsEnded self.new)) }
+        ensures refused { OnErr result (IsEnded self.new) }
+        ensures ended { IsEnded self.old → (result ≡ Ok None) × (self.new ≡ self.old) }
+
+        // When it is refused.
+        ensures cause { IfErr result (HasZoneCause (faults_of volume.old) (faults_of volume.new)) }
+        ensures later { faults_of volume.old ≤ faults_of volume.new }
+        ensures same { SameVolume volume.old volume.new }
+    {
         while self.index < self.end {
-            if let Some(visit) = self.turn(volume)? {
+            if let Some(visit) = self.turn(volume, held)? {
                 return Ok(Some(visit));
             }
         }
@@ -81,8 +118,13 @@ impl Walk {
     }
 
     // One stop: the zone there, or nothing at a hole, behind which all its blocks are passed.
-    fn turn<D: Disks>(&mut self, volume: &mut Volume<'_, D>) -> Result<Option<Visit>, ZoneFault>
-        requires { self.old.index < self.old.end }
+    fn turn<D: Disks>(
+        &mut self,
+        volume: &mut Volume<'_, D>,
+        held: &mut HeldZones,
+    ) -> Result<Option<Visit>, ZoneFault>
+        requires more { self.old.index < self.old.end }
+        requires held { AreHeld volume.old held.old }
         ensures turns { Told (past_of volume.old) (λ now. Turns result
             (rest_of (super_view volume.old.layout) (parts_of (volume_view volume.old) now) self.old)
             (rest_of (super_view volume.old.layout) (parts_of (volume_view volume.old) now) self.new)) }
@@ -90,6 +132,7 @@ impl Walk {
         ensures fewer { OnOk result (turns_left self.new < turns_left self.old) }
         ensures refused { OnErr result (IsEnded self.new) }
         ensures come { HasCome self.old self.new self.new.index self.new.level }
+        ensures held { AreHeld volume.new held.new }
         ensures cause { IfErr result (HasZoneCause (faults_of volume.old) (faults_of volume.new)) }
         ensures later { faults_of volume.old ≤ faults_of volume.new }
         ensures same { SameVolume volume.old volume.new }
@@ -99,7 +142,7 @@ impl Walk {
             self.lower();
             return Ok(None);
         }
-        match number_above(volume, &self.inode, self.index, self.level) {
+        match held.number_above(volume, &self.inode, self.index, self.level) {
             Ok(0) => {
                 self.pass(blocks_under(kind, self.level));
                 Ok(None)

@@ -2,8 +2,8 @@
 ghost use Rattle.std.specs.Prelude.{◌≡◌, ◌+◌, ◌*◌, ◌-◌, ◌^◌, ◌<◌, ◌≤◌, replicate, slice_index, IfOk, IfErr, OnErr};
 ghost use Rattle.disk_trait.specs.Past.{Told};
 ghost use Rattle.lilo_model.specs.MinixLayout.{numbers_in_zone, reach};
-ghost use Rattle.lilo_model.specs.MinixParts.{parts_of, number_in, number_below, follow_at, trail_of, inside, pointer_with, block_pointer, zone_at, block_at, at_pointer};
-ghost use Rattle.lilo_model.specs.MinixWalk.{branch_of, begins, stop_pointer};
+ghost use Rattle.lilo_model.specs.MinixParts.{parts_of, number_in, number_below, follow_at, trail_of, inside, pointer_with, block_pointer, zone_at, block_at};
+ghost use Rattle.lilo_model.specs.MinixWalk.{branch_of, begins};
 ghost use Rattle.minix_layout.specs.View.{kind_view, super_view, inode_view};
 ghost use Rattle.minix_zones.specs.View.{Gives, HasZoneCause, zone_number, IsZoneAt, IsInside};
 ghost use Rattle.minix_layout.specs.declared.superblock.Super.{Super as SuperOf};
@@ -36,7 +36,7 @@ pub fn reach(kind: FsKind) -> u32
 }
 
 /// The numbers in an indirect zone.
-pub(crate) fn numbers_in_zone(kind: FsKind) -> u32
+pub fn numbers_in_zone(kind: FsKind) -> u32
     ensures { result ≡ numbers_in_zone (kind_view kind) }
 {
     if kind.is_v1() { 512 } else { 256 }
@@ -44,7 +44,7 @@ pub(crate) fn numbers_in_zone(kind: FsKind) -> u32
 
 /// The number at an index of an indirect zone's bytes.
 #[tactic(auto, unfolding(lilo_model::specs::MinixParts::number_in))]
-pub(crate) fn number_in(kind: FsKind, bytes: &[u8; 1024], index: u32) -> u32
+pub fn number_in(kind: FsKind, bytes: &[u8; 1024], index: u32) -> u32
     requires { index < numbers_in_zone (kind_view kind) }
     ensures { result ≡ number_in (kind_view kind) bytes.now index }
 {
@@ -59,7 +59,7 @@ pub(crate) fn number_in(kind: FsKind, bytes: &[u8; 1024], index: u32) -> u32
 
 /// A number that may be followed: 0, or that of a data zone.
 #[tactic(auto, unfolding(lilo_model::specs::MinixParts::inside))]
-pub(crate) fn inside(layout: &Super, zone: u32) -> Result<u32, ZoneFault>
+pub fn inside(layout: &Super, zone: u32) -> Result<u32, ZoneFault>
     ensures found { Gives (λ found. found) result (inside (super_view layout.now) zone) }
     ensures inside { IfOk result (IsInside layout.now) }
     ensures refused { IfErr result (λ fault. fault ≡ ZoneFault.ZoneOutside zone) }
@@ -73,7 +73,7 @@ pub(crate) fn inside(layout: &Super, zone: u32) -> Result<u32, ZoneFault>
 
 /// The number at an index of an indirect zone, 0 where that zone is a hole.
 #[tactic(auto, unfolding(lilo_model::specs::MinixParts::inside))]
-fn number_below<D: Disks>(
+pub fn number_below<D: Disks>(
     volume: &mut Volume<'_, D>,
     zone: u32,
     index: u32,
@@ -127,15 +127,15 @@ fn follow<D: Disks>(
 /// Where the way to a block begins: at one of an inode's ten numbers. It leads through `depth` levels of
 /// indirect zones, to a block that is counted from the first one found by that number.
 #[derive(Clone, Copy)]
-pub(crate) struct Way {
-    pub(crate) top: usize,
-    pub(crate) depth: u32,
-    pub(crate) index: u32,
+pub struct Way {
+    pub top: usize,
+    pub depth: u32,
+    pub index: u32,
 }
 
 /// The way to the block with an index.
 #[tactic(auto, unfolding(lilo_model::specs::MinixParts::pointer_by, lilo_model::specs::MinixWalk::branch_of))]
-pub(crate) fn way_to(kind: FsKind, index: u32) -> Way
+pub fn way_to(kind: FsKind, index: u32) -> Way
     ensures branch { branch_of (numbers_in_zone (kind_view kind)) index
         ≡ record { top = result.top; first = index - result.index; depth = result.depth } }
     ensures within { result.index ≤ index }
@@ -252,7 +252,7 @@ pub(crate) fn put_hole(into: &mut [u8; 1024])
 
 /// The blocks that are found through a number this many levels above them.
 #[tactic(auto, using(crate::proofs::PowerLemmas::power_some, crate::proofs::PowerLemmas::power_few))]
-pub(crate) fn blocks_under(kind: FsKind, level: u32) -> u32
+pub fn blocks_under(kind: FsKind, level: u32) -> u32
     requires { level ≤ 3 }
     ensures power { result ≡ numbers_in_zone (kind_view kind) ^ level }
     ensures some { 0 < result }
@@ -269,33 +269,4 @@ pub(crate) fn begins(kind: FsKind, index: u32, level: u32) -> bool
 {
     let way = way_to(kind, index);
     level <= way.depth && way.index % blocks_under(kind, level) == 0
-}
-
-/// The number that stands this many levels above a block.
-#[tactic(auto, unfolding(lilo_model::specs::MinixWalk::stop_pointer))]
-pub(crate) fn number_above<D: Disks>(
-    volume: &mut Volume<'_, D>,
-    inode: &Inode,
-    index: u32,
-    level: u32,
-) -> Result<u32, ZoneFault>
-    requires { level ≤ 3 }
-    ensures number { Told (past_of volume.old) (λ now. Gives (λ found. found) result
-        (at_pointer (super_view volume.old.layout) (parts_of (volume_view volume.old) now) (inode_view inode.now)
-        (stop_pointer (numbers_in_zone (kind_view volume.old.layout.kind))
-        (record { index = index; level = level })))) }
-    ensures inside { IfOk result (IsInside volume.old.layout) }
-    ensures cause { IfErr result (HasZoneCause (faults_of volume.old) (faults_of volume.new)) }
-    ensures later { faults_of volume.old ≤ faults_of volume.new }
-    ensures same { SameVolume volume.old volume.new }
-{
-    let kind = volume.layout().kind;
-    let way = way_to(kind, index);
-    let index = way.index / blocks_under(kind, level);
-    follow(
-        volume,
-        inode.zones[way.top],
-        way.depth.saturating_sub(level),
-        index,
-    )
 }

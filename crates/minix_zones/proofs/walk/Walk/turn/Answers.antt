@@ -32,7 +32,7 @@ returns-in-Ok-eq0-clause-turns g c =
     let begun = begins_of _ layout walk.index walk.level _ _ c.layout.ensures.value c.begins.ensures c.if-not-begins.false in
     let blocks = blocks_of _ layout walk.level c.blocks_under.result c.layout.ensures.value c.blocks_under.ensures.power in
     let hole : c.in-Ok-eq0.field-0 ≡ 0 = omega arith in
-    turn_hole (past_of c.args.volume.now) (volume_view c.args.volume.now) walk c.pass.new.self c.blocks_under.result c.in-Ok-eq0.field-0 (per_some (kind_view layout.kind)) c.requires begun blocks c.in-Ok-eq0.ensures.number hole
+    turn_hole (past_of c.args.volume.now) (volume_view c.args.volume.now) walk c.pass.new.self c.blocks_under.result c.in-Ok-eq0.field-0 (per_some (kind_view layout.kind)) c.requires.more begun blocks c.in-Ok-eq0.ensures.number hole
     (come_from walk _ _ _ _ refl refl c.pass.ensures)
 
 pub returns-in-Ok-clause-turns : goal.returns-in-Ok-clause-turns
@@ -40,7 +40,7 @@ returns-in-Ok-clause-turns g c =
     let walk = c.args.self.now in
     let layout = c.args.volume.now.layout in
     let begun = begins_of _ layout walk.index walk.level _ _ c.layout.ensures.value c.begins.ensures c.if-not-begins.false in
-    turn_zone (past_of c.args.volume.now) (volume_view c.args.volume.now) walk c.step.new.self c.in-Ok.zone c.requires begun c.in-Ok.ensures.number (omega arith)
+    turn_zone (past_of c.args.volume.now) (volume_view c.args.volume.now) walk c.step.new.self c.in-Ok.zone c.requires.more begun c.in-Ok.ensures.number (omega arith)
     (λ high. come_from walk _ _ _ _ refl refl (c.step.ensures.below high))
     (λ low. come_from walk _ _ _ _ refl refl (c.step.ensures.behind low))
 
@@ -49,4 +49,4 @@ returns-in-Err-clause-turns g c =
     let walk = c.args.self.now in
     let layout = c.args.volume.now.layout in
     let begun = begins_of _ layout walk.index walk.level _ _ c.layout.ensures.value c.begins.ensures c.if-not-begins.false in
-    turn_refused (past_of c.args.volume.now) (volume_view c.args.volume.now) walk c.in-Err.fault (faults_of c.args.volume.now) _ c.requires begun c.in-Err.ensures.cause c.in-Err.ensures.number
+    turn_refused (past_of c.args.volume.now) (volume_view c.args.volume.now) walk c.in-Err.fault (faults_of c.args.volume.now) _ c.requires.more begun c.in-Err.ensures.cause c.in-Err.ensures.number

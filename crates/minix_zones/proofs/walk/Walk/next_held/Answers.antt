@@ -1,6 +1,6 @@
 use Rattle.minix_zones.specs.Volume.{volume_view, past_of}
 use Rattle.minix_zones.proofs.TurnLemmas.{ended_rest}
-use Rattle.minix_zones.proofs.walk.Walk.next.Goals as goal
+use Rattle.minix_zones.proofs.walk.Walk.next_held.Goals as goal
 
 pub returns-clause-meets : goal.returns-clause-meets
 returns-clause-meets g c =

@@ -3,8 +3,9 @@ use Rattle.disk_trait.specs.Past.{Told}
 use Rattle.lilo_model.specs.MinixParts.{parts_of}
 use Rattle.minix_layout.specs.View.{super_view}
 use Rattle.minix_zones.specs.Volume.{volume_view, past_of, faults_of, SameVolume}
+use Rattle.minix_zones.specs.Held.{AreHeld}
 use Rattle.minix_zones.specs.Walk.{rest_of, turns_left}
-use Rattle.minix_zones.proofs.walk.Walk.next.Given as goal
+use Rattle.minix_zones.proofs.walk.Walk.next_held.Given as goal
 
 -- what was passed so far are holes
 abbrev pub invariant-loop-self : goal.invariant-loop-self
@@ -16,6 +17,7 @@ invariant-loop-self g l = record {
   fewer : turns_left l.self ≤ turns_left l.fn.self;
   same_inode : l.self.inode ≡ l.fn.self.inode;
   same_end : l.self.end ≡ l.fn.self.end;
+  held : AreHeld l.volume l.held;
   later : faults_of l.fn.volume ≤ faults_of l.volume;
   same : SameVolume l.fn.volume l.volume;
 }

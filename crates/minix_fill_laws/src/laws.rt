@@ -1,0 +1,17 @@
+// What a file is whose inode and indirect zones have the numbers that were chosen for it.
+ghost use Rattle.minix_fill_laws.specs.Laws.{PointersLaw, ContentLaw, FilledLaw};
+
+/// Each pointer leads to the zone that was chosen for it.
+pub fn pointers_lead_to_what_was_chosen()
+    ensures { PointersLaw }
+{}
+
+/// The content is that of the blocks' zones, zeros in holes, cut at the size.
+pub fn content_is_of_the_blocks()
+    ensures { ContentLaw }
+{}
+
+/// The inode may get a name, where its zones are new.
+pub fn filled_inode_is_a_new_file()
+    ensures { FilledLaw }
+{}

@@ -89,12 +89,22 @@ module _ (volume : Volume) (old : Image) (is : IsSuper volume.layout volume.span
         seen inode fit' (links_change_law volume.layout Was (parts_of volume (With inode)) number links has.parts named enough
         (change inode fit' sized (kept_links volume.layout.kind (Was.node number) links kept)))
 
+    -- of another size, and with another of its numbers
+    pub node_size : (size : ℕ) → size < 2 ^ 32 → is_size volume.layout.kind size ≡ true
+        → ChangesNode volume.layout Was (parts_of volume (With (with_size (Was.node number) size))) number (with_size (Was.node number) size)
+    node_size size small sized' =
+        change (with_size (Was.node number) size) (fits_size volume.layout.kind (Was.node number) size fit small) sized' (kept_size volume.layout.kind (Was.node number) size kept)
+
+    pub node_top : (top zone size : ℕ) → FitsTop volume.layout.kind top zone → size < 2 ^ 32 → is_size volume.layout.kind size ≡ true
+        → ChangesNode volume.layout Was (parts_of volume (With (with_top (Was.node number) top zone size))) number (with_top (Was.node number) top zone size)
+    node_top top zone size low small sized' =
+        change (with_top (Was.node number) top zone size) (fits_top volume.layout.kind (Was.node number) top zone size fit low small) sized' (kept_top volume.layout.kind (Was.node number) top zone size low fit.ten kept)
+
     pub seen_size : (size : ℕ) → size < 2 ^ 32 → MaySize volume.layout Was number size → SeenAsIn volume old (With (with_size (Was.node number) size))
     seen_size size small may =
         let inode : Inode = with_size (Was.node number) size in
         let fit' = fits_size volume.layout.kind (Was.node number) size fit small in
-        seen inode fit' (size_change_law volume.layout Was (parts_of volume (With inode)) number size has.parts may
-        (change inode fit' may.sized (kept_size volume.layout.kind (Was.node number) size kept)))
+        seen inode fit' (size_change_law volume.layout Was (parts_of volume (With inode)) number size has.parts may (node_size size small may.sized))
 
     pub seen_top : (top zone size : ℕ) (more : List Deeper) → FitsTop volume.layout.kind top zone → size < 2 ^ 32
         → MayHook volume.layout Was number (pointer_at top []) zone more → MaySize volume.layout Was number size
@@ -103,4 +113,4 @@ module _ (volume : Volume) (old : Image) (is : IsSuper volume.layout volume.span
         let inode : Inode = with_top (Was.node number) top zone size in
         let fit' = fits_top volume.layout.kind (Was.node number) top zone size fit low small in
         seen inode fit' (top_law volume.layout Was (parts_of volume (With inode)) number top zone size more has.parts hook may (let ten = fit.ten in let least = low_top volume.layout.kind top zone low in omega (arith, ten, least))
-        (change inode fit' may.sized (kept_top volume.layout.kind (Was.node number) top zone size low fit.ten kept)))
+        (node_top top zone size low small may.sized))

@@ -41,6 +41,22 @@ def tool(name, package):
     return shutil.which(name, path=path)
 
 
+def reads(sectors, image):
+    """How many bytes each read of an image takes, if these sectors are looked at in this order.
+
+    A sector that comes right after those that were read last has up to seven others read with it, by one call. What
+    was read so is at hand until another sector is read.
+    """
+    size = os.path.getsize(image) // 512
+    held, taken = range(0), []
+    for sector in sectors:
+        if sector not in held:
+            follows = held and sector == held.stop
+            held = range(sector, min(sector + 8, size) if follows else sector + 1)
+            taken.append(512 * len(held))
+    return taken
+
+
 class Harness:
     """Counts the cases and prints each that fails."""
 

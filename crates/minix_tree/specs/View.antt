@@ -3,7 +3,7 @@ use Rattle.std.specs.Prelude.{◌≡◌, ◌≤◌, ℕ, true, Result, Ok, Err}
 use Rattle.lilo_model.specs.Faults.{Rose}
 use Rattle.disk_trait.specs.Past.{Told}
 use Rattle.disk_trait.specs.declared.disks.Disks.{Ghosts}
-use Rattle.lilo_model.specs.MinixLayout.{is_size, reach}
+use Rattle.lilo_model.specs.MinixLayout.{FitsInode, is_size, reach}
 use Rattle.lilo_model.specs.MinixParts as parts
 use Rattle.lilo_model.specs.MinixFind as model
 use Rattle.minix_layout.specs.declared.superblock.Super.{Super}
@@ -64,12 +64,13 @@ HasTreeCause before now (faults.Zone (zones.ZoneOutside zone)) = Unit {0}
 HasTreeCause before now (faults.Zone zones.Device) = Rose before now
 HasTreeCause before now faults.Memory = ⊥
 
--- an inode that a volume with this superblock can have, by its number and its size
+-- an inode that a volume with this superblock can have, by its number, its size and the fields of its kind
 pub record IsStat (layout : Super) (stat : Stat) : Type 0 where
   pub some : 1 ≤ stat.inode
   pub there : stat.inode ≤ layout.inodes
   pub sized : is_size (kind_view layout.kind) stat.node.size ≡ true
   pub reached : parts.blocks_for stat.node.size ≤ reach (kind_view layout.kind)
+  pub fields : FitsInode (kind_view layout.kind) (inode_view stat.node)
 
 -- it is the inode that stands at its number now
 abbrev pub IsNode : {D : Type 0} {disks : Ghosts D} → Volume D disks → Stat → Type 0

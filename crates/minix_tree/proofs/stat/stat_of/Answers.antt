@@ -31,6 +31,7 @@ returns-in-Ok-clause-fits g c =
       there = c.requires.there;
       sized = size;
       reached = blocks_reached (kind_view c.args.volume.now.layout.kind) c.in-Ok.node.size c.in-Ok.ensures.fits.size_fits size;
+      fields = rw c.layout-2.ensures.value at c.in-Ok.ensures.fits;
     }
 
 pub returns-in-Err-read-clause-found : goal.returns-in-Err-read-clause-found

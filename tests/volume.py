@@ -102,6 +102,13 @@ class Volume:
 
     # the whole
 
+    def sectors(self, zone):
+        """The sectors of a zone, counted from the volume's start."""
+        return [2 * zone, 2 * zone + 1]
+
+    def inode_sector(self, number):
+        return 2 * self.table + (number - 1) * self.inode_size // SECTOR
+
     def node_bytes(self, node):
         if self.v1:
             return struct.pack('<HHIIBB9H', node['mode'], 0, node['size'], 0, 0, node['links'], *node['zones'][:9])

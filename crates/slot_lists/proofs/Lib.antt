@@ -1,2 +1,4 @@
+pub mod CursorLemmas
 pub mod JoinLemmas
 pub mod MadeLemmas
+pub mod RunLemmas

@@ -1,8 +1,15 @@
-//! Lists of slots that name the sectors of a list, one sector each or as many as a slot can name.
+//! Lists of slots that name the sectors of a list, one sector each or as many as a slot can name: all at once, or one
+//! after the other over runs of sectors.
 #![tactic(auto)]
 
+mod cursor;
+mod laws;
+mod runs;
 mod slots;
 #[cfg(test)]
 mod tests;
 
+pub use cursor::SlotCursor;
+pub use laws::cursor_gives_all_slots;
+pub use runs::{Run, RunList};
 pub use slots::{CompactFault, DiskSector, compact, plain_slots};

@@ -104,7 +104,7 @@ fn joined(alloc: Global, slots: &[Slot], geometry: Geometry) -> Result<Vec<Slot>
 
 // Whether one slot could name the sectors of two neighbours.
 #[tactic(auto, unfolding(lilo_model::specs::Slots::could_be_one))]
-fn could_be_one(geometry: Geometry, slot: &Slot, other: &Slot) -> bool
+pub(crate) fn could_be_one(geometry: Geometry, slot: &Slot, other: &Slot) -> bool
     ensures { result ≡ could_be_one (geometry_view geometry) (slot_view slot.now) (slot_view other.now) }
 {
     slot.disk == other.disk

@@ -2,3 +2,4 @@ pub mod Keys
 pub mod Machine
 pub mod Memory
 pub mod Reads
+pub mod Writes

@@ -1,4 +1,4 @@
-// The BIOS: disks that are read by slots, and keys.
+// The BIOS: disks that are read and written by slots, and keys.
 ghost use Rattle.std.specs.Prelude.{◌≡◌, ◌<◌, ◌≤◌, ◌↔◌, length, map, All, Ok, IsOk, IsErr, IsErrOf, IfErr, IsTrue, OnOk, OnErr};
 ghost use Rattle.disk_trait.specs.Past.{SameDisks};
 ghost use Rattle.lilo_model.specs.Faults.{Rose};
@@ -10,9 +10,10 @@ ghost use Rattle.sector_address.specs.View.{slot_view};
 ghost use Rattle.sector_address.specs.Machine.{machine_of, OnDisks};
 ghost use Rattle.bios_model.specs.Keys.{GivesKey, keys_in};
 ghost use Rattle.bios_model.specs.Machine.{sector_bytes_at, HasSector, slots_bytes_at, first_places, Reads};
+ghost use Rattle.bios_model.specs.Writes.{WritesFound};
 
 use crate::key::Key;
-use disk_trait::{DiskFault, Disks};
+use disk_trait::{DiskFault, Disks, write_and_flush};
 use sector_address::Slot;
 use sector_parts::Sector;
 use stream_trait::{Next, Source};
@@ -67,6 +68,34 @@ impl<'d, D: Disks, I: Source> Bios<'d, D, I> {
         ensures same_keys_reference { self.new.keys.ghost_name ≡ self.old.keys.ghost_name }
     {
         read_slot(self.disks, slot, index, into)
+    }
+
+    /// Writes the first sector of a slot and makes it durable, with all writes before it. Refused as a read is; a write
+    /// that failed was made or wasn't.
+    pub fn write_sector(&mut self, slot: &Slot, from: &Sector) -> Result<(), BiosFault>
+        requires { HasSector slot.now }
+
+        // What is written.
+        ensures writes { WritesFound D.Disks self.old.disks.now self.new.disks.now
+            (place_at (machine_of D.Disks self.old.disks.now) (slot_view slot.now) 0) from.now result }
+
+        // When it is refused.
+        ensures not_found { IsErrOf result BiosFault.NotFound
+            ↔ IsErr (place_at (machine_of D.Disks self.old.disks.now) (slot_view slot.now) 0) }
+        ensures uncounted { IsErrOf result BiosFault.NotFound
+            → D.faults self.new.disks.now ≡ D.faults self.old.disks.now }
+        ensures timeout { IsErrOf result BiosFault.Timeout
+            → Rose (D.faults self.old.disks.now) (D.faults self.new.disks.now) }
+        ensures no_keys { IsErrOf result BiosFault.KeysFault → ⊥ }
+        ensures no_memory { IsErrOf result BiosFault.OutsideRam → ⊥ }
+        ensures later { D.faults self.old.disks.now ≤ D.faults self.new.disks.now }
+
+        // No key is taken.
+        ensures keys { self.new.keys.now ≡ self.old.keys.now }
+        ensures same_disks_reference { self.new.disks.ghost_name ≡ self.old.disks.ghost_name }
+        ensures same_keys_reference { self.new.keys.ghost_name ≡ self.old.keys.ghost_name }
+    {
+        write_sector(self.disks, slot, from)
     }
 
     /// Takes the next key. The byte 0x16 is a tick, a tenth of a second without a key; the end of the source is silence,
@@ -138,6 +167,35 @@ pub fn read_slot<D: Disks>(
         Ok(()) => Ok(()),
         Err(DiskFault::Failed) => Err(BiosFault::Timeout),
         Err(DiskFault::OutOfRange) => Err(BiosFault::NotFound),
+    }
+}
+
+/// Writes the first sector of a slot, as [`Bios::write_sector`] does, where no keys are at hand.
+pub fn write_sector<D: Disks>(disks: &mut D, slot: &Slot, from: &Sector) -> Result<(), BiosFault>
+    requires { HasSector slot.now }
+
+    // What is written.
+    ensures writes { WritesFound D.Disks disks.old disks.new
+        (place_at (machine_of D.Disks disks.old) (slot_view slot.now) 0) from.now result }
+
+    // When it is refused.
+    ensures not_found { IsErrOf result BiosFault.NotFound
+        ↔ IsErr (place_at (machine_of D.Disks disks.old) (slot_view slot.now) 0) }
+    ensures uncounted { IsErrOf result BiosFault.NotFound → D.faults disks.new ≡ D.faults disks.old }
+    ensures timeout { IsErrOf result BiosFault.Timeout → Rose (D.faults disks.old) (D.faults disks.new) }
+    ensures no_keys { IsErrOf result BiosFault.KeysFault → ⊥ }
+    ensures no_memory { IsErrOf result BiosFault.OutsideRam → ⊥ }
+    ensures later { D.faults disks.old ≤ D.faults disks.new }
+{
+    let Ok(sector) = slot.sector(disks.geometry(slot.disk), 0) else {
+        return Err(BiosFault::NotFound);
+    };
+    if disks.size(slot.disk) <= sector {
+        return Err(BiosFault::NotFound);
+    }
+    match write_and_flush(disks, slot.disk, sector, from) {
+        Ok(()) => Ok(()),
+        Err(_) => Err(BiosFault::Timeout),
     }
 }
 

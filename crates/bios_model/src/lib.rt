@@ -1,7 +1,7 @@
 //! The modelled PC, as a boot loader sees it: its BIOS and its memory.
 //!
-//! The BIOS reads one sector a call, by INT 13h: [`Bios::read_slot`] takes the sector that a slot names. It gives one
-//! key a call, or reports a tick without one: [`Bios::key`].
+//! The BIOS reads or writes one sector a call, by INT 13h: [`Bios::read_slot`] and [`Bios::write_sector`] take the
+//! sector that a slot names. It gives one key a call, or reports a tick without one: [`Bios::key`].
 //! Memory is bytes from address 0 on: a [`Ram`]. Both are this project's own model of a PC. No call but
 //! [`Ram::new`] takes memory of the host.
 #![tactic(auto)]
@@ -12,6 +12,6 @@ mod ram;
 #[cfg(test)]
 mod tests;
 
-pub use bios::{Bios, BiosFault, read_slot, read_slots};
+pub use bios::{Bios, BiosFault, read_slot, read_slots, write_sector};
 pub use key::Key;
 pub use ram::Ram;

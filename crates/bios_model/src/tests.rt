@@ -1,4 +1,4 @@
-ghost use Rattle.std.specs.Prelude.{◌≡◌, ◌<◌, []};
+ghost use Rattle.std.specs.Prelude.{◌≡◌, ◌<◌, ◌≤◌, []};
 ghost use Rattle.disk_trait.specs.Past.{SameDisks};
 
 use crate::{Bios, BiosFault, Key, Ram};
@@ -18,7 +18,7 @@ fn one_disk(alloc: Global, failing: &[Failing]) -> Result<MemDisks, AllocError> 
         sectors: 100,
         geometry,
     };
-    let mut disks = MemDisks::new(alloc, &[disk], 0, failing)?;
+    let mut disks = MemDisks::new(alloc, &[disk], 2, failing)?;
     fill(&mut disks, 82);
     fill(&mut disks, 83);
     Ok(disks)
@@ -100,6 +100,91 @@ fn a_failing_disk_is_a_timeout(rt: HostRuntime) -> Result<(), Fail> {
     }];
     let read = read(rt.alloc(), b"\x03\x80\x01\0\x52\0\0\0", 0, &failing)?;
     assert_eq!(rt; read, (Err(BiosFault::Timeout), [1; 512]));
+    Ok(())
+}
+
+// Writes a sector over disks and keys that are used again: no key is taken.
+fn write_over<D: Disks>(
+    disks: &mut D,
+    keys: &mut MemSource,
+    slot: &Slot,
+    from: &Sector,
+) -> Result<(), BiosFault>
+    requires { 1 ≤ slot.now.count }
+    ensures keys { keys.new ≡ keys.old }
+{
+    let mut bios = Bios { disks, keys };
+    bios.write_sector(slot, from)
+}
+
+// The first of a slot's sectors is written and made durable, unless there is none or the disk fails.
+#[test]
+fn slots_are_written(rt: HostRuntime) -> Result<(), Fail> {
+    let write_lost = Failing {
+        call: 0,
+        made: false,
+    };
+    let write_made = Failing {
+        call: 0,
+        made: true,
+    };
+    let flush_lost = Failing {
+        call: 1,
+        made: false,
+    };
+    let no_failure = Failing {
+        call: 9,
+        made: false,
+    };
+    for (bytes, failing, answer, byte, events) in [
+        (b"\x03\x80\x01\0\x52\0\0\0", no_failure, Ok(()), 7, 2),
+        (b"\x01\x80\x02\0\x14\0\x01\0", no_failure, Ok(()), 7, 2),
+        (
+            b"\x03\x80\x01\0\x64\0\0\0",
+            no_failure,
+            Err(BiosFault::NotFound),
+            82,
+            0,
+        ),
+        (
+            b"\x03\x81\x01\0\x52\0\0\0",
+            no_failure,
+            Err(BiosFault::NotFound),
+            82,
+            0,
+        ),
+        (
+            b"\x03\x80\x01\0\x52\0\0\0",
+            write_lost,
+            Err(BiosFault::Timeout),
+            82,
+            0,
+        ),
+        (
+            b"\x03\x80\x01\0\x52\0\0\0",
+            write_made,
+            Err(BiosFault::Timeout),
+            7,
+            1,
+        ),
+        (
+            b"\x03\x80\x01\0\x52\0\0\0",
+            flush_lost,
+            Err(BiosFault::Timeout),
+            7,
+            1,
+        ),
+    ] {
+        let mut disks = one_disk(rt.alloc(), &[failing])?;
+        let mut keys = MemSource::new(rt.alloc(), b"", &[])?;
+        let mut sector = [0; 512];
+        if let Ok(Some(slot)) = Slot::decode(&FieldRef { bytes }) {
+            assert_eq!(rt; write_over(&mut disks, &mut keys, &slot, &[7; 512]), answer);
+        }
+        assert_eq!(rt; disks.events(), events);
+        let _ = disks.read(0, 82, &mut sector);
+        assert_eq!(rt; sector, [byte; 512], "at {bytes:?}");
+    }
     Ok(())
 }
 

@@ -1,2 +1,5 @@
+pub mod FillLemmas
+pub mod FillSteps
 pub mod MarkLemmas
 pub mod MarkSteps
+pub mod NumberLemmas

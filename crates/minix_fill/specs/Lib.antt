@@ -1,1 +1,3 @@
+pub mod Fill
 pub mod Marks
+pub mod Numbers

@@ -4,6 +4,10 @@
 //! sound, with the same Names as then.
 #![tactic(auto)]
 
+mod fill;
 mod mark;
+mod numbers;
 
+pub use fill::fill_file;
 pub use mark::mark_zones;
+pub use numbers::FileZones;

@@ -10,6 +10,7 @@ use Rattle.minix_fill_laws.specs.Sources.{Source, FileZones, zone_from, top_sour
 pub record MayBeFile (kind : Kind) (zones : FileZones) : Type 0 where
   -- an inode can name its blocks, and version 1 has no third level
   pub few : length zones.blocks ≤ reach kind
+  pub few_indirect : length zones.indirect ≤ reach kind
   pub two_levels : is_v1 kind ≡ true → length zones.indirect ≤ 2 + numbers_in_zone kind
   -- below an indirect zone that isn't made all is a hole
   pub holes : (place index : ℕ) → index < numbers_in_zone kind → slice_index zones.indirect place ≡ 0 → zone_from zones (below_source (numbers_in_zone kind) place index) ≡ 0

@@ -10,7 +10,7 @@ use Rattle.minix_fill_laws.specs.Sources.{FileZones, zone_from, below_source, so
 use Rattle.minix_fill_laws.specs.Laws.{MayBeFile, HasZones, PointersLaw, ContentLaw, AreNewZones, FilledLaw}
 use Rattle.minix_fill_laws.proofs.Pointers.{outer_place, pointers_once, block_leads}
 
-some_numbers : (kind : Kind) → 0 < numbers_in_zone kind
+pub some_numbers : (kind : Kind) → 0 < numbers_in_zone kind
 some_numbers V1Short = lit< tt
 some_numbers V1Long = lit< tt
 some_numbers V2Short = lit< tt

@@ -1,4 +1,5 @@
 // What a file is whose inode and indirect zones have the numbers that were chosen for it.
+ghost use Rattle.minix_fill_laws.specs.Chosen.{ChosenLaw};
 ghost use Rattle.minix_fill_laws.specs.Laws.{PointersLaw, ContentLaw, FilledLaw};
 
 /// Each pointer leads to the zone that was chosen for it.
@@ -14,4 +15,9 @@ pub fn content_is_of_the_blocks()
 /// The inode may get a name, where its zones are new.
 pub fn filled_inode_is_a_new_file()
     ensures { FilledLaw }
+{}
+
+/// Zones that were chosen for a file may be its zones.
+pub fn chosen_zones_may_be_a_file()
+    ensures { ChosenLaw }
 {}

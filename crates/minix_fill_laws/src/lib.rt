@@ -5,5 +5,6 @@
 mod laws;
 
 pub use laws::{
-    content_is_of_the_blocks, filled_inode_is_a_new_file, pointers_lead_to_what_was_chosen,
+    chosen_zones_may_be_a_file, content_is_of_the_blocks, filled_inode_is_a_new_file,
+    pointers_lead_to_what_was_chosen,
 };

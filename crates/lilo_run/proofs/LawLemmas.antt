@@ -4,18 +4,17 @@ use Rattle.lilo_model.specs.Boot as boots
 use Rattle.lilo_model.specs.Boot.{Ending}
 use Rattle.lilo_model.specs.ConfVerdict.{place_at}
 use Rattle.lilo_model.specs.Devices.{Device}
-use Rattle.lilo_model.specs.Disks.{Image, Machine, Span}
+use Rattle.lilo_model.specs.Disks.{Image, Machine}
 use Rattle.lilo_model.specs.Place.{Memory}
 use Rattle.lilo_model.specs.Prompt.{Key}
-use Rattle.lilo_model.specs.Refusal.{DeviceFault}
 use Rattle.lilo_model.specs.Verdict.{Verdict, dump_text, verdict_of, verdict_behind, boot_text, boot_verdict}
 use Rattle.loader_core.specs.Laws.{EndsSo, IsReported}
 use Rattle.section_loader.specs.Reading.{Why, Unbuilt, Because}
 use Rattle.loader_core.specs.Today.{boot_today, standing_line}
 use Rattle.loader_core.proofs.TodayLemmas.{today_law}
-use Rattle.lilo_run.specs.Laws.{IsUnbuiltAt, IsBootRun, BootVerdictLaw}
+use Rattle.lilo_run.specs.Laws.{IsUnbuiltAt, IsBootRun, model_effect, BootVerdictLaw}
 use Rattle.lilo_run.specs.Run.{Tells, TellsRun}
-use Rattle.lilo_run.specs.Verdict.{plain_effect, end_verdict, report_effect, boot_effect, command_effect, effects_of}
+use Rattle.lilo_run.specs.Verdict.{end_verdict, report_effect, boot_effect, command_effect, effects_of}
 use Rattle.lilo_run.proofs.TellLemmas.{told_alone}
 
 ends_alike :
@@ -33,40 +32,31 @@ pub boot_verdict_law : BootVerdictLaw
 unfolding boot_effect report_effect boot_verdict
 boot_verdict_law now machine memory dump (Err fault) keys built = refl
 boot_verdict_law now machine memory dump (Ok span) keys built =
-    let report = boot_today now machine span memory in
+    let report = boot_today now machine span memory keys in
     let boot = boots.whole_boot now machine span keys memory in
-    let reported : IsReported boot report (standing_line now machine span) keys = today_law now machine span keys memory (λ unbuilt. built (span, refl, unbuilt)) in
-    behind_alike report.shown boot.shown (end_verdict dump report.result) (verdict_of (boot_text dump boot)) reported.shown
-    (ends_alike dump boot report.result reported.ends)
-
--- no boot wants memory
-boot_starved :
-    (now : Image) (machine : Machine) (size : ℕ) (dump : Bool) (place : Result Span DeviceFault)
-    → (boot_effect now machine size dump place).starved ≡ []
-unfolding boot_effect report_effect
-boot_starved now machine size dump (Ok span) = refl
-boot_starved now machine size dump (Err fault) = refl
+    let reported : IsReported boot report (standing_line now machine span) = today_law now machine span keys memory (λ unbuilt. built (span, refl, unbuilt)) in
+    let verdict = behind_alike report.shown boot.shown (end_verdict dump report.result) (verdict_of (boot_text dump boot)) reported.shown
+    (ends_alike dump boot report.result reported.ends) in
+    rw (verdict, reported.left) refl
 
 -- a boot by itself is one part
 boot_alone :
-    (now : Image) (machine : Machine) (size : ℕ) (words : List (List ℕ)) (device : Device) (dump : Bool)
+    (now : Image) (machine : Machine) (size : ℕ) (words : List (List ℕ)) (keys : List Key) (device : Device) (dump : Bool)
     → IsBootRun words device dump
-    → effects_of now machine size words ≡ boot_effect now machine size dump (place_at now machine device) ∷ []
+    → effects_of now machine size words keys ≡ boot_effect now machine size dump (place_at now machine device) keys ∷ []
 unfolding effects_of command_effect
-boot_alone now machine size words device dump (part, is, command) = rw (is, command) refl
+boot_alone now machine size words keys device dump (part, is, command) = rw (is, command) refl
 
 -- what a boot by itself tells is the model's
 pub boot_tells :
-    (now : Image) (machine : Machine) (size : ℕ) (words : List (List ℕ)) (device : Device) (dump : Bool) (keys : List Key)
+    (now : Image) (machine : Machine) (size : ℕ) (words : List (List ℕ)) (device : Device) (dump : Bool) (keys left : List Key)
     (status : ℕ) (m0 m1 : Memory) (old new : Option (List ℕ)) (before after : ℕ)
-    → IsBootRun words device dump → (IsUnbuiltAt now machine size (place_at now machine device) → ⊥)
-    → TellsRun (effects_of now machine size words) status m0 m1 old new before after
-    → Tells (plain_effect (boot_verdict now machine (place_at now machine device) dump keys size)
-    (boot_effect now machine size dump (place_at now machine device)).failures) status old new before after
-boot_tells now machine size words device dump keys status m0 m1 old new before after run built told =
+    → IsBootRun words device dump → (IsUnbuiltAt now machine size (place_at now machine device) keys → ⊥)
+    → TellsRun (effects_of now machine size words keys) status m0 m1 keys left old new before after
+    → Tells (model_effect now machine size (place_at now machine device) dump keys) status left old new before after
+boot_tells now machine size words device dump keys left status m0 m1 old new before after run built told =
     let place = place_at now machine device in
-    let effect = boot_effect now machine size dump place in
-    let tells = told_alone effect status m0 m1 old new before after
-    (subst (λ parts. TellsRun parts status m0 m1 old new before after) (boot_alone now machine size words device dump run) told) in
-    let fed = subst (λ texts. Tells (record effect { starved = texts }) status old new before after) (boot_starved now machine size dump place) tells in
-    subst (λ v. Tells (plain_effect v effect.failures) status old new before after) (boot_verdict_law now machine size dump place keys built) fed
+    let effect = boot_effect now machine size dump place keys in
+    let tells = told_alone effect status m0 m1 keys left old new before after
+    (subst (λ parts. TellsRun parts status m0 m1 keys left old new before after) (boot_alone now machine size words keys device dump run) told) in
+    subst (λ e. Tells e status left old new before after) (boot_verdict_law now machine size dump place keys built) tells

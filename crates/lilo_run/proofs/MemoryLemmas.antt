@@ -1,68 +1,96 @@
 -- Runs of which no part boots.
-use Rattle.std.proofs.Common.{◌≡◌, ℕ, Bool, true, false, ◌||◌, List, [], ◌∷◌, map, Option, Some, None, Result, Ok, Err, refl, ap}
-use Rattle.lilo_model.specs.ConfVerdict.{place_at}
+use Rattle.std.proofs.Common.{◌≡◌, ℕ, Bool, true, false, ◌||◌, List, [], ◌∷◌, Option, Some, None, Result, Ok, Err, refl}
+use Rattle.lilo_model.specs.ConfVerdict.{conf_path, place_at}
+use Rattle.lilo_model.specs.Prompt.{Key}
 use Rattle.lilo_model.specs.Disks.{Image, Machine, Span}
 use Rattle.lilo_model.specs.Refusal.{DeviceFault}
 use Rattle.lilo_model.specs.Devices.{Device}
 use Rattle.lilo_model.specs.Words as words
 use Rattle.lilo_model.specs.Words.{Command, Part, run_at}
-use Rattle.lilo_run.specs.Verdict.{Effect, query_effect, report_effect, boot_effect, install_effect, conf_query_effect, command_effect, part_effect, words_effects, effects_of, is_boot, has_boot, run_boots}
+use Rattle.lilo_run.specs.Verdict.{query_effect, report_effect, boot_effect, install_effect, conf_query_effect, command_effect, part_effect, parts_effects, words_effects, effects_of, run_left, is_boot, has_boot, run_boots}
 use Rattle.lilo_run.proofs.RunLemmas.{no_boot_first}
 
 boot_boots :
-    (now : Image) (machine : Machine) (memory : ℕ) (dump : Bool) (place : Result Span DeviceFault)
-    → (boot_effect now machine memory dump place).boots ≡ true
+    (now : Image) (machine : Machine) (memory : ℕ) (dump : Bool) (place : Result Span DeviceFault) (keys : List Key)
+    → (boot_effect now machine memory dump place keys).boots ≡ true
 unfolding boot_effect report_effect
-boot_boots now machine memory dump (Ok span) = refl
-boot_boots now machine memory dump (Err fault) = refl
+boot_boots now machine memory dump (Ok span) keys = refl
+boot_boots now machine memory dump (Err fault) keys = refl
 
 -- a command's effect says whether it boots
 pub boots_by :
-    (now : Image) (machine : Machine) (memory : ℕ) (root : Option Device) (path : List ℕ) (command : Command)
-    → (command_effect now machine memory root path command).boots ≡ is_boot command
+    (now : Image) (machine : Machine) (memory : ℕ) (root : Option Device) (path : List ℕ) (command : Command) (keys : List Key)
+    → (command_effect now machine memory root path command keys).boots ≡ is_boot command
 unfolding command_effect query_effect conf_query_effect install_effect
-boots_by now machine memory root path words.Install = refl
-boots_by now machine memory root path words.Test = refl
-boots_by now machine memory root path (words.Query None) = refl
-boots_by now machine memory root path (words.Query (Some device)) = refl
-boots_by now machine memory root path (words.SetLine line) = refl
-boots_by now machine memory root path (words.Restore device) = refl
-boots_by now machine memory root path (words.Boot device dump) = boot_boots now machine memory dump (place_at now machine device)
+boots_by now machine memory root path words.Install keys = refl
+boots_by now machine memory root path words.Test keys = refl
+boots_by now machine memory root path (words.Query None) keys = refl
+boots_by now machine memory root path (words.Query (Some device)) keys = refl
+boots_by now machine memory root path (words.SetLine line) keys = refl
+boots_by now machine memory root path (words.Restore device) keys = refl
+boots_by now machine memory root path (words.Boot device dump) keys = boot_boots now machine memory dump (place_at now machine device) keys
 
-command_same :
-    (now : Image) (machine : Machine) (memory other : ℕ) (root : Option Device) (path : List ℕ) (command : Command) → is_boot command ≡ false
-    → command_effect now machine memory root path command ≡ command_effect now machine other root path command
+-- one that doesn't boot takes no key, and is the same in a memory of any size
+record IsKeyless (now : Image) (machine : Machine) (memory other : ℕ) (root : Option Device) (path : List ℕ) (command : Command) (keys : List Key) : Type 0 where
+  pub same : command_effect now machine memory root path command keys ≡ command_effect now machine other root path command keys
+  pub left : (command_effect now machine memory root path command keys).left ≡ keys
+
+keyless :
+    (now : Image) (machine : Machine) (memory other : ℕ) (root : Option Device) (path : List ℕ) (command : Command) (keys : List Key) → is_boot command ≡ false
+    → IsKeyless now machine memory other root path command keys
 unfolding command_effect
-command_same now machine memory other root path words.Install none = refl
-command_same now machine memory other root path words.Test none = refl
-command_same now machine memory other root path (words.Query None) none = refl
-command_same now machine memory other root path (words.Query (Some device)) none = refl
-command_same now machine memory other root path (words.SetLine line) none = refl
-command_same now machine memory other root path (words.Restore device) none = refl
-command_same now machine memory other root path (words.Boot device dump) none = absurd cc
+keyless now machine memory other root path words.Install keys none = record { same = refl; left = refl }
+keyless now machine memory other root path words.Test keys none = record { same = refl; left = refl }
+keyless now machine memory other root path (words.Query device) keys none = record { same = refl; left = refl }
+keyless now machine memory other root path (words.SetLine line) keys none = record { same = refl; left = refl }
+keyless now machine memory other root path (words.Restore device) keys none = record { same = refl; left = refl }
+keyless now machine memory other root path (words.Boot device dump) keys none = absurd cc
 
 parts_same :
-    (now : Image) (machine : Machine) (memory other : ℕ) (parts : List Part) → has_boot parts ≡ false
-    → map (part_effect now machine memory) parts ≡ map (part_effect now machine other) parts
-parts_same now machine memory other [] none = refl
-parts_same now machine memory other (part ∷ parts) none =
+    (now : Image) (machine : Machine) (memory other : ℕ) (parts : List Part) (keys : List Key) → has_boot parts ≡ false
+    → parts_effects (part_effect now machine memory) parts keys ≡ parts_effects (part_effect now machine other) parts keys
+parts_same now machine memory other [] keys none = refl
+parts_same now machine memory other (part ∷ parts) keys none =
     let both = no_boot_first part parts none in
-    let first : part_effect now machine memory part ≡ part_effect now machine other part = command_same now machine memory other part.root _ part.command both.0 in
-    let rest = parts_same now machine memory other parts both.1 in
+    let first = (keyless now machine memory other part.root (conf_path part.config) part.command keys both.0).same in
+    let rest = parts_same now machine memory other parts (part_effect now machine other part keys).left both.1 in
     rw (first, rest) refl
 
 words_same :
-    (now : Image) (machine : Machine) (memory other : ℕ) (words : List (List ℕ)) (run : Result (List Part) (Option ℕ)) → run_boots run ≡ false
-    → words_effects (part_effect now machine memory) words run ≡ words_effects (part_effect now machine other) words run
-words_same now machine memory other words (Ok parts) none = parts_same now machine memory other parts none
-words_same now machine memory other words (Err wrong) none = refl
+    (now : Image) (machine : Machine) (memory other : ℕ) (words : List (List ℕ)) (keys : List Key) (run : Result (List Part) (Option ℕ)) → run_boots run ≡ false
+    → words_effects (part_effect now machine memory) words keys run ≡ words_effects (part_effect now machine other) words keys run
+words_same now machine memory other words keys (Ok parts) none = parts_same now machine memory other parts keys none
+words_same now machine memory other words keys (Err wrong) none = refl
 
 -- what words do is the same in a memory of any size
 pub same_in_any_memory :
-    (now : Image) (machine : Machine) (memory other : ℕ) (words : List (List ℕ)) → run_boots (run_at words) ≡ false
-    → effects_of now machine memory words ≡ effects_of now machine other words
+    (now : Image) (machine : Machine) (memory other : ℕ) (words : List (List ℕ)) (keys : List Key) → run_boots (run_at words) ≡ false
+    → effects_of now machine memory words keys ≡ effects_of now machine other words keys
 unfolding effects_of
-same_in_any_memory now machine memory other words none = words_same now machine memory other words (run_at words) none
+same_in_any_memory now machine memory other words keys none = words_same now machine memory other words keys (run_at words) none
+
+parts_left :
+    (now : Image) (machine : Machine) (memory : ℕ) (parts : List Part) (keys : List Key) → has_boot parts ≡ false
+    → run_left keys (parts_effects (part_effect now machine memory) parts keys) ≡ keys
+parts_left now machine memory [] keys none = refl
+parts_left now machine memory (part ∷ parts) keys none =
+    let both = no_boot_first part parts none in
+    let first = (keyless now machine memory memory part.root (conf_path part.config) part.command keys both.0).left in
+    let rest = parts_left now machine memory parts keys both.1 in
+    rw first rest
+
+words_left :
+    (now : Image) (machine : Machine) (memory : ℕ) (words : List (List ℕ)) (keys : List Key) (run : Result (List Part) (Option ℕ)) → run_boots run ≡ false
+    → run_left keys (words_effects (part_effect now machine memory) words keys run) ≡ keys
+words_left now machine memory words keys (Ok parts) none = parts_left now machine memory parts keys none
+words_left now machine memory words keys (Err wrong) none = refl
+
+-- without a boot all keys are left
+pub all_are_left :
+    (now : Image) (machine : Machine) (memory : ℕ) (words : List (List ℕ)) (keys : List Key) → run_boots (run_at words) ≡ false
+    → run_left keys (effects_of now machine memory words keys) ≡ keys
+unfolding effects_of
+all_are_left now machine memory words keys none = words_left now machine memory words keys (run_at words) none
 
 first_by : (first rest : Bool) → first ≡ true → (first || rest) ≡ true
 first_by true rest is = refl

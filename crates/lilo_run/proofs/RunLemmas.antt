@@ -1,17 +1,20 @@
 -- The loop over the parts of a run.
-use Rattle.std.proofs.Common.{◌≡◌, ◌≤◌, ◌<◌, ◌≢◌, ◌∙◌, ◌==◌, ◌⊎◌, ◌+◌, ◌-◌, ℕ, inl, inr, Bool, true, false, cond, ◌||◌, List, [], ◌∷◌, ◌++◌, map, Option, None, Some, Err, codes, IfSome, IsTrue, refl, sym, subst, arith}
+use Rattle.std.proofs.Common.{◌≡◌, ◌≤◌, ◌<◌, ◌≢◌, ◌∙◌, ◌==◌, ◌⊎◌, ◌+◌, ◌-◌, ℕ, inl, inr, Bool, true, false, cond, ◌||◌, List, [], ◌∷◌, ◌++◌, Option, None, Some, Err, codes, IfSome, IsTrue, refl, sym, subst, arith}
 use Rattle.std.proofs.lemmas.Bool.{eqb-true, false≢true}
 use Rattle.disk_trait.specs.Past.{Image, SameDisks}
 use Rattle.disk_trait.specs.declared.disks.Disks.{Ghosts}
 use Rattle.sector_address.specs.Machine.{OnDisks}
 use Rattle.lilo_model.specs.Disks.{Machine}
 use Rattle.lilo_model.specs.Place.{Memory}
+use Rattle.lilo_model.specs.Prompt.{Key}
 use Rattle.lilo_model.specs.Words as words
 use Rattle.lilo_model.specs.Words.{Command, Part, run_at, usage_text, wrong_word}
 use Rattle.stream_trait.specs.Shows.{SinkState, Shows, answer_of}
+use Rattle.stream_trait.specs.declared.source.Source as sources
 use Rattle.stream_trait.proofs.ShowsLemmas.{zero_before}
-use Rattle.lilo_run.specs.Run.{IsDone, Does, Runs, is_part_status}
-use Rattle.lilo_run.specs.Verdict.{Effect, early_status, early_parts, effects_of, is_boot, has_boot}
+use Rattle.loader_core.specs.Start.{OnKeys}
+use Rattle.lilo_run.specs.Run.{IsDone, Does, Carries, Runs, is_part_status}
+use Rattle.lilo_run.specs.Verdict.{Effect, keeping, early_status, early_parts, parts_effects, effects_of, is_boot, has_boot}
 
 -- how many turns are left at most
 abbrev pub turns_left : Option ℕ → ℕ → ℕ
@@ -28,51 +31,84 @@ place_within (Some place) from len within = within.1
 
 -- a part that ended with 0 was done
 pub done_with_zero :
-    (effect : Effect) (own : ℕ) (m0 m1 : Memory) (old new : SinkState)
-    → Does effect own m0 m1 old new → own ≡ 0 → IsDone effect 0 m0 m1 old new
-done_with_zero effect own m0 m1 old new (inl done) zero =
-    record { answer = sym zero ∙ done.answer; shown = done.shown; placed = λ none. done.placed zero }
-done_with_zero effect own m0 m1 old new (inr (inl failed)) zero = absurd (let eight = failed.answer in omega (arith, zero, eight))
-done_with_zero effect own m0 m1 old new (inr (inr failed)) zero = absurd (let thirteen = failed.answer in omega (arith, zero, thirteen))
+    (effect : Effect) (own : ℕ) (m0 m1 : Memory) (left : List Key) (old new : SinkState)
+    → Carries effect own m0 m1 left old new → own ≡ 0 → IsDone effect 0 m0 m1 old new × (effect.left ≡ left)
+done_with_zero effect own m0 m1 left old new (inl (done, is)) zero =
+    (record { answer = sym zero ∙ done.answer; shown = done.shown; placed = λ none. done.placed zero }, is)
+done_with_zero effect own m0 m1 left old new (inr (inl failed)) zero = absurd (let eight = failed.answer in omega (arith, zero, eight))
+done_with_zero effect own m0 m1 left old new (inr (inr (inl failed))) zero = absurd (let thirteen = failed.answer in omega (arith, zero, thirteen))
+done_with_zero effect own m0 m1 left old new (inr (inr (inr failed))) zero = absurd (let eleven = failed.answer in omega (arith, zero, eleven))
+
+-- a command that takes no key
+pub carries_kept :
+    (effect : Effect) (status : ℕ) (m0 m1 : Memory) (keys : List Key) (old new : SinkState)
+    → Does effect status m0 m1 old new → Carries (keeping keys effect) status m0 m1 keys old new
+carries_kept effect status m0 m1 keys old new (inl done) = inl (record { answer = done.answer; shown = done.shown; placed = done.placed }, refl)
+carries_kept effect status m0 m1 keys old new (inr (inl failed)) = inr (inl failed)
+carries_kept effect status m0 m1 keys old new (inr (inr failed)) = inr (inr (inl failed))
 
 -- a part that answers 0 was shown
 shown_by : (failed : Bool) (own : ℕ) → own ≡ 0 → answer_of own failed ≡ 0 → failed ≡ false
 shown_by false own none zero = refl
 shown_by true own none zero = absurd (let twelve : answer_of own true ≡ 12 = rw none refl in omega (arith, zero, twelve))
 
--- what the rest of the parts does is what is left of all of them
-abbrev pub Continues : (Part → Effect) → List Part → List Part → Memory → Memory → SinkState → SinkState → Type 0
-Continues effect all rest m0 m1 s0 s1 =
-    (status : ℕ) (m2 : Memory) (s2 : SinkState) → Runs (map effect rest) status m1 m2 s1 s2
-    → Runs (map effect all) status m0 m2 s0 s2
+-- what the rest of the parts does is what is left of all of them, by keys
+abbrev pub ContinuesWith : (Part → List Key → Effect) → List Part → List Part → List Key → List Key → Memory → Memory → SinkState → SinkState → Type 0
+ContinuesWith effect all rest keys keys' m0 m1 s0 s1 =
+    (status : ℕ) (m2 : Memory) (s2 : SinkState) (left : List Key) → Runs (parts_effects effect rest keys') status m1 m2 keys' left s1 s2
+    → Runs (parts_effects effect all keys) status m0 m2 keys left s0 s2
+
+-- whichever keys are left for the rest
+abbrev pub Continues : {I : Type 0} → sources.Ghosts I → (Part → List Key → Effect) → List Part → List Part → I → I → Memory → Memory → SinkState → SinkState → Type 0
+Continues i effect all rest k0 k1 m0 m1 s0 s1 = OnKeys i (k0, k1) (λ keys keys'. ContinuesWith effect all rest keys keys' m0 m1 s0 s1)
 
 pub continues_more :
-    (effect : Part → Effect) (all rest behind : List Part) (part : Part) (own : ℕ) (m0 m1 m2 : Memory)
+    {I : Type 0} → (i : sources.Ghosts I) (effect : Part → List Key → Effect) (all rest behind : List Part) (part : Part) (own : ℕ) (k0 k1 k2 : I) (m0 m1 m2 : Memory)
     (s0 s1 s2 : SinkState)
-    → Continues effect all rest m0 m1 s0 s1 → rest ≡ part ∷ behind → Does (effect part) own m1 m2 s1 s2
-    → answer_of own s2.failed ≡ 0 → Continues effect all behind m0 m2 s0 s2
-continues_more effect all rest behind part own m0 m1 m2 s0 s1 s2 goes is does zero later m3 s3 runs =
+    → Continues i effect all rest k0 k1 m0 m1 s0 s1 → rest ≡ part ∷ behind → OnKeys i (k1, k2) (λ keys left. Carries (effect part keys) own m1 m2 left s1 s2)
+    → answer_of own s2.failed ≡ 0 → Continues i effect all behind k0 k2 m0 m2 s0 s2
+continues_more i effect all rest behind part own k0 k1 k2 m0 m1 m2 s0 s1 s2 goes is does zero = λ keys2 may.
     let none = zero_before own s2.failed zero in
-    let done = done_with_zero (effect part) own m1 m2 s1 s2 does none in
-    goes later m3 s3 (rw is (inr (m2, s2, done, shown_by s2.failed own none zero, runs)))
+    let (keys1, may1, carries) = does keys2 may in
+    let (keys0, may0, later) = goes keys1 may1 in
+    let done = done_with_zero (effect part keys1) own m1 m2 keys2 s1 s2 carries none in (
+      keys0,
+      may0,
+      λ status m3 s3 left runs.
+          let next = subst (λ keys. Runs (parts_effects effect behind keys) status m2 m3 keys left s2 s3) (sym done.1) runs in
+          later status m3 s3 left (rw is (inr (m2, s2, done.0, shown_by s2.failed own none zero, next))),
+    )
 
 pub continues_end :
-    (effect : Part → Effect) (all rest : List Part) (m0 m1 : Memory) (s0 s1 : SinkState)
-    → Continues effect all rest m0 m1 s0 s1 → rest ≡ [] → Runs (map effect all) 0 m0 m1 s0 s1
-continues_end effect all rest m0 m1 s0 s1 goes is = goes 0 m1 s1 (rw is (refl, refl, refl))
+    {I : Type 0} → (i : sources.Ghosts I) (effect : Part → List Key → Effect) (all rest : List Part) (k0 k1 : I) (m0 m1 : Memory) (s0 s1 : SinkState)
+    → Continues i effect all rest k0 k1 m0 m1 s0 s1 → rest ≡ []
+    → OnKeys i (k0, k1) (λ keys left. Runs (parts_effects effect all keys) 0 m0 m1 keys left s0 s1)
+continues_end i effect all rest k0 k1 m0 m1 s0 s1 goes is = λ keys1 may.
+    let (keys0, may0, later) = goes keys1 may in
+    (keys0, may0, later 0 m1 s1 keys1 (rw is (refl, refl, refl, refl)))
+
+pub continues_start :
+    {I : Type 0} → (i : sources.Ghosts I) (effect : Part → List Key → Effect) (all : List Part) (k : I) (m : Memory) (s : SinkState)
+    → Continues i effect all all k k m m s s
+continues_start i effect all k m s = λ keys may. (keys, may, λ status m2 s2 left runs. runs)
 
 not_12 : (own : ℕ) → IsTrue (is_part_status own) → own ≢ 12
 not_12 own known is = false≢true (rw is at known)
 
 pub continues_last :
-    (effect : Part → Effect) (all rest behind : List Part) (part : Part) (own status : ℕ) (m0 m1 m2 : Memory)
+    {I : Type 0} → (i : sources.Ghosts I) (effect : Part → List Key → Effect) (all rest behind : List Part) (part : Part) (own status : ℕ) (k0 k1 k2 : I) (m0 m1 m2 : Memory)
     (s0 s1 s2 : SinkState)
-    → Continues effect all rest m0 m1 s0 s1 → rest ≡ part ∷ behind → Does (effect part) own m1 m2 s1 s2
-    → IsTrue (is_part_status own) → status ≡ answer_of own s2.failed → status ≢ 0 → ((effect part).boots ≡ false → m2 ≡ m1)
-    → Runs (map effect all) status m0 m2 s0 s2
-continues_last effect all rest behind part own status m0 m1 m2 s0 s1 s2 goes is does known answer some quiet =
-    goes status m2 s2
-    (rw is (inl (record { own = own; does = does; answer = answer; some = some; own_not_12 = not_12 own known; quiet = quiet })))
+    → Continues i effect all rest k0 k1 m0 m1 s0 s1 → rest ≡ part ∷ behind → OnKeys i (k1, k2) (λ keys left. Carries (effect part keys) own m1 m2 left s1 s2)
+    → IsTrue (is_part_status own) → status ≡ answer_of own s2.failed → status ≢ 0 → ((keys : List Key) → (effect part keys).boots ≡ false → m2 ≡ m1)
+    → OnKeys i (k0, k2) (λ keys left. Runs (parts_effects effect all keys) status m0 m2 keys left s0 s2)
+continues_last i effect all rest behind part own status k0 k1 k2 m0 m1 m2 s0 s1 s2 goes is does known answer some quiet = λ keys2 may.
+    let (keys1, may1, carries) = does keys2 may in
+    let (keys0, may0, later) = goes keys1 may1 in (
+      keys0,
+      may0,
+      later status m2 s2 keys2
+          (rw is (inl (record { own = own; does = carries; answer = answer; some = some; own_not_12 = not_12 own known; quiet = quiet keys1 }))),
+    )
 
 -- a status that the sink doesn't change
 pub own_status : (own known : ℕ) (failed : Bool) → answer_of own failed ≡ known → known ≢ 12 → own ≡ known
@@ -139,9 +175,9 @@ begun_last size_of all behind part from own failed (inr later) is early = rw lat
 
 -- ---- memory
 
--- without a boot the memory stays, and no part is left that boots
-abbrev pub Stays : List Part → List Part → List ℕ → List ℕ → Type 0
-Stays all rest old new = has_boot all ≡ false → (new ≡ old) × (has_boot rest ≡ false)
+-- without a boot the memory and the keys stay, and no part is left that boots
+abbrev pub Stays : {I : Type 0} → List Part → List Part → List ℕ → List ℕ → I → I → Type 0
+Stays all rest old new k0 k1 = has_boot all ≡ false → ((new ≡ old) × (k1 ≡ k0)) × (has_boot rest ≡ false)
 
 none_by : (first rest : Bool) → (first || rest) ≡ false → (first ≡ false) × (rest ≡ false)
 none_by true rest is = absurd cc
@@ -152,13 +188,13 @@ unfolding has_boot
 no_boot_first part parts is = none_by (is_boot part.command) (has_boot parts) is
 
 pub stays_more :
-    (all rest behind : List Part) (part : Part) (old mid new : List ℕ)
-    → Stays all rest old mid → rest ≡ part ∷ behind → (is_boot part.command ≡ false → new ≡ mid)
-    → Stays all behind old new
-stays_more all rest behind part old mid new stays is quiet none =
+    {I : Type 0} → (all rest behind : List Part) (part : Part) (old mid new : List ℕ) (k0 k1 k2 : I)
+    → Stays all rest old mid k0 k1 → rest ≡ part ∷ behind → (is_boot part.command ≡ false → new ≡ mid) → (is_boot part.command ≡ false → k2 ≡ k1)
+    → Stays all behind old new k0 k2
+stays_more all rest behind part old mid new k0 k1 k2 stays is quiet kept none =
     let before = stays none in
     let first = no_boot_first part behind (subst (λ parts. has_boot parts ≡ false) is before.1) in
-    (quiet first.0 ∙ before.0, first.1)
+    ((quiet first.0 ∙ before.0.0, kept first.0 ∙ before.0.1), first.1)
 
 -- ---- disks that stay the same
 
@@ -177,15 +213,15 @@ unfolding usage_text
 usage_is words wrong is = rw is refl
 
 pub usage_runs :
-    (now : Image) (machine : Machine) (size : ℕ) (words : List (List ℕ)) (wrong : Option ℕ) (memory : Memory)
+    (now : Image) (machine : Machine) (size : ℕ) (words : List (List ℕ)) (keys : List Key) (wrong : Option ℕ) (memory : Memory)
     (old new : SinkState)
     → run_at words ≡ Err wrong → Shows old (usage_text words) new
-    → Runs (effects_of now machine size words) 1 memory memory old new
+    → Runs (effects_of now machine size words keys) 1 memory memory keys keys old new
 unfolding effects_of
-usage_runs now machine size words wrong memory old new is shown =
+usage_runs now machine size words keys wrong memory old new is shown =
     rw is (inl (record {
       own = 1;
-      does = inl (record { answer = refl; shown = shown; placed = λ zero. absurd (omega (arith, zero)) });
+      does = inl (record { answer = refl; shown = shown; placed = λ zero. absurd (omega (arith, zero)) }, refl);
       answer = refl;
       some = λ zero. omega (arith, zero);
       own_not_12 = λ twelve. omega (arith, twelve);

@@ -36,6 +36,10 @@ not_built = record { status = 15; text = codes "lilo: not built\n" }
 abbrev pub device_failed : Verdict
 device_failed = record { status = 8; text = codes "lilo: device\n" }
 
+-- what is answered and printed where the source of keys failed
+abbrev pub keys_failed : Verdict
+keys_failed = record { status = 11; text = codes "lilo: keys\n" }
+
 -- what is answered and printed where memory didn't suffice
 abbrev pub no_memory : Verdict
 no_memory = record { status = 13; text = codes "lilo: memory\n" }

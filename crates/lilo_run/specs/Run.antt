@@ -5,10 +5,12 @@ use Rattle.std.specs.Option.{option_map}
 use Rattle.disk_trait.specs.declared.disks.Span.{Span}
 use Rattle.disk_trait.specs.declared.disks.Disks.{Ghosts}
 use Rattle.disk_trait.specs.Past.{Told}
-use Rattle.sector_address.specs.Machine.{machine_of}
+use Rattle.sector_address.specs.Machine.{machine_of, OnDisks}
 use Rattle.bios_model.specs.Memory.{memory_of}
+use Rattle.loader_core.specs.Start.{OnKeys}
 use Rattle.lilo_model.specs.Disks as disks
 use Rattle.lilo_model.specs.Place.{Memory, memory_after}
+use Rattle.lilo_model.specs.Prompt.{Key}
 use Rattle.lilo_model.specs.Refusal as model
 use Rattle.boot_map.specs.declared.map_fault.MapFault.{MapFault}
 use Rattle.boot_map.specs.declared.map_fault.MapFault.TheVariants as maps
@@ -21,6 +23,7 @@ use Rattle.lilo_model.specs.Faults.{Rose}
 use Rattle.stream_trait.specs.Shows.{SinkState, Shows, ShowsOne, Prints, PrintsOne, answer_of, sink_of}
 use Rattle.stream_trait.specs.declared.shown.Shown.{Shown}
 use Rattle.stream_trait.specs.declared.sink.Sink as sinks
+use Rattle.stream_trait.specs.declared.source.Source as sources
 use Rattle.stream_trait.specs.Sink.{TakesFront}
 use Rattle.section_loader.specs.View.{reason_view}
 use Rattle.lilo_run.specs.declared.refusal.Halt.{Halt}
@@ -100,12 +103,32 @@ abbrev pub DoesBeside : {D O : Type 0} → Ghosts D → sinks.Ghosts O → D →
 DoesBeside g o disks memory status old new effect =
     Told (g.past disks) (λ now. Does (effect now (machine_of g disks)) status memory memory (sink_of o old) (sink_of o new))
 
+-- ---- keys
+
+-- It was done, and left the keys that it is to leave; or a disk or the source of keys failed, or memory didn't suffice.
+abbrev pub Carries : Effect → ℕ → Memory → Memory → List Key → SinkState → SinkState → Type 0
+Carries effect status memory memory' left old new =
+    (IsDone effect status memory memory' old new × (effect.left ≡ left))
+    ⊎ (IsFailed 8 effect.failures status old new
+    ⊎ (IsFailed 13 effect.starved status old new ⊎ IsFailed 11 effect.unheard status old new))
+
+-- The same of a source, the memory and the sink before and after: whichever keys the source leaves, those that it left
+-- before were carried out so.
+abbrev pub CarriesBy : {I O : Type 0} → sources.Ghosts I → sinks.Ghosts O → ℕ → (List Key → Effect) → I × List ℕ × Shown O → I × List ℕ × Shown O → Type 0
+CarriesBy i o status effect (keys, ram, out) (keys', ram', out') =
+    OnKeys i (keys, keys') (λ all left. Carries (effect all) status (memory_of ram) (memory_of ram') left (sink_of o out) (sink_of o out'))
+
+-- the same of what disks hold, where they tell their past
+abbrev pub CarriesOn : {D I O : Type 0} → Ghosts D → sources.Ghosts I → sinks.Ghosts O → D → ℕ → I × List ℕ × Shown O → I × List ℕ × Shown O → (disks.Image → disks.Machine → ℕ → List Key → Effect) → Type 0
+CarriesOn g i o disks status old new effect =
+    OnDisks g disks (λ now machine. CarriesBy i o status (effect now machine (length old.1)) old new)
+
 -- ---- a run
 
 -- A run ended at a part, with a status other than 0: the part's own, or 12 where that is 0 and its text wasn't shown.
-pub record EndsAt (part : Effect) (status : ℕ) (memory memory' : Memory) (old new : SinkState) : Type 0 where
+pub record EndsAt (part : Effect) (status : ℕ) (memory memory' : Memory) (left : List Key) (old new : SinkState) : Type 0 where
   pub own : ℕ
-  pub does : Does part own memory memory' old new
+  pub does : Carries part own memory memory' left old new
   pub answer : status ≡ answer_of own new.failed
   pub some : status ≢ 0
   -- no part has 12 of its own
@@ -114,22 +137,23 @@ pub record EndsAt (part : Effect) (status : ℕ) (memory memory' : Memory) (old 
   pub quiet : part.boots ≡ false → memory' ≡ memory
 
 -- The parts run in order until one answers other than 0, and that status is the answer: each before it was done with 0,
--- and its text was shown whole.
-abbrev pub Runs : List Effect → ℕ → Memory → Memory → SinkState → SinkState → Type 0
-Runs [] status memory memory' old new = (status ≡ 0) × (memory' ≡ memory) × (new ≡ old)
-Runs (part ∷ parts) status memory memory' old new =
-    EndsAt part status memory memory' old new
+-- and its text was shown whole. Where there are no more these keys are left.
+abbrev pub Runs : List Effect → ℕ → Memory → Memory → List Key → List Key → SinkState → SinkState → Type 0
+Runs [] status memory memory' keys left old new = (status ≡ 0) × (memory' ≡ memory) × (keys ≡ left) × (new ≡ old)
+Runs (part ∷ parts) status memory memory' keys left old new =
+    EndsAt part status memory memory' left old new
     ⊎ ((mid : Memory) × (shown : SinkState) × IsDone part 0 memory mid old shown × (shown.failed ≡ false)
-    × Runs parts status mid memory' shown new)
+    × Runs parts status mid memory' part.left left shown new)
 
 -- the same, by the memory and the sink before them and after them
-abbrev pub RunsAll : {O : Type 0} → sinks.Ghosts O → List Effect → ℕ → List ℕ × Shown O → List ℕ × Shown O → Type 0
-RunsAll o parts status old new = Runs parts status (memory_of old.0) (memory_of new.0) (sink_of o old.1) (sink_of o new.1)
+abbrev pub RunsAll : {O : Type 0} → sinks.Ghosts O → List Effect → ℕ → List Key → List Key → List ℕ × Shown O → List ℕ × Shown O → Type 0
+RunsAll o parts status keys left old new = Runs parts status (memory_of old.0) (memory_of new.0) keys left (sink_of o old.1) (sink_of o new.1)
 
--- a fact about what the parts of words do over what disks hold, with a memory of so many bytes, where the disks tell
--- their past
-abbrev pub OnParts : {D : Type 0} → Ghosts D → D → ℕ → List (List ℕ) → (List Effect → Type 0) → Type 0
-OnParts g disks memory words P = Told (g.past disks) (λ now. P (effects_of now (machine_of g disks) memory words))
+-- a fact about what the parts of words do by keys over what disks hold, with a memory of so many bytes, where the disks
+-- tell their past: whichever keys the source leaves, it holds of those that it left before
+abbrev pub OnParts : {D I : Type 0} → Ghosts D → sources.Ghosts I → D → I × I → ℕ → List (List ℕ) → (List Effect → List Key → List Key → Type 0) → Type 0
+OnParts g i disks keys memory words P =
+    Told (g.past disks) (λ now. OnKeys i keys (λ all left. P (effects_of now (machine_of g disks) memory words all) all left))
 
 -- ---- the whole
 
@@ -138,19 +162,22 @@ abbrev pub BeginsWith0 : List Effect → Type 0
 BeginsWith0 [] = ⊥
 BeginsWith0 (part ∷ parts) = part.verdict.status ≡ 0
 
--- the status is the verdict's, or 8 or 13, or where the first part would answer 0 it is 12
+-- the status is the verdict's, or 8, 11 or 13, or where the first part would answer 0 it is 12
 abbrev pub Answers : List Effect → ℕ → Type 0
 Answers parts status =
-    (status ≡ (run_verdict parts).status) ⊎ ((status ≡ 8) ⊎ ((status ≡ 13) ⊎ ((status ≡ 12) × BeginsWith0 parts)))
+    (status ≡ (run_verdict parts).status)
+    ⊎ ((status ≡ 8) ⊎ ((status ≡ 11) ⊎ ((status ≡ 13) ⊎ ((status ≡ 12) × BeginsWith0 parts))))
 
--- A part told its text, as far as the sink took it: the verdict's with its status, a text of a failure with 8, one of
--- want of memory with 13, and with 12 in the place of 0 a front of the verdict's.
-abbrev pub Tells : Effect → ℕ → Option (List ℕ) → Option (List ℕ) → ℕ → ℕ → Type 0
-Tells part status old new before now =
-    ((status ≡ part.verdict.status) × Prints old part.verdict.text new before now)
+-- A part told its text, as far as the sink took it: the verdict's with its status, a text of a failure with 8 or 11, one
+-- of want of memory with 13, and with 12 in the place of 0 a prefix of the verdict's. Where it wasn't a failure's, these
+-- keys are left.
+abbrev pub Tells : Effect → ℕ → List Key → Option (List ℕ) → Option (List ℕ) → ℕ → ℕ → Type 0
+Tells part status left old new before now =
+    ((status ≡ part.verdict.status) × (part.left ≡ left) × Prints old part.verdict.text new before now)
     ⊎ (((status ≡ 8) × PrintsOne old part.failures new before now)
+    ⊎ (((status ≡ 11) × PrintsOne old part.unheard new before now)
     ⊎ (((status ≡ 13) × PrintsOne old part.starved new before now)
-    ⊎ ((status ≡ 12) × (part.verdict.status ≡ 0) × Rose before now × TakesFront old part.verdict.text new)))
+    ⊎ ((status ≡ 12) × (part.verdict.status ≡ 0) × (part.left ≡ left) × Rose before now × TakesFront old part.verdict.text new))))
 
 -- what a sink has taken behind a text that it took whole
 abbrev pub taken_behind : Option (List ℕ) → List ℕ → Option (List ℕ)
@@ -159,31 +186,39 @@ taken_behind old text = option_map (λ taken. taken ++ text) old
 -- Parts in order told their texts: those that answer 0 whole, and then the one that answers otherwise, at which the run
 -- ends. Memory has what they put there where the status is 0 or 12, and what the parts before it put there where the
 -- part at which the run ended doesn't boot.
-abbrev pub TellsRun : List Effect → ℕ → Memory → Memory → Option (List ℕ) → Option (List ℕ) → ℕ → ℕ → Type 0
-TellsRun [] status memory memory' old new before now = (status ≡ 0) × (memory' ≡ memory) × (new ≡ old)
-TellsRun (part ∷ parts) status memory memory' old new before now =
-    ((status ≢ 0) × Tells part status old new before now × (status ≡ 12 → memory' ≡ memory_after memory part.written)
+abbrev pub TellsRun : List Effect → ℕ → Memory → Memory → List Key → List Key → Option (List ℕ) → Option (List ℕ) → ℕ → ℕ → Type 0
+TellsRun [] status memory memory' keys left old new before now = (status ≡ 0) × (memory' ≡ memory) × (keys ≡ left) × (new ≡ old)
+TellsRun (part ∷ parts) status memory memory' keys left old new before now =
+    ((status ≢ 0) × Tells part status left old new before now × (status ≡ 12 → memory' ≡ memory_after memory part.written)
     × (part.boots ≡ false → memory' ≡ memory))
     ⊎ ((part.verdict.status ≡ 0)
-    × TellsRun parts status (memory_after memory part.written) memory' (taken_behind old part.verdict.text) new before now)
+    × TellsRun parts status (memory_after memory part.written) memory' part.left left (taken_behind old part.verdict.text) new before now)
 
 -- the same, by the memory and the sink before them and after them
-abbrev pub TellsAll : {O : Type 0} → sinks.Ghosts O → List Effect → ℕ → List ℕ × O → List ℕ × O → Type 0
-TellsAll o parts status old new =
-    TellsRun parts status (memory_of old.0) (memory_of new.0) (o.taken old.1) (o.taken new.1) (o.faults old.1) (o.faults new.1)
+abbrev pub TellsAll : {O : Type 0} → sinks.Ghosts O → List Effect → ℕ → List Key → List Key → List ℕ × O → List ℕ × O → Type 0
+TellsAll o parts status keys left old new =
+    TellsRun parts status (memory_of old.0) (memory_of new.0) keys left (o.taken old.1) (o.taken new.1) (o.faults old.1) (o.faults new.1)
 
--- whether a part that reads no configuration may end with this status
+-- whether a part that reads no configuration and doesn't boot may end with this status
 abbrev pub is_plain_status : ℕ → Bool
 is_plain_status status = list_any (λ known. known == status) (0 ∷ 3 ∷ 6 ∷ 7 ∷ 8 ∷ 15 ∷ [])
 
+-- whether one that reads a configuration may
+abbrev pub is_conf_status : ℕ → Bool
+is_conf_status status = list_any (λ known. known == status) (0 ∷ 2 ∷ 3 ∷ 6 ∷ 7 ∷ 8 ∷ 13 ∷ 15 ∷ [])
+
+-- whether a boot may
+abbrev pub is_boot_status : ℕ → Bool
+is_boot_status status = list_any (λ known. known == status) (0 ∷ 3 ∷ 6 ∷ 7 ∷ 8 ∷ 11 ∷ 15 ∷ [])
+
 -- whether a part may
 abbrev pub is_part_status : ℕ → Bool
-is_part_status status = list_any (λ known. known == status) (0 ∷ 2 ∷ 3 ∷ 6 ∷ 7 ∷ 8 ∷ 13 ∷ 15 ∷ [])
+is_part_status status = list_any (λ known. known == status) (0 ∷ 2 ∷ 3 ∷ 6 ∷ 7 ∷ 8 ∷ 11 ∷ 13 ∷ 15 ∷ [])
 
 -- whether parts in order may
 abbrev pub is_run_status : ℕ → Bool
-is_run_status status = list_any (λ known. known == status) (0 ∷ 2 ∷ 3 ∷ 6 ∷ 7 ∷ 8 ∷ 12 ∷ 13 ∷ 15 ∷ [])
+is_run_status status = list_any (λ known. known == status) (0 ∷ 2 ∷ 3 ∷ 6 ∷ 7 ∷ 8 ∷ 11 ∷ 12 ∷ 13 ∷ 15 ∷ [])
 
 -- whether words may
 abbrev pub is_status : ℕ → Bool
-is_status status = list_any (λ known. known == status) (0 ∷ 1 ∷ 2 ∷ 3 ∷ 6 ∷ 7 ∷ 8 ∷ 12 ∷ 13 ∷ 15 ∷ [])
+is_status status = list_any (λ known. known == status) (0 ∷ 1 ∷ 2 ∷ 3 ∷ 6 ∷ 7 ∷ 8 ∷ 11 ∷ 12 ∷ 13 ∷ 15 ∷ [])

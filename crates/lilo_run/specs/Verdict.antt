@@ -1,5 +1,6 @@
--- What `lilo` answers, prints and leaves in memory as if no disk failed, and what it may print where one did. The
--- verdicts are the model's, but for words and boots that need a part that isn't built yet. (This project's own.)
+-- What `lilo` answers, prints, and leaves in memory and of its keys, as if nothing failed, and what it may print where
+-- something did. The verdicts are the model's, but for words and boots that need a part that isn't built yet. (This
+-- project's own.)
 use Rattle.std.specs.Prelude.{ℕ, ◌==◌, Bool, true, false, if◌then◌else◌, List, [], ◌∷◌, ◌++◌, map, flat_map, Option, None, Some, Result, Ok, Err}
 use Rattle.std.specs.List.{list_any}
 use Rattle.lilo_model.specs.Boot.{Ending}
@@ -8,13 +9,14 @@ use Rattle.lilo_model.specs.ConfVerdict.{conf_path, conf_device, place_at, conf_
 use Rattle.lilo_model.specs.Devices.{Device}
 use Rattle.lilo_model.specs.Disks.{Image, Machine, Span}
 use Rattle.lilo_model.specs.Place.{Written}
+use Rattle.lilo_model.specs.Prompt.{Key}
 use Rattle.lilo_model.specs.Refusal as refusals
 use Rattle.lilo_model.specs.Verdict.{Verdict, verdict_of, verdict_behind, query_verdict, start_check, region_text, told_regions}
 use Rattle.lilo_model.specs.Words as words
 use Rattle.lilo_model.specs.Words.{Command, Part, run_at, usage_text}
 use Rattle.section_loader.specs.Reading.{Why}
 use Rattle.loader_core.specs.Today.{Report, boot_today}
-use Rattle.lilo_run.specs.Refusal.{not_built, device_failed, no_memory, why_verdict}
+use Rattle.lilo_run.specs.Refusal.{not_built, device_failed, keys_failed, no_memory, why_verdict}
 
 -- what a command does
 pub record Effect : Type 0 where
@@ -22,21 +24,30 @@ pub record Effect : Type 0 where
   pub verdict : Verdict
   -- the texts of which it prints one where a disk failed
   pub failures : List (List ℕ)
-  -- and those where memory didn't suffice
+  -- those where memory didn't suffice
   pub starved : List (List ℕ)
+  -- and those where the source of keys failed
+  pub unheard : List (List ℕ)
   -- what it puts into memory where its status is 0
   pub written : List Written
+  -- the keys that it leaves
+  pub left : List Key
   -- whether it boots: no other command changes memory
   pub boots : Bool
 
 -- a command that only answers and prints
 abbrev pub plain_effect : Verdict → List (List ℕ) → Effect
-plain_effect verdict failures = record { verdict = verdict; failures = failures; starved = []; written = []; boots = false }
+plain_effect verdict failures =
+    record { verdict = verdict; failures = failures; starved = []; unheard = []; written = []; left = []; boots = false }
 
 -- one that reads a configuration first, which takes memory
 abbrev pub conf_effect : Verdict → Effect
 conf_effect verdict =
-    record { verdict = verdict; failures = device_failed.text ∷ []; starved = no_memory.text ∷ []; written = []; boots = false }
+    record (plain_effect verdict (device_failed.text ∷ [])) { starved = no_memory.text ∷ [] }
+
+-- a command that takes no key of these
+abbrev pub keeping : List Key → Effect → Effect
+keeping keys effect = record effect { left = keys }
 
 -- ---- a command
 
@@ -66,21 +77,27 @@ end_written (Err why) = []
 abbrev pub failed_behind : List ℕ → List ℕ
 failed_behind shown = shown ++ device_failed.text
 
+-- what is printed where the source of keys failed, behind what a boot showed
+abbrev pub unheard_behind : List ℕ → List ℕ
+unheard_behind shown = shown ++ keys_failed.text
+
 -- a boot that goes as a report says
 unfoldable pub report_effect : Bool → Report → Effect
 report_effect dump report = record {
   verdict = verdict_behind report.shown (end_verdict dump report.result);
   failures = map failed_behind report.device;
   starved = [];
+  unheard = map unheard_behind report.unheard;
   written = end_written report.result;
+  left = report.left;
   boots = true;
 }
 
--- `boot`, with `--dump` or without, in a memory of so many bytes
-unfoldable pub boot_effect : Image → Machine → ℕ → Bool → Result Span refusals.DeviceFault → Effect
-boot_effect now machine memory dump (Ok span) = report_effect dump (boot_today now machine span memory)
-boot_effect now machine memory dump (Err fault) =
-    record (plain_effect (verdict_of (Err (refusals.Device fault))) (device_failed.text ∷ [])) { boots = true }
+-- `boot`, with `--dump` or without, in a memory of so many bytes, by keys
+unfoldable pub boot_effect : Image → Machine → ℕ → Bool → Result Span refusals.DeviceFault → List Key → Effect
+boot_effect now machine memory dump (Ok span) keys = report_effect dump (boot_today now machine span memory keys)
+boot_effect now machine memory dump (Err fault) keys =
+    record (plain_effect (verdict_of (Err (refusals.Device fault))) (device_failed.text ∷ [])) { left = keys; boots = true }
 
 -- what is answered and printed of a configuration whose part isn't built: it is read, and then the part is told so
 abbrev pub unbuilt_behind : Result Device refusals.Refusal → Verdict
@@ -95,35 +112,54 @@ install_effect now machine root path = conf_effect (unbuilt_behind (conf_device 
 unfoldable pub conf_query_effect : Image → Machine → Option Device → List ℕ → Effect
 conf_query_effect now machine root path = conf_effect (conf_query_verdict now machine root path)
 
--- a command, whose volume lies on this device, where one is named, and has its configuration at this path
-unfoldable pub command_effect : Image → Machine → ℕ → Option Device → List ℕ → Command → Effect
-command_effect now machine memory root path (words.Query (Some device)) = query_effect now machine (place_at now machine device)
-command_effect now machine memory root path (words.Query None) = conf_query_effect now machine root path
-command_effect now machine memory root path (words.Boot device dump) = boot_effect now machine memory dump (place_at now machine device)
-command_effect now machine memory root path words.Install = install_effect now machine root path
-command_effect now machine memory root path words.Test = install_effect now machine root path
-command_effect now machine memory root path _ = plain_effect not_built []
+-- a command that doesn't boot, whose volume lies on this device, where one is named, and has its configuration at this
+-- path
+abbrev pub plain_command : Image → Machine → Option Device → List ℕ → Command → Effect
+plain_command now machine root path (words.Query (Some device)) = query_effect now machine (place_at now machine device)
+plain_command now machine root path (words.Query None) = conf_query_effect now machine root path
+plain_command now machine root path words.Install = install_effect now machine root path
+plain_command now machine root path words.Test = install_effect now machine root path
+plain_command now machine root path _ = plain_effect not_built []
+
+-- a command by keys, of which only a boot takes any
+unfoldable pub command_effect : Image → Machine → ℕ → Option Device → List ℕ → Command → List Key → Effect
+command_effect now machine memory root path (words.Boot device dump) keys = boot_effect now machine memory dump (place_at now machine device) keys
+command_effect now machine memory root path words.Install keys = keeping keys (plain_command now machine root path words.Install)
+command_effect now machine memory root path words.Test keys = keeping keys (plain_command now machine root path words.Test)
+command_effect now machine memory root path (words.Query device) keys = keeping keys (plain_command now machine root path (words.Query device))
+command_effect now machine memory root path (words.SetLine line) keys = keeping keys (plain_command now machine root path (words.SetLine line))
+command_effect now machine memory root path (words.Restore device) keys = keeping keys (plain_command now machine root path (words.Restore device))
 
 -- a part
-abbrev pub part_effect : Image → Machine → ℕ → Part → Effect
-part_effect now machine memory part = command_effect now machine memory part.root (conf_path part.config) part.command
+abbrev pub part_effect : Image → Machine → ℕ → Part → List Key → Effect
+part_effect now machine memory part keys = command_effect now machine memory part.root (conf_path part.config) part.command keys
 
 -- ---- a run
 
--- what the parts of a run do, in order; words that are none are as one part, which tells the usage
-abbrev pub words_effects : (Part → Effect) → List (List ℕ) → Result (List Part) (Option ℕ) → List Effect
-words_effects effect words (Ok parts) = map effect parts
-words_effects effect words (Err wrong) = plain_effect (record { status = 1; text = usage_text words }) [] ∷ []
+-- what parts do in order, each by the keys that the one before it left
+abbrev pub parts_effects : (Part → List Key → Effect) → List Part → List Key → List Effect
+parts_effects effect [] keys = []
+parts_effects effect (part ∷ parts) keys = effect part keys ∷ parts_effects effect parts (effect part keys).left
 
--- what the parts of words do over disks that hold this image, with a memory of so many bytes
-unfoldable pub effects_of : Image → Machine → ℕ → List (List ℕ) → List Effect
-effects_of now machine memory words = words_effects (part_effect now machine memory) words (run_at words)
+-- what the parts of a run do; words that are none are as one part, which tells the usage
+abbrev pub words_effects : (Part → List Key → Effect) → List (List ℕ) → List Key → Result (List Part) (Option ℕ) → List Effect
+words_effects effect words keys (Ok parts) = parts_effects effect parts keys
+words_effects effect words keys (Err wrong) = keeping keys (plain_effect (record { status = 1; text = usage_text words }) []) ∷ []
+
+-- what the parts of words do by keys over disks that hold this image, with a memory of so many bytes
+unfoldable pub effects_of : Image → Machine → ℕ → List (List ℕ) → List Key → List Effect
+effects_of now machine memory words keys = words_effects (part_effect now machine memory) words keys (run_at words)
 
 -- Verdict: the texts of the parts that answer 0, and behind them the first other verdict
 abbrev pub run_verdict : List Effect → Verdict
 run_verdict [] = verdict_of (Ok [])
 run_verdict (part ∷ parts) =
     if part.verdict.status == 0 then verdict_behind part.verdict.text (run_verdict parts) else part.verdict
+
+-- the keys that they leave where all answer 0
+abbrev pub run_left : List Key → List Effect → List Key
+run_left keys [] = keys
+run_left keys (part ∷ parts) = run_left part.left parts
 
 -- what they put into memory where all answer 0
 abbrev pub run_written : List Effect → List Written

@@ -1,14 +1,15 @@
 // A boot from a device, and what is told of the memory behind it.
 ghost use Rattle.std.specs.Prelude.{◌≡◌, ◌<◌, [], ◌∷◌, length, IfSome, IsTrue};
 ghost use Rattle.mbr_table.specs.View.{device_view, span_view};
-ghost use Rattle.stream_trait.specs.Shows.{Shows, sink_of, HasFailed};
+ghost use Rattle.stream_trait.specs.Shows.{Shows, sink_of};
 ghost use Rattle.loader_core.specs.Today.{boot_today};
 ghost use Rattle.setup_header.specs.Words.{LiesIn};
 ghost use Rattle.lilo_run.specs.Dump.{regions_of, boot_sector_in};
-ghost use Rattle.lilo_run.specs.Run.{is_plain_status, DoesOn};
+ghost use Rattle.prompt_loop.specs.Asking.{Asks};
+ghost use Rattle.lilo_run.specs.Refusal.{keys_failed};
+ghost use Rattle.lilo_run.specs.Run.{is_boot_status, CarriesOn};
 ghost use Rattle.lilo_model.specs.ConfVerdict.{place_at};
 ghost use Rattle.lilo_run.specs.Verdict.{early_at, boot_effect, report_effect, regions_text};
-ghost use Rattle.bios_model.specs.Reads.{OnlyReadsBios};
 
 use crate::dump::{dump_memory, dump_sector};
 use crate::place::find_device;
@@ -20,7 +21,7 @@ use mbr_table::Device;
 use setup_header::Layout;
 use stream_trait::{Sink, Source};
 
-/// Boots a device, tells the memory where that is asked for, and answers the status.
+/// Boots a device by keys, tells the memory where that is asked for, and answers the status.
 #[tactic(auto, unfolding(crate::specs::Verdict::boot_effect))]
 pub(crate) fn boot_device<D: Disks, I: Source, O: Sink>(
     bios: &mut Bios<'_, D, I>,
@@ -29,14 +30,13 @@ pub(crate) fn boot_device<D: Disks, I: Source, O: Sink>(
     ram: &mut Ram,
     out: &mut Shown<'_, O>,
 ) -> u8
-    ensures does { DoesOn D.Disks O.Sink bios.old.disks.now result (ram.old, out.old) (ram.new, out.new)
+    ensures does { CarriesOn D.Disks I.Source O.Sink bios.old.disks.now result
+        (bios.old.keys.now, ram.old, out.old) (bios.new.keys.now, ram.new, out.new)
         (λ now machine memory. boot_effect now machine memory dump (place_at now machine (device_view device))) }
     ensures early { IfSome (early_at (D.size_of bios.old.disks.now) (device_view device)) (λ status. result ≡ status) }
-    ensures known { IsTrue (is_plain_status result) }
-    ensures sink { HasFailed (sink_of O.Sink out.old) (sink_of O.Sink out.new) }
+    ensures known { IsTrue (is_boot_status result) }
     ensures memory { length ram.new ≡ length ram.old }
-    ensures reads { OnlyReadsBios D.Disks bios.old bios.new (result ≡ 8) }
-    ensures same_reference { out.new.out.ghost_name ≡ out.old.out.ghost_name }
+    ensures asks { Asks D.Disks I.Source O.Sink (bios.old, out.old) (bios.new, out.new) (result ≡ 8) (result ≡ 11) }
 {
     match find_device(bios.disks, device) {
         Ok(span) => boot_span(bios, span, dump, ram, out),
@@ -44,7 +44,7 @@ pub(crate) fn boot_device<D: Disks, I: Source, O: Sink>(
     }
 }
 
-/// Boots from the first of some sectors.
+/// Boots from the first of some sectors by keys.
 fn boot_span<D: Disks, I: Source, O: Sink>(
     bios: &mut Bios<'_, D, I>,
     span: Span,
@@ -53,13 +53,12 @@ fn boot_span<D: Disks, I: Source, O: Sink>(
     out: &mut Shown<'_, O>,
 ) -> u8
     requires { span.start < D.size_of bios.old.disks.now span.disk }
-    ensures does { DoesOn D.Disks O.Sink bios.old.disks.now result (ram.old, out.old) (ram.new, out.new)
-        (λ now machine memory. report_effect dump (boot_today now machine (span_view span) memory)) }
-    ensures known { IsTrue (is_plain_status result) }
-    ensures sink { HasFailed (sink_of O.Sink out.old) (sink_of O.Sink out.new) }
+    ensures does { CarriesOn D.Disks I.Source O.Sink bios.old.disks.now result
+        (bios.old.keys.now, ram.old, out.old) (bios.new.keys.now, ram.new, out.new)
+        (λ now machine memory keys. report_effect dump (boot_today now machine (span_view span) memory keys)) }
+    ensures known { IsTrue (is_boot_status result) }
     ensures memory { length ram.new ≡ length ram.old }
-    ensures reads { OnlyReadsBios D.Disks bios.old bios.new (result ≡ 8) }
-    ensures same_reference { out.new.out.ghost_name ≡ out.old.out.ghost_name }
+    ensures asks { Asks D.Disks I.Source O.Sink (bios.old, out.old) (bios.new, out.new) (result ≡ 8) (result ≡ 11) }
 {
     match boot(bios, span, ram, out) {
         Outcome::Loaded(layout) => {
@@ -71,9 +70,19 @@ fn boot_span<D: Disks, I: Source, O: Sink>(
             0
         }
         Outcome::Refused(reason) => say(out, Halt::Boot(reason)),
-        Outcome::Keys => say(out, Halt::Device),
+        Outcome::Keys => say_keys(out),
         Outcome::Device(_) => say(out, Halt::Device),
     }
+}
+
+/// Shows the line that tells that the source of keys failed, and gives its status.
+fn say_keys<O: Sink>(out: &mut Shown<'_, O>) -> u8
+    ensures status { result ≡ 11 }
+    ensures shown { Shows (sink_of O.Sink out.old) keys_failed.text (sink_of O.Sink out.new) }
+    ensures same_reference { out.new.out.ghost_name ≡ out.old.out.ghost_name }
+{
+    out.put(b"lilo: keys\n");
+    11
 }
 
 /// Tells what a kernel's loading has put into memory, where that is asked for.

@@ -10,8 +10,8 @@ ghost use Rattle.sector_address.specs.Machine.{OnDisks};
 ghost use Rattle.mbr_table.specs.View.{device_view};
 ghost use Rattle.conf_settings.specs.View.{fault_view, reason_view};
 ghost use Rattle.lilo_run.specs.Refusal.{conf_verdict, file_verdict, text_verdict, GivesDevice, HasConfCause};
-ghost use Rattle.lilo_run.specs.Run.{is_part_status, DoesBeside};
-ghost use Rattle.lilo_run.specs.Verdict.{command_effect, conf_query_effect, install_effect, early_status};
+ghost use Rattle.lilo_run.specs.Run.{is_conf_status, DoesBeside};
+ghost use Rattle.lilo_run.specs.Verdict.{plain_command, conf_query_effect, install_effect, early_status};
 ghost use Rattle.bios_model.specs.Reads.{ReadsAndShows};
 
 use crate::place::place_halt;
@@ -48,7 +48,7 @@ pub(crate) fn conf_path<'w>(config: Option<&'w str>) -> &'w str
 }
 
 /// Carries out `-q`, with a device or without.
-#[tactic(auto, unfolding(crate::specs::Verdict::command_effect, crate::specs::Verdict::early_status))]
+#[tactic(auto, unfolding(crate::specs::Verdict::early_status))]
 pub(crate) fn query<D: Disks, O: Sink>(
     alloc: Global,
     disks: &mut D,
@@ -57,12 +57,12 @@ pub(crate) fn query<D: Disks, O: Sink>(
     path: &[u8],
     out: &mut Shown<'_, O>,
 ) -> u8
-    ensures does { (memory : Memory) (size : ℕ) → DoesBeside D.Disks O.Sink disks.old memory result out.old out.new
-        (λ now machine. command_effect now machine size (option_map device_view root) path.now
+    ensures does { (memory : Memory) → DoesBeside D.Disks O.Sink disks.old memory result out.old out.new
+        (λ now machine. plain_command now machine (option_map device_view root) path.now
         (Query (option_map device_view device))) }
     ensures early { IfSome (early_status (D.size_of disks.old) (Query (option_map device_view device)))
         (λ status. result ≡ status) }
-    ensures known { IsTrue (is_part_status result) }
+    ensures known { IsTrue (is_conf_status result) }
     ensures starved { result ≡ 13 → device ≡ None }
     ensures only { ReadsAndShows D.Disks O.Sink (disks.old, out.old) (disks.new, out.new) (result ≡ 8) }
 {
@@ -83,7 +83,7 @@ fn query_conf<D: Disks, O: Sink>(
 ) -> u8
     ensures does { (memory : Memory) → DoesBeside D.Disks O.Sink disks.old memory result out.old out.new (λ now machine.
         conf_query_effect now machine (option_map device_view root) path.now) }
-    ensures known { IsTrue (is_part_status result) }
+    ensures known { IsTrue (is_conf_status result) }
     ensures only { ReadsAndShows D.Disks O.Sink (disks.old, out.old) (disks.new, out.new) (result ≡ 8) }
 {
     match boot_device(alloc, disks, root, path) {
@@ -103,7 +103,7 @@ pub(crate) fn install<D: Disks, O: Sink>(
 ) -> u8
     ensures does { (memory : Memory) → DoesBeside D.Disks O.Sink disks.old memory result out.old out.new (λ now machine.
         install_effect now machine (option_map device_view root) path.now) }
-    ensures known { IsTrue (is_part_status result) }
+    ensures known { IsTrue (is_conf_status result) }
     ensures only { ReadsAndShows D.Disks O.Sink (disks.old, out.old) (disks.new, out.new) (result ≡ 8) }
 {
     match boot_device(alloc, disks, root, path) {
@@ -138,7 +138,7 @@ fn boot_device<D: Disks>(
 // Shows the line that tells why a configuration can't be used, whose path is this one, and gives its status.
 fn say_conf<O: Sink>(out: &mut Shown<'_, O>, halt: ConfHalt, path: &[u8]) -> u8
     ensures status { result ≡ (conf_verdict path.now halt).status }
-    ensures known { IsTrue (is_part_status result) }
+    ensures known { IsTrue (is_conf_status result) }
     ensures some { 1 ≤ result }
     ensures shown { Shows (sink_of O.Sink out.old) (conf_verdict path.now halt).text (sink_of O.Sink out.new) }
     ensures same_reference { out.new.out.ghost_name ≡ out.old.out.ghost_name }
@@ -153,7 +153,7 @@ fn say_conf<O: Sink>(out: &mut Shown<'_, O>, halt: ConfHalt, path: &[u8]) -> u8
 #[tactic(auto, unfolding(lilo_model::specs::Refusal::refusal_line))]
 fn say_file<O: Sink>(out: &mut Shown<'_, O>, fault: FileFault, path: &[u8]) -> u8
     ensures status { result ≡ (file_verdict path.now fault).status }
-    ensures known { IsTrue (is_part_status result) }
+    ensures known { IsTrue (is_conf_status result) }
     ensures some { 1 ≤ result }
     ensures shown { Shows (sink_of O.Sink out.old) (file_verdict path.now fault).text (sink_of O.Sink out.new) }
     ensures same_reference { out.new.out.ghost_name ≡ out.old.out.ghost_name }
@@ -204,7 +204,7 @@ fn say_memory<O: Sink>(out: &mut Shown<'_, O>) -> u8
 // Shows why a text is refused, and gives the status.
 fn say_text<O: Sink>(out: &mut Shown<'_, O>, fault: ConfFault) -> u8
     ensures status { result ≡ (text_verdict (fault_view fault)).status }
-    ensures known { IsTrue (is_part_status result) }
+    ensures known { IsTrue (is_conf_status result) }
     ensures some { 1 ≤ result }
     ensures shown { Shows (sink_of O.Sink out.old) (text_verdict (fault_view fault)).text (sink_of O.Sink out.new) }
     ensures same_reference { out.new.out.ghost_name ≡ out.old.out.ghost_name }

@@ -1,7 +1,7 @@
 // What is known of runs, as laws, which no code needs to call.
-ghost use Rattle.lilo_run.specs.Laws.{BootVerdictLaw, NoMemoryLaw};
+ghost use Rattle.lilo_run.specs.Laws.{BootVerdictLaw, NoKeysLaw, NoMemoryLaw};
 
-/// Outside what isn't built yet, the verdict of a boot is the model's, for all keys.
+/// Outside what isn't built yet, the verdict of a boot is the model's, for all keys, and so are the keys that it leaves.
 pub fn boots_answer_as_the_model()
     ensures { BootVerdictLaw }
 {}
@@ -9,4 +9,9 @@ pub fn boots_answer_as_the_model()
 /// Where no part boots, what words do is the same in a memory of any size.
 pub fn memory_matters_to_boots_alone()
     ensures { NoMemoryLaw }
+{}
+
+/// Where no part boots, all keys are left.
+pub fn keys_matter_to_boots_alone()
+    ensures { NoKeysLaw }
 {}

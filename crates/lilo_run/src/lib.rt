@@ -17,6 +17,8 @@ mod refusal;
 mod run;
 
 pub use bios_model::Ram;
-pub use laws::{boots_answer_as_the_model, memory_matters_to_boots_alone};
+pub use laws::{
+    boots_answer_as_the_model, keys_matter_to_boots_alone, memory_matters_to_boots_alone,
+};
 pub use memory::boots;
 pub use run::lilo;

@@ -1,10 +1,9 @@
 // A part of a run.
 ghost use Rattle.std.specs.Prelude.{◌≡◌, ℕ, List, true, false, length, IfSome, IsTrue};
 ghost use Rattle.lilo_words.specs.View.{command_view, part_view};
-ghost use Rattle.stream_trait.specs.Shows.{sink_of, HasFailed};
-ghost use Rattle.lilo_run.specs.Run.{is_part_status, DoesOn};
+ghost use Rattle.prompt_loop.specs.Asking.{Asks};
+ghost use Rattle.lilo_run.specs.Run.{is_part_status, CarriesOn};
 ghost use Rattle.lilo_run.specs.Verdict.{part_effect, early_status, is_boot, reads_conf};
-ghost use Rattle.bios_model.specs.Reads.{OnlyReadsBios};
 
 use crate::boot::boot_device;
 use crate::conf::{conf_path, install, query};
@@ -26,19 +25,20 @@ pub(crate) fn carry_out<D: Disks, I: Source, O: Sink>(
     out: &mut Shown<'_, O>,
 ) -> u8
     ensures does { (words : List (List ℕ))
-        → DoesOn D.Disks O.Sink bios.old.disks.now result (ram.old, out.old) (ram.new, out.new)
+        → CarriesOn D.Disks I.Source O.Sink bios.old.disks.now result
+        (bios.old.keys.now, ram.old, out.old) (bios.new.keys.now, ram.new, out.new)
         (λ now machine memory. part_effect now machine memory (part_view words part.entry)) }
     ensures early { (words : List (List ℕ)) → IfSome (early_status (D.size_of bios.old.disks.now)
         (command_view words part.entry.command)) (λ status. result ≡ status) }
     ensures known { IsTrue (is_part_status result) }
     ensures starved { (words : List (List ℕ)) → result ≡ 13
         → reads_conf (command_view words part.entry.command) ≡ true }
-    ensures sink { HasFailed (sink_of O.Sink out.old) (sink_of O.Sink out.new) }
     ensures memory { length ram.new ≡ length ram.old }
     ensures quiet { (words : List (List ℕ)) → is_boot (command_view words part.entry.command) ≡ false
         → ram.new ≡ ram.old }
-    ensures reads { OnlyReadsBios D.Disks bios.old bios.new (result ≡ 8) }
-    ensures same_reference { out.new.out.ghost_name ≡ out.old.out.ghost_name }
+    ensures keys { (words : List (List ℕ)) → is_boot (command_view words part.entry.command) ≡ false
+        → bios.new.keys.now ≡ bios.old.keys.now }
+    ensures asks { Asks D.Disks I.Source O.Sink (bios.old, out.old) (bios.new, out.new) (result ≡ 8) (result ≡ 11) }
 {
     let path = conf_path(part.config).as_bytes();
     match part.command {

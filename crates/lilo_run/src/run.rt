@@ -1,5 +1,5 @@
 // The top call: what the program `lilo` does with its words.
-ghost use Rattle.std.specs.Prelude.{◌≡◌, true, Bool, List, ◌↔◌, ◌++◌, codes, false, length, map, IfSome, IfOk, IsOk};
+ghost use Rattle.std.specs.Prelude.{◌≡◌, true, Bool, ◌↔◌, ◌++◌, codes, false, length, IfSome, IfOk, IsOk};
 ghost use Rattle.std.specs.Prelude.{IsErr, IsTrue};
 ghost use Rattle.disk_trait.specs.Past.{SameDisks};
 ghost use Rattle.lilo_model.specs.Faults.{Rose};
@@ -7,17 +7,17 @@ ghost use Rattle.stream_trait.specs.Sink.{Takes};
 ghost use Rattle.lilo_model.specs.Place.{memory_after};
 ghost use Rattle.lilo_model.specs.Words.{run_at, usage_text};
 ghost use Rattle.lilo_model.specs.Devices.{Device};
-ghost use Rattle.lilo_model.specs.Prompt.{Key};
 ghost use Rattle.sector_address.specs.Machine.{OnDisks};
 ghost use Rattle.bios_model.specs.Memory.{memory_of};
 ghost use Rattle.lilo_words.specs.Run.{run_behind, parts_behind};
-ghost use Rattle.stream_trait.specs.Shows.{Shows, sink_of, HasFailed, Prints};
+ghost use Rattle.stream_trait.specs.Shows.{Shows, sink_of, Prints};
 ghost use Rattle.lilo_run.specs.Run.{Answers, is_run_status, is_status, RunsAll, OnParts, TellsAll};
+ghost use Rattle.loader_core.specs.Start.{OnKeys};
 ghost use Rattle.lilo_model.specs.ConfVerdict.{place_at};
-ghost use Rattle.lilo_run.specs.Verdict.{part_effect, effects_of, run_verdict, run_written, early_answer};
+ghost use Rattle.lilo_run.specs.Verdict.{part_effect, parts_effects, run_verdict, run_left, run_written, early_answer};
 ghost use Rattle.lilo_run.specs.Verdict.{early_parts, has_boot, has_conf};
 ghost use Rattle.lilo_run.specs.Laws.{IsBootRun, TellsBoot};
-ghost use Rattle.bios_model.specs.Reads.{OnlyReadsBios};
+ghost use Rattle.prompt_loop.specs.Asking.{Asks};
 
 use crate::part::carry_out;
 use bios_model::{Bios, Ram};
@@ -48,11 +48,12 @@ use stream_trait::{Sink, Source, Words, answer};
 /// | 6 | `-q` finds a foreign boot sector, or one of another version | `lilo: not ours` |
 /// | 7 | the boot is refused, or the map is | `lilo: boot: REASON` |
 /// | 8 | a disk failed | `lilo: device` |
+/// | 11 | the source of keys failed | `lilo: keys` |
 /// | 12 | the sink failed at a part that would answer 0 | |
 /// | 13 | there is no memory for a configuration | `lilo: memory` |
 /// | 15 | the part isn't built yet, or the boot isn't | `lilo: not built` |
 ///
-/// After the sink failed nothing is put, and the part that runs is the last. No disk is written, and no key is taken.
+/// After the sink failed nothing is put, and the part that runs is the last. No disk is written, and only boots take keys.
 /// Memory is allocated for a configuration alone.
 pub fn lilo<D: Disks, I: Source, O: Sink>(
     alloc: Global,
@@ -64,21 +65,26 @@ pub fn lilo<D: Disks, I: Source, O: Sink>(
     now: u32,
 ) -> u8
     // Where the disks tell what they hold, the status is the verdict's, but for faults.
-    ensures status { OnParts D.Disks disks.old (length ram.old) words.now (λ parts. Answers parts result) }
+    ensures status { OnParts D.Disks I.Source disks.old (keys.old, keys.new) (length ram.old) words.now
+        (λ parts _ _. Answers parts result) }
     ensures device { result ≡ 8 → Rose (D.faults disks.old) (D.faults disks.new) }
+    ensures unheard { result ≡ 11 → Rose (I.faults keys.old) (I.faults keys.new) }
     ensures sink { result ≡ 12 → Rose (O.faults out.old) (O.faults out.new) }
     ensures starved { result ≡ 13 → IfOk (run_at words.now) (λ parts. has_conf parts ≡ true) }
 
-    // The text goes with the status. Only a failed sink may have cut it short, in the part at which the run ended.
-    ensures text { OnParts D.Disks disks.old (length ram.old) words.now (λ parts.
-        TellsAll O.Sink parts result (ram.old, out.old) (ram.new, out.new)) }
-    ensures whole { result ≡ 0 → OnParts D.Disks disks.old (length ram.old) words.now (λ parts.
-        Takes (O.taken out.old) (run_verdict parts).text (O.taken out.new)) }
+    // The text and the keys left go with the status. Only a failed sink may have cut the text short, in the part at which
+    // the run ended.
+    ensures text { OnParts D.Disks I.Source disks.old (keys.old, keys.new) (length ram.old) words.now
+        (λ parts all left. TellsAll O.Sink parts result all left (ram.old, out.old) (ram.new, out.new)) }
+    ensures whole { result ≡ 0 → OnParts D.Disks I.Source disks.old (keys.old, keys.new) (length ram.old) words.now
+        (λ parts _ _. Takes (O.taken out.old) (run_verdict parts).text (O.taken out.new)) }
+    ensures left { result ≡ 0 → OnParts D.Disks I.Source disks.old (keys.old, keys.new) (length ram.old) words.now
+        (λ parts all left. run_left all parts ≡ left) }
 
-    // Outside what isn't built yet, a boot by itself has the model's verdict, for all keys.
-    ensures boot { (device : Device) (dump : Bool) (keys : List Key) → IsBootRun words.now device dump
-        → OnDisks D.Disks disks.old (λ now machine.
-        TellsBoot O.Sink now machine (length ram.old) (place_at now machine device) dump keys result out.old out.new) }
+    // Outside what isn't built yet, a boot by itself has the model's verdict, and leaves the keys that the model's leaves.
+    ensures boot { (device : Device) (dump : Bool) → IsBootRun words.now device dump
+        → OnDisks D.Disks disks.old (λ now machine. OnKeys I.Source (keys.old, keys.new) (λ all left.
+        TellsBoot O.Sink now machine (length ram.old) (place_at now machine device) dump all left result out.old out.new)) }
 
     // Words that aren't in the grammar, whatever the disks tell.
     ensures usage { (result ≡ 1) ↔ IsErr (run_at words.now) }
@@ -89,16 +95,16 @@ pub fn lilo<D: Disks, I: Source, O: Sink>(
     ensures statuses { IsTrue (is_status result) }
     ensures early { IfSome (early_answer (D.size_of disks.old) (run_at words.now)) (λ status. result ≡ status) }
 
-    // Memory has what the boots put there, and without a boot it stays.
-    ensures memory { result ≡ 0 → OnParts D.Disks disks.old (length ram.old) words.now (λ parts.
-        memory_of ram.new ≡ memory_after (memory_of ram.old) (run_written parts)) }
-    ensures no_boot { IfOk (run_at words.now) (λ parts. has_boot parts ≡ false → ram.new ≡ ram.old) }
-    ensures no_run { IsErr (run_at words.now) → ram.new ≡ ram.old }
+    // Memory has what the boots put there, and without a boot it stays, and so do the keys.
+    ensures memory { result ≡ 0 → OnParts D.Disks I.Source disks.old (keys.old, keys.new) (length ram.old) words.now
+        (λ parts _ _. memory_of ram.new ≡ memory_after (memory_of ram.old) (run_written parts)) }
+    ensures no_boot { IfOk (run_at words.now) (λ parts. has_boot parts ≡ false
+        → (ram.new ≡ ram.old) × (keys.new ≡ keys.old)) }
+    ensures no_run { IsErr (run_at words.now) → (ram.new ≡ ram.old) × (keys.new ≡ keys.old) }
     ensures size { length ram.new ≡ length ram.old }
 
     // Nothing else happens.
     ensures same { SameDisks D.past D.size_of D.count_of D.geometry_of disks.old disks.new }
-    ensures keys { keys.new ≡ keys.old }
 {
     let mut shown = Shown::new(out);
     let mut bios = Bios { disks, keys };
@@ -114,8 +120,8 @@ fn run_words<D: Disks, I: Source, O: Sink>(
     ram: &mut Ram,
     out: &mut Shown<'_, O>,
 ) -> u8
-    ensures does { OnParts D.Disks bios.old.disks.now (length ram.old) words.now (λ parts.
-        RunsAll O.Sink parts result (ram.old, out.old) (ram.new, out.new)) }
+    ensures does { OnParts D.Disks I.Source bios.old.disks.now (bios.old.keys.now, bios.new.keys.now) (length ram.old)
+        words.now (λ parts all left. RunsAll O.Sink parts result all left (ram.old, out.old) (ram.new, out.new)) }
     ensures usage { (result ≡ 1) ↔ IsErr (run_at words.now) }
     ensures usage_line { IsErr (run_at words.now)
         → Shows (sink_of O.Sink out.old) (usage_text words.now) (sink_of O.Sink out.new) }
@@ -123,13 +129,12 @@ fn run_words<D: Disks, I: Source, O: Sink>(
         (λ status. result ≡ status) }
     ensures known { IsTrue (is_status result) }
     ensures starved { result ≡ 13 → IfOk (run_at words.now) (λ parts. has_conf parts ≡ true) }
-    ensures sink { HasFailed (sink_of O.Sink out.old) (sink_of O.Sink out.new) }
     ensures unshown { result ≡ 12 → out.new.failed ≡ true }
     ensures memory { length ram.new ≡ length ram.old }
-    ensures no_boot { IfOk (run_at words.now) (λ parts. has_boot parts ≡ false → ram.new ≡ ram.old) }
-    ensures no_run { IsErr (run_at words.now) → ram.new ≡ ram.old }
-    ensures reads { OnlyReadsBios D.Disks bios.old bios.new (result ≡ 8) }
-    ensures same_reference { out.new.out.ghost_name ≡ out.old.out.ghost_name }
+    ensures no_boot { IfOk (run_at words.now) (λ parts. has_boot parts ≡ false
+        → (ram.new ≡ ram.old) × (bios.new.keys.now ≡ bios.old.keys.now)) }
+    ensures no_run { IsErr (run_at words.now) → (ram.new ≡ ram.old) × (bios.new.keys.now ≡ bios.old.keys.now) }
+    ensures asks { Asks D.Disks I.Source O.Sink (bios.old, out.old) (bios.new, out.new) (result ≡ 8) (result ≡ 11) }
 {
     match check(words) {
         Ok(()) => run_parts(alloc, words, bios, ram, out),
@@ -150,18 +155,18 @@ fn run_parts<D: Disks, I: Source, O: Sink>(
 ) -> u8
     requires { IsOk (run_behind words.now 0) }
     ensures does { OnDisks D.Disks bios.old.disks.now (λ now machine.
-        RunsAll O.Sink (map (part_effect now machine (length ram.old)) (parts_behind words.now 0)) result
-        (ram.old, out.old) (ram.new, out.new)) }
+        OnKeys I.Source (bios.old.keys.now, bios.new.keys.now) (λ all left. RunsAll O.Sink
+        (parts_effects (part_effect now machine (length ram.old)) (parts_behind words.now 0) all) result all left
+        (ram.old, out.old) (ram.new, out.new))) }
     ensures early { IfSome (early_parts (D.size_of bios.old.disks.now) (parts_behind words.now 0))
         (λ status. result ≡ status) }
     ensures known { IsTrue (is_run_status result) }
     ensures starved { result ≡ 13 → has_conf (parts_behind words.now 0) ≡ true }
-    ensures sink { HasFailed (sink_of O.Sink out.old) (sink_of O.Sink out.new) }
     ensures unshown { result ≡ 12 → out.new.failed ≡ true }
     ensures memory { length ram.new ≡ length ram.old }
-    ensures no_boot { has_boot (parts_behind words.now 0) ≡ false → ram.new ≡ ram.old }
-    ensures reads { OnlyReadsBios D.Disks bios.old bios.new (result ≡ 8) }
-    ensures same_reference { out.new.out.ghost_name ≡ out.old.out.ghost_name }
+    ensures no_boot { has_boot (parts_behind words.now 0) ≡ false
+        → (ram.new ≡ ram.old) × (bios.new.keys.now ≡ bios.old.keys.now) }
+    ensures asks { Asks D.Disks I.Source O.Sink (bios.old, out.old) (bios.new, out.new) (result ≡ 8) (result ≡ 11) }
 {
     let mut next = Some(0);
     while let Some(from) = next {

@@ -1,93 +1,28 @@
--- The choice of a map that needs no prompt: the default entry, without a word, a text, a key or a new line.
-use Rattle.std.proofs.Common.{◌≡◌, ℕ, zero, suc, ◌==◌, Bool, true, false, not, ◌||◌, if◌then◌else◌, refl, sym, ◌∙◌, ap, List, [], ◌∷◌, map, zip, slice_get, Option, None, Some, is_some, option_map, option_and_then, Result, Ok, Err, arith}
-use Rattle.std.specs.List.{list_any}
-use Rattle.std.proofs.lemmas.Option.{slice_get-map}
+-- What a choice from a good map comes to, whatever its message is.
+use Rattle.std.proofs.Common.{◌≡◌, ◌==◌, ℕ, zero, suc, Bool, true, false, not, ◌||◌, if◌then◌else◌, refl, sym, ◌∙◌, ap, List, [], ◌∷◌, ◌++◌, length, map, zip, slice_get, Option, None, Some, is_some, option_map, Result, Ok, Err, arith}
 use Rattle.lilo_model.specs.Checks.{◌>>=◌, each}
 use Rattle.lilo_model.specs.Disks.{Image, Machine}
 use Rattle.lilo_model.specs.BootSector as maps
 use Rattle.lilo_model.specs.BootSector.{BootSector}
 use Rattle.lilo_model.specs.Slots as slots
-use Rattle.lilo_model.specs.Table.{Descriptor, password_flag, lock_flag, fallback_flag, table_at}
-use Rattle.lilo_model.specs.LineSector.{line_at, line_capacity}
-use Rattle.lilo_model.specs.DefaultLine.{DefaultLine, Empty, Once, Kept}
-use Rattle.lilo_model.specs.Prompt.{Key, Settings, ListedEntry, Decision}
-use Rattle.lilo_model.specs.LineWords.{words_of, meaning}
-use Rattle.lilo_model.specs.Choice.{Setup, Candidate, default_candidate, asked_of, asked_password, line_after_entry, course_of, choice}
-use Rattle.lilo_model.specs.Section.{Content}
-use Rattle.lilo_model.specs.Boot.{MapSectors, GoodMap, slot_bytes_at, optional_at, entry_has, extra_slot, entries_of, map_sectors, present_line, password_at, good_map, listed_entry, listed_entries, settings_of, decision_at}
-use Rattle.loader_core.specs.Today.{is_empty_line, changes_line, asks_password, default_of, needs_prompt}
-use Rattle.loader_core.proofs.EndLemmas.{plain_pick}
+use Rattle.lilo_model.specs.Table.{Descriptor, password_flag, lock_flag, table_at}
+use Rattle.lilo_model.specs.LineSector.{line_at, is_same_line}
+use Rattle.lilo_model.specs.DefaultLine.{DefaultLine, Empty, Once, Kept, line_text, line_after}
+use Rattle.lilo_model.specs.Prompt.{Key, Settings, ListedEntry}
+use Rattle.lilo_model.specs.Choice.{Setup, Piece, Shows, Opens, picked_of, pieces_text, pieces_opening, opening_behind, filled_text, line_after_choice, course_of, choice, opening}
+use Rattle.lilo_model.specs.Boot.{MapSectors, GoodMap, slot_bytes_at, optional_at, entry_has, extra_slot, entries_of, map_sectors, present_line, password_at, good_map, fallback_of, settings_of, listed_entry, listed_entries}
+use Rattle.prompt_core.specs.declared.entry.Choice as prompts_choice
+use Rattle.prompt_core.specs.declared.entry.Settings as prompts
+use Rattle.prompt_core.specs.Decided.{plain_entry, plain_setup, line_by}
+use Rattle.prompt_core.specs.View.{settings_view, entries_view, setup_of}
+use Rattle.prompt_core.specs.Steps.{Chosen}
+use Rattle.loader_core.specs.Map.{prompt_entry}
+use Rattle.loader_core.specs.Today.{keeps_line}
 
--- ---- what a map is that needs no prompt
-
--- it has none of the parts
-pub record IsPlain (boot : BootSector) (good : GoodMap) : Type 0 where
-  pub prompt : boot.prompt ≡ false
-  pub delay : boot.delay ≡ 0
-  pub message : boot.message ≡ None
-  pub line : good.line ≡ Empty
-  pub passwords : list_any asks_password good.entries ≡ false
-  pub kept : changes_line (default_of boot good) ≡ false
-
-neither : (a b : Bool) → (a || b) ≡ false → (a ≡ false) × (b ≡ false)
-neither false false same = (refl, refl)
-neither false true same = cc
-neither true b same = cc
-
-none_from : {X : Type 0} (found : Option X) → is_some found ≡ false → found ≡ None
-none_from None same = refl
-none_from (Some value) same = cc
-
-empty_from : (line : DefaultLine) → not (is_empty_line line) ≡ false → line ≡ Empty
-empty_from Empty same = refl
-empty_from (Once text) same = cc
-empty_from (Kept text) same = cc
-
-zero_from : (number : ℕ) → not (number == 0) ≡ false → number ≡ 0
-zero_from zero same = refl
-zero_from (suc number) same = grind arith
-
-pub plain_from : (boot : BootSector) (good : GoodMap) → needs_prompt boot good ≡ false → IsPlain boot good
-unfolding needs_prompt
-plain_from boot good same =
-    let (prompt, rest) = neither _ _ same in
-    let (delay, rest2) = neither _ _ rest in
-    let (message, rest3) = neither _ _ rest2 in
-    let (line, rest4) = neither _ _ rest3 in
-    let (passwords, kept) = neither _ _ rest4 in
-    record {
-      prompt = prompt;
-      delay = zero_from boot.delay delay;
-      message = none_from boot.message message;
-      line = empty_from good.line line;
-      passwords = passwords;
-      kept = kept;
-    }
-
--- ---- passwords
-
--- no password for each entry
-abbrev no_texts : List Descriptor → List (Option (List ℕ))
-no_texts entries = map (λ entry. None) entries
+-- ---- a good map
 
 ok_value : {X F : Type 0} (first second : X) → (let found : Result X F = Ok first in found ≡ Ok second) → first ≡ second
 ok_value first second same = cc
-
--- no extra sector is read
-no_extras :
-    (image : Image) (machine : Machine) (entries : List Descriptor) → list_any asks_password entries ≡ false
-    → each (map (λ entry. optional_at image machine (extra_slot password_flag entry)) entries) ≡ Ok (no_texts entries)
-unfolding asks_password
-no_extras image machine [] none = refl
-no_extras image machine (entry ∷ entries) none =
-    let (first, others) = neither (entry_has entry password_flag) (list_any asks_password entries) none in
-    let rest = no_extras image machine entries others in
-    rw (first, rest) refl
-
-no_passwords :
-    (entries : List Descriptor) → each (map password_at (no_texts entries)) ≡ Ok (no_texts entries)
-no_passwords [] = refl
-no_passwords (entry ∷ entries) = let rest = no_passwords entries in rw rest refl
 
 -- the sectors of a map, by what is read for each of its entries
 extras_by :
@@ -163,91 +98,100 @@ line_stands image machine boot sectors good found judged =
     let from = good_from sectors good judged in
     rw (read, from.line) refl
 
--- where no entry asks for a password, a good map has none
-pub without_passwords :
-    (image : Image) (machine : Machine) (boot : BootSector) (sectors : MapSectors) (good : GoodMap)
-    → map_sectors image machine boot ≡ Ok sectors → good_map sectors ≡ Ok good
-    → list_any asks_password good.entries ≡ false
-    → good.passwords ≡ map (λ entry. None) good.entries
-without_passwords image machine boot sectors good found judged none =
-    let from = good_from sectors good judged in
-    let read = rw from.table at (sectors_read image machine boot sectors found).0 in
-    let extras = ok_value _ _ (sym (no_extras image machine good.entries none) ∙ read) in
-    let read2 = rw (sym extras) at from.passwords in
-    sym (ok_value _ _ (sym (no_passwords good.entries) ∙ read2))
+-- ---- the list that is chosen from
 
--- ---- the decision
+pairs_plain :
+    (image : Image) (machine : Machine) (pairs : List (Descriptor × Option (List ℕ)))
+    → map plain_entry (map (listed_entry image machine) pairs) ≡ map prompt_entry pairs
+pairs_plain image machine [] = refl
+pairs_plain image machine ((entry, password) ∷ pairs) =
+    ap (λ others. prompt_entry (entry, password) ∷ others) (pairs_plain image machine pairs)
 
--- an entry without a password, as the prompt lists it
-abbrev plain_entry : Image → Machine → Descriptor → ListedEntry
-plain_entry image machine entry = listed_entry image machine (entry, None)
+-- as far as the prompt is told of it
+pub listed_plain :
+    (image : Image) (machine : Machine) (good : GoodMap)
+    → map plain_entry (listed_entries image machine good) ≡ map prompt_entry (zip good.entries good.passwords)
+unfolding listed_entries
+listed_plain image machine good = pairs_plain image machine (zip good.entries good.passwords)
 
-listed_plain :
-    (image : Image) (machine : Machine) (entries : List Descriptor)
-    → map (listed_entry image machine) (zip entries (no_texts entries)) ≡ map (plain_entry image machine) entries
-listed_plain image machine [] = refl
-listed_plain image machine (entry ∷ entries) = ap (λ others. plain_entry image machine entry ∷ others) (listed_plain image machine entries)
+-- what a prompt is made of, as the model has it
+pub prompt_setup :
+    (image : Image) (machine : Machine) (boot : BootSector) (good : GoodMap) (settings : prompts.Settings) (choices : List prompts_choice.Choice) (line : DefaultLine)
+    → settings_view settings ≡ settings_of boot → good.line ≡ line
+    → entries_view choices ≡ map prompt_entry (zip good.entries good.passwords)
+    → setup_of settings choices (line_text line) ≡ plain_setup (settings_of boot) (listed_entries image machine good) good.line
+prompt_setup image machine boot good settings choices line settings_are line_is list =
+    let plain = listed_plain image machine good in
+    rw (settings_are, list, plain, line_is) refl
 
--- settings without a prompt and a delay
-abbrev quiet_settings : Option ℕ → ℕ → ℕ → Settings
-quiet_settings timeout default_entry capacity =
-    record { prompt = false; delay = 0; timeout = timeout; default_entry = default_entry; capacity = capacity }
+-- an entry that is in it, with its password
+pub record IsListed (image : Image) (machine : Machine) (entry : Descriptor) (found : Option ListedEntry) : Type 0 where
+  pub password : Option (List ℕ)
+  pub is : found ≡ Some (listed_entry image machine (entry, password))
 
--- a setup with them, and without a default line
-abbrev quiet_setup : Option ℕ → ℕ → ℕ → List ListedEntry → Setup
-quiet_setup timeout default_entry capacity entries =
-    record { settings = quiet_settings timeout default_entry capacity; entries = entries; line = Empty }
+pair_listed :
+    (image : Image) (machine : Machine) (entries : List Descriptor) (passwords : List (Option (List ℕ))) (at : ℕ) (entry : Descriptor)
+    → length passwords ≡ length entries → slice_get entries at ≡ Some entry
+    → IsListed image machine entry (slice_get (map (listed_entry image machine) (zip entries passwords)) at)
+pair_listed image machine [] passwords at entry long is = let h : ⊥ = cc in absurd h
+pair_listed image machine (first ∷ entries) [] at entry long is = absurd (omega arith)
+pair_listed image machine (first ∷ entries) (password ∷ passwords) zero entry long is =
+    let same : first ≡ entry = cc in
+    record { password = password; is = ap (λ e. Some (listed_entry image machine (e, password))) same }
+pair_listed image machine (first ∷ entries) (password ∷ passwords) (suc at) entry long is =
+    pair_listed image machine entries passwords at entry (omega arith) is
 
--- the default entry is decided on
-abbrev pub quiet_decision : ℕ → List Key → Decision
-quiet_decision default_entry keys =
-    record { picked = Some (plain_pick default_entry); shown = []; line = Empty; left = keys }
+pub entry_listed :
+    (image : Image) (machine : Machine) (good : GoodMap) (at : ℕ) (entry : Descriptor)
+    → length good.passwords ≡ length good.entries → slice_get good.entries at ≡ Some entry
+    → IsListed image machine entry (slice_get (listed_entries image machine good) at)
+unfolding listed_entries
+entry_listed image machine good at entry long is = pair_listed image machine good.entries good.passwords at entry long is
 
-quiet_choice :
-    (timeout : Option ℕ) (default_entry capacity : ℕ) (entries : List ListedEntry) (message : Option (List ℕ)) (keys : List Key)
-    → let setup = quiet_setup timeout default_entry capacity entries in
-    let candidate = default_candidate setup true in
-    asked_password entries candidate ≡ None
-    → line_after_entry Empty candidate (slice_get entries default_entry) ≡ Empty
-    → choice (quiet_settings timeout default_entry capacity) entries Empty message keys ≡ quiet_decision default_entry keys
-unfolding course_of meaning words_of
-quiet_choice timeout default_entry capacity entries message keys asked line = rw (asked, line) refl
+-- ---- the default line
 
-if_none : {X : Type 0} (test : Bool) → (let none : Option X = None in (if test then none else none) ≡ none)
-if_none true = refl
-if_none false = refl
+-- only an empty line is the same as an empty one
+pub same_empty : (line : DefaultLine) → is_same_line Empty line ≡ true → line ≡ Empty
+unfolding is_same_line
+same_empty Empty same = refl
+same_empty (Once text) same = cc
+same_empty (Kept text) same = cc
 
--- no password is asked of an entry without one
-asked_none :
-    (image : Image) (machine : Machine) (candidate : Candidate) (entry : Option Descriptor)
-    → option_and_then (asked_of candidate) (option_map (plain_entry image machine) entry) ≡ None
-asked_none image machine candidate None = refl
-asked_none image machine candidate (Some entry) = if_none _
+line_stays :
+    (lock : Bool) (text : List ℕ) (fallback : Option (List ℕ))
+    → is_same_line Empty (line_after Empty (if lock then Some text else None) fallback) ≡ not (lock || is_some fallback)
+unfolding is_same_line
+line_stays true text fallback = refl
+line_stays false text None = refl
+line_stays false text (Some kept) = refl
 
--- no line is kept for an entry that asks for none
-line_none :
-    (image : Image) (machine : Machine) (default_entry : ℕ) (entry : Option Descriptor) → changes_line entry ≡ false
-    → line_after_entry Empty (record { entry = default_entry; words = []; automatic = true }) (option_map (plain_entry image machine) entry) ≡ Empty
-line_none image machine default_entry None same = refl
-line_none image machine default_entry (Some entry) same =
-    let (lock, fallback) = neither (entry_has entry lock_flag) (entry_has entry fallback_flag) same in
-    rw (lock, fallback) refl
+-- whether the choice of an entry keeps an empty line
+pub line_kept :
+    (image : Image) (machine : Machine) (entry : Descriptor) (password : Option (List ℕ)) (chosen : Chosen)
+    → is_same_line Empty (line_by Empty chosen (Some (listed_entry image machine (entry, password))))
+    ≡ keeps_line image machine entry chosen.picked.lock
+line_kept image machine entry password chosen =
+    line_stays (entry_has entry lock_flag || chosen.picked.lock) chosen.lock_line (filled_text (fallback_of image machine entry))
 
--- the decision of a map that needs no prompt
-pub plain_decision :
-    (image : Image) (machine : Machine) (boot : BootSector) (good : GoodMap) (message : Option Content) (keys : List Key)
-    → IsPlain boot good → good.passwords ≡ map (λ entry. None) good.entries
-    → decision_at image machine boot good message keys ≡ quiet_decision boot.default_entry keys
-unfolding decision_at listed_entries settings_of
-plain_decision image machine boot good message keys plain passwords =
-    let entries = map (plain_entry image machine) good.entries in
-    let listed : map (listed_entry image machine) (zip good.entries good.passwords) ≡ entries =
-    rw passwords (listed_plain image machine good.entries) in
-    let at = slice_get-map (plain_entry image machine) good.entries boot.default_entry in
-    let candidate : Candidate = record { entry = boot.default_entry; words = []; automatic = true } in
-    let asked : option_and_then (asked_of candidate) (slice_get entries boot.default_entry) ≡ None =
-    rw at (asked_none image machine candidate (slice_get good.entries boot.default_entry)) in
-    let line : line_after_entry Empty candidate (slice_get entries boot.default_entry) ≡ Empty =
-    rw at (line_none image machine boot.default_entry (slice_get good.entries boot.default_entry) plain.kept) in
-    rw (plain.prompt, plain.delay, plain.line, listed)
-    (quiet_choice boot.timeout boot.default_entry line_capacity entries (option_map (λ content. content.bytes) message) keys asked line)
+-- ---- the message
+
+none_behind : {A B : Type 0} (f : A → B) (found : Option A) → option_map f found ≡ None → found ≡ None
+none_behind f None is = refl
+none_behind f (Some value) is = let h : ⊥ = cc in absurd h
+
+text_unopened : (one other : List ℕ) (pieces : List Piece) → pieces_opening pieces ≡ None → pieces_text one pieces ≡ pieces_text other pieces
+text_unopened one other [] is = refl
+text_unopened one other (Shows text ∷ pieces) is =
+    ap (λ behind. text ++ behind) (text_unopened one other pieces (none_behind (opening_behind text) (pieces_opening pieces) is))
+text_unopened one other (Opens keys ∷ pieces) is = let h : ⊥ = cc in absurd h
+
+-- where the prompt doesn't open, the message has no part in the choice
+pub choice_unopened :
+    (settings : Settings) (entries : List ListedEntry) (line : DefaultLine) (one other : List ℕ) (keys : List Key)
+    → opening settings entries line keys ≡ None
+    → choice settings entries line (Some one) keys ≡ choice settings entries line (Some other) keys
+choice_unopened settings entries line one other keys is =
+    let setup : Setup = record { settings = settings; entries = entries; line = line } in
+    let course = course_of setup keys in
+    ap (λ text. record { picked = option_map picked_of course.picked; shown = text; line = line_after_choice setup course.picked; left = course.left })
+    (text_unopened one other course.shown is)

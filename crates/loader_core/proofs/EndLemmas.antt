@@ -8,12 +8,12 @@ use Rattle.lilo_model.specs.Section.{SectionFault, Content, file_content}
 use Rattle.lilo_model.specs.Header.{SetupFault, header_at, plan_memory}
 use Rattle.lilo_model.specs.Place.{first_two}
 use Rattle.lilo_model.specs.Prompt.{Picked}
-use Rattle.lilo_model.specs.Table.{Descriptor, other_flag, video_flag}
+use Rattle.lilo_model.specs.Table.{Descriptor, other_flag}
 use Rattle.lilo_model.specs.Reason as reasons
 use Rattle.lilo_model.specs.Reason.{Reason, section_reason}
-use Rattle.lilo_model.specs.Boot.{entry_has, initrd_size, whole_check, first_two_check, initrd_check, initrd_of, main_of, handed_ending, loaded_ending, kernel_ending, entry_ending}
+use Rattle.lilo_model.specs.Boot.{entry_has, initrd_size, whole_check, first_two_check, initrd_check, initrd_of, main_of, handed_ending, loaded_ending, kernel_ending, entry_ending, picked_line, video_of}
 use Rattle.section_loader.specs.Reading.{Why, Unbuilt, Because, FileRest, file_today}
-use Rattle.loader_core.specs.Today.{whole_today, first_two_today, initrd_today, handed_today, loaded_today, main_today, initrd_file_today, entry_today, line_today}
+use Rattle.loader_core.specs.Today.{whole_today, first_two_today, initrd_today, handed_today, loaded_today, main_today, initrd_file_today, entry_today}
 use Rattle.section_loader.proofs.AgreementLemmas.{GoesOn, FileAgrees, file_agrees, content_fits}
 
 -- a check of today's comes to what one of the model's does, unless a part isn't built
@@ -228,16 +228,11 @@ entry_same_by image machine entry line video memory false =
     (content_fits image machine entry.first entry.main_length entry.chain)
     (initrd_file_agrees image machine entry entry.initrd)
 
--- an entry that is chosen without a word
-abbrev pub plain_pick : ℕ → Picked
-plain_pick entry = record { entry = entry; words = []; automatic = true; vga = None }
-
--- such an entry loads what the model's does
+-- an entry that was picked loads what the model's does
 pub entry_same :
-    (image : Image) (machine : Machine) (entry : Descriptor) (place : ℕ) (middle : List ℕ) (memory : ℕ)
-    → SameResult (entry_today image machine entry (line_today entry middle) memory)
-    (entry_ending image machine entry (plain_pick place) middle memory)
+    (image : Image) (machine : Machine) (entry : Descriptor) (picked : Picked) (middle : List ℕ) (memory : ℕ)
+    → SameResult (entry_today image machine entry (picked_line entry picked middle) (video_of entry picked) memory)
+    (entry_ending image machine entry picked middle memory)
 unfolding entry_today entry_ending kernel_ending
-entry_same image machine entry place middle memory =
-    entry_same_by image machine entry (line_today entry middle) (if entry_has entry video_flag then Some entry.vga else None) memory
-    (entry_has entry other_flag)
+entry_same image machine entry picked middle memory =
+    entry_same_by image machine entry (picked_line entry picked middle) (video_of entry picked) memory (entry_has entry other_flag)

@@ -1,5 +1,5 @@
 -- What another system's entry comes to.
-use Rattle.std.proofs.Common.{◌≡◌, ◌≤◌, ◌+◌, ◌-◌, ◌∙◌, ℕ, Bool, true, false, refl, sym, ap, List, [], ◌∷◌, ◌++◌, take, drop, length, None, Some, Result, Ok, Err, arith}
+use Rattle.std.proofs.Common.{◌≡◌, ◌≤◌, ◌+◌, ◌-◌, ◌∙◌, ℕ, Bool, true, false, refl, sym, ap, List, [], ◌∷◌, ◌++◌, take, drop, length, Option, None, Some, Result, Ok, Err, arith}
 use Rattle.std.specs.Prelude.{min, if◌then◌else◌}
 use Rattle.std.proofs.lemmas.List.{append-nil}
 use Rattle.std.proofs.Math.Seq.{take-append_seam, drop-append-add}
@@ -17,7 +17,7 @@ use Rattle.section_loader.specs.Load.{IsCutSector, ReadsCut}
 use Rattle.loader_core.specs.Kernel.{LoadsKernel}
 use Rattle.std.specs.Prelude.{bit_and, ◌==◌}
 use Rattle.lilo_model.specs.Disks.{Image, Machine}
-use Rattle.loader_core.specs.Today.{handed_today, loaded_today, entry_today, main_today, initrd_file_today, video_today}
+use Rattle.loader_core.specs.Today.{handed_today, loaded_today, entry_today, main_today, initrd_file_today}
 use Rattle.loader_core.specs.Start.{table_written, IsStarted, Starts}
 use Rattle.section_loader.specs.View.{reason_view}
 use Rattle.setup_header.specs.declared.layout.Layout.{Layout}
@@ -172,14 +172,14 @@ pub table_set : (flags : ℕ) → (bit_and flags 128 ≡ 0 → ⊥) → has_flag
 table_set flags some = let is : (bit_and flags 128 == 0) ≡ false = grind arith in rw is refl
 
 pub entry_kernel :
-    (image : Image) (machine : Machine) (entry : Descriptor) (line : List ℕ) (memory : ℕ) → has_flag entry.flags other_flag ≡ false
-    → entry_today image machine entry line memory
-    ≡ loaded_today entry (main_today image machine entry) (initrd_file_today image machine entry) line (video_today entry) memory
+    (image : Image) (machine : Machine) (entry : Descriptor) (line : List ℕ) (video : Option ℕ) (memory : ℕ) → has_flag entry.flags other_flag ≡ false
+    → entry_today image machine entry line video memory
+    ≡ loaded_today entry (main_today image machine entry) (initrd_file_today image machine entry) line video memory
 unfolding entry_today
-entry_kernel image machine entry line memory is = rw is refl
+entry_kernel image machine entry line video memory is = rw is refl
 
 pub entry_other :
-    (image : Image) (machine : Machine) (entry : Descriptor) (line : List ℕ) (memory : ℕ) → has_flag entry.flags other_flag ≡ true
-    → entry_today image machine entry line memory ≡ handed_today entry (main_today image machine entry)
+    (image : Image) (machine : Machine) (entry : Descriptor) (line : List ℕ) (video : Option ℕ) (memory : ℕ) → has_flag entry.flags other_flag ≡ true
+    → entry_today image machine entry line video memory ≡ handed_today entry (main_today image machine entry)
 unfolding entry_today
-entry_other image machine entry line memory is = rw is refl
+entry_other image machine entry line video memory is = rw is refl

@@ -1,3 +1,4 @@
+pub mod AskedLemmas
 pub mod BootLemmas
 pub mod ChoiceLemmas
 pub mod EndLemmas

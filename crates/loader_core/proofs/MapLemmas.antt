@@ -1,24 +1,29 @@
 -- The steps of reading a map.
-use Rattle.std.proofs.Common.{◌≡◌, ◌∙◌, ℕ, Bool, true, false, not, ◌&&◌, ◌||◌, if◌then◌else◌, refl, sym, ap, List, [], ◌∷◌, ◌++◌, map, append_assoc, Option, is_some, Result, Ok, Err}
-use Rattle.std.specs.Prelude.{IsErr, ◌==◌}
-use Rattle.std.specs.List.{list_any}
+use Rattle.std.proofs.Common.{◌≡◌, ◌∙◌, ℕ, Bool, true, false, refl, sym, ap, List, [], ◌∷◌, ◌++◌, length, map, zip, append_assoc, length-append, Option, None, Some, is_some, option_map, Result, Ok, Err, if◌then◌else◌, arith}
+use Rattle.std.specs.Prelude.{IsErr}
+use Rattle.std.specs.Option.{option_and_then}
+use Rattle.std.specs.Result.{result_ok}
 use Rattle.std.proofs.lemmas.List.{append-nil, map-append}
-use Rattle.lilo_model.specs.Checks.{◌>>=◌, seen, each}
+use Rattle.lilo_model.specs.Checks.{◌>>=◌, with_fault, seen, each}
 use Rattle.lilo_model.specs.Disks.{Image, Machine, DiskSector, bytes_at}
 use Rattle.lilo_model.specs.Slots as slots
 use Rattle.lilo_model.specs.BootSector as maps
 use Rattle.lilo_model.specs.BootSector.{BootSector}
 use Rattle.lilo_model.specs.Slots.{place_at}
 use Rattle.lilo_model.specs.Table as tables
-use Rattle.lilo_model.specs.Table.{table_at}
-use Rattle.lilo_model.specs.Options.{extra_at}
-use Rattle.lilo_model.specs.Reason.{NotFound}
-use Rattle.lilo_model.specs.Boot.{MapSectors, GoodMap, slot_bytes_at, entries_of, map_sectors, password_at}
+use Rattle.lilo_model.specs.Table.{fallback_flag, table_at}
+use Rattle.lilo_model.specs.Options as texts
+use Rattle.lilo_model.specs.Options.{options_at, extra_at}
+use Rattle.lilo_model.specs.Reason.{NotFound, map_reason}
+use Rattle.lilo_model.specs.Reason as reasons
+use Rattle.lilo_model.specs.Boot.{MapSectors, slot_bytes_at, optional_at, extra_slot, entries_of, map_sectors, password_at, middle_of, fallback_of}
 use Rattle.bios_model.specs.Machine.{sector_bytes_at}
-use Rattle.boot_map.specs.View.{descriptor_view, table_view, map_fault_view}
-use Rattle.boot_map.specs.declared.descriptor.Descriptor.{Descriptor}
+use Rattle.boot_map.specs.View.{table_view, extra_view, map_fault_view}
+use Rattle.boot_map.specs.declared.extra.Extra.{Extra}
 use Rattle.boot_map.specs.declared.table.Table.{Table}
 use Rattle.boot_map.specs.declared.map_fault.MapFault.{MapFault}
+use Rattle.prompt_core.specs.declared.entry.Choice.{Choice}
+use Rattle.prompt_core.specs.View.{choice_view}
 use Rattle.section_loader.specs.declared.reason.Reason.{Reason}
 use Rattle.section_loader.specs.declared.reason.Reason.TheVariants as variants
 use Rattle.section_loader.specs.declared.reason.Halt.{Halt}
@@ -26,8 +31,9 @@ use Rattle.section_loader.specs.declared.reason.Halt.TheVariants.{Device, Refuse
 use Rattle.section_loader.specs.Reading.{Because}
 use Rattle.section_loader.specs.View.{reason_view}
 use Rattle.section_loader.specs.File.{ReadsOne}
-use Rattle.loader_core.specs.Today.{asks_password, needs_prompt}
-use Rattle.loader_core.specs.Map.{ReadsThere, password_sector, IsJudged, asks_keys, asks_more, IsExtra, AreExtras, ReadsExtras, IsReadMap, ReadsMap}
+use Rattle.loader_core.specs.declared.map.Choices.{Choices}
+use Rattle.loader_core.specs.declared.map.Texts.{Texts}
+use Rattle.loader_core.specs.Map.{ReadsThere, ReadsExtra, password_sector, prompt_entry, JudgesChoice, IsChoice, Adds, ListsAs, Lists, JudgesList, AreChoices, ReadsChoices, IsReadMap, ReadsMap, IsBecause, AreTexts, ReadsTexts, JudgesTexts}
 
 -- ---- passwords
 
@@ -43,15 +49,21 @@ behind front rest = rest >>= λ extras. Ok (front ++ extras)
 abbrev pub cons : Result (Option (List ℕ)) slots.AddressFault → Extras → Extras
 cons first rest = first >>= λ extra. rest >>= λ extras. Ok (extra ∷ extras)
 
--- sectors that were read, of which these are left
-pub record IsSoFar (good : Bool) (whole rest : Extras) : Type 0 where
-  pub front : List (Option (List ℕ))
-  pub is : whole ≡ behind front rest
-  pub judged : IsJudged good (each (map password_at front))
+-- what was read of some entries' passwords, of which these are left, and the list that was made of it
+pub record IsSoFar (good : Bool) (choices : List Choice) (all left : List tables.Descriptor) (whole rest : Extras) : Type 0 where
+  pub front : List tables.Descriptor
+  pub split : all ≡ front ++ left
+  pub extras : List (Option (List ℕ))
+  pub is : whole ≡ behind extras rest
+  pub judged : JudgesList good choices front (each (map password_at extras))
 
-pub so_far-start : (whole : Extras) → IsSoFar true whole whole
-so_far-start (Ok extras) = record { front = []; is = refl; judged = refl }
-so_far-start (Err fault) = record { front = []; is = refl; judged = refl }
+so_far-start : (all : List tables.Descriptor) (whole : Extras) → IsSoFar true [] all all whole whole
+so_far-start all (Ok extras) = record { front = []; split = refl; extras = []; is = refl; judged = record { passwords = []; is = refl; lists = record { long = refl; list = refl } } }
+so_far-start all (Err fault) = record { front = []; split = refl; extras = []; is = refl; judged = record { passwords = []; is = refl; lists = record { long = refl; list = refl } } }
+
+pub so_far-begun :
+    (choices : List Choice) → choices ≡ [] → (all : List tables.Descriptor) (whole : Extras) → IsSoFar true choices all all whole whole
+so_far-begun choices none all whole = rw none (so_far-start all whole)
 
 behind-cons :
     (front : List (Option (List ℕ))) (extra : Option (List ℕ)) (rest : Extras)
@@ -82,26 +94,72 @@ each-push [] (Err fault) = refl
 each-push (Err fault ∷ checks) check = refl
 each-push (Ok first ∷ checks) check = rw (each-push checks check) (each-push-by first (each checks) check ∙ each-push-cons first (each checks) check)
 
-judged-both :
-    {A B C : Type 0} (good one : Bool) (texts : Result A maps.MapFault) (text : Result B maps.MapFault) (join : A → B → C)
-    → IsJudged good texts → IsJudged one text
-    → IsJudged (good && one) (texts >>= λ values. text >>= λ value. Ok (join values value))
-judged-both true true (Ok values) (Ok value) join all here = refl
-judged-both true true (Err fault) text join all here = absurd (let h : ⊥ = cc in h)
-judged-both true true (Ok values) (Err fault) join all here = absurd (let h : ⊥ = cc in h)
-judged-both true false (Ok values) text join all here = rw here refl
-judged-both true false (Err fault) text join all here = absurd (let h : ⊥ = cc in h)
-judged-both false one texts text join all here = rw all refl
+zip-push :
+    {A B : Type 0} (xs : List A) (ys : List B) (x : A) (y : B) → length ys ≡ length xs
+    → zip (xs ++ x ∷ []) (ys ++ y ∷ []) ≡ zip xs ys ++ (x, y) ∷ []
+zip-push [] [] x y long = refl
+zip-push [] (other ∷ ys) x y long = absurd (omega arith)
+zip-push (first ∷ xs) [] x y long = absurd (omega arith)
+zip-push (first ∷ xs) (other ∷ ys) x y long = ap (λ pairs. (first, other) ∷ pairs) (zip-push xs ys x y (omega arith))
+
+-- one entry more in a list
+lists-push :
+    (choices : List Choice) (front : List tables.Descriptor) (passwords : List (Option (List ℕ))) (choice : Choice) (entry : tables.Descriptor) (password : Option (List ℕ))
+    → ListsAs choices front passwords → choice_view choice ≡ prompt_entry (entry, password)
+    → ListsAs (choices ++ choice ∷ []) (front ++ entry ∷ []) (passwords ++ password ∷ [])
+lists-push choices front passwords choice entry password far here =
+    let long = far.long in
+    record {
+      long = rw (length-append, length-append) (omega (arith, long));
+      list =
+          map-append choice_view choices (choice ∷ [])
+          ∙ ap (λ l. l ++ choice_view choice ∷ []) far.list ∙ ap (λ c. map prompt_entry (zip front passwords) ++ c ∷ []) here
+          ∙ sym (map-append prompt_entry (zip front passwords) ((entry, password) ∷ []))
+          ∙ ap (map prompt_entry) (sym (zip-push front passwords entry password long));
+    }
+
+judged-push :
+    (good : Bool) (choices : List Choice) (front : List tables.Descriptor) (texts : Result (List (Option (List ℕ))) maps.MapFault) (choice : Choice) (entry : tables.Descriptor) (text : Result (Option (List ℕ)) maps.MapFault)
+    → JudgesList good choices front texts → JudgesChoice (Some choice) entry text
+    → JudgesList good (choices ++ choice ∷ []) (front ++ entry ∷ []) (texts >>= λ values. text >>= λ value. Ok (values ++ value ∷ []))
+judged-push true choices front texts choice entry text far here =
+    rw (far.is, here.0)
+    (record {
+      passwords = far.passwords ++ (choice_view choice).password ∷ [];
+      is = refl;
+      lists = lists-push choices front far.passwords choice entry (choice_view choice).password far.lists here.1;
+    })
+judged-push false choices front texts choice entry text far here = rw far refl
+
+judged-bad :
+    (good : Bool) (choices : List Choice) (front : List tables.Descriptor) (texts : Result (List (Option (List ℕ))) maps.MapFault) (text : Result (Option (List ℕ)) maps.MapFault)
+    → JudgesList good choices front texts → text ≡ Err (maps.BadTable 255)
+    → (let joined : Result (List (Option (List ℕ))) maps.MapFault = texts >>= λ values. text >>= λ value. Ok (values ++ value ∷ []) in joined) ≡ Err (maps.BadTable 255)
+judged-bad true choices front texts text far here = rw (far.is, here) refl
+judged-bad false choices front texts text far here = rw far refl
+
+judged-next :
+    (old new : Choices) (choice : Option Choice) (front : List tables.Descriptor) (texts : Result (List (Option (List ℕ))) maps.MapFault) (entry : tables.Descriptor) (text : Result (Option (List ℕ)) maps.MapFault)
+    → Adds old choice new → JudgesList old.are_good old.list.items front texts → JudgesChoice choice entry text
+    → JudgesList new.are_good new.list.items (front ++ entry ∷ []) (texts >>= λ values. text >>= λ value. Ok (values ++ value ∷ []))
+judged-next old new None front texts entry text adds far here =
+    rw adds.0 (judged-bad old.are_good old.list.items front texts text far here)
+judged-next old new (Some choice) front texts entry text adds far here =
+    rw (adds.0, adds.1) (judged-push old.are_good old.list.items front texts choice entry text far here)
 
 pub so_far-next :
-    (good one both : Bool) (first : Result (Option (List ℕ)) slots.AddressFault) (whole rest : Extras)
-    → both ≡ (good && one) → IsSoFar good whole (cons first rest) → IsExtra one first → IsSoFar both whole rest
-so_far-next good one both first whole rest same far here = record {
-  front = far.front ++ here.extra ∷ [];
-  is = far.is ∙ ap (λ found. behind far.front (cons found rest)) here.is ∙ behind-cons far.front here.extra rest;
+    (old new : Choices) (choice : Option Choice) (all left : List tables.Descriptor) (entry : tables.Descriptor)
+    (first : Result (Option (List ℕ)) slots.AddressFault) (whole rest : Extras)
+    → Adds old choice new → IsSoFar old.are_good old.list.items all (entry ∷ left) whole (cons first rest) → IsChoice choice entry first
+    → IsSoFar new.are_good new.list.items all left whole rest
+so_far-next old new choice all left entry first whole rest adds far here = record {
+  front = far.front ++ entry ∷ [];
+  split = far.split ∙ sym (append_assoc far.front (entry ∷ []) left);
+  extras = far.extras ++ here.extra ∷ [];
+  is = far.is ∙ ap (λ found. behind far.extras (cons found rest)) here.is ∙ behind-cons far.extras here.extra rest;
   judged =
-      rw (same, map-append, each-push)
-      (judged-both good one (each (map password_at far.front)) (password_at here.extra) (λ values value. values ++ value ∷ []) far.judged here.judged);
+      rw (map-append, each-push)
+      (judged-next old new choice far.front (each (map password_at far.extras)) entry (password_at here.extra) adds far.judged here.judged);
 }
 
 lost-by :
@@ -111,16 +169,18 @@ lost-by front (Ok extra) rest lost = absurd (let h : ⊥ = cc in h)
 lost-by front (Err fault) rest lost = refl
 
 pub so_far-lost :
-    (good : Bool) (first : Result (Option (List ℕ)) slots.AddressFault) (whole rest : Extras)
-    → IsSoFar good whole (cons first rest) → IsErr first → IsErr whole
-so_far-lost good first whole rest far lost = rw far.is (lost-by far.front first rest lost)
+    (good : Bool) (choices : List Choice) (all left : List tables.Descriptor) (first : Result (Option (List ℕ)) slots.AddressFault) (whole rest : Extras)
+    → IsSoFar good choices all left whole (cons first rest) → IsErr first → IsErr whole
+so_far-lost good choices all left first whole rest far lost = rw far.is (lost-by far.extras first rest lost)
 
-pub so_far-end : (good : Bool) (whole : Extras) → IsSoFar good whole (Ok []) → AreExtras good whole
-so_far-end good whole far = record {
-  extras = far.front;
-  is = far.is ∙ ap Ok (append-nil far.front);
-  judged = far.judged;
-}
+pub so_far-end : (choices : Choices) (all : List tables.Descriptor) (whole : Extras) → IsSoFar choices.are_good choices.list.items all [] whole (Ok []) → AreChoices choices all whole
+so_far-end choices all whole far =
+    let same : all ≡ far.front = far.split ∙ append-nil far.front in
+    record {
+      extras = far.extras;
+      is = far.is ∙ ap Ok (append-nil far.extras);
+      judged = rw same far.judged;
+    }
 
 -- a text beside a password that passes its limit
 refused-by : {A F : Type 0} (test : Bool) (value : A) (fault told : F) → Err told ≡ (if test then Ok value else Err fault) → told ≡ fault
@@ -221,7 +281,7 @@ pub extras_halt :
     (now : Image) (machine : Machine) (boot : BootSector) (bytes : List (List ℕ)) (table : Result Table MapFault) (halt : Halt)
     → seen table_view map_fault_view table ≡ table_at boot.names bytes
     → each (map (slot_bytes_at now machine) boot.table) ≡ Ok bytes
-    → ReadsExtras (Err halt) (table_extras now machine (seen table_view map_fault_view table))
+    → ReadsChoices (Err halt) (entries_of (seen table_view map_fault_view table)) (table_extras now machine (seen table_view map_fault_view table))
     → ReadsMap (Err halt) (map_sectors now machine boot)
 unfolding map_sectors
 extras_halt now machine boot bytes table Device judged there read = tt
@@ -237,37 +297,149 @@ map_there line table names extras bytes sectors texts line_is table_is extras_is
 
 -- a map that was read
 pub map_reads :
-    (now : Image) (machine : Machine) (boot : BootSector) (line : List ℕ) (bytes : List (List ℕ)) (table : Result Table MapFault) (good : Bool)
+    (now : Image) (machine : Machine) (boot : BootSector) (line : List ℕ) (bytes : List (List ℕ)) (table : Result Table MapFault) (choices : Choices)
     → seen table_view map_fault_view table ≡ table_at boot.names bytes
     → sector_bytes_at now machine boot.line 0 ≡ Ok line
     → each (map (slot_bytes_at now machine) boot.table) ≡ Ok bytes
-    → AreExtras good (table_extras now machine (seen table_view map_fault_view table))
-    → IsReadMap (record { line = line; table = table; are_extras_good = good }) (map_sectors now machine boot)
+    → AreChoices choices (entries_of (seen table_view map_fault_view table)) (table_extras now machine (seen table_view map_fault_view table))
+    → IsReadMap (record { line = line; table = table; choices = choices }) (map_sectors now machine boot)
 unfolding map_sectors slot_bytes_at
-map_reads now machine boot line bytes table good judged line_there table_there extras = record {
+map_reads now machine boot line bytes table choices judged line_there table_there extras = record {
   sectors = record { line = line; table = table_at boot.names bytes; extras = extras.extras };
   is =
       map_there (slot_bytes_at now machine boot.line) (each (map (slot_bytes_at now machine) boot.table)) boot.names (table_extras now machine)
       line bytes extras.extras line_there table_there (rw judged at extras.is);
-  stands = record { line = refl; table = sym judged; extras = extras.judged };
+  stands = record { line = refl; table = sym judged; extras = rw (sym judged) extras.judged };
 }
 
--- ---- the prompt
+-- ---- an entry's texts
 
-or-groups : (a b c d : Bool) → (a || (b || (c || d))) ≡ ((a || (b || c)) || d)
-or-groups true b c d = refl
-or-groups false true c d = refl
-or-groups false false c d = refl
+-- an extra sector in which a length passes its limit
+refused_extra :
+    (bytes : Option (List ℕ)) (found : Option (Result texts.Extra maps.MapFault)) (fault : maps.MapFault)
+    → found ≡ Some (Err fault) → found ≡ option_map extra_at bytes → password_at bytes ≡ Err (maps.BadTable 255)
+refused_extra None found fault is said = let h : ⊥ = cc in absurd h
+refused_extra (Some bytes) found fault is said =
+    let same : Err fault ≡ extra_at bytes = cc in
+    rw (extra_refused bytes fault same) refl
 
-pub list_any-viewed :
-    (entries : List Descriptor)
-    → list_any asks_password (map descriptor_view entries) ≡ list_any (λ entry. asks_password (descriptor_view entry)) entries
-list_any-viewed [] = refl
-list_any-viewed (entry ∷ entries) = ap (λ others. asks_password (descriptor_view entry) || others) (list_any-viewed entries)
+pub choice_refused :
+    (bytes : Option (List ℕ)) (extra : Option (Result Extra MapFault)) (fault : maps.MapFault)
+    → option_map (seen extra_view map_fault_view) extra ≡ Some (Err fault) → option_map (seen extra_view map_fault_view) extra ≡ option_map extra_at bytes
+    → password_at bytes ≡ Err (maps.BadTable 255)
+choice_refused bytes extra fault is said = refused_extra bytes (option_map (seen extra_view map_fault_view) extra) fault is said
 
--- what needs a prompt, in two groups
-pub needs_prompt-groups :
-    (boot : BootSector) (good : GoodMap)
-    → needs_prompt boot good ≡ (asks_keys boot || asks_more boot.default_entry good.line good.entries)
-unfolding needs_prompt
-needs_prompt-groups boot good = or-groups boot.prompt (not (boot.delay == 0)) (is_some boot.message) _
+optional_by :
+    (now : Image) (machine : Machine) (slot : slots.Slot) (found : Result (List ℕ) slots.AddressFault) → slot_bytes_at now machine slot ≡ found
+    → (bytes : Option (List ℕ)) → (found >>= λ bytes. Ok (Some bytes)) ≡ Ok bytes
+    → option_and_then (λ bytes. option_map (λ extra. extra.fallback) (result_ok (extra_at bytes))) (result_ok (slot_bytes_at now machine slot))
+    ≡ option_and_then (λ bytes. option_map (λ extra. extra.fallback) (result_ok (extra_at bytes))) bytes
+optional_by now machine slot (Ok found) at bytes is = let same : Some found ≡ bytes = cc in rw (at, ← same) refl
+optional_by now machine slot (Err fault) at bytes is = let h : ⊥ = cc in absurd h
+
+-- an extra sector that was read, where a flag asks for it
+optional_found :
+    (now : Image) (machine : Machine) (slot : Option slots.Slot) (bytes : Option (List ℕ)) → optional_at now machine slot ≡ Ok bytes
+    → option_and_then (λ slot. option_and_then (λ bytes. option_map (λ extra. extra.fallback) (result_ok (extra_at bytes))) (result_ok (slot_bytes_at now machine slot))) slot
+    ≡ option_and_then (λ bytes. option_map (λ extra. extra.fallback) (result_ok (extra_at bytes))) bytes
+optional_found now machine None bytes is = let none : None ≡ bytes = cc in rw (← none) refl
+optional_found now machine (Some slot) bytes is = optional_by now machine slot (slot_bytes_at now machine slot) refl bytes is
+
+texts_some :
+    (found : Texts) (options : Result (List ℕ) maps.MapFault) (extra : Option (Result texts.Extra maps.MapFault)) (bytes : List ℕ)
+    (said : Result texts.Extra maps.MapFault) → extra_at bytes ≡ said → extra ≡ option_map extra_at (Some bytes) → JudgesTexts (Ok found) options extra
+    → AreTexts found
+    (with_fault map_reason options >>= λ middle. with_fault map_reason (password_at (Some bytes)) >>= λ password. Ok middle)
+    (option_and_then (λ bytes. option_map (λ extra. extra.fallback) (result_ok (extra_at bytes))) (Some bytes))
+texts_some found options extra bytes (Ok texts) at is judged =
+    let has = rw (is, at) at judged.1 in rw (judged.0, at) (record { middle_is = refl; fallback_is = has })
+texts_some found options extra bytes (Err fault) at is judged = absurd (rw (is, at) at judged.1)
+
+refused_some :
+    (reason : Reason) (middle : List ℕ) (bytes : List ℕ) (said : Result texts.Extra maps.MapFault) → extra_at bytes ≡ said
+    → JudgesTexts (Err (Refused reason)) (Ok middle) (Some said)
+    → IsBecause reason (with_fault map_reason (password_at (Some bytes)) >>= λ password. Ok middle)
+refused_some reason middle bytes (Ok texts) at judged = absurd judged.1
+refused_some reason middle bytes (Err fault) at judged =
+    rw at (record { why = map_reason fault; is = refl; because = judged.2 ∙ ap (λ f. Because (map_reason f)) judged.1 })
+
+texts_refused :
+    (reason : Reason) (options : Result (List ℕ) maps.MapFault) (extra : Option (Result texts.Extra maps.MapFault)) (bytes : Option (List ℕ))
+    → extra ≡ option_map extra_at bytes → JudgesTexts (Err (Refused reason)) options extra
+    → IsBecause reason (with_fault map_reason options >>= λ middle. with_fault map_reason (password_at bytes) >>= λ password. Ok middle)
+texts_refused reason (Err fault) extra bytes is judged =
+    record { why = map_reason fault; is = refl; because = judged.2 ∙ ap (λ f. Because (map_reason f)) judged.1 }
+texts_refused reason (Ok middle) extra None is judged = absurd (rw is at judged).1
+texts_refused reason (Ok middle) extra (Some bytes) is judged = refused_some reason middle bytes (extra_at bytes) refl (rw is at judged)
+
+-- the texts of an entry, by its sectors that were read
+texts_by :
+    (result : Result Texts Halt) (options : Result (List ℕ) maps.MapFault) (extra : Option (Result texts.Extra maps.MapFault)) (bytes : Option (List ℕ))
+    → extra ≡ option_map extra_at bytes → JudgesTexts result options extra
+    → ReadsTexts result
+    (with_fault map_reason options >>= λ middle. with_fault map_reason (password_at bytes) >>= λ password. Ok middle)
+    (option_and_then (λ bytes. option_map (λ extra. extra.fallback) (result_ok (extra_at bytes))) bytes)
+texts_by (Ok found) options extra None is judged = let none : found.has_fallback ≡ false = rw is at judged.1 in rw judged.0 (record { middle_is = refl; fallback_is = none })
+texts_by (Ok found) options extra (Some bytes) is judged = texts_some found options extra bytes (extra_at bytes) refl is judged
+texts_by (Err Device) options extra bytes is judged = absurd judged
+texts_by (Err (Refused reason)) options extra bytes is judged = texts_refused reason options extra bytes is judged
+
+middle_by :
+    (options_slot : Result (List ℕ) slots.AddressFault) (extra_found : Result (Option (List ℕ)) slots.AddressFault) (sector : List ℕ) (bytes : Option (List ℕ))
+    → options_slot ≡ Ok sector → extra_found ≡ Ok bytes
+    → (with_fault (λ fault. NotFound) options_slot >>= λ options. with_fault (λ fault. NotFound) extra_found >>= λ extra. with_fault map_reason (options_at options) >>= λ middle. with_fault map_reason (password_at extra) >>= λ password. Ok middle)
+    ≡ (with_fault map_reason (options_at sector) >>= λ middle. with_fault map_reason (password_at bytes) >>= λ password. Ok middle)
+middle_by options_slot extra_found sector bytes options_is extra_is = rw (options_is, extra_is) refl
+
+slot_there :
+    (now : Image) (machine : Machine) (slot : slots.Slot) (bytes : List ℕ) → sector_bytes_at now machine slot 0 ≡ Ok bytes → slot_bytes_at now machine slot ≡ Ok bytes
+unfolding slot_bytes_at
+slot_there now machine slot bytes is = is
+
+pub texts_read :
+    (now : Image) (machine : Machine) (entry : tables.Descriptor) (result : Result Texts Halt) (sector : List ℕ) (options : Result (List ℕ) maps.MapFault) (extra : Option (Result texts.Extra maps.MapFault))
+    (bytes : Option (List ℕ))
+    → sector_bytes_at now machine entry.options 0 ≡ Ok sector → optional_at now machine (extra_slot fallback_flag entry) ≡ Ok bytes
+    → options ≡ options_at sector → extra ≡ option_map extra_at bytes → JudgesTexts result options extra
+    → ReadsTexts result (middle_of now machine entry) (fallback_of now machine entry)
+unfolding middle_of
+texts_read now machine entry result sector options extra bytes options_there extra_there options_is extra_is judged =
+    rw (middle_by (slot_bytes_at now machine entry.options) (optional_at now machine (extra_slot fallback_flag entry)) sector bytes (slot_there now machine entry.options sector options_there) extra_there, optional_found now machine (extra_slot fallback_flag entry) bytes extra_there, ← options_is)
+    (texts_by result options extra bytes extra_is judged)
+
+-- or whose sectors weren't there
+options_lost :
+    (options : Result (List ℕ) slots.AddressFault) (next : List ℕ → Result (List ℕ) reasons.Reason) → IsErr options
+    → (with_fault (λ fault. NotFound) options >>= next) ≡ Err NotFound
+options_lost (Ok options) next lost = absurd (let h : ⊥ = cc in h)
+options_lost (Err fault) next lost = refl
+
+pub options_halt :
+    (now : Image) (machine : Machine) (entry : tables.Descriptor) (bytes : List ℕ) (fallback : Option (List ℕ)) (halt : Halt)
+    → ReadsOne now machine entry.options (Err halt) bytes → ReadsTexts (Err halt) (middle_of now machine entry) fallback
+unfolding middle_of
+options_halt now machine entry bytes fallback Device read = tt
+options_halt now machine entry bytes fallback (Refused reason) (lost, is) = record {
+  why = NotFound;
+  is = options_lost (slot_bytes_at now machine entry.options) _ (slot_lost now machine entry.options lost);
+  because = is;
+}
+
+extra_lost :
+    {A : Type 0} (options : Result (List ℕ) slots.AddressFault) (sector : List ℕ) (extra : Result A slots.AddressFault) (next : List ℕ → A → Result (List ℕ) reasons.Reason)
+    → options ≡ Ok sector → IsErr extra
+    → (with_fault (λ fault. NotFound) options >>= λ options. with_fault (λ fault. NotFound) extra >>= next options) ≡ Err NotFound
+extra_lost options sector (Ok extra) next there lost = absurd (let h : ⊥ = cc in h)
+extra_lost options sector (Err fault) next there lost = rw there refl
+
+pub extra_halt :
+    (now : Image) (machine : Machine) (entry : tables.Descriptor) (sector : List ℕ) (fallback : Option (List ℕ)) (halt : Halt)
+    → sector_bytes_at now machine entry.options 0 ≡ Ok sector → ReadsExtra (Err halt) (optional_at now machine (extra_slot fallback_flag entry))
+    → ReadsTexts (Err halt) (middle_of now machine entry) fallback
+unfolding middle_of
+extra_halt now machine entry sector fallback Device there read = tt
+extra_halt now machine entry sector fallback (Refused reason) there (lost, is) = record {
+  why = NotFound;
+  is = extra_lost (slot_bytes_at now machine entry.options) sector (optional_at now machine (extra_slot fallback_flag entry)) _ (slot_there now machine entry.options sector there) lost;
+  because = ap reason_view is;
+}

@@ -13,16 +13,16 @@ EndsSo boot (Ok ending) = (boot.outcome ≡ ending.outcome) × (boot.written ≡
 EndsSo boot (Err Unbuilt) = ⊥
 EndsSo boot (Err (Because reason)) = boot.outcome ≡ Refused reason
 
--- a boot is the one of a report, leaves this default line, and takes none of these keys
-pub record IsReported (boot : Boot) (report : Report) (standing : Option DefaultLine) (keys : List Key) : Type 0 where
+-- a boot is the one of a report, and leaves this default line
+pub record IsReported (boot : Boot) (report : Report) (standing : Option DefaultLine) : Type 0 where
   pub ends : EndsSo boot report.result
   pub shown : boot.shown ≡ report.shown
   pub line : boot.line ≡ standing
-  pub left : boot.left ≡ keys
+  pub left : boot.left ≡ report.left
 
 -- outside what isn't built, today's boot is the model's, for all keys
 abbrev pub TodayLaw : Type 0
 TodayLaw =
     (image : Image) (machine : Machine) (span : Span) (keys : List Key) (memory : ℕ)
-    → (IsUnbuilt image machine span memory → ⊥)
-    → IsReported (whole_boot image machine span keys memory) (boot_today image machine span memory) (standing_line image machine span) keys
+    → (IsUnbuilt image machine span memory keys → ⊥)
+    → IsReported (whole_boot image machine span keys memory) (boot_today image machine span memory keys) (standing_line image machine span)

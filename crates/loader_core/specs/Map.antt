@@ -1,28 +1,35 @@
 -- What is read of a map before a choice, and what it says (this project's own).
-use Rattle.std.specs.Prelude.{◌≡◌, ℕ, ◌==◌, Bool, true, false, not, ◌||◌, is_some, List, length, map, slice_get, All, Option, Result, Ok, Err, IsOk, IsErr}
-use Rattle.std.specs.List.{list_any}
+use Rattle.std.specs.Prelude.{◌≡◌, ℕ, Bool, true, false, is_some, List, [], ◌∷◌, ◌++◌, length, map, zip, All, Option, None, Some, Result, Ok, Err, IsErr}
+use Rattle.std.specs.Option.{option_map}
 use Rattle.lilo_model.specs.Checks.{seen, each}
+use Rattle.lilo_model.specs.Choice.{filled_text}
 use Rattle.lilo_model.specs.Disks.{Image, Machine}
 use Rattle.lilo_model.specs.Slots as slots
 use Rattle.lilo_model.specs.BootSector as maps
+use Rattle.lilo_model.specs.Options as texts
+use Rattle.lilo_model.specs.Options.{extra_at}
+use Rattle.lilo_model.specs.Prompt.{ListedEntry}
 use Rattle.lilo_model.specs.Table as tables
-use Rattle.lilo_model.specs.Table.{password_flag}
-use Rattle.lilo_model.specs.DefaultLine.{DefaultLine}
+use Rattle.lilo_model.specs.Table.{password_flag, restricted_flag}
 use Rattle.lilo_model.specs.Reason as reasons
 use Rattle.lilo_model.specs.Reason.{map_reason}
-use Rattle.lilo_model.specs.Boot.{MapSectors, GoodMap, optional_at, extra_slot, password_at}
-use Rattle.boot_map.specs.View.{line_view, table_view, options_view, map_fault_view}
+use Rattle.lilo_model.specs.Boot.{MapSectors, GoodMap, entry_has, entries_of, optional_at, extra_slot, password_at}
+use Rattle.boot_map.specs.View.{line_view, table_view, extra_view, map_fault_view}
 use Rattle.boot_map.specs.Ranges.{IsNamed, HasSectors, FitsFlags}
+use Rattle.boot_map.specs.declared.extra.Extra.{Extra}
+use Rattle.boot_map.specs.declared.map_fault.MapFault.{MapFault}
 use Rattle.boot_map.specs.declared.table.Table.{Table}
-use Rattle.boot_map.specs.declared.options.Options.{Options}
+use Rattle.prompt_core.specs.declared.entry.Choice.{Choice}
+use Rattle.prompt_core.specs.View.{choice_view, entries_view}
 use Rattle.section_loader.specs.declared.reason.Reason.{Reason}
 use Rattle.section_loader.specs.declared.reason.Reason.TheVariants as variants
 use Rattle.section_loader.specs.declared.reason.Halt.{Halt}
 use Rattle.section_loader.specs.declared.reason.Halt.TheVariants.{Device, Refused}
-use Rattle.loader_core.specs.declared.map.MapParts.{MapParts}
+use Rattle.loader_core.specs.declared.map.Choices.{Choices}
 use Rattle.loader_core.specs.declared.map.GoodParts.{GoodParts}
+use Rattle.loader_core.specs.declared.map.MapParts.{MapParts}
+use Rattle.loader_core.specs.declared.map.Texts.{Texts}
 use Rattle.section_loader.specs.Reading.{Because}
-use Rattle.loader_core.specs.Today.{is_empty_line, changes_line, asks_password}
 use Rattle.section_loader.specs.View.{reason_view}
 
 -- ---- what is read
@@ -37,40 +44,88 @@ ReadsThere (Err (Refused reason)) bytes found = IsErr found × (reason ≡ varia
 abbrev pub password_sector : Image → Machine → tables.Descriptor → Result (Option (List ℕ)) slots.AddressFault
 password_sector image machine entry = optional_at image machine (extra_slot password_flag entry)
 
--- texts are within their limits, or one passes it
-abbrev pub IsJudged : {A : Type 0} → Bool → Result A maps.MapFault → Type 0
-IsJudged true texts = IsOk texts
-IsJudged false texts = texts ≡ Err (maps.BadTable 255)
+-- what was read of an extra sector, where there is one
+pub record IsExtra (extra : Option (Result Extra MapFault)) (found : Result (Option (List ℕ)) slots.AddressFault) : Type 0 where
+  pub bytes : Option (List ℕ)
+  pub is : found ≡ Ok bytes
+  pub said : option_map (seen extra_view map_fault_view) extra ≡ option_map extra_at bytes
 
--- whether the password in a sector that was read is good
-pub record IsExtra (good : Bool) (found : Result (Option (List ℕ)) slots.AddressFault) : Type 0 where
-  pub extra : Option (List ℕ)
-  pub is : found ≡ Ok extra
-  pub judged : IsJudged good (password_at extra)
-
--- what was read of an entry's password, unless a disk failed
-abbrev pub ReadsExtra : Result Bool Halt → Result (Option (List ℕ)) slots.AddressFault → Type 0
-ReadsExtra (Ok good) found = IsExtra good found
+-- the same, unless a disk failed
+abbrev pub ReadsExtra : Result (Option (Result Extra MapFault)) Halt → Result (Option (List ℕ)) slots.AddressFault → Type 0
+ReadsExtra (Ok extra) found = IsExtra extra found
 ReadsExtra (Err Device) found = Unit {0}
 ReadsExtra (Err (Refused reason)) found = IsErr found × (reason ≡ variants.NotFound)
 
--- whether the passwords in sectors that were read are all good
-pub record AreExtras (good : Bool) (found : Result (List (Option (List ℕ))) slots.AddressFault) : Type 0 where
+-- ---- what is chosen from
+
+-- an entry and its password, as far as the prompt is told of it
+abbrev pub prompt_entry : tables.Descriptor × Option (List ℕ) → ListedEntry
+prompt_entry (entry, password) = record {
+  name = entry.name;
+  password = password;
+  restricted = entry_has entry restricted_flag;
+  lock = false;
+  fallback = None;
+}
+
+-- what stands for an entry in the list, or a text beside its password passes its limit
+abbrev pub JudgesChoice : Option Choice → tables.Descriptor → Result (Option (List ℕ)) maps.MapFault → Type 0
+JudgesChoice None entry text = text ≡ Err (maps.BadTable 255)
+JudgesChoice (Some choice) entry text =
+    (text ≡ Ok (choice_view choice).password) × (choice_view choice ≡ prompt_entry (entry, (choice_view choice).password))
+
+-- the same, by the sector that was read
+pub record IsChoice (choice : Option Choice) (entry : tables.Descriptor) (found : Result (Option (List ℕ)) slots.AddressFault) : Type 0 where
+  pub extra : Option (List ℕ)
+  pub is : found ≡ Ok extra
+  pub judged : JudgesChoice choice entry (password_at extra)
+
+-- the same, unless a disk failed
+abbrev pub ReadsChoice : Result (Option Choice) Halt → tables.Descriptor → Result (Option (List ℕ)) slots.AddressFault → Type 0
+ReadsChoice (Ok choice) entry found = IsChoice choice entry found
+ReadsChoice (Err Device) entry found = Unit {0}
+ReadsChoice (Err (Refused reason)) entry found = IsErr found × (reason ≡ variants.NotFound)
+
+-- what stands for one more entry was added to a list
+abbrev pub Adds : Choices → Option Choice → Choices → Type 0
+Adds old (Some choice) new = (new.are_good ≡ old.are_good) × (new.list.items ≡ old.list.items ++ choice ∷ [])
+Adds old None new = (new.are_good ≡ false) × (new.list.items ≡ old.list.items)
+
+-- a list stands for entries with these passwords
+pub record ListsAs (choices : List Choice) (entries : List tables.Descriptor) (passwords : List (Option (List ℕ))) : Type 0 where
+  pub long : length passwords ≡ length entries
+  pub list : entries_view choices ≡ map prompt_entry (zip entries passwords)
+
+-- a list stands for entries, whose passwords are in these texts
+pub record Lists (choices : List Choice) (entries : List tables.Descriptor) (texts : Result (List (Option (List ℕ))) maps.MapFault) : Type 0 where
+  pub passwords : List (Option (List ℕ))
+  pub is : texts ≡ Ok passwords
+  pub lists : ListsAs choices entries passwords
+
+-- the same, unless a text passes its limit
+abbrev pub JudgesList : Bool → List Choice → List tables.Descriptor → Result (List (Option (List ℕ))) maps.MapFault → Type 0
+JudgesList true choices entries texts = Lists choices entries texts
+JudgesList false choices entries texts = texts ≡ Err (maps.BadTable 255)
+
+-- the same, by the sectors that were read
+pub record AreChoices (choices : Choices) (entries : List tables.Descriptor) (found : Result (List (Option (List ℕ))) slots.AddressFault) : Type 0 where
   pub extras : List (Option (List ℕ))
   pub is : found ≡ Ok extras
-  pub judged : IsJudged good (each (map password_at extras))
+  pub judged : JudgesList choices.are_good choices.list.items entries (each (map password_at extras))
 
--- what was read of all entries' passwords, unless a disk failed
-abbrev pub ReadsExtras : Result Bool Halt → Result (List (Option (List ℕ))) slots.AddressFault → Type 0
-ReadsExtras (Ok good) found = AreExtras good found
-ReadsExtras (Err Device) found = Unit {0}
-ReadsExtras (Err (Refused reason)) found = IsErr found × (reason ≡ variants.NotFound)
+-- the same, unless a disk failed
+abbrev pub ReadsChoices : Result Choices Halt → List tables.Descriptor → Result (List (Option (List ℕ))) slots.AddressFault → Type 0
+ReadsChoices (Ok choices) entries found = AreChoices choices entries found
+ReadsChoices (Err Device) entries found = Unit {0}
+ReadsChoices (Err (Refused reason)) entries found = IsErr found × (reason ≡ variants.NotFound)
+
+-- ---- the map
 
 -- parts stand for the sectors of a map
 pub record StandsFor (parts : MapParts) (sectors : MapSectors) : Type 0 where
   pub line : sectors.line ≡ parts.line
   pub table : sectors.table ≡ seen table_view map_fault_view parts.table
-  pub extras : IsJudged parts.are_extras_good (each (map password_at sectors.extras))
+  pub extras : JudgesList parts.choices.are_good parts.choices.list.items (entries_of sectors.table) (each (map password_at sectors.extras))
 
 -- parts stand for the sectors of a map that is there
 pub record IsReadMap (parts : MapParts) (found : Result MapSectors slots.AddressFault) : Type 0 where
@@ -97,6 +152,7 @@ pub record IsTable (names : ℕ) (table : Table) : Type 0 where
 pub record IsGood (good : GoodParts) (model : GoodMap) : Type 0 where
   pub line : model.line ≡ line_view good.line
   pub entries : model.entries ≡ table_view good.table
+  pub lists : ListsAs good.choices.items model.entries model.passwords
 
 -- a map is good, with these parts
 pub record IsGoodMap (good : GoodParts) (judged : Result GoodMap maps.MapFault) : Type 0 where
@@ -115,18 +171,7 @@ abbrev pub Judges : Result GoodParts Reason → Result GoodMap maps.MapFault →
 Judges (Ok good) judged = IsGoodMap good judged
 Judges (Err reason) judged = IsBadMap reason judged
 
--- whether a boot sector asks for keys, waits for them, or has a message
-abbrev pub asks_keys : maps.BootSector → Bool
-asks_keys boot = boot.prompt || (not (boot.delay == 0) || is_some boot.message)
-
--- whether a default line or a password has a part in the choice, or it changes that line
-abbrev pub asks_more : ℕ → DefaultLine → List tables.Descriptor → Bool
-asks_more default_entry line entries =
-    not (is_empty_line line)
-    || (list_any asks_password entries
-    || changes_line (slice_get entries default_entry))
-
--- ---- an entry's text
+-- ---- an entry's texts
 
 -- a boot is refused for this reason
 pub record IsBecause (reason : Reason) (middle : Result (List ℕ) reasons.Reason) : Type 0 where
@@ -134,8 +179,33 @@ pub record IsBecause (reason : Reason) (middle : Result (List ℕ) reasons.Reaso
   pub is : middle ≡ Err why
   pub because : reason_view reason ≡ Because why
 
--- what was read as an entry's middle text, unless a disk failed
-abbrev pub ReadsMiddle : Result Options Halt → Result (List ℕ) reasons.Reason → Type 0
-ReadsMiddle (Ok options) middle = middle ≡ Ok (options_view options)
-ReadsMiddle (Err Device) middle = Unit {0}
-ReadsMiddle (Err (Refused reason)) middle = IsBecause reason middle
+-- the texts of an entry that were read: its middle text, and whether it has a fallback of a byte at least
+pub record AreTexts (texts : Texts) (middle : Result (List ℕ) reasons.Reason) (fallback : Option (List ℕ)) : Type 0 where
+  pub middle_is : middle ≡ Ok texts.middle.items
+  pub fallback_is : texts.has_fallback ≡ is_some (filled_text fallback)
+
+-- the same, unless a disk failed
+abbrev pub ReadsTexts : Result Texts Halt → Result (List ℕ) reasons.Reason → Option (List ℕ) → Type 0
+ReadsTexts (Ok texts) middle fallback = AreTexts texts middle fallback
+ReadsTexts (Err Device) middle fallback = Unit {0}
+ReadsTexts (Err (Refused reason)) middle fallback = IsBecause reason middle
+
+-- the texts of an entry, by what its two sectors say: the fallback has a byte at least, or it has none
+abbrev pub HasFallback : Bool → Option (Result texts.Extra maps.MapFault) → Type 0
+HasFallback has None = has ≡ false
+HasFallback has (Some (Ok extra)) = has ≡ is_some (filled_text (Some extra.fallback))
+HasFallback has (Some (Err fault)) = ⊥
+
+-- the first of two sectors in which a length passes its limit
+abbrev pub IsFirstFault : Result (List ℕ) maps.MapFault → Option (Result texts.Extra maps.MapFault) → maps.MapFault → Type 0
+IsFirstFault (Err fault) extra first = first ≡ fault
+IsFirstFault (Ok middle) None first = ⊥
+IsFirstFault (Ok middle) (Some (Ok extra)) first = ⊥
+IsFirstFault (Ok middle) (Some (Err fault)) first = first ≡ fault
+
+-- what two sectors say as the texts of an entry
+abbrev pub JudgesTexts : Result Texts Halt → Result (List ℕ) maps.MapFault → Option (Result texts.Extra maps.MapFault) → Type 0
+JudgesTexts (Ok found) options extra = (options ≡ Ok found.middle.items) × HasFallback found.has_fallback extra
+JudgesTexts (Err Device) options extra = ⊥
+JudgesTexts (Err (Refused reason)) options extra =
+    (fault : maps.MapFault) × IsFirstFault options extra fault × (reason_view reason ≡ Because (map_reason fault))

@@ -1,22 +1,25 @@
--- What a boot does while some of it isn't built: the prompt with its message, passwords and lines, and slots of
--- more than one sector. Elsewhere it is the model's boot. (This project's own.)
-use Rattle.std.specs.Prelude.{◌≡◌, ℕ, ◌+◌, ◌==◌, nat_lt, min, Bool, true, false, not, ◌||◌, if◌then◌else◌, List, [], ◌∷◌, ◌++◌, length, map, slice_get, codes, Option, None, Some, is_some, Result, Ok, Err}
+-- What a boot does while some of it isn't built: a default line, a choice that changes it, and slots of more than
+-- one sector. Elsewhere it is the model's boot. (This project's own.)
+use Rattle.std.specs.Prelude.{◌≡◌, ℕ, ◌+◌, nat_lt, min, Bool, true, false, not, ◌||◌, if◌then◌else◌, List, [], ◌∷◌, ◌++◌, length, map, codes, Option, None, Some, is_some, Result, Ok, Err}
 use Rattle.std.specs.Option.{option_map}
-use Rattle.std.specs.List.{list_any}
 use Rattle.lilo_model.specs.Bytes.{part_of}
 use Rattle.lilo_model.specs.Checks.{◌>>=◌, no_fault, with_fault}
+use Rattle.lilo_model.specs.Choice.{choice, filled_text}
 use Rattle.lilo_model.specs.Disks.{Image, Machine, Span}
 use Rattle.lilo_model.specs.BootSector as maps
 use Rattle.lilo_model.specs.BootSector.{BootSector, boot_at, is_bootable}
-use Rattle.lilo_model.specs.Table.{Descriptor, other_flag, password_flag, lock_flag, fallback_flag, video_flag, table_flag}
+use Rattle.lilo_model.specs.Table.{Descriptor, other_flag, lock_flag, video_flag, table_flag}
 use Rattle.lilo_model.specs.DefaultLine.{DefaultLine, Empty, Once, Kept}
 use Rattle.lilo_model.specs.Header.{header_at, plan_memory}
-use Rattle.lilo_model.specs.Place.{command_line, first_two, written_by}
+use Rattle.lilo_model.specs.LineSector.{is_same_line}
+use Rattle.lilo_model.specs.Place.{first_two, written_by}
+use Rattle.lilo_model.specs.Prompt.{Key, Picked, Decision, Opening}
 use Rattle.lilo_model.specs.Reason as reasons
 use Rattle.lilo_model.specs.Reason.{Reason, NotBootable, BadTable, NotFound, Idle, map_reason}
 use Rattle.lilo_model.specs.Slots as slots
-use Rattle.lilo_model.specs.Boot.{Loaded, Handed, Ending, MapSectors, GoodMap, boot_address, table_address, error_text, entry_has, present_line, map_sectors, good_map, middle_of, initrd_size}
+use Rattle.lilo_model.specs.Boot.{Loaded, Handed, Ending, MapSectors, GoodMap, boot_address, table_address, error_text, entry_has, present_line, map_sectors, good_map, listed_entries, settings_of, opening_at, fallback_of, middle_of, initrd_size, picked_entry, picked_line, video_of}
 use Rattle.section_loader.specs.Reading.{Why, Unbuilt, Because, FileRest, file_today}
+use Rattle.prompt_loop.specs.Message.{no_rest}
 
 -- ---- an entry
 
@@ -66,7 +69,7 @@ unfoldable pub initrd_file_today : Image → Machine → Descriptor → Option F
 initrd_file_today image machine entry =
     option_map (λ slot. file_today image machine slot entry.initrd_length entry.initrd_chain) entry.initrd
 
--- the video mode of an entry
+-- the video mode that an entry is configured with
 abbrev pub video_today : Descriptor → Option ℕ
 video_today entry = if entry_has entry video_flag then Some entry.vga else None
 
@@ -74,21 +77,17 @@ video_today entry = if entry_has entry video_flag then Some entry.vga else None
 abbrev pub other_today : Image → Machine → Descriptor → Result Ending Why
 other_today image machine entry = handed_today entry (main_today image machine entry)
 
--- the kernel that an entry loads with a command line, in a memory of so many bytes
-abbrev pub kernel_today : Image → Machine → Descriptor → List ℕ → ℕ → Result Ending Why
-kernel_today image machine entry line memory =
-    loaded_today entry (main_today image machine entry) (initrd_file_today image machine entry) line (video_today entry) memory
+-- the kernel that an entry loads with a command line and a video mode, in a memory of so many bytes
+abbrev pub kernel_today : Image → Machine → Descriptor → List ℕ → Option ℕ → ℕ → Result Ending Why
+kernel_today image machine entry line video memory =
+    loaded_today entry (main_today image machine entry) (initrd_file_today image machine entry) line video memory
 
--- what an entry loads with a command line
-unfoldable pub entry_today : Image → Machine → Descriptor → List ℕ → ℕ → Result Ending Why
-entry_today image machine entry line memory =
-    if entry_has entry other_flag then other_today image machine entry else kernel_today image machine entry line memory
+-- what an entry loads with a command line and a video mode
+unfoldable pub entry_today : Image → Machine → Descriptor → List ℕ → Option ℕ → ℕ → Result Ending Why
+entry_today image machine entry line video memory =
+    if entry_has entry other_flag then other_today image machine entry else kernel_today image machine entry line video memory
 
--- the command line of an entry that is chosen without a key
-abbrev pub line_today : Descriptor → List ℕ → List ℕ
-line_today entry middle = command_line true entry.name middle []
-
--- ---- the map
+-- ---- the prompt
 
 -- there is no default line
 abbrev pub is_empty_line : DefaultLine → Bool
@@ -96,46 +95,40 @@ is_empty_line Empty = true
 is_empty_line (Once text) = false
 is_empty_line (Kept text) = false
 
--- an entry's choice changes the default line
-abbrev pub changes_line : Option Descriptor → Bool
-changes_line None = false
-changes_line (Some entry) = entry_has entry lock_flag || entry_has entry fallback_flag
+-- whether an entry's choice, with the word `lock` or without, leaves an empty default line as it is
+abbrev pub keeps_line : Image → Machine → Descriptor → Bool → Bool
+keeps_line image machine entry lock =
+    not ((entry_has entry lock_flag || lock) || is_some (filled_text (fallback_of image machine entry)))
 
--- an entry has a password
-unfoldable pub asks_password : Descriptor → Bool
-asks_password entry = entry_has entry password_flag
+-- what is read of a message of so many bytes, where there is one
+abbrev pub message_by : Image → Machine → ℕ → ℕ → Option slots.Slot → FileRest
+message_by image machine len chain None = no_rest
+message_by image machine len chain (Some slot) = file_today image machine slot len chain
 
--- the entry that is chosen without a key
-abbrev pub default_of : BootSector → GoodMap → Option Descriptor
-default_of boot good = slice_get good.entries boot.default_entry
+-- what is read of a map's message
+unfoldable pub message_read : Image → Machine → BootSector → FileRest
+message_read image machine boot = message_by image machine boot.message_length boot.message_chain boot.message
 
--- whether keys, a delay, a message, a password or a line have a part in the choice
-unfoldable pub needs_prompt : BootSector → GoodMap → Bool
-needs_prompt boot good =
-    boot.prompt
-    || (not (boot.delay == 0)
-    || (is_some boot.message
-    || (not (is_empty_line good.line)
-    || (list_any asks_password good.entries
-    || changes_line (default_of boot good)))))
-
--- an entry that is there
-abbrev pub entry_or_idle : Option Descriptor → Result Descriptor Why
-entry_or_idle None = Err (Because Idle)
-entry_or_idle (Some entry) = Ok entry
-
--- the entry of a good map that is chosen without a key
-unfoldable pub chosen_today : BootSector → GoodMap → Result Descriptor Why
-chosen_today boot good =
-    if needs_prompt boot good then Err Unbuilt else entry_or_idle (default_of boot good)
+-- what keys choose, with what is read of the message at its place
+unfoldable pub decision_today : Image → Machine → BootSector → GoodMap → List Key → Decision
+decision_today image machine boot good keys =
+    choice
+    (settings_of boot)
+    (listed_entries image machine good)
+    good.line
+    (Some (message_read image machine boot).bytes)
+    keys
 
 -- ---- the boot
 
--- what a boot comes to, what it shows, and what it may have shown where a device failed
+-- what a boot comes to, what it shows, what it may have shown where a disk failed, what where no key was heard as the
+-- source failed, and the keys that it leaves
 pub record Report : Type 0 where
   pub result : Result Ending Why
   pub shown : List ℕ
   pub device : List (List ℕ)
+  pub unheard : List (List ℕ)
+  pub left : List Key
 
 -- a report with a text before it
 abbrev pub report_behind : List ℕ → Report → Report
@@ -143,100 +136,154 @@ report_behind text report = record {
   result = report.result;
   shown = text ++ report.shown;
   device = map (λ shown. text ++ shown) report.device;
+  unheard = map (λ shown. text ++ shown) report.unheard;
+  left = report.left;
 }
 
 -- a report of which a step before it may fail too, and then shows this
 abbrev pub or_device : List ℕ → Report → Report
 or_device text report = record report { device = text ∷ report.device }
 
--- a refusal
-abbrev pub refused_report : List ℕ → Why → Report
-refused_report text why = record { result = Err why; shown = text; device = [] }
+-- a refusal while these keys are left
+abbrev pub refused_report : List ℕ → Why → List Key → Report
+refused_report text why left = record { result = Err why; shown = text; device = []; unheard = []; left = left }
 
 -- the text behind a refusal while an entry is loaded
 abbrev pub why_text : Why → List ℕ
 why_text Unbuilt = codes "Error\n"
 why_text (Because reason) = error_text reason
 
+-- the prefixes of a text
+abbrev pub prefixes : List ℕ → List (List ℕ)
+prefixes [] = [] ∷ []
+prefixes (byte ∷ text) = [] ∷ map (λ front. byte ∷ front) (prefixes text)
+
+-- A report of what comes behind a prompt that showed this text and left these keys: where a disk or the source of keys
+-- failed there, a prefix of it.
+abbrev pub asking_report : List ℕ → List Key → Report → Report
+asking_report text left report = record {
+  result = report.result;
+  shown = text ++ report.shown;
+  device = map (λ front. front ++ codes "Error 80\n") (prefixes text) ++ map (λ shown. text ++ shown) report.device;
+  unheard = prefixes text;
+  left = left;
+}
+
 -- the text behind what is loaded, or behind a refusal
 abbrev pub end_text : Result Ending Why → List ℕ
 end_text (Ok ending) = []
 end_text (Err why) = why_text why
 
--- an entry that is loaded with a command line
-unfoldable pub entry_report : Image → Machine → Descriptor → List ℕ → ℕ → Report
-entry_report image machine entry line memory =
+-- an entry that is loaded with a command line and a video mode; no key is taken there
+unfoldable pub entry_report : Image → Machine → Descriptor → List ℕ → Option ℕ → ℕ → Report
+entry_report image machine entry line video memory =
     report_behind (codes "Loading " ++ (entry.name ++ codes "\n"))
     (record {
-      result = entry_today image machine entry line memory;
-      shown = end_text (entry_today image machine entry line memory);
+      result = entry_today image machine entry line video memory;
+      shown = end_text (entry_today image machine entry line video memory);
       device = codes "Error 80\n" ∷ [];
+      unheard = [];
+      left = [];
     })
 
--- an entry that is loaded with the command line of this middle text
-abbrev pub line_report : Image → Machine → Descriptor → List ℕ → ℕ → Report
-line_report image machine entry middle memory = entry_report image machine entry (line_today entry middle) memory
+-- a chosen entry with this middle text, whose choice keeps the default line or doesn't
+abbrev pub line_report : Image → Machine → Descriptor → Picked → Bool → ℕ → List ℕ → Report
+line_report image machine entry picked keeps memory middle =
+    if keeps
+    then entry_report image machine entry (picked_line entry picked middle) (video_of entry picked) memory
+    else refused_report [] Unbuilt []
 
--- an entry by its middle text
-abbrev pub middle_report : Image → Machine → Descriptor → ℕ → Result (List ℕ) Reason → Report
-middle_report image machine entry memory (Err reason) = refused_report (error_text reason) (Because reason)
-middle_report image machine entry memory (Ok middle) = line_report image machine entry middle memory
+-- a chosen entry by its middle text
+abbrev pub middle_report : Image → Machine → Descriptor → Picked → Bool → ℕ → Result (List ℕ) Reason → Report
+middle_report image machine entry picked keeps memory (Err reason) = refused_report (error_text reason) (Because reason) []
+middle_report image machine entry picked keeps memory (Ok middle) = line_report image machine entry picked keeps memory middle
 
--- an entry whose texts are read
-unfoldable pub texts_report : Image → Machine → Descriptor → ℕ → Report
-texts_report image machine entry memory =
-    or_device (codes "Error 80\n") (middle_report image machine entry memory (middle_of image machine entry))
+-- a chosen entry whose texts are read
+unfoldable pub texts_report : Image → Machine → Descriptor → Picked → Bool → ℕ → Report
+texts_report image machine entry picked keeps memory =
+    or_device (codes "Error 80\n")
+    (middle_report image machine entry picked keeps memory (middle_of image machine entry))
 
--- an entry that was chosen, or not
-abbrev pub choice_report : Image → Machine → ℕ → Result Descriptor Why → Report
-choice_report image machine memory (Err why) = refused_report [] why
-choice_report image machine memory (Ok entry) = texts_report image machine entry memory
+-- an entry that was chosen, or none
+abbrev pub picked_report : Image → Machine → Bool → ℕ → Option (Descriptor × Picked) → Report
+picked_report image machine keeps memory None = refused_report [] (Because Idle) []
+picked_report image machine keeps memory (Some (entry, picked)) = texts_report image machine entry picked keeps memory
+
+-- what was picked, with this default line from then on
+unfoldable pub decided_report : Image → Machine → GoodMap → ℕ → DefaultLine → Option Picked → Report
+decided_report image machine good memory line picked =
+    picked_report image machine (is_same_line good.line line) memory (picked_entry good.entries picked)
+
+-- a prompt that comes to a decision, unless the message is refused where it opens
+abbrev pub prompt_report : Image → Machine → GoodMap → ℕ → FileRest → Decision → Option Why → Option Opening → Report
+prompt_report image machine good memory message decision None opens =
+    asking_report decision.shown decision.left (decided_report image machine good memory decision.line decision.picked)
+prompt_report image machine good memory message decision (Some why) None =
+    asking_report decision.shown decision.left (decided_report image machine good memory decision.line decision.picked)
+prompt_report image machine good memory message decision (Some why) (Some opens) =
+    asking_report (opens.before ++ message.bytes) opens.left (refused_report (why_text why) why [])
+
+-- a prompt that is told these keys
+unfoldable pub asked_report : Image → Machine → BootSector → ℕ → GoodMap → List Key → Report
+asked_report image machine boot memory good keys =
+    prompt_report
+    image
+    machine
+    good
+    memory
+    (message_read image machine boot)
+    (decision_today image machine boot good keys)
+    (message_read image machine boot).stop
+    (opening_at image machine boot good keys)
 
 -- a map that is good
-unfoldable pub good_report : Image → Machine → BootSector → ℕ → GoodMap → Report
-good_report image machine boot memory good =
-    report_behind (codes "O\n") (choice_report image machine memory (chosen_today boot good))
+unfoldable pub good_report : Image → Machine → BootSector → ℕ → GoodMap → List Key → Report
+good_report image machine boot memory good keys =
+    report_behind (codes "O\n")
+    (if is_empty_line good.line then asked_report image machine boot memory good keys else refused_report [] Unbuilt keys)
 
 -- a map that was judged
-abbrev pub judged_report : Image → Machine → BootSector → ℕ → Result GoodMap maps.MapFault → Report
-judged_report image machine boot memory (Err fault) = refused_report (codes "-\n") (Because (map_reason fault))
-judged_report image machine boot memory (Ok good) = good_report image machine boot memory good
+abbrev pub judged_report : Image → Machine → BootSector → ℕ → List Key → Result GoodMap maps.MapFault → Report
+judged_report image machine boot memory keys (Err fault) = refused_report (codes "-\n") (Because (map_reason fault)) keys
+judged_report image machine boot memory keys (Ok good) = good_report image machine boot memory good keys
 
 -- a map whose sectors were read
-unfoldable pub sectors_report : Image → Machine → BootSector → ℕ → MapSectors → Report
-sectors_report image machine boot memory sectors =
-    report_behind (codes "IL") (judged_report image machine boot memory (good_map sectors))
+unfoldable pub sectors_report : Image → Machine → BootSector → ℕ → MapSectors → List Key → Report
+sectors_report image machine boot memory sectors keys =
+    report_behind (codes "IL") (judged_report image machine boot memory keys (good_map sectors))
 
 -- a map whose sectors are there, or not
-abbrev pub found_report : Image → Machine → BootSector → ℕ → Result MapSectors slots.AddressFault → Report
-found_report image machine boot memory (Err fault) = refused_report (codes " 04\n") (Because NotFound)
-found_report image machine boot memory (Ok sectors) = sectors_report image machine boot memory sectors
+abbrev pub found_report : Image → Machine → BootSector → ℕ → List Key → Result MapSectors slots.AddressFault → Report
+found_report image machine boot memory keys (Err fault) = refused_report (codes " 04\n") (Because NotFound) keys
+found_report image machine boot memory keys (Ok sectors) = sectors_report image machine boot memory sectors keys
 
 -- a boot by a boot sector of this format
-unfoldable pub map_report : Image → Machine → BootSector → ℕ → Report
-map_report image machine boot memory =
+unfoldable pub map_report : Image → Machine → BootSector → ℕ → List Key → Report
+map_report image machine boot memory keys =
     report_behind (codes "L")
-    (or_device (codes " 80\n") (found_report image machine boot memory (map_sectors image machine boot)))
+    (or_device (codes " 80\n") (found_report image machine boot memory keys (map_sectors image machine boot)))
 
 -- a boot sector of another system
-unfoldable pub foreign_report : List ℕ → Report
-foreign_report bytes = record {
+unfoldable pub foreign_report : List ℕ → List Key → Report
+foreign_report bytes keys = record {
   result = (if is_bootable bytes then Ok (record { outcome = Handed; written = record { address = boot_address; bytes = bytes } ∷ [] }) else Err (Because NotBootable));
   shown = [];
   device = [];
+  unheard = [];
+  left = keys;
 }
 
 -- a boot by what a sector says as a boot sector
-abbrev pub report_by : Image → Machine → List ℕ → ℕ → Result BootSector maps.MapFault → Report
-report_by image machine bytes memory (Ok boot) = map_report image machine boot memory
-report_by image machine bytes memory (Err (maps.BadTable entry)) = refused_report (codes "LIL-\n") (Because (BadTable entry))
-report_by image machine bytes memory (Err _) = foreign_report bytes
+abbrev pub report_by : Image → Machine → List ℕ → ℕ → Result BootSector maps.MapFault → List Key → Report
+report_by image machine bytes memory (Ok boot) keys = map_report image machine boot memory keys
+report_by image machine bytes memory (Err (maps.BadTable entry)) keys = refused_report (codes "LIL-\n") (Because (BadTable entry)) keys
+report_by image machine bytes memory (Err _) keys = foreign_report bytes keys
 
--- what a boot from the first sector of a span does today
-unfoldable pub boot_today : Image → Machine → Span → ℕ → Report
-boot_today image machine span memory =
+-- what a boot from the first sector of a span does today with these keys
+unfoldable pub boot_today : Image → Machine → Span → ℕ → List Key → Report
+boot_today image machine span memory keys =
     or_device []
-    (report_by image machine (image span.disk span.start) memory (boot_at (image span.disk span.start)))
+    (report_by image machine (image span.disk span.start) memory (boot_at (image span.disk span.start)) keys)
 
 -- the default line that stands on the disks, by what a sector says as a boot sector
 abbrev pub line_behind : Image → Machine → Result BootSector maps.MapFault → Option DefaultLine
@@ -247,6 +294,6 @@ line_behind image machine (Err fault) = None
 unfoldable pub standing_line : Image → Machine → Span → Option DefaultLine
 standing_line image machine span = line_behind image machine (boot_at (image span.disk span.start))
 
--- a boot needs a part that isn't built yet
-abbrev pub IsUnbuilt : Image → Machine → Span → ℕ → Type 0
-IsUnbuilt image machine span memory = (boot_today image machine span memory).result ≡ Err Unbuilt
+-- a boot with these keys needs a part that isn't built yet
+abbrev pub IsUnbuilt : Image → Machine → Span → ℕ → List Key → Type 0
+IsUnbuilt image machine span memory keys = (boot_today image machine span memory keys).result ≡ Err Unbuilt

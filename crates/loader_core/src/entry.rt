@@ -1,5 +1,6 @@
 // The files of the entry that is started.
 ghost use Rattle.std.specs.Prelude.{◌≡◌, ◌≤◌, ◌+◌, true, length, IfOk, IsErrOf};
+ghost use Rattle.std.specs.Option.{option_or};
 ghost use Rattle.lilo_model.specs.Table.{has_flag, other_flag, table_flag};
 ghost use Rattle.lilo_model.specs.Place.{with_bytes, memory_after};
 ghost use Rattle.lilo_model.specs.Boot.{boot_address};
@@ -8,7 +9,7 @@ ghost use Rattle.bios_model.specs.Reads.{OnlyReads};
 ghost use Rattle.bios_model.specs.Memory.{memory_of};
 ghost use Rattle.boot_map.specs.View.{descriptor_view};
 ghost use Rattle.boot_map.specs.Ranges.{HasSectors, FitsFlags};
-ghost use Rattle.loader_core.specs.Today.{entry_today, other_today};
+ghost use Rattle.loader_core.specs.Today.{entry_today, other_today, video_today};
 ghost use Rattle.loader_core.specs.Start.{LiesInside, Starts, table_written};
 
 use crate::kernel::load_kernel;
@@ -25,28 +26,43 @@ const BOOT_ADDRESS: u32 = 0x7C00;
 /// The address of the partition table that goes with it.
 const TABLE_ADDRESS: u32 = 0x7BE;
 
-/// Loads what an entry starts: a kernel with this command line, or another system's boot sector.
+/// Loads what an entry starts: a kernel with this command line and video mode, or another system's boot sector.
 pub(crate) fn load_entry<D: Disks>(
     disks: &mut D,
     ram: &mut Ram,
     entry: &Descriptor,
     line: &[u8],
+    video: Option<u16>,
 ) -> Result<Started, Halt>
     requires sectors { HasSectors entry.now }
     requires flags { FitsFlags entry.now }
-    requires line { length line.now ≤ 500 }
+    requires line { length line.now ≤ 760 }
     ensures started { OnDisks D.Disks disks.old (λ now machine.
-        Starts result (entry_today now machine (descriptor_view entry.now) line.now (length ram.old))
+        Starts result (entry_today now machine (descriptor_view entry.now) line.now video (length ram.old))
         (memory_of ram.old) ram.new) }
     ensures memory { length ram.new ≡ length ram.old }
     ensures inside { IfOk result (LiesInside (length ram.new)) }
     ensures reads { OnlyReads D.Disks disks.old disks.new (IsErrOf result Halt.Device) }
 {
     if entry.flags & flags::OTHER == 0 {
-        let layout = load_kernel(disks, ram, entry, line)?;
+        let layout = load_kernel(disks, ram, entry, line, video)?;
         Ok(Started::Loaded(layout))
     } else {
         load_other(disks, ram, entry)
+    }
+}
+
+/// The video mode of an entry: the one that was typed, or else the one that it is configured with.
+pub(crate) fn video_of(entry: &Descriptor, typed: Option<u16>) -> Option<u16>
+    ensures { result ≡ option_or typed (video_today (descriptor_view entry.now)) }
+{
+    if typed.is_some() {
+        return typed;
+    }
+    if entry.flags & flags::VIDEO == 0 {
+        None
+    } else {
+        Some(entry.vga)
     }
 }
 

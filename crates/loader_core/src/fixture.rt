@@ -11,23 +11,27 @@ use stream_trait::{MemSink, MemSource};
 // Bytes of a sector from an offset on.
 pub type Edit<'a> = (usize, usize, &'a [u8]);
 
-// A boot of the plain installation with some changes, from a sector on, where some reads and texts fail.
+// A boot of the plain installation with some changes, from a sector on, by keys, where some reads, keys and texts fail.
 #[derive(Clone, Copy)]
 pub struct Case<'a> {
     pub edits: &'a [Edit<'a>],
     pub start: u64,
     pub memory: u32,
+    pub keys: &'a [u8],
     pub failing_reads: &'a [u64],
+    pub failing_keys: &'a [u64],
     pub failing_puts: &'a [u64],
 }
 
-// Such a boot from the first sector, in a memory of 2 MiB, where nothing fails.
+// Such a boot from the first sector, in a memory of 2 MiB, without keys, where nothing fails.
 pub fn changed<'a>(edits: &'a [Edit<'a>]) -> Case<'a> {
     Case {
         edits,
         start: 0,
         memory: 2_097_152,
+        keys: b"",
         failing_reads: &[],
+        failing_keys: &[],
         failing_puts: &[],
     }
 }
@@ -58,7 +62,8 @@ pub fn boot_case(alloc: Global, case: &Case<'_>) -> Result<Booted, AllocError> {
     let mut disks = installation(alloc, case)?;
     let mut ram = full_memory(alloc, case.memory)?;
     let mut sink = MemSink::new(alloc, 256, case.failing_puts)?;
-    let (outcome, has_failed) = boot_over(alloc, &mut disks, case.start, &mut ram, &mut sink)?;
+    let mut keys = MemSource::new(alloc, case.keys, case.failing_keys)?;
+    let (outcome, has_failed) = boot_over(&mut disks, case.start, &mut keys, &mut ram, &mut sink)?;
     Ok(Booted {
         outcome,
         has_failed,
@@ -68,13 +73,12 @@ pub fn boot_case(alloc: Global, case: &Case<'_>) -> Result<Booted, AllocError> {
 }
 
 fn boot_over(
-    alloc: Global,
     disks: &mut MemDisks,
     start: u64,
+    keys: &mut MemSource,
     ram: &mut Ram,
     sink: &mut MemSink,
 ) -> Result<(Outcome, bool), AllocError> {
-    let mut keys = MemSource::new(alloc, b"", &[])?;
     if disks.size(0) <= start {
         return Err(AllocError);
     }
@@ -83,10 +87,7 @@ fn boot_over(
         start,
         count: 1,
     };
-    let mut bios = Bios {
-        disks,
-        keys: &mut keys,
-    };
+    let mut bios = Bios { disks, keys };
     let mut shown = Shown::new(sink);
     let outcome = boot(&mut bios, device, ram, &mut shown);
     Ok((outcome, shown.failed()))

@@ -11,7 +11,7 @@ ghost use Rattle.boot_map.specs.View.{descriptor_view};
 ghost use Rattle.boot_map.specs.Ranges.{HasSectors, FitsFlags};
 ghost use Rattle.setup_header.specs.View.{header_view, region_view};
 ghost use Rattle.setup_header.specs.Words.{IsHeaderFor, HasLengths, LiesIn, AreApart, EndsBy};
-ghost use Rattle.loader_core.specs.Today.{initrd_file_today, initrd_today, video_today, kernel_today};
+ghost use Rattle.loader_core.specs.Today.{initrd_file_today, initrd_today, kernel_today};
 ghost use Rattle.section_loader.specs.File.{IsCounted, OnFile};
 ghost use Rattle.loader_core.specs.Kernel.{ReadsTwo, HoldsKernel, PlacesKernel, PlacesInitrd, LoadsKernel};
 ghost use Rattle.loader_core.specs.Kernel.{GivesHeader, GivesLayout};
@@ -61,17 +61,6 @@ fn initrd_size(entry: &Descriptor) -> Option<u32>
         None
     } else {
         Some(entry.initrd_length)
-    }
-}
-
-/// The video mode of an entry, if it has one.
-fn video_of(entry: &Descriptor) -> Option<u16>
-    ensures { result ≡ video_today (descriptor_view entry.now) }
-{
-    if entry.flags & flags::VIDEO == 0 {
-        None
-    } else {
-        Some(entry.vga)
     }
 }
 
@@ -158,18 +147,19 @@ fn load_initrd<D: Disks>(
     load_bytes(&mut file, disks, ram, region.address, region.length)
 }
 
-/// Loads an entry's kernel with its initrd and a command line.
+/// Loads an entry's kernel with its initrd, a command line, and a video mode where one is given.
 pub(crate) fn load_kernel<D: Disks>(
     disks: &mut D,
     ram: &mut Ram,
     entry: &Descriptor,
     line: &[u8],
+    video: Option<u16>,
 ) -> Result<Layout, Halt>
     requires sectors { HasSectors entry.now }
     requires flags { FitsFlags entry.now }
-    requires line { length line.now ≤ 500 }
+    requires line { length line.now ≤ 760 }
     ensures loaded { OnDisks D.Disks disks.old (λ now machine.
-        LoadsKernel result (kernel_today now machine (descriptor_view entry.now) line.now (length ram.old))
+        LoadsKernel result (kernel_today now machine (descriptor_view entry.now) line.now video (length ram.old))
         (memory_of ram.old) ram.new) }
     ensures memory { length ram.new ≡ length ram.old }
     ensures inside { IfOk result (LiesIn (length ram.new)) }
@@ -188,7 +178,7 @@ pub(crate) fn load_kernel<D: Disks>(
         line.len() as u32,
         memory,
     )?;
-    patch(&header, &layout, video_of(entry), &mut first, &mut second);
+    patch(&header, &layout, video, &mut first, &mut second);
     place_kernel(&mut file, disks, ram, &layout, &first, &second)?;
     load_initrd(disks, ram, entry, layout.initrd)?;
     place(ram, layout.line.address, line);

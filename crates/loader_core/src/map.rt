@@ -1,28 +1,36 @@
-// The sectors of a map that are read before a choice, and what they say.
-ghost use Rattle.std.specs.Prelude.{◌≡◌, ◌≤◌, ◌<◌, ◌||◌, ℕ, true, false, [], length, map, slice_get, All, Some, Ok};
-ghost use Rattle.std.specs.Prelude.{IfOk, IsErrOf};
-ghost use Rattle.std.specs.List.{list_any};
+// The sectors of a map, and what they say.
+ghost use Rattle.std.specs.Prelude.{◌≡◌, ◌≤◌, ◌<◌, ◌+◌, ◌||◌, ◌++◌, codes, ℕ, List, not, [], if◌then◌else◌, length, map, zip, All, Option, Some};
+ghost use Rattle.std.specs.Prelude.{IfOk, IfSome, IsErrOf};
+ghost use Rattle.std.specs.Option.{option_map};
 ghost use Rattle.lilo_model.specs.Checks.{seen, each};
-ghost use Rattle.lilo_model.specs.Table.{has_flag, fallback_flag};
+ghost use Rattle.lilo_model.specs.Disks.{Image, Machine};
+ghost use Rattle.lilo_model.specs.Options.{extra_at};
+ghost use Rattle.lilo_model.specs.Table.{has_flag, lock_flag};
 ghost use Rattle.lilo_model.specs.Reason.{map_reason};
 ghost use Rattle.lilo_model.specs.Place.{command_line};
-ghost use Rattle.lilo_model.specs.Boot.{MapSectors, GoodMap, slot_bytes_at, optional_at, entries_of, map_sectors};
-ghost use Rattle.lilo_model.specs.Boot.{password_at, good_map, middle_of};
+ghost use Rattle.lilo_model.specs.Boot.{MapSectors, GoodMap, slot_bytes_at, optional_at, extra_slot, entries_of, map_sectors};
+ghost use Rattle.lilo_model.specs.Boot.{password_at, good_map, middle_of, fallback_of, settings_of, listed_entries};
 ghost use Rattle.sector_address.specs.View.{slot_view};
 ghost use Rattle.sector_address.specs.Machine.{OnDisks};
 ghost use Rattle.bios_model.specs.Reads.{OnlyReads};
-ghost use Rattle.boot_map.specs.View.{boot_view, table_view, line_view, descriptor_view, map_fault_view};
-ghost use Rattle.boot_map.specs.Ranges.{IsOneSector, IsLine, HasSectors};
+ghost use Rattle.boot_map.specs.View.{boot_view, table_view, line_view, descriptor_view, options_view, extra_view};
+ghost use Rattle.boot_map.specs.View.{map_fault_view};
+ghost use Rattle.boot_map.specs.Ranges.{IsOneSector, IsLine, IsNamed, HasSectors};
+ghost use Rattle.prompt_core.specs.Decided.{plain_setup};
+ghost use Rattle.prompt_core.specs.View.{choice_view, entries_view, settings_view};
+ghost use Rattle.prompt_loop.specs.Message.{message_today};
 ghost use Rattle.section_loader.specs.Reading.{Because};
 ghost use Rattle.section_loader.specs.View.{reason_view};
-ghost use Rattle.loader_core.specs.Today.{is_empty_line, changes_line, asks_password, needs_prompt};
-ghost use Rattle.loader_core.specs.Map.{ReadsThere, IsJudged, asks_keys, asks_more, password_sector, ReadsExtra};
-ghost use Rattle.loader_core.specs.Map.{ReadsExtras, StandsFor, ReadsMap, IsTable, IsGood, Judges, ReadsMiddle};
+ghost use Rattle.loader_core.specs.Today.{is_empty_line, message_read};
+ghost use Rattle.loader_core.specs.Map.{ReadsThere, ReadsExtra, password_sector, prompt_entry, JudgesChoice, ReadsChoice, Adds};
+ghost use Rattle.loader_core.specs.Map.{ReadsChoices, StandsFor, ReadsMap, IsTable, Judges, JudgesTexts, ReadsTexts};
 
 use arrayvec::ArrayVec;
 use bios_model::{BiosFault, read_slots};
 use boot_map::{BootSector, DefaultLine, Descriptor, Extra, MapFault, Options, Table, flags};
 use disk_trait::Disks;
+use prompt_core::{Choice, Prompt, Settings};
+use prompt_loop::Message;
 use section_loader::{Halt, Reason, read_one};
 use sector_address::Slot;
 use sector_parts::Sector;
@@ -33,8 +41,16 @@ pub(crate) struct MapParts {
     /// The sector of the default line.
     pub(crate) line: Sector,
     pub(crate) table: Result<Table, MapFault>,
+    /// What is chosen from: the entries of the table, none where it is bad.
+    pub(crate) choices: Choices,
+}
+
+/// The list that is chosen from.
+#[derive(Drop)]
+pub(crate) struct Choices {
     /// Whether the texts beside each password are within their limits.
-    pub(crate) are_extras_good: bool,
+    pub(crate) are_good: bool,
+    pub(crate) list: ArrayVec<Choice, 48>,
 }
 
 /// The same of a map that is good.
@@ -42,6 +58,16 @@ pub(crate) struct MapParts {
 pub(crate) struct GoodParts {
     pub(crate) line: DefaultLine,
     pub(crate) table: Table,
+    pub(crate) choices: ArrayVec<Choice, 48>,
+}
+
+/// The texts of a chosen entry.
+#[derive(Drop)]
+pub(crate) struct Texts {
+    /// The middle of its command line.
+    pub(crate) middle: ArrayVec<u8, 500>,
+    /// Whether it has a fallback of at least one byte.
+    pub(crate) has_fallback: bool,
 }
 
 /// Reads the sectors of a map that are read before a choice: the default line's, those of the table, and where that
@@ -61,11 +87,11 @@ pub(crate) fn read_map<D: Disks>(disks: &mut D, boot: &BootSector) -> Result<Map
     let mut sectors = [[0; 512]; 3];
     read_table(disks, boot.table.as_slice(), &mut sectors)?;
     let table = Table::read(boot, &sectors);
-    let are_extras_good = read_extras(disks, &table)?;
+    let choices = read_table_choices(disks, &table)?;
     Ok(MapParts {
         line,
         table,
-        are_extras_good,
+        choices,
     })
 }
 
@@ -84,54 +110,128 @@ fn read_table<D: Disks>(disks: &mut D, slots: &[Slot], into: &mut [Sector]) -> R
     }
 }
 
-/// Reads the sectors of a table's passwords, none where it is bad, and tells whether all are good.
-fn read_extras<D: Disks>(disks: &mut D, table: &Result<Table, MapFault>) -> Result<bool, Halt>
-    requires { IfOk table.now (λ table. All HasSectors table.entries.items) }
-    ensures extras { OnDisks D.Disks disks.old (λ now machine.
-        ReadsExtras result
+/// Reads the passwords of a table's entries, and makes the list that is chosen from, an empty one where it is bad.
+fn read_table_choices<D: Disks>(
+    disks: &mut D,
+    table: &Result<Table, MapFault>,
+) -> Result<Choices, Halt>
+    requires sectors { IfOk table.now (λ table. All HasSectors table.entries.items) }
+    requires names { IfOk table.now (λ table. All IsNamed table.entries.items) }
+    requires few { IfOk table.now (λ table. length table.entries.items ≤ 19) }
+    ensures choices { OnDisks D.Disks disks.old (λ now machine.
+        ReadsChoices result (entries_of (seen table_view map_fault_view table.now))
         (each (map (password_sector now machine) (entries_of (seen table_view map_fault_view table.now))))) }
     ensures reads { OnlyReads D.Disks disks.old disks.new (IsErrOf result Halt.Device) }
 {
     match table {
-        Ok(table) => read_passwords(disks, table.entries.as_slice()),
-        Err(_) => Ok(true),
+        Ok(table) => read_choices(disks, table.entries.as_slice()),
+        Err(_) => Ok(Choices {
+            are_good: true,
+            list: ArrayVec::new(),
+        }),
     }
 }
 
-/// Reads the sectors of the passwords of some entries, and tells whether all are good.
-fn read_passwords<D: Disks>(disks: &mut D, entries: &[Descriptor]) -> Result<bool, Halt>
-    requires { All HasSectors entries.now }
-    ensures extras { OnDisks D.Disks disks.old (λ now machine.
-        ReadsExtras result (each (map (password_sector now machine) (map descriptor_view entries.now)))) }
+/// Reads the passwords of some entries, and makes the list that is chosen from.
+fn read_choices<D: Disks>(disks: &mut D, entries: &[Descriptor]) -> Result<Choices, Halt>
+    requires sectors { All HasSectors entries.now }
+    requires names { All IsNamed entries.now }
+    requires few { length entries.now ≤ 19 }
+    ensures choices { OnDisks D.Disks disks.old (λ now machine.
+        ReadsChoices result (map descriptor_view entries.now)
+        (each (map (password_sector now machine) (map descriptor_view entries.now)))) }
     ensures reads { OnlyReads D.Disks disks.old disks.new (IsErrOf result Halt.Device) }
 {
-    let mut are_good = true;
+    let mut choices = Choices {
+        are_good: true,
+        list: ArrayVec::new(),
+    };
     for entry in entries {
-        let is_good = read_password(disks, entry)?;
-        are_good = are_good && is_good;
+        let choice = read_choice(disks, entry)?;
+        add_choice(&mut choices, choice);
     }
-    Ok(are_good)
+    Ok(choices)
 }
 
-/// Reads the sector of an entry's password, where it has one, and tells whether it is good.
-fn read_password<D: Disks>(disks: &mut D, entry: &Descriptor) -> Result<bool, Halt>
+/// Goes on with the list that is chosen from, by what stands for the next entry in it.
+fn add_choice(choices: &mut Choices, choice: Option<Choice>)
+    requires { length choices.old.list.items < 48 }
+    ensures added { Adds choices.old choice choices.new }
+    ensures few { length choices.new.list.items ≤ length choices.old.list.items + 1 }
+{
+    match choice {
+        Some(choice) => choices.list.push(choice),
+        None => choices.are_good = false,
+    }
+}
+
+/// Reads the password of an entry, where it has one: what stands for the entry in the list that is chosen from, or
+/// `None` where a text beside the password passes its limit.
+fn read_choice<D: Disks>(disks: &mut D, entry: &Descriptor) -> Result<Option<Choice>, Halt>
+    requires sectors { HasSectors entry.now }
+    requires named { IsNamed entry.now }
+    ensures choice { OnDisks D.Disks disks.old (λ now machine.
+        ReadsChoice result (descriptor_view entry.now) (password_sector now machine (descriptor_view entry.now))) }
+    ensures reads { OnlyReads D.Disks disks.old disks.new (IsErrOf result Halt.Device) }
+{
+    let extra = read_extra(disks, entry, flags::PASSWORD)?;
+    Ok(choice_by(entry, extra))
+}
+
+/// What stands for an entry in the list that is chosen from, by its extra sector where it has a password.
+fn choice_by(entry: &Descriptor, extra: Option<Result<Extra, MapFault>>) -> Option<Choice>
+    requires { IsNamed entry.now }
+    ensures { (bytes : Option (List ℕ)) → option_map (seen extra_view map_fault_view) extra ≡ option_map extra_at bytes
+        → JudgesChoice result (descriptor_view entry.now) (password_at bytes) }
+{
+    match extra {
+        None => Some(choice_of(entry, None)),
+        Some(Ok(extra)) => Some(choice_of(entry, Some(extra.password))),
+        Some(Err(_)) => None,
+    }
+}
+
+/// What stands for an entry with this password in the list that is chosen from.
+fn choice_of(entry: &Descriptor, password: Option<ArrayVec<u8, 31>>) -> Choice
+    requires { IsNamed entry.now }
+    ensures { choice_view result
+        ≡ prompt_entry (descriptor_view entry.now, option_map (λ password. password.items) password) }
+{
+    let mut name = ArrayVec::new();
+    let _ = name.try_extend_from_slice(entry.name.as_slice());
+    Choice {
+        name,
+        password,
+        restricted: is_set(entry, flags::RESTRICTED),
+    }
+}
+
+/// Reads the extra sector of an entry where this flag asks for it.
+fn read_extra<D: Disks>(
+    disks: &mut D,
+    entry: &Descriptor,
+    flag: u16,
+) -> Result<Option<Result<Extra, MapFault>>, Halt>
     requires { HasSectors entry.now }
     ensures extra { OnDisks D.Disks disks.old (λ now machine.
-        ReadsExtra result (password_sector now machine (descriptor_view entry.now))) }
+        ReadsExtra result (optional_at now machine (extra_slot flag (descriptor_view entry.now)))) }
     ensures reads { OnlyReads D.Disks disks.old disks.new (IsErrOf result Halt.Device) }
 {
-    if !is_set(entry, flags::PASSWORD) {
-        return Ok(true);
+    if !is_set(entry, flag) {
+        return Ok(None);
     }
     match &entry.extra {
-        Some(slot) => read_extra(disks, slot),
-        None => Ok(true),
+        Some(slot) => read_extra_at(disks, slot),
+        None => Ok(None),
     }
 }
 
-/// Reads the sector of a password, and tells whether it is good.
+/// Reads an extra sector.
 #[tactic(auto, unfolding(lilo_model::specs::Boot::slot_bytes_at))]
-fn read_extra<D: Disks>(disks: &mut D, slot: &Slot) -> Result<bool, Halt>
+fn read_extra_at<D: Disks>(
+    disks: &mut D,
+    slot: &Slot,
+) -> Result<Option<Result<Extra, MapFault>>, Halt>
     requires { IsOneSector slot.now }
     ensures extra { OnDisks D.Disks disks.old (λ now machine.
         ReadsExtra result (optional_at now machine (Some (slot_view slot.now)))) }
@@ -139,17 +239,7 @@ fn read_extra<D: Disks>(disks: &mut D, slot: &Slot) -> Result<bool, Halt>
 {
     let mut sector = [0; 512];
     read_one(disks, slot, &mut sector)?;
-    Ok(is_extra(&sector))
-}
-
-/// Whether a sector's texts are within their limits.
-fn is_extra(sector: &Sector) -> bool
-    ensures { IsJudged result (password_at (Some sector.now)) }
-{
-    match Extra::read(sector) {
-        Ok(_) => true,
-        Err(_) => false,
-    }
+    Ok(Some(Extra::read(&sector)))
 }
 
 /// Whether an entry has a flag.
@@ -177,115 +267,160 @@ pub(crate) fn judge(parts: MapParts) -> Result<GoodParts, Reason>
     ensures known { (names : ℕ) → IfOk parts.table (IsTable names) → IfOk result (λ good. IsTable names good.table) }
     ensures line { IfOk result (λ good. IsLine good.line) }
 {
-    let line = match DefaultLine::read(&parts.line) {
+    let MapParts {
+        line,
+        table,
+        choices,
+    } = parts;
+    let line = match DefaultLine::read(&line) {
         Ok(line) => line,
         Err(fault) => return Err(map_reason_of(fault)),
     };
-    match parts.table {
+    match table {
         Err(fault) => Err(map_reason_of(fault)),
-        Ok(_) if !parts.are_extras_good => Err(Reason::BadTable(255)),
-        Ok(table) => Ok(GoodParts { line, table }),
+        Ok(_) if !choices.are_good => Err(Reason::BadTable(255)),
+        Ok(table) => Ok(GoodParts {
+            line,
+            table,
+            choices: choices.list,
+        }),
     }
 }
 
-/// Whether keys, a delay, a message, a password or a line have a part in the choice.
-pub(crate) fn needs_prompt(boot: &BootSector, good: &GoodParts) -> bool
-    requires { boot.now.default_entry < length good.now.table.entries.items }
-    ensures { (model : GoodMap) → IsGood good.now model → result ≡ needs_prompt (boot_view boot.now) model }
-{
-    asks_keys(boot) || asks_more(boot.default_entry, good)
-}
-
-/// Whether a default line or a password has a part in the choice, or it changes that line.
-fn asks_more(default_entry: u16, good: &GoodParts) -> bool
-    requires { default_entry < length good.now.table.entries.items }
-    ensures { result ≡ asks_more default_entry (line_view good.now.line) (table_view good.now.table) }
-{
-    !is_empty_line(&good.line) || entries_ask(default_entry, good.table.entries.as_slice())
-}
-
-/// Whether a password has a part in the choice of some entries, or the default one changes the default line.
-fn entries_ask(default_entry: u16, entries: &[Descriptor]) -> bool
-    requires { default_entry < length entries.now }
-    ensures { result ≡ (list_any asks_password (map descriptor_view entries.now)
-        || changes_line (slice_get (map descriptor_view entries.now) default_entry)) }
-{
-    have_password(entries) || default_changes_line(default_entry, entries)
-}
-
-/// Whether a boot sector asks for keys, waits for them, or has a message.
-fn asks_keys(boot: &BootSector) -> bool
-    ensures { result ≡ asks_keys (boot_view boot.now) }
-{
-    boot.prompt || boot.delay != 0 || boot.message.is_some()
-}
-
 /// Whether there is no default line.
-fn is_empty_line(line: &DefaultLine) -> bool
+pub(crate) fn is_empty_line(line: &DefaultLine) -> bool
     ensures { result ≡ is_empty_line (line_view line.now) }
 {
     matches!(line, DefaultLine::Empty)
 }
 
-/// Whether one of some entries has a password.
-fn have_password(entries: &[Descriptor]) -> bool
-    ensures { result ≡ list_any (λ entry. asks_password (descriptor_view entry)) entries.now }
+/// The prompt of a good map.
+pub(crate) fn prompt_of(
+    boot: &BootSector,
+    choices: ArrayVec<Choice, 48>,
+    line: &DefaultLine,
+) -> Prompt
+    ensures { (model : GoodMap) → model.line ≡ line_view line.now
+        → entries_view choices.items ≡ map prompt_entry (zip model.entries model.passwords)
+        → (now : Image) (machine : Machine) → result.setup
+        ≡ plain_setup (settings_of (boot_view boot.now)) (listed_entries now machine model) model.line }
 {
-    entries.iter().any(asks_password)
+    Prompt::new(settings_of(boot), choices, line)
 }
 
-/// Whether an entry has a password.
-#[tactic(auto, unfolding(crate::specs::Today::asks_password))]
-fn asks_password(entry: &Descriptor) -> bool
-    ensures { result ≡ asks_password (descriptor_view entry.now) }
+/// How the prompt is set up.
+#[tactic(auto, unfolding(lilo_model::specs::Boot::settings_of))]
+fn settings_of(boot: &BootSector) -> Settings
+    ensures settings { settings_view result ≡ settings_of (boot_view boot.now) }
+    ensures capacity { result.capacity ≡ 255 }
 {
-    is_set(entry, flags::PASSWORD)
+    Settings {
+        prompt: boot.prompt,
+        delay: boot.delay,
+        timeout: boot.timeout,
+        default_entry: boot.default_entry,
+        capacity: 255,
+    }
 }
 
-/// Whether the choice of the default entry changes the default line.
-fn default_changes_line(default_entry: u16, entries: &[Descriptor]) -> bool
-    requires { default_entry < length entries.now }
-    ensures { result ≡ changes_line (slice_get (map descriptor_view entries.now) default_entry) }
+/// The message of a map, if it has one.
+#[tactic(auto, unfolding(crate::specs::Today::message_read))]
+pub(crate) fn message_of(boot: &BootSector) -> Option<Message>
+    requires { IfSome boot.now.message IsOneSector }
+    ensures message { (now : Image) (machine : Machine)
+        → message_today now machine result ≡ message_read now machine (boot_view boot.now) }
+    ensures one { IfSome result (λ message. message.first.count ≡ 1) }
 {
-    changes_line(&entries[usize::from(default_entry)])
+    match boot.message {
+        None => None,
+        Some(first) => Some(Message {
+            first,
+            length: u32::from(boot.message_length),
+            chain: boot.message_chain,
+        }),
+    }
 }
 
-/// Whether an entry's choice changes the default line.
-fn changes_line(entry: &Descriptor) -> bool
-    ensures { result ≡ changes_line (Some (descriptor_view entry.now)) }
-{
-    is_set(entry, flags::LOCK) || is_set(entry, flags::FALLBACK)
-}
-
-/// Reads the middle text of an entry that has no fallback.
-#[tactic(auto, unfolding(lilo_model::specs::Boot::slot_bytes_at, lilo_model::specs::Boot::middle_of))]
-pub(crate) fn read_middle<D: Disks>(disks: &mut D, entry: &Descriptor) -> Result<Options, Halt>
-    requires options { IsOneSector entry.now.options }
-    requires fallback { has_flag entry.now.flags fallback_flag ≡ false }
-    ensures middle { OnDisks D.Disks disks.old (λ now machine.
-        ReadsMiddle result (middle_of now machine (descriptor_view entry.now))) }
-    ensures limit { IfOk result (λ options. length options.middle.items ≤ 255) }
+/// Reads the texts of an entry. Both of its sectors are read before a length in either is judged.
+pub(crate) fn read_texts<D: Disks>(disks: &mut D, entry: &Descriptor) -> Result<Texts, Halt>
+    requires sectors { HasSectors entry.now }
+    ensures texts { OnDisks D.Disks disks.old (λ now machine.
+        ReadsTexts result (middle_of now machine (descriptor_view entry.now))
+        (fallback_of now machine (descriptor_view entry.now))) }
+    ensures limit { IfOk result (λ texts. length texts.middle.items ≤ 255) }
     ensures reads { OnlyReads D.Disks disks.old disks.new (IsErrOf result Halt.Device) }
 {
     let mut sector = [0; 512];
     read_one(disks, &entry.options, &mut sector)?;
-    match Options::read(&sector) {
-        Ok(options) => Ok(options),
-        Err(fault) => Err(Halt::Refused(map_reason_of(fault))),
-    }
+    let extra = read_extra(disks, entry, flags::FALLBACK)?;
+    judge_texts(Options::read(&sector), extra)
 }
 
-/// The command line of an entry that is chosen without a key.
+/// The texts of an entry, by what its options sector says, and its extra sector where it has a fallback.
+fn judge_texts(
+    options: Result<Options, MapFault>,
+    extra: Option<Result<Extra, MapFault>>,
+) -> Result<Texts, Halt>
+    requires { IfOk options (λ options. length options.middle.items ≤ 255) }
+    ensures texts { JudgesTexts result (seen options_view map_fault_view options)
+        (option_map (seen extra_view map_fault_view) extra) }
+    ensures limit { IfOk result (λ texts. length texts.middle.items ≤ 255) }
+{
+    let options = match options {
+        Ok(options) => options,
+        Err(fault) => return Err(Halt::Refused(map_reason_of(fault))),
+    };
+    let has_fallback = match extra {
+        None => false,
+        Some(Ok(extra)) => !extra.fallback.is_empty(),
+        Some(Err(fault)) => return Err(Halt::Refused(map_reason_of(fault))),
+    };
+    Ok(Texts {
+        middle: options.middle,
+        has_fallback,
+    })
+}
+
+/// Whether a choice of this entry, with the word `lock` or without, leaves an empty default line as it is.
+pub(crate) fn keeps_line(entry: &Descriptor, lock: bool, has_fallback: bool) -> bool
+    ensures { result ≡ not ((has_flag entry.now.flags lock_flag || lock) || has_fallback) }
+{
+    !(is_set(entry, flags::LOCK) || lock || has_fallback)
+}
+
+/// The command line of a chosen entry.
 #[tactic(auto, unfolding(lilo_model::specs::Place::command_line))]
-pub(crate) fn command_line(name: &[u8], middle: &[u8]) -> ArrayVec<u8, 512>
+pub(crate) fn command_line(
+    automatic: bool,
+    name: &[u8],
+    middle: &[u8],
+    words: &[u8],
+) -> ArrayVec<u8, 768>
     requires name { length name.now ≤ 15 }
     requires middle { length middle.now ≤ 255 }
-    ensures line { result.items ≡ command_line true name.now middle.now [] }
-    ensures limit { length result.items ≤ 286 }
+    requires words { length words.now ≤ 470 }
+    ensures line { result.items ≡ command_line automatic name.now middle.now words.now }
+    ensures limit { length result.items ≤ 760 }
 {
     let mut line = ArrayVec::new();
-    let _ = line.try_extend_from_slice(b"auto BOOT_IMAGE=");
+    let _ = line.try_extend_from_slice(opening_words(automatic));
     let _ = line.try_extend_from_slice(name);
     let _ = line.try_extend_from_slice(middle);
+    if !words.is_empty() {
+        line.push(b' ');
+        let _ = line.try_extend_from_slice(words);
+    }
     line
+}
+
+/// What a command line begins with.
+fn opening_words(automatic: bool) -> &'static [u8]
+    ensures begins { result.now ≡ (if automatic then codes "auto " else []) ++ codes "BOOT_IMAGE=" }
+    ensures limit { length result.now ≤ 16 }
+{
+    if automatic {
+        b"auto BOOT_IMAGE="
+    } else {
+        b"BOOT_IMAGE="
+    }
 }

@@ -373,26 +373,165 @@ fn maps_are_judged(rt: HostRuntime) -> Result<(), Fail> {
     Ok(())
 }
 
-// A prompt, a delay, a message, a default line, a password, a lock and a fallback.
+// A default line, and choices that change it: an entry's lock and its fallback, and the word `lock`.
 #[test]
 fn what_is_not_built(rt: HostRuntime) -> Result<(), Fail> {
-    for (number, at, bytes, flags) in [
-        (0, 0x0C, b"\x01".as_slice(), b"\0"),
-        (0, 0x0E, b"\x01".as_slice(), b"\0"),
+    for (edits, keys, shown) in [
         (
-            0,
-            0x14,
-            b"\x01\0\x01\0\x03\x80\x01\0\x5E\0\0\0\x03\x80\x01\0\x62\0\0\0\x03\x80\x01\0\x66\0\0\0".as_slice(),
-            b"\0",
+            [
+                (94, 0, b"LINE\x01\0\x0C\0linux single".as_slice()),
+                (0, 0x0C, b"\x01".as_slice()),
+            ],
+            b"linux\n".as_slice(),
+            b"LILO\n".as_slice(),
         ),
-        (94, 0, b"LINE\x01\0\x0C\0linux single".as_slice(), b"\0"),
-        (95, 56, b"\x03\x80\x01\0\x66\0\0\0".as_slice(), b"\x02"),
-        (95, 56, b"".as_slice(), b"\x08"),
-        (95, 56, b"\x03\x80\x01\0\x66\0\0\0".as_slice(), b"\x10"),
+        (
+            [(95, 16, b"\x08".as_slice()), (0, 0x0C, b"\0".as_slice())],
+            b"".as_slice(),
+            b"LILO\n".as_slice(),
+        ),
+        (
+            [
+                (95, 16, b"\x10".as_slice()),
+                (102, 0, b"\x05\0\0\0linux".as_slice()),
+            ],
+            b"".as_slice(),
+            b"LILO\n".as_slice(),
+        ),
+        (
+            [(94, 0, b"LINE".as_slice()), (0, 0x0C, b"\x01".as_slice())],
+            b"linux lock\n".as_slice(),
+            b"LILO\nboot: linux lock\n".as_slice(),
+        ),
     ] {
-        let edits = [(number, at, bytes), (95, 16, flags.as_slice())];
-        let booted = boot_case(rt.alloc(), &changed(&edits))?;
-        expect_end(&rt, &booted, Outcome::Refused(Reason::Unbuilt), b"LILO\n");
+        // The fallback's sector.
+        let extra = if keys.is_empty() && edits[1].0 == 102 {
+            b"\x03\x80\x01\0\x66\0\0\0".as_slice()
+        } else {
+            b"".as_slice()
+        };
+        let case = Case {
+            keys,
+            ..changed(&[edits[0], edits[1], (95, 56, extra)])
+        };
+        let booted = boot_case(rt.alloc(), &case)?;
+        expect_end(&rt, &booted, Outcome::Refused(Reason::Unbuilt), shown);
+    }
+    Ok(())
+}
+
+const PROMPT: (usize, usize, &[u8]) = (0, 0x0C, b"\x01");
+
+// By a line that is typed at the prompt, with a password and behind a message; by no key at all; and by keys that end.
+#[test]
+fn a_boot_by_keys(rt: HostRuntime) -> Result<(), Fail> {
+    let typed = Layout {
+        line: region(0x9_9800, 36),
+        ..layout(0x10_0000, None)
+    };
+    for (edits, keys, outcome, shown) in [
+        (
+            [PROMPT, PROMPT],
+            b"linux single\n".as_slice(),
+            Outcome::Loaded(typed),
+            b"LILO\nboot: linux single\nLoading linux\n".as_slice(),
+        ),
+        (
+            [
+                (95, 16, b"\x06".as_slice()),
+                (95, 56, b"\x03\x80\x01\0\x66\0\0\0".as_slice()),
+            ],
+            b"linux single\ntux\n".as_slice(),
+            Outcome::Loaded(typed),
+            b"LILO\nboot: linux single\nPassword: \nLoading linux\n".as_slice(),
+        ),
+        (
+            [PROMPT, (0, 0x14, b"\x07\0\x01\0".as_slice())],
+            b"linux single\n".as_slice(),
+            Outcome::Loaded(typed),
+            b"LILO\nHello.\nboot: linux single\nLoading linux\n".as_slice(),
+        ),
+        (
+            [PROMPT, (0, 0x10, b"\x32\0".as_slice())],
+            b"".as_slice(),
+            Outcome::Loaded(layout(0x10_0000, None)),
+            b"LILO\nboot: \nLoading linux\n".as_slice(),
+        ),
+        (
+            [PROMPT, PROMPT],
+            b"none\n".as_slice(),
+            Outcome::Refused(Reason::Idle),
+            b"LILO\nboot: none\nNo such image.\nboot: ".as_slice(),
+        ),
+    ] {
+        let message = if edits[1].1 == 0x14 {
+            b"\x03\x80\x01\0\x67\0\0\0".as_slice()
+        } else {
+            b"".as_slice()
+        };
+        let case = Case {
+            keys,
+            ..changed(&[
+                edits[0],
+                edits[1],
+                PROMPT,
+                (0, 0x28, message),
+                (102, 0, b"\0\0\x03".as_slice()),
+                (102, 480, b"tux".as_slice()),
+                (103, 0, b"\x03\x80\x01\0\x68\0\0\0".as_slice()),
+                (104, 0, b"Hello.\n".as_slice()),
+            ])
+        };
+        let booted = boot_case(rt.alloc(), &case)?;
+        expect_end(&rt, &booted, outcome, shown);
+    }
+    Ok(())
+}
+
+// A key that isn't heard, and the section and the bytes of a message that aren't read.
+#[test]
+fn each_part_of_a_prompt_fails(rt: HostRuntime) -> Result<(), Fail> {
+    let edits = [
+        PROMPT,
+        (0, 0x14, b"\x07\0\x01\0".as_slice()),
+        (0, 0x28, b"\x03\x80\x01\0\x67\0\0\0".as_slice()),
+        (103, 0, b"\x03\x80\x01\0\x68\0\0\0".as_slice()),
+        (104, 0, b"Hello.\n".as_slice()),
+    ];
+    for (failing_reads, failing_keys, outcome, shown) in [
+        (
+            &[].as_slice(),
+            &[0].as_slice(),
+            Outcome::Keys,
+            b"LILO\nHello.\nboot: ".as_slice(),
+        ),
+        (
+            &[].as_slice(),
+            &[3].as_slice(),
+            Outcome::Keys,
+            b"LILO\nHello.\nboot: lin".as_slice(),
+        ),
+        (
+            &[5].as_slice(),
+            &[].as_slice(),
+            Outcome::Device(Phase::Before),
+            b"LILO\nError 80\n".as_slice(),
+        ),
+        (
+            &[6].as_slice(),
+            &[].as_slice(),
+            Outcome::Device(Phase::Before),
+            b"LILO\nError 80\n".as_slice(),
+        ),
+    ] {
+        let case = Case {
+            keys: b"linux\n",
+            failing_reads,
+            failing_keys,
+            ..changed(&edits)
+        };
+        let booted = boot_case(rt.alloc(), &case)?;
+        expect_end(&rt, &booted, outcome, shown);
     }
     Ok(())
 }

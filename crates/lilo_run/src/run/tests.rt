@@ -18,6 +18,8 @@ struct Case<'a> {
     byte: u8,
     // Whether memory has more than a mebibyte.
     is_large: bool,
+    keys: &'a [u8],
+    failing_keys: &'a [u64],
     failing_calls: &'a [u64],
     failing_puts: &'a [u64],
     status: u8,
@@ -109,7 +111,7 @@ fn words_of(alloc: Global, line: &[&str]) -> Result<Words, AllocError> {
 fn answer(alloc: Global, case: &Case<'_>) -> Result<(u8, Vec<u8>), AllocError> {
     let words = words_of(alloc, case.words)?;
     let mut disks = installation(alloc, case)?;
-    let mut keys = MemSource::new(alloc, b"", &[])?;
+    let mut keys = MemSource::new(alloc, case.keys, case.failing_keys)?;
     let mut out = MemSink::new(alloc, 4096, case.failing_puts)?;
     let memory = if case.is_large { 2_097_152 } else { 1_048_576 };
     let mut ram = Ram::new(alloc, memory)?;
@@ -134,6 +136,8 @@ const WHOLE: Case<'static> = Case {
     at: 512,
     byte: 0,
     is_large: true,
+    keys: b"",
+    failing_keys: &[],
     failing_calls: &[],
     failing_puts: &[],
     status: 0,
@@ -374,11 +378,12 @@ const BOOTS: [Case<'static>; 6] = [
         text: b"lilo: boot: not bootable\n",
         ..WHOLE
     },
-    // A prompt isn't built, and the part behind the boot doesn't run.
+    // An entry's lock isn't built, and the part behind the boot doesn't run.
     Case {
         words: &["boot", "/dev/hda", "--then", "-q", "/dev/hda"],
-        at: 0x0C,
-        byte: 1,
+        sector: 95,
+        at: 16,
+        byte: 8,
         status: 15,
         text: b"LILO\nlilo: not built\n",
         ..WHOLE
@@ -453,6 +458,59 @@ fn each_read_of_a_boot_may_fail(rt: HostRuntime) -> Result<(), Fail> {
     )?;
     assert_eq!(rt; status, 0);
     assert!(rt; text.as_slice() == same.as_slice());
+    Ok(())
+}
+
+// A map that wants the prompt: by keys, by none, and by those that a boot before left; where a key isn't heard.
+const KEYS: [Case<'static>; 5] = [
+    Case {
+        keys: b"linux single\n",
+        status: 0,
+        text: b"LILO\nboot: linux single\nLoading linux\n",
+        ..PROMPTED
+    },
+    PROMPTED,
+    Case {
+        words: &[
+            "-q", "/dev/hda", "--then", "boot", "/dev/hda", "--then", "boot", "/dev/hda",
+        ],
+        keys: b"linux\nnone\n",
+        status: 7,
+        text: b"linux *\nLILO\nboot: linux\nLoading linux\nLILO\nboot: none\nNo such image.\nboot: lilo: boot: idle\n",
+        ..PROMPTED
+    },
+    Case {
+        keys: b"linux\n",
+        failing_keys: &[0],
+        status: 11,
+        text: b"LILO\nboot: lilo: keys\n",
+        ..PROMPTED
+    },
+    Case {
+        words: &["-q", "/dev/hda"],
+        failing_keys: &[0],
+        status: 0,
+        text: b"linux *\n",
+        ..PROMPTED
+    },
+];
+
+const PROMPTED: Case<'static> = Case {
+    words: &["boot", "/dev/hda"],
+    at: 0x0C,
+    byte: 1,
+    status: 7,
+    text: b"LILO\nboot: lilo: boot: idle\n",
+    ..WHOLE
+};
+
+#[test]
+fn keys_choose(rt: HostRuntime) -> Result<(), Fail> {
+    for case in KEYS {
+        let (status, as_wanted) = run(rt.alloc(), &case)?;
+        assert_eq!(rt; status, case.status, "keys {:?}", case.keys);
+        assert!(rt; as_wanted, "keys {:?}", case.keys);
+    }
     Ok(())
 }
 

@@ -2,7 +2,6 @@
 use Rattle.std.proofs.Common.{◌≡◌, ◌∷◌, ◌∙◌, length, sym}
 use Rattle.lilo_words.specs.Run.{parts_of_next}
 use Rattle.lilo_words.specs.View.{part_view}
-use Rattle.lilo_run.specs.Verdict.{has_boot}
 use Rattle.lilo_run.proofs.MemoryLemmas.{boots_first, boots_later, none_boots}
 use Rattle.lilo_run.proofs.RunLemmas.{place_within}
 use Rattle.lilo_run.proofs.memory.has_boot.Goals as goal

@@ -16,20 +16,20 @@ invariant-loop-next g l = record {
   run : IfSome l.next (λ from. IsOk (run_behind l.words from));
   does :
       Told (g.D.Disks.past l.fn.bios.disks.now) (λ now.
-      Continues (part_effect now (machine_of g.D.Disks l.fn.bios.disks.now) (length l.fn.ram))
-      (parts_behind l.words 0) (parts_of_next l.words l.next) (memory_of l.fn.ram) (memory_of l.ram)
+      Continues g.I.Source (part_effect now (machine_of g.D.Disks l.fn.bios.disks.now) (length l.fn.ram))
+      (parts_behind l.words 0) (parts_of_next l.words l.next) l.fn.bios.keys.now l.bios.keys.now (memory_of l.fn.ram) (memory_of l.ram)
       (sink_of g.O.Sink l.fn.out)
       (sink_of g.O.Sink l.out));
   begun : Begun (g.D.Disks.size_of l.fn.bios.disks.now) (parts_behind l.words 0) l.next;
   later : g.D.Disks.faults l.fn.bios.disks.now ≤ g.D.Disks.faults l.bios.disks.now;
+  keys_later : g.I.Source.faults l.fn.bios.keys.now ≤ g.I.Source.faults l.bios.keys.now;
   sink :
       HasFailed (sink_of g.O.Sink l.fn.out)
       (sink_of g.O.Sink l.out);
   memory : length l.ram ≡ length l.fn.ram;
   conf : AreRead (parts_behind l.words 0) (parts_of_next l.words l.next);
-  stays : Stays (parts_behind l.words 0) (parts_of_next l.words l.next) l.fn.ram l.ram;
+  stays : Stays (parts_behind l.words 0) (parts_of_next l.words l.next) l.fn.ram l.ram l.fn.bios.keys.now l.bios.keys.now;
   same : SameDisks g.D.Disks.past g.D.Disks.size_of g.D.Disks.count_of g.D.Disks.geometry_of l.fn.bios.disks.now l.bios.disks.now;
-  keys : l.bios.keys.now ≡ l.fn.bios.keys.now;
   disks_reference : l.bios.disks.ghost_name ≡ l.fn.bios.disks.ghost_name;
   keys_reference : l.bios.keys.ghost_name ≡ l.fn.bios.keys.ghost_name;
   out_reference : l.out.out.ghost_name ≡ l.fn.out.out.ghost_name;

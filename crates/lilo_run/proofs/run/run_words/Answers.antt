@@ -11,5 +11,9 @@ returns-in-Err-clause-usage_line g c =
 pub returns-in-Err-clause-does : goal.returns-in-Err-clause-does
 returns-in-Err-clause-does g c =
     told_all (g.D.Disks.past c.args.bios.now.disks.now) _
-    (λ now. usage_runs now _ _ c.args.words.now (wrong_view c.in-Err.wrong) _ _ _ c.in-Err.ensures.wrong
-    (rw (usage_is c.args.words.now (wrong_view c.in-Err.wrong) c.in-Err.ensures.wrong, ← c.word.ensures) c.say_usage.ensures.shown))
+    (λ now left may. (
+      left,
+      may,
+      usage_runs now _ _ c.args.words.now left (wrong_view c.in-Err.wrong) _ _ _ c.in-Err.ensures.wrong
+          (rw (usage_is c.args.words.now (wrong_view c.in-Err.wrong) c.in-Err.ensures.wrong, ← c.word.ensures) c.say_usage.ensures.shown),
+    ))

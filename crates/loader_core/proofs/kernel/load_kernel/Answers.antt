@@ -4,12 +4,11 @@ use Rattle.sector_address.specs.Machine.{machine_of}
 use Rattle.bios_model.specs.Memory.{memory_of}
 use Rattle.boot_map.specs.View.{descriptor_view}
 use Rattle.std.specs.Option.{option_map}
-use Rattle.lilo_model.specs.Header.{patch}
 use Rattle.setup_header.specs.Words.{LiesIn}
 use Rattle.setup_header.specs.View.{header_view, layout_view, region_view}
 use Rattle.section_loader.specs.File.{rest_in}
 use Rattle.loader_core.specs.Kernel.{IsTwo, ReadsTwo}
-use Rattle.loader_core.specs.Today.{main_today, initrd_file_today, video_today}
+use Rattle.loader_core.specs.Today.{main_today, initrd_file_today}
 use Rattle.loader_core.proofs.LoadedLemmas.{begun_by, ends_short, ends_header, ends_layout, ends_kernel, ends_initrd}
 use Rattle.loader_core.proofs.WholeLemmas.{kernel_whole}
 use Rattle.loader_core.proofs.PlanLemmas.{setup_least, planned_size, region_there, region_sized, holds_kernel}
@@ -46,7 +45,7 @@ returns-in_err-read_two-clause-loaded g c =
     (λ now. ReadsTwo (Err halt) (min 1024 c.new-file.result.left) (rest_in now machine c.new-file.result) (c.read_two.new.first ++ c.read_two.new.second) (rest_in now machine c.read_two.new.file)) _
     (λ now read. rw is
     (ends_short entry (main_today now machine entry) (rest_in now machine c.read_two.new.file) (c.read_two.new.first ++ c.read_two.new.second) (initrd_file_today now machine entry)
-    c.args.line.now (video_today entry) (length c.args.ram.now) (memory_of c.args.ram.now) c.args.ram.now halt
+    c.args.line.now c.args.video (length c.args.ram.now) (memory_of c.args.ram.now) c.args.ram.now halt
     (rw (c.new-file.ensures.rest now machine, c.new-file.ensures.left) at read)))
     c.in_err-read_two.ensures.bytes
 
@@ -64,7 +63,7 @@ returns-in_err-header-clause-loaded g c =
     told_map (g.D.Disks.past c.args.disks.now)
     (λ now. IsTwo (min 1024 c.new-file.result.left) (rest_in now machine c.new-file.result) sectors (rest_in now machine c.read_two.new.file)) _
     (λ now two. rw is
-    (ends_header entry (main_today now machine entry) (rest_in now machine c.read_two.new.file) sectors (initrd_file_today now machine entry) line (video_today entry) size m c.args.ram.now halt
+    (ends_header entry (main_today now machine entry) (rest_in now machine c.read_two.new.file) sectors (initrd_file_today now machine entry) line c.args.video size m c.args.ram.now halt
     (begun_by now machine c.new-file.result entry (main_today now machine entry) (rest_in now machine c.read_two.new.file) sectors (c.new-file.ensures.rest now machine) c.new-file.ensures.left two)
     c.in_err-header.ensures.header))
     c.in_ok-read_two.ensures.bytes
@@ -84,7 +83,7 @@ returns-in_err-layout-clause-loaded g c =
     told_map (g.D.Disks.past c.args.disks.now)
     (λ now. IsTwo (min 1024 c.new-file.result.left) (rest_in now machine c.new-file.result) sectors (rest_in now machine c.read_two.new.file)) _
     (λ now two. rw is
-    (ends_layout entry (main_today now machine entry) (rest_in now machine c.read_two.new.file) sectors (initrd_file_today now machine entry) line (video_today entry) size header m c.args.ram.now halt
+    (ends_layout entry (main_today now machine entry) (rest_in now machine c.read_two.new.file) sectors (initrd_file_today now machine entry) line c.args.video size header m c.args.ram.now halt
     (begun_by now machine c.new-file.result entry (main_today now machine entry) (rest_in now machine c.read_two.new.file) sectors (c.new-file.ensures.rest now machine) c.new-file.ensures.left two)
     c.in_ok-header.ensures.header (rw (c.initrd_size.ensures, c.size-memory.ensures.value) at c.in_err-layout.ensures.layout)))
     c.in_ok-read_two.ensures.bytes
@@ -108,7 +107,7 @@ returns-in_err-place_kernel-clause-loaded g c =
     told_both (g.D.Disks.past c.args.disks.now)
     (λ now. IsTwo (min 1024 c.new-file.result.left) (rest_in now machine c.new-file.result) sectors (rest_in now machine c.read_two.new.file)) _ _
     (λ now two stops. rw is
-    (ends_kernel entry (main_today now machine entry) (rest_in now machine c.read_two.new.file) sectors (c.patch.new.first ++ c.patch.new.second) (initrd_file_today now machine entry) line (video_today entry) size header layout m
+    (ends_kernel entry (main_today now machine entry) (rest_in now machine c.read_two.new.file) sectors (c.patch.new.first ++ c.patch.new.second) (initrd_file_today now machine entry) line c.args.video size header layout m
     (memory_of c.place_kernel.new.ram) c.place_kernel.new.ram halt
     (record { begun = (begun_by now machine c.new-file.result entry (main_today now machine entry) (rest_in now machine c.read_two.new.file) sectors (c.new-file.ensures.rest now machine) c.new-file.ensures.left two); header_is = c.in_ok-header.ensures.header; layout_is = plan }) stops))
     c.in_ok-read_two.ensures.bytes placed
@@ -134,7 +133,7 @@ returns-in_err-load_initrd-clause-loaded g c =
     told_three (g.D.Disks.past c.args.disks.now)
     (λ now. IsTwo (min 1024 c.new-file.result.left) (rest_in now machine c.new-file.result) sectors (rest_in now machine c.read_two.new.file)) _ _ _
     (λ now two placed read. rw is
-    (ends_initrd entry (main_today now machine entry) (rest_in now machine c.read_two.new.file) sectors (c.patch.new.first ++ c.patch.new.second) (initrd_file_today now machine entry) line (video_today entry) size header layout (option_map region_view layout.initrd) m
+    (ends_initrd entry (main_today now machine entry) (rest_in now machine c.read_two.new.file) sectors (c.patch.new.first ++ c.patch.new.second) (initrd_file_today now machine entry) line c.args.video size header layout (option_map region_view layout.initrd) m
     (memory_of c.place_kernel.new.ram) (memory_of c.load_initrd.new.ram) c.load_initrd.new.ram halt
     (record { begun = (begun_by now machine c.new-file.result entry (main_today now machine entry) (rest_in now machine c.read_two.new.file) sectors (c.new-file.ensures.rest now machine) c.new-file.ensures.left two); header_is = c.in_ok-header.ensures.header; layout_is = plan }) placed read))
     c.in_ok-read_two.ensures.bytes placed read
@@ -155,7 +154,6 @@ returns-clause-loaded g c =
     let placed = rw (same.same_past, same.same_size, same.same_geometry) at c.in_ok-place_kernel.ensures.placed in
     let same' = c.in_ok-place_kernel.ensures.reads.same in
     let read = rw (same'.same_past, same'.same_size, same'.same_geometry, same.same_past, same.same_size, same.same_geometry) at c.in_ok-load_initrd.ensures.placed in
-    let patched = c.patch.ensures ∙ ap (λ v. patch header (layout_view layout) v sectors) c.video_of.ensures in
     let setup = setup_least _ c.args.entry.now.length header c.in_ok-header.ensures.header in
     let lengths = c.in_ok-layout.ensures.lengths in
     let least : 1024 ≤ c.args.entry.now.length = omega (arith, setup, lengths.real_length, lengths.rest_length) in
@@ -165,8 +163,8 @@ returns-clause-loaded g c =
     told_three (g.D.Disks.past c.args.disks.now)
     (λ now. IsTwo (min 1024 c.new-file.result.left) (rest_in now machine c.new-file.result) sectors (rest_in now machine c.read_two.new.file)) _ _ _
     (λ now two placed read.
-    kernel_whole entry (main_today now machine entry) (rest_in now machine c.read_two.new.file) sectors (initrd_file_today now machine entry) line (video_today entry) size header layout (c.patch.new.first ++ c.patch.new.second) m
+    kernel_whole entry (main_today now machine entry) (rest_in now machine c.read_two.new.file) sectors (initrd_file_today now machine entry) line c.args.video size header layout (c.patch.new.first ++ c.patch.new.second) m
     (memory_of c.place_kernel.new.ram) (memory_of c.load_initrd.new.ram) (memory_of c.place.new.ram) c.place-2.new.ram
-    (record { begun = (begun_by now machine c.new-file.result entry (main_today now machine entry) (rest_in now machine c.read_two.new.file) sectors (c.new-file.ensures.rest now machine) c.new-file.ensures.left two); header_is = c.in_ok-header.ensures.header; layout_is = plan }) patched (rw length-append (omega (arith, c.patch.array_long, c.patch.array_long2))) least placed read c.place.ensures.memory c.place-2.ensures.memory
+    (record { begun = (begun_by now machine c.new-file.result entry (main_today now machine entry) (rest_in now machine c.read_two.new.file) sectors (c.new-file.ensures.rest now machine) c.new-file.ensures.left two); header_is = c.in_ok-header.ensures.header; layout_is = plan }) c.patch.ensures (rw length-append (omega (arith, c.patch.array_long, c.patch.array_long2))) least placed read c.place.ensures.memory c.place-2.ensures.memory
     c.in_ok-layout.ensures.lengths.line_length inside c.in_ok-layout.ensures.apart)
     c.in_ok-read_two.ensures.bytes placed read

@@ -4,24 +4,27 @@ use Rattle.bios_model.specs.Memory.{memory_of}
 use Rattle.boot_map.specs.View.{boot_view}
 use Rattle.stream_trait.specs.Shows.{sink_of}
 use Rattle.disk_trait.proofs.ToldLemmas.{told_map, told_both}
-use Rattle.loader_core.proofs.BootLemmas.{map_found, map_halted}
+use Rattle.loader_core.proofs.BootLemmas.{map_found, map_halted, keys_map, keys_still}
 use Rattle.loader_core.proofs.loader.boot_map.Goals as goal
 
-pub returns-in-Ok-clause-report : goal.returns-in-Ok-clause-report
-returns-in-Ok-clause-report g c =
-    let machine = machine_of g.D.Disks c.args.disks.now in
+pub returns-in-Ok-clause-went : goal.returns-in-Ok-clause-went
+returns-in-Ok-clause-went g c =
+    let machine = machine_of g.D.Disks c.args.bios.now.disks.now in
     let same = c.in-Ok.ensures.reads.same in
-    let rest = rw (same.same_past, same.same_size, same.same_geometry) at c.boot_parts.ensures.report in
-    told_both (g.D.Disks.past c.args.disks.now) _ _ _
-    (λ now found report. map_found now machine (boot_view c.args.boot.now) (length c.args.ram.now) found.sectors c.boot_parts.result (memory_of c.args.ram.now) c.boot_parts.new.ram
-    (sink_of g.O.Sink c.args.out.now) (sink_of g.O.Sink c.put.new.self) (sink_of g.O.Sink c.boot_parts.new.out) found.is c.put.ensures.shown (report found.sectors found.stands))
+    let rest = rw (same.same_past, same.same_size, same.same_geometry) at c.boot_parts.ensures.went in
+    told_both (g.D.Disks.past c.args.bios.now.disks.now) _ _ _
+    (λ now found went. keys_map g.I.Source _ _ _
+    (λ keys left went. map_found now machine (boot_view c.args.boot.now) (length c.args.ram.now) found.sectors keys c.boot_parts.result (memory_of c.args.ram.now) c.boot_parts.new.ram left
+    (sink_of g.O.Sink c.args.out.now) (sink_of g.O.Sink c.put.new.self) (sink_of g.O.Sink c.boot_parts.new.out) found.is c.put.ensures.shown went)
+    (went found.sectors found.stands))
     c.in-Ok.ensures.parts rest
 
-pub returns-in-Err-clause-report : goal.returns-in-Err-clause-report
-returns-in-Err-clause-report g c =
-    let machine = machine_of g.D.Disks c.args.disks.now in
+pub returns-in-Err-clause-went : goal.returns-in-Err-clause-went
+returns-in-Err-clause-went g c =
+    let machine = machine_of g.D.Disks c.args.bios.now.disks.now in
     let error = rw c.map_text.ensures at c.put-in-Err.ensures.shown in
-    told_map (g.D.Disks.past c.args.disks.now) _ _
-    (λ now found. map_halted now machine (boot_view c.args.boot.now) (length c.args.ram.now) c.in-Err.halt (memory_of c.args.ram.now) c.args.ram.now
-    (sink_of g.O.Sink c.args.out.now) (sink_of g.O.Sink c.put.new.self) (sink_of g.O.Sink c.put-in-Err.new.self) found c.put.ensures.shown error)
+    told_map (g.D.Disks.past c.args.bios.now.disks.now) _ _
+    (λ now found. keys_still g.I.Source _ _
+    (λ left. map_halted now machine (boot_view c.args.boot.now) (length c.args.ram.now) c.in-Err.halt (memory_of c.args.ram.now) c.args.ram.now left
+    (sink_of g.O.Sink c.args.out.now) (sink_of g.O.Sink c.put.new.self) (sink_of g.O.Sink c.put-in-Err.new.self) found c.put.ensures.shown error))
     c.in-Err.ensures.parts

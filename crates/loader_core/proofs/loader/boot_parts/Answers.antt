@@ -4,24 +4,27 @@ use Rattle.bios_model.specs.Memory.{memory_of}
 use Rattle.boot_map.specs.View.{boot_view}
 use Rattle.stream_trait.specs.Shows.{sink_of}
 use Rattle.disk_trait.proofs.ToldLemmas.{told_all, told_map}
-use Rattle.loader_core.proofs.BootLemmas.{sectors_good, sectors_bad}
+use Rattle.loader_core.proofs.BootLemmas.{sectors_good, sectors_bad, keys_map, keys_still}
 use Rattle.loader_core.proofs.loader.boot_parts.Goals as goal
 
-pub returns-in-Ok-clause-report : goal.returns-in-Ok-clause-report
-returns-in-Ok-clause-report g c =
-    let machine = machine_of g.D.Disks c.args.disks.now in
-    told_map (g.D.Disks.past c.args.disks.now) _ _
-    (λ now report sectors stands.
+pub returns-in-Ok-clause-went : goal.returns-in-Ok-clause-went
+returns-in-Ok-clause-went g c =
+    let machine = machine_of g.D.Disks c.args.bios.now.disks.now in
+    told_map (g.D.Disks.past c.args.bios.now.disks.now) _ _
+    (λ now went sectors stands.
     let judged = c.in-Ok.ensures.judged sectors stands in
-    sectors_good now machine (boot_view c.args.boot.now) (length c.args.ram.now) sectors judged.model c.boot_good.result (memory_of c.args.ram.now) c.boot_good.new.ram
-    (sink_of g.O.Sink c.args.out.now) (sink_of g.O.Sink c.put.new.self) (sink_of g.O.Sink c.boot_good.new.out) judged.is c.put.ensures.shown (report judged.model judged.parts))
-    c.boot_good.ensures.report
+    keys_map g.I.Source _ _ _
+    (λ keys left went. sectors_good now machine (boot_view c.args.boot.now) (length c.args.ram.now) sectors judged.model keys c.boot_good.result (memory_of c.args.ram.now) c.boot_good.new.ram left
+    (sink_of g.O.Sink c.args.out.now) (sink_of g.O.Sink c.put.new.self) (sink_of g.O.Sink c.boot_good.new.out) judged.is c.put.ensures.shown went)
+    (went judged.model judged.parts))
+    c.boot_good.ensures.went
 
-pub returns-in-Err-clause-report : goal.returns-in-Err-clause-report
-returns-in-Err-clause-report g c =
-    let machine = machine_of g.D.Disks c.args.disks.now in
-    told_all (g.D.Disks.past c.args.disks.now) _
+pub returns-in-Err-clause-went : goal.returns-in-Err-clause-went
+returns-in-Err-clause-went g c =
+    let machine = machine_of g.D.Disks c.args.bios.now.disks.now in
+    told_all (g.D.Disks.past c.args.bios.now.disks.now) _
     (λ now sectors stands.
     let judged = c.in-Err.ensures.judged sectors stands in
-    sectors_bad now machine (boot_view c.args.boot.now) (length c.args.ram.now) sectors c.in-Err.reason (memory_of c.args.ram.now) c.args.ram.now
-    (sink_of g.O.Sink c.args.out.now) (sink_of g.O.Sink c.put.new.self) (sink_of g.O.Sink c.put-in-Err.new.self) judged c.put.ensures.shown c.put-in-Err.ensures.shown)
+    keys_still g.I.Source _ _
+    (λ left. sectors_bad now machine (boot_view c.args.boot.now) (length c.args.ram.now) sectors c.in-Err.reason (memory_of c.args.ram.now) c.args.ram.now left
+    (sink_of g.O.Sink c.args.out.now) (sink_of g.O.Sink c.put.new.self) (sink_of g.O.Sink c.put-in-Err.new.self) judged c.put.ensures.shown c.put-in-Err.ensures.shown))

@@ -5,7 +5,7 @@ use Rattle.bios_model.specs.Memory.{memory_of}
 use Rattle.boot_map.specs.View.{descriptor_view}
 use Rattle.stream_trait.specs.Shows.{sink_of}
 use Rattle.disk_trait.proofs.ToldLemmas.{told_map}
-use Rattle.loader_core.specs.Today.{entry_report, entry_today, line_today}
+use Rattle.loader_core.specs.Today.{entry_report, entry_today}
 use Rattle.loader_core.proofs.BootLemmas.{entry_started, entry_halted}
 use Rattle.loader_core.proofs.loader.start_entry.Goals as goal
 
@@ -15,11 +15,10 @@ returns-in-Ok-clause-report g c =
     let machine = machine_of g.D.Disks c.args.disks.now in
     let entry = descriptor_view c.args.entry.now in
     let text = rw (c.as_slice-2.ensures.value, c.loading_line.ensures, c.as_slice.ensures.value) at c.put.ensures.shown in
-    let started = rw (c.as_slice-4.ensures.value, c.command_line-line.ensures.line, c.as_slice-3.ensures.value) at c.in-Ok.ensures.started in
     told_map (g.D.Disks.past c.args.disks.now) _ _
-    (λ now starts. entry_started (codes "Loading " ++ (entry.name ++ codes "\n")) (entry_today now machine entry (line_today entry c.args.middle.now) (length c.args.ram.now)) c.in-Ok.started (memory_of c.args.ram.now) c.load_entry.new.ram
+    (λ now starts. entry_started (codes "Loading " ++ (entry.name ++ codes "\n")) (entry_today now machine entry c.args.line.now c.args.video (length c.args.ram.now)) c.in-Ok.started (memory_of c.args.ram.now) c.load_entry.new.ram
     (sink_of g.O.Sink c.args.out.now) (sink_of g.O.Sink c.put.new.self) text starts)
-    started
+    c.in-Ok.ensures.started
 
 pub returns-in-Err-clause-report : goal.returns-in-Err-clause-report
 unfolding entry_report
@@ -27,9 +26,8 @@ returns-in-Err-clause-report g c =
     let machine = machine_of g.D.Disks c.args.disks.now in
     let entry = descriptor_view c.args.entry.now in
     let text = rw (c.as_slice-2.ensures.value, c.loading_line.ensures, c.as_slice.ensures.value) at c.put.ensures.shown in
-    let halted = rw (c.as_slice-4.ensures.value, c.command_line-line.ensures.line, c.as_slice-3.ensures.value) at c.in-Err.ensures.started in
     let error = rw c.halt_text.ensures at c.put-in-Err.ensures.shown in
     told_map (g.D.Disks.past c.args.disks.now) _ _
-    (λ now starts. entry_halted (codes "Loading " ++ (entry.name ++ codes "\n")) (entry_today now machine entry (line_today entry c.args.middle.now) (length c.args.ram.now)) c.in-Err.halt (memory_of c.args.ram.now) c.load_entry.new.ram
+    (λ now starts. entry_halted (codes "Loading " ++ (entry.name ++ codes "\n")) (entry_today now machine entry c.args.line.now c.args.video (length c.args.ram.now)) c.in-Err.halt (memory_of c.args.ram.now) c.load_entry.new.ram
     (sink_of g.O.Sink c.args.out.now) (sink_of g.O.Sink c.put.new.self) (sink_of g.O.Sink c.put-in-Err.new.self) text error starts)
-    halted
+    c.in-Err.ensures.started

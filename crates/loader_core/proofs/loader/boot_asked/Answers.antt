@@ -1,0 +1,46 @@
+use Rattle.std.proofs.Common.{◌≡◌, length, sym, Ok, Err}
+use Rattle.sector_address.specs.Machine.{machine_of}
+use Rattle.bios_model.specs.Memory.{memory_of}
+use Rattle.boot_map.specs.View.{boot_view}
+use Rattle.stream_trait.specs.Shows.{sink_of}
+use Rattle.disk_trait.proofs.ToldLemmas.{told_map, told_both}
+use Rattle.loader_core.proofs.AskedLemmas.{asked_ok, asked_err}
+use Rattle.loader_core.proofs.BootLemmas.{keys_map}
+use Rattle.loader_core.proofs.loader.boot_asked.Goals as goal
+
+pub returns-in-Ok-clause-went : goal.returns-in-Ok-clause-went
+returns-in-Ok-clause-went g c =
+    let machine = machine_of g.D.Disks c.args.bios.now.disks.now in
+    let boot = boot_view c.args.boot.now in
+    let size = length c.args.ram.now in
+    let same = c.in-Ok.ensures.only.reads.same in
+    let rest = rw (same.same_past, same.same_size, same.same_geometry) at c.boot_chosen.ensures.report in
+    told_both (g.D.Disks.past c.args.bios.now.disks.now) _ _ _
+    (λ now asked chosen model good empty.
+    let setup = c.prompt_of-prompt.ensures model good.line good.lists.list now machine in
+    let message = c.message_of.ensures.message now machine in
+    keys_map g.I.Source _ _ _
+    (λ keys left comes. rw c.unasked.ensures
+    (asked_ok now machine boot model size keys left c.ask.new.prompt.state c.boot_chosen.result (memory_of c.args.ram.now) c.boot_chosen.new.ram
+    (sink_of g.O.Sink c.args.out.now) (sink_of g.O.Sink c.ask.new.out) (sink_of g.O.Sink c.boot_chosen.new.out)
+    (rw (setup, message) at comes) (chosen model empty good.entries good.lists.long)))
+    asked)
+    c.in-Ok.ensures.asked rest
+
+pub returns-in-Err-clause-went : goal.returns-in-Err-clause-went
+returns-in-Err-clause-went g c =
+    let machine = machine_of g.D.Disks c.args.bios.now.disks.now in
+    let boot = boot_view c.args.boot.now in
+    let size = length c.args.ram.now in
+    let text = rw c.stop_text.ensures at c.put.ensures.shown in
+    told_map (g.D.Disks.past c.args.bios.now.disks.now) _ _
+    (λ now asked model good empty.
+    let setup = c.prompt_of-prompt.ensures model good.line good.lists.list now machine in
+    let message = c.message_of.ensures.message now machine in
+    keys_map g.I.Source _ _ _
+    (λ keys left comes.
+    asked_err now machine boot model size keys left c.ask.new.prompt.state c.in-Err.stop (memory_of c.args.ram.now) c.args.ram.now
+    (sink_of g.O.Sink c.args.out.now) (sink_of g.O.Sink c.ask.new.out) (sink_of g.O.Sink c.put.new.self)
+    (rw (setup, message) at comes) text)
+    asked)
+    c.in-Err.ensures.asked

@@ -1,0 +1,5 @@
+pub mod WayLemmas
+pub mod ChainLemmas
+pub mod PlaceLemmas
+pub mod ExtendLemmas
+pub mod ZoneLemmas

@@ -1,0 +1,28 @@
+use Rattle.std.proofs.Common.{length}
+use Rattle.disk_trait.proofs.MomentLemmas.{on_ok}
+use Rattle.minix_layout.specs.View.{kind_view}
+use Rattle.minix_steps.proofs.StepLemmas.{steps_join}
+use Rattle.minix_grow.proofs.ZoneLemmas.{data_stay, unused_stay, marked_after, written_after, written_of, are_grown}
+use Rattle.minix_grow.proofs.zones.make_zones.Goals as goal
+
+pub returns-clause-grown : goal.returns-clause-grown
+returns-clause-grown g c told =
+    let old = c.args.volume.now in
+    let one = c.mark_all.new.volume in
+    let two = c.settle.new.volume in
+    let three = c.write_all.new.volume in
+    let four = c.settle-2.new.volume in
+    let zones = c.args.growth.now in
+    let to_two = steps_join old one two c.requires.ready c.mark_all.ensures.steps c.settle.ensures.steps in
+    let to_three = steps_join old two three c.requires.ready to_two c.write_all.ensures.steps in
+    let all = steps_join old three four c.requires.ready to_three c.settle-2.ensures.steps in
+    let told_two = to_two.goes_on.told told in
+    let last = steps_join two three four to_two.ready c.write_all.ensures.steps c.settle-2.ensures.steps in
+    let kept = c.settle-2.ensures.syncs.kept in
+    let same = c.settle-2.ensures.syncs.flushes.same_now in
+    let marked_two = marked_after one two zones (length zones) c.settle.ensures.syncs.kept c.settle.ensures.syncs.flushes.same_now (c.in_ok-mark_all.ensures.marked told) in
+    on_ok c.settle-2.result _ _ c.settle-2.ensures.begun
+    (λ durable. are_grown four c.args.block zones (data_stay old four zones all.kept c.requires.data) (unused_stay old four zones all c.requires.unused) (all.goes_on.told told) durable
+    (marked_after three four zones (length zones) kept same (c.in_ok-write_all.ensures.marked told_two marked_two))
+    (written_of two four four c.args.block zones (length zones) last.kept
+    (written_after three four zones (length zones) kept same (kind_view two.layout.kind) c.args.block (c.in_ok-write_all.ensures.written told_two))))

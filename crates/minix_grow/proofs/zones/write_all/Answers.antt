@@ -1,0 +1,34 @@
+use Rattle.std.proofs.Common.{◌≡◌, refl, arith}
+use Rattle.minix_grow.specs.Way.{grown_bytes}
+use Rattle.minix_layout.specs.View.{kind_view}
+use Rattle.minix_steps.proofs.StepLemmas.{steps_join}
+use Rattle.minix_grow.proofs.ZoneLemmas.{no_steps, data_stay, written_more, marked_stay}
+use Rattle.minix_grow.proofs.zones.write_all.Goals as goal
+
+pub loop-level-init : goal.loop-level-init
+loop-level-init g c = record {
+  steps = no_steps c.args.volume.now c.requires.ready;
+  written = λ told level low. absurd (omega (arith, low));
+  marked = λ told marked. marked;
+  later = omega arith;
+}
+
+pub returns-in_err-write_zone-clause-steps : goal.returns-in_err-write_zone-clause-steps
+returns-in_err-write_zone-clause-steps g c =
+    steps_join c.args.volume.now c.loop-level.volume c.write_zone.new.volume c.requires.ready c.loop-level.invariant.steps c.write_zone.ensures.steps
+
+pub loop-level-preserved : goal.loop-level-preserved
+loop-level-preserved g c =
+    let steps = steps_join c.args.volume.now c.loop-level.volume c.write_zone.new.volume c.requires.ready c.loop-level.invariant.steps c.write_zone.ensures.steps in
+    let those = data_stay c.args.volume.now c.loop-level.volume c.args.growth.now c.loop-level.invariant.steps.kept c.requires.data in
+    let bytes : c.grown_bytes-bytes.result ≡ grown_bytes (kind_view c.args.volume.now.layout.kind) c.args.block c.args.growth.now c.loop-level.level = rw c.layout.ensures.value at c.grown_bytes-bytes.ensures in
+    record {
+      steps = steps;
+      written = λ told.
+          written_more c.loop-level.volume c.write_zone.new.volume c.args.growth.now c.loop-level.level _ those refl c.loop-level-test.true _ (c.in_ok-write_zone.ensures.parts (c.loop-level.invariant.steps.goes_on.told told))
+          (kind_view c.args.volume.now.layout.kind) c.args.block bytes (c.loop-level.invariant.written told);
+      marked = λ told marked.
+          marked_stay c.loop-level.volume c.write_zone.new.volume c.args.growth.now c.loop-level.level _ those refl c.loop-level-test.true _ (c.in_ok-write_zone.ensures.parts (c.loop-level.invariant.steps.goes_on.told told))
+          _ (omega arith) (c.loop-level.invariant.marked told marked);
+      later = let a = c.loop-level.invariant.later in let b = c.write_zone.ensures.steps.goes_on.later in omega (arith, a, b);
+    }

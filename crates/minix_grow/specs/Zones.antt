@@ -1,0 +1,32 @@
+-- New zones, the lowest first, as a volume has them now.
+use Rattle.std.specs.Prelude.{◌≡◌, ◌≢◌, ◌≤◌, ◌<◌, ℕ, true, List, length, slice_index}
+use Rattle.disk_trait.specs.declared.disks.Disks.{Ghosts}
+use Rattle.lilo_model.specs.MinixLayout.{Kind}
+use Rattle.minix_layout.specs.View.{super_view}
+use Rattle.minix_layout.specs.declared.superblock.Super.{Super}
+use Rattle.minix_steps.specs.Steps.{IsUnusedZone}
+use Rattle.minix_steps.specs.Written.{parts_now}
+use Rattle.minix_zones.specs.declared.volume.Volume.{Volume}
+use Rattle.minix_grow.specs.Way.{grown_bytes, AreGrown}
+
+-- they are data zones, each another one
+pub record AreData (layout : Super) (zones : List ℕ) : Type 0 where
+  pub from : (level : ℕ) → level < length zones → layout.first ≤ slice_index zones level
+  pub below : (level : ℕ) → level < length zones → slice_index zones level < layout.zones
+  pub apart : (level other : ℕ) → level < other → other < length zones → slice_index zones other ≢ slice_index zones level
+
+-- no named inode referred to one of them at the last flush
+abbrev pub AreUnused : {D : Type 0} {disks : Ghosts D} → Volume D disks → List ℕ → Type 0
+AreUnused volume zones = (level : ℕ) → level < length zones → IsUnusedZone volume (slice_index zones level)
+
+-- the first ones are marked
+abbrev pub AreMarked : {D : Type 0} {disks : Ghosts D} → Volume D disks → List ℕ → ℕ → Type 0
+AreMarked volume zones count = (level : ℕ) → level < count → (parts_now volume).has_zone (slice_index zones level) ≡ true
+
+-- they hold what completes the way to a block
+abbrev pub AreWritten : {D : Type 0} {disks : Ghosts D} → Kind → Volume D disks → ℕ → List ℕ → ℕ → Type 0
+AreWritten kind volume block zones count = (level : ℕ) → level < count → (parts_now volume).zone (slice_index zones level) ≡ grown_bytes kind block zones level
+
+-- and complete it
+abbrev pub AreGrownNow : {D : Type 0} {disks : Ghosts D} → Volume D disks → ℕ → List ℕ → Type 0
+AreGrownNow volume block zones = AreGrown (super_view volume.layout) (parts_now volume) block zones (length zones)

@@ -1,0 +1,10 @@
+//! Directories of a Minix volume that grow, versions 1 and 2.
+#![tactic(auto)]
+
+mod extend;
+mod places;
+mod way;
+mod zones;
+
+pub use extend::extend_in_zone;
+pub use zones::make_zones;

@@ -13,7 +13,7 @@ use Rattle.minix_grow.specs.Way.{index_above, zones_below, grown_bytes, AreGrown
 
 module _ (super : Super) (parts : Parts) (block : ℕ) (growth : List ℕ) (count : ℕ) (grown : AreGrown super parts block growth count) (small : (level : ℕ) → level < count → slice_index growth level < 256 ^ number_size super.kind)
     (per : 0 < numbers_in_zone super.kind) where
-  holds : (level : ℕ) → suc level < count → HoldsOnly super parts (slice_index growth (suc level)) (record { index = index_above super.kind block level; zone = slice_index growth level })
+  pub holds : (level : ℕ) → suc level < count → HoldsOnly super parts (slice_index growth (suc level)) (record { index = index_above super.kind block level; zone = slice_index growth level })
   unfolding grown_bytes
   holds level low =
       let lower : level < count = omega (arith, low) in

@@ -3,3 +3,4 @@ pub mod ChainLemmas
 pub mod PlaceLemmas
 pub mod ExtendLemmas
 pub mod ZoneLemmas
+pub mod HookLemmas

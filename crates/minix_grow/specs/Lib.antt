@@ -1,3 +1,4 @@
 pub mod Way
 pub mod Places
 pub mod Zones
+pub mod Hook

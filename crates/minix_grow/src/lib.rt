@@ -2,9 +2,11 @@
 #![tactic(auto)]
 
 mod extend;
+mod hook;
 mod places;
 mod way;
 mod zones;
 
 pub use extend::extend_in_zone;
+pub use hook::hook_in_inode;
 pub use zones::make_zones;

@@ -1,9 +1,10 @@
 // The way to a block of a directory.
 ghost use Rattle.std.specs.Prelude.{◌≡◌, ◌≤◌, ◌<◌};
-ghost use Rattle.lilo_model.specs.MinixLayout.{numbers_in_zone};
+ghost use Rattle.lilo_model.specs.MinixLayout.{numbers_in_zone, reach};
 ghost use Rattle.lilo_model.specs.MinixWalk.{branch_of};
 ghost use Rattle.minix_grow.specs.Way.{depth_of, index_above};
 ghost use Rattle.minix_layout.specs.View.{kind_view};
+ghost use Rattle.minix_turns.specs.Inode.{tops};
 
 use minix_layout::FsKind;
 
@@ -30,6 +31,7 @@ pub(crate) fn branch_of(kind: FsKind, block: u32) -> Branch
         ≡ record { top = result.top; first = result.first; depth = result.depth } }
     ensures begins { result.first ≤ block }
     ensures ten { result.top < 10 }
+    ensures reached { block < reach (kind_view kind) → result.top < tops (kind_view kind) }
     ensures deep { result.depth ≤ 3 }
 {
     let per = numbers_in_zone(kind);

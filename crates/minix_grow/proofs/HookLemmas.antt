@@ -1,0 +1,215 @@
+-- A directory that gets new zones by a number in its inode.
+use Rattle.std.proofs.Common.{◌≡◌, ◌≢◌, ◌<◌, ◌+◌, ◌/◌, ◌%◌, ◌^◌, ◌==◌, ℕ, zero, suc, Bool, true, false, List, [], length, replicate, Result, OnOk, refl, sym, ◌∙◌, ap, subst, subst₂, arith, get_or-set_same}
+use Rattle.std.specs.Prelude.{slice_index}
+use Rattle.std.proofs.lemmas.Bool.{eqb-true}
+use Rattle.disk_trait.specs.declared.disks.Disks.{Ghosts}
+use Rattle.disk_trait.specs.Past.{Image}
+use Rattle.disk_trait.specs.Moments.{IsTold, now}
+use Rattle.disk_trait.proofs.MomentLemmas.{on_ok}
+use Rattle.lilo_model.specs.MinixEntries.{entry_in, entries_per_block, places}
+use Rattle.lilo_model.specs.MinixLayout.{Kind, V1Short, V1Long, V2Short, V2Long, Super, Inode, FitsInode, inode_place, is_size, numbers_in_zone, number_size}
+use Rattle.lilo_model.specs.MinixNames.{pointer, zone_number, block, entry, Named}
+use Rattle.lilo_model.specs.MinixParts as model
+use Rattle.lilo_model.specs.MinixParts.{Parts, Pointer, IsPointer, block_pointer, follow, number_below, number_in, zone_bytes, is_directory}
+use Rattle.lilo_model.specs.MinixWalk.{Branch, branch_of}
+use Rattle.minix_growth_laws.specs.Changes.{ChangesNode, MayHook, with_top}
+use Rattle.minix_growth_laws.specs.Grows.{pointer_at, below, down}
+use Rattle.minix_growth_laws.proofs.Zeros.{entry-zeros}
+use Rattle.minix_laws.proofs.Pointers.{pointer_law}
+use Rattle.minix_layout.specs.View.{kind_view, super_view}
+use Rattle.minix_sees_laws.specs.Sees.{SeenAsIn}
+use Rattle.minix_sees_laws.proofs.Sees.{directory-same, named-new}
+use Rattle.minix_steps.specs.Written.{with_sector_of, inode_rewritten, parts_now}
+use Rattle.minix_tree.proofs.StatLemmas.{blocks_reached}
+use Rattle.minix_turns.specs.Inode.{TurnsInode, FitsTop, tops, IsNamedNow, MayHaveTop}
+use Rattle.minix_turns.specs.Joined.{Unseen}
+use Rattle.minix_turns.proofs.SeenLemmas.{node_top}
+use Rattle.minix_zones.specs.Volume.{volume_view, past_of}
+use Rattle.minix_zones.specs.declared.volume.Volume.{Volume}
+use Rattle.minix_zones.specs.declared.zone_fault.ZoneFault.{ZoneFault}
+use Rattle.minix_zones.specs.declared.zone_fault.ZoneFault.TheVariants.{Device}
+use Rattle.minix_grow.specs.Hook.{MayHookTopNow}
+use Rattle.minix_grow.specs.Places.{IsFreePlace, IsFreePlaceNow}
+use Rattle.minix_grow.specs.Way.{depth_of, pointer_above, index_above, number_above, zones_below, grown_bytes, AreGrown}
+use Rattle.minix_grow.specs.Zones.{AreData, AreGrownNow}
+use Rattle.minix_grow.proofs.ChainLemmas.{holds, chain}
+use Rattle.minix_grow.proofs.ExtendLemmas.{view_after}
+use Rattle.minix_grow.proofs.WayLemmas.{pointer_below, pointer_highest, pointer_lowest, down_below}
+use Rattle.minix_grow.proofs.ZoneLemmas.{zones_fit}
+
+per_some : (kind : Kind) → 0 < numbers_in_zone kind
+per_some V1Short = omega arith
+per_some V1Long = omega arith
+per_some V2Short = omega arith
+per_some V2Long = omega arith
+
+module _ (super : Super) (parts : Parts) (directory place-block : ℕ) (growth : List ℕ) (grown : AreGrown super parts place-block growth (suc (depth_of super.kind place-block)))
+    (small : (level : ℕ) → level < suc (depth_of super.kind place-block) → slice_index growth level < 256 ^ number_size super.kind) where
+  abbrev Depth : ℕ
+  Depth = depth_of super.kind place-block
+
+  abbrev Top : Pointer
+  Top = pointer_at (branch_of (numbers_in_zone super.kind) place-block).top []
+
+  down-top : down Top (zones_below super.kind place-block growth Depth) ≡ block_pointer super.kind place-block
+  down-top =
+      ap (λ at. down at (zones_below super.kind place-block growth Depth)) (sym (pointer_highest super.kind place-block))
+      ∙ (down_below super.kind place-block growth Depth (omega arith) ∙ pointer_lowest super.kind place-block)
+
+  -- the way begins with a number of the inode
+  pub may_hook_top : Named super parts directory → is_directory (parts.node directory) ≡ true → number_above super parts directory place-block Depth ≡ 0
+      → MayHook super parts directory Top (slice_index growth Depth) (zones_below super.kind place-block growth Depth)
+  may_hook_top named is hole = record {
+    named = named;
+    is = is;
+    place = subst (IsPointer super.kind) (sym down-top) ((pointer_law super.kind).is place-block);
+    hole = ap (pointer super parts directory) (sym (pointer_highest super.kind place-block)) ∙ hole;
+    some = grown.some Depth (omega arith);
+    fresh = grown.fresh Depth (omega arith);
+    chain = chain super parts place-block growth (suc Depth) grown small (per_some super.kind) Depth (omega arith);
+  }
+
+  -- in parts where these zones stay and the number of the highest one is found, that of each is
+  module _ (new : Parts) (zones : (level : ℕ) → level < suc Depth → new.zone (slice_index growth level) ≡ parts.zone (slice_index growth level)) where
+    below-by : (zone index : ℕ) → zone ≢ 0 → (hole : Bool) → (zone == 0) ≡ hole → number_below super.kind new.zone zone index ≡ number_in super.kind (new.zone zone) index
+    below-by zone index some true hole = absurd (some (eqb-true zone 0 hole))
+    below-by zone index some false hole = rw hole refl
+
+    step : (level : ℕ) → suc level < suc Depth → pointer super new directory (pointer_above super.kind place-block (suc level)) ≡ slice_index growth (suc level)
+        → pointer super new directory (below (pointer_above super.kind place-block (suc level)) (index_above super.kind place-block level)) ≡ slice_index growth level
+    unfolding follow
+    step level low upper =
+        let index : ℕ = index_above super.kind place-block level in
+        ap (λ z. number_below super.kind new.zone z index) upper
+        ∙ (below-by (slice_index growth (suc level)) index (grown.some (suc level) low) _ refl
+        ∙ (ap (λ b. number_in super.kind b index) (zones (suc level) low) ∙ (holds super parts place-block growth (suc Depth) grown small (per_some super.kind) level low).here))
+
+    leads : (level more : ℕ) → level + more ≡ Depth → pointer super new directory (pointer_above super.kind place-block Depth) ≡ slice_index growth Depth
+        → pointer super new directory (pointer_above super.kind place-block level) ≡ slice_index growth level
+    leads level zero same top =
+        let e : Depth ≡ level = omega (arith, same) in
+        let P : ℕ → Type 0 = λ l. pointer super new directory (pointer_above super.kind place-block l) ≡ slice_index growth l in
+        subst P e top
+    leads level (suc more) same top =
+        let upper = leads (suc level) more (omega (arith, same)) top in
+        let low : level < Depth = omega (arith, same) in
+        ap (pointer super new directory) (pointer_below super.kind place-block level low) ∙ step level (omega (arith, low)) upper
+
+    module _ (place : ℕ) (here : place / entries_per_block super.kind ≡ place-block) (top : pointer super new directory Top ≡ slice_index growth Depth) where
+      lowest : zone_number super new directory place-block ≡ slice_index growth 0
+      unfolding zone_number
+      lowest =
+          ap (pointer super new directory) (sym (pointer_lowest super.kind place-block))
+          ∙ leads 0 Depth (omega arith) (ap (pointer super new directory) (pointer_highest super.kind place-block) ∙ top)
+
+      pub some_zone : zone_number super new directory (place / entries_per_block super.kind) ≢ 0
+      some_zone none = grown.some 0 (omega arith) (sym lowest ∙ (ap (zone_number super new directory) (sym here) ∙ none))
+
+      bytes-by : (hole : Bool) → (slice_index growth 0 == 0) ≡ hole → zone_bytes new (slice_index growth 0) ≡ replicate 1024 0
+      unfolding grown_bytes
+      bytes-by true hole = absurd (grown.some 0 (omega arith) (eqb-true (slice_index growth 0) 0 hole))
+      bytes-by false hole = rw hole (zones 0 (omega arith) ∙ grown.bytes 0 (omega arith))
+
+      pub entry_free : (entry super new directory place).inode ≡ 0
+      unfolding entry block
+      entry_free =
+          let E : List ℕ → ℕ = λ bytes. (entry_in super.kind bytes (place % entries_per_block super.kind)).inode in
+          let B : ℕ → List ℕ = λ index. zone_bytes new (zone_number super new directory index) in
+          ap E (ap B here ∙ (ap (zone_bytes new) lowest ∙ bytes-by _ refl)) ∙ entry-zeros super.kind (place % entries_per_block super.kind)
+
+-- an inode that was written with another number and size is so
+module _ {D E : Type 0} {disks : Ghosts D} (old new : Volume D disks) (directory top zone size : ℕ) (node : Inode) (error : E) (fits : FitsInode (super_view old.layout).kind node) (fit : FitsTop (super_view old.layout).kind top zone)
+    (small : size < 2 ^ 32) (sized : is_size (super_view old.layout).kind size ≡ true) where
+  abbrev Changes : Image → Inode → Type 0
+  Changes image inode = ChangesNode (super_view old.layout) (parts_now old) (model.parts_of (volume_view old) image) directory (with_top inode top zone size)
+
+  abbrev Retopped : Inode → Image
+  Retopped inode = with_sector_of (volume_view old) (now (past_of old)) (inode_place (super_view old.layout) directory).sector (inode_rewritten old directory (with_top inode top zone size))
+
+  retopped : IsNamedNow old directory node → Changes (Retopped node) node
+  retopped lies =
+      let own : FitsInode (super_view old.layout).kind ((parts_now old).node directory) = subst (FitsInode (super_view old.layout).kind) (sym lies.is) fits in
+      let P : Inode → Type 0 = λ i. Changes (Retopped i) i in
+      subst P lies.is (node_top (volume_view old) (now (past_of old)) old.whole lies.sound directory lies.named own top zone size fit small sized)
+
+  pub top_changes : (result : Result (Unit {0}) E) → TurnsInode old new directory (with_top node top zone size) error result → IsTold (past_of old) → IsNamedNow old directory node
+      → OnOk result (Changes (now (past_of new)) node)
+  top_changes result turns told lies = on_ok result _ _ (turns.written told) (λ is. let P : Image → Type 0 = λ image. Changes image node in subst P (sym is) (retopped lies))
+
+-- then each place of the block that lies below the size is free
+module _ (view : model.Volume) (old image : Image) (directory place-block size : ℕ) (node : Inode) (growth : List ℕ)
+    (grown : AreGrown view.layout (model.parts_of view old) place-block growth (suc (depth_of view.layout.kind place-block)))
+    (fit : (level : ℕ) → level < suc (depth_of view.layout.kind place-block) → slice_index growth level < 256 ^ number_size view.layout.kind)
+    (named : Named view.layout (model.parts_of view old) directory) (is : is_directory ((model.parts_of view old).node directory) ≡ true) (seen : SeenAsIn view old image)
+    (ten : (branch_of (numbers_in_zone view.layout.kind) place-block).top < length node.zones) (small : size < 2 ^ 32) (sized : is_size view.layout.kind size ≡ true)
+    (change : ChangesNode view.layout (model.parts_of view old) (model.parts_of view image) directory (with_top node (branch_of (numbers_in_zone view.layout.kind) place-block).top (slice_index growth (depth_of view.layout.kind place-block)) size)) where
+  abbrev Is : Parts
+  Is = model.parts_of view image
+
+  top-is : pointer view.layout Is directory (pointer_at (branch_of (numbers_in_zone view.layout.kind) place-block).top []) ≡ slice_index growth (depth_of view.layout.kind place-block)
+  unfolding follow
+  top-is = ap (λ (i : Inode). slice_index i.zones (branch_of (numbers_in_zone view.layout.kind) place-block).top) change.here ∙ rw get_or-set_same refl
+
+  zones-stay : (level : ℕ) → level < suc (depth_of view.layout.kind place-block) → Is.zone (slice_index growth level) ≡ (model.parts_of view old).zone (slice_index growth level)
+  zones-stay level low = change.zones (slice_index growth level) (grown.fresh level low).range
+
+  pub hooked_is_free : (place : ℕ) → place / entries_per_block view.layout.kind ≡ place-block → place < places view.layout.kind size → IsFreePlace view image directory place
+  hooked_is_free place here below =
+      let size-is : (Is.node directory).size ≡ size = ap (λ (i : Inode). i.size) change.here in
+      record {
+        placed = record {
+          named = named-new view.layout (model.parts_of view old) Is seen.sees directory named;
+          is = directory-same view.layout (model.parts_of view old) Is seen.sees directory named ∙ is;
+          reached = rw size-is (blocks_reached view.layout.kind size small sized);
+          below = rw size-is below;
+          some = some_zone view.layout (model.parts_of view old) directory place-block growth grown fit Is zones-stay place here top-is;
+        };
+        free = entry_free view.layout (model.parts_of view old) directory place-block growth grown fit Is zones-stay place here top-is;
+      }
+
+-- ---- on a volume, with the branch of the block as it was found
+
+module _ {D : Type 0} {disks : Ghosts D} (old new : Volume D disks) (directory place-block size top first depth : ℕ) (node : Inode) (growth : List ℕ)
+    (branch : branch_of (numbers_in_zone (kind_view old.layout.kind)) place-block ≡ record { top = top; first = first; depth = depth })
+    (all : length growth ≡ depth_of (kind_view old.layout.kind) place-block + 1) (those : AreData old.layout growth)
+    (grown : IsTold (past_of old) → AreGrownNow old place-block growth) (may : IsTold (past_of old) → MayHookTopNow old directory node place-block size) where
+  top-same : (branch_of (numbers_in_zone (kind_view old.layout.kind)) place-block).top ≡ top
+  top-same = ap (λ (b : Branch). b.top) branch
+
+  depth-same : depth_of (kind_view old.layout.kind) place-block ≡ depth
+  depth-same = ap (λ (b : Branch). b.depth) branch
+
+  grown-all : IsTold (past_of old) → AreGrown (super_view old.layout) (parts_now old) place-block growth (suc (depth_of (kind_view old.layout.kind) place-block))
+  grown-all told =
+      let e : length growth ≡ suc (depth_of (kind_view old.layout.kind) place-block) = omega (arith, all) in
+      let P : ℕ → Type 0 = λ count. AreGrown (super_view old.layout) (parts_now old) place-block growth count in
+      subst P e (grown told)
+
+  fit-all : (level : ℕ) → level < suc (depth_of (kind_view old.layout.kind) place-block) → slice_index growth level < 256 ^ number_size (kind_view old.layout.kind)
+  fit-all level low = zones_fit old.layout old.span.count growth old.whole those level (omega (arith, low, all))
+
+  pub may_have_top : IsTold (past_of old) → MayHaveTop old directory node top (slice_index growth depth) size (zones_below (kind_view old.layout.kind) place-block growth (depth_of (kind_view old.layout.kind) place-block))
+  may_have_top told =
+      let P : ℕ → ℕ → Type 0 = λ t d. MayHaveTop old directory node t (slice_index growth d) size (zones_below (kind_view old.layout.kind) place-block growth (depth_of (kind_view old.layout.kind) place-block)) in
+      subst₂ P top-same depth-same (record {
+        lies = (may told).lies;
+        hooks = may_hook_top (super_view old.layout) (parts_now old) directory place-block growth (grown-all told) fit-all (may told).lies.named (may told).is (may told).hole;
+        sized = (may told).sized;
+      })
+
+  pub places_are_free : FitsInode (kind_view old.layout.kind) node → top < 10 → top < tops (kind_view old.layout.kind) → size < 2 ^ 32 → is_size (kind_view old.layout.kind) size ≡ true
+      → (result : Result (Unit {0}) ZoneFault) → TurnsInode old new directory (with_top node top (slice_index growth depth) size) Device result → Unseen old new
+      → (place : ℕ) → IsTold (past_of old) → place / entries_per_block (kind_view old.layout.kind) ≡ place-block → place < places (kind_view old.layout.kind) size
+      → OnOk result (IsFreePlaceNow new directory place)
+  places_are_free fits ten low small sized result turns unseen place told here below =
+      let fit : FitsTop (kind_view old.layout.kind) top (slice_index growth depth) = record {
+        low = low;
+        small = fit-all depth (omega (arith, depth-same));
+      } in
+      let C : ℕ → ℕ → Type 0 = λ t d. ChangesNode (super_view old.layout) (parts_now old) (model.parts_of (volume_view old) (now (past_of new))) directory (with_top node t (slice_index growth d) size) in
+      let F : model.Volume → Type 0 = λ view. IsFreePlace view (now (past_of new)) directory place in
+      let long : (branch_of (numbers_in_zone (kind_view old.layout.kind)) place-block).top < length node.zones = let n = fits.ten in omega (arith, ten, n, top-same) in
+      on_ok result _ _ (top_changes old new directory top (slice_index growth depth) size node Device fits fit small sized result turns told (may told).lies)
+      (λ change. view_after old new F unseen
+      (hooked_is_free (volume_view old) (now (past_of old)) (now (past_of new)) directory place-block size node growth (grown-all told) fit-all (may told).lies.named (may told).is (unseen.held told) long small sized
+      (subst₂ C (sym top-same) (sym depth-same) change) place here below))

@@ -1,0 +1,55 @@
+// New zones that a directory gets by a number in its inode.
+ghost use Rattle.std.specs.Prelude.{◌≡◌, ◌+◌, ◌/◌, ◌≤◌, ◌<◌, ◌^◌, true, length, OnOk};
+ghost use Rattle.disk_trait.specs.Moments.{IsTold, IsQuiet};
+ghost use Rattle.lilo_model.specs.MinixEntries.{entries_per_block, places};
+ghost use Rattle.lilo_model.specs.MinixLayout.{FitsInode, is_size, reach};
+ghost use Rattle.minix_grow.specs.Hook.{MayHookTopNow};
+ghost use Rattle.minix_grow.specs.Places.{IsFreePlaceNow};
+ghost use Rattle.minix_grow.specs.Way.{depth_of};
+ghost use Rattle.minix_grow.specs.Zones.{AreData, AreGrownNow};
+ghost use Rattle.minix_layout.specs.View.{kind_view, inode_view};
+ghost use Rattle.minix_turns.specs.Joined.{Unseen};
+ghost use Rattle.minix_zones.specs.Volume.{past_of, HasDeviceCause};
+
+use crate::way::branch_of;
+use disk_trait::Disks;
+use minix_layout::Inode;
+use minix_turns::turn_pointer;
+use minix_zones::{Volume, ZoneFault};
+
+/// Writes the number of the highest of the new zones that complete the way to a place of a directory into the
+/// directory's inode, with a size at once, and makes that durable. No name sees it at any moment.
+///
+/// # Errors
+///
+/// `Device` alone.
+pub fn hook_in_inode<D: Disks>(
+    volume: &mut Volume<'_, D>,
+    directory: u32,
+    node: &Inode,
+    block: u32,
+    growth: &[u32],
+    size: u32,
+) -> Result<(), ZoneFault>
+    requires some { 1 ≤ directory }
+    requires there { directory ≤ volume.old.layout.inodes }
+    requires fits { FitsInode (kind_view volume.old.layout.kind) (inode_view node.now) }
+    requires near { block < reach (kind_view volume.old.layout.kind) }
+    requires all { length growth.now ≡ depth_of (kind_view volume.old.layout.kind) block + 1 }
+    requires data { AreData volume.old.layout growth.now }
+    requires sized { is_size (kind_view volume.old.layout.kind) size ≡ true }
+    requires quiet { IsQuiet (past_of volume.old) }
+    requires grown { IsTold (past_of volume.old) → AreGrownNow volume.old block growth.now }
+    requires may { IsTold (past_of volume.old) → MayHookTopNow volume.old directory (inode_view node.now) block size }
+    ensures unseen { Unseen volume.old volume.new }
+    ensures places { (place : _) → IsTold (past_of volume.old)
+        → place / entries_per_block (kind_view volume.old.layout.kind) ≡ block
+        → place < places (kind_view volume.old.layout.kind) size
+        → OnOk result (IsFreePlaceNow volume.new directory place) }
+    ensures quiet { OnOk result (IsQuiet (past_of volume.new)) }
+    ensures device { HasDeviceCause volume.old volume.new ZoneFault.Device result }
+{
+    let branch = branch_of(volume.layout().kind, block);
+    let zone = growth[branch.depth as usize];
+    turn_pointer(volume, directory, node, branch.top, zone, size)
+}

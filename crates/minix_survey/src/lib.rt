@@ -5,8 +5,8 @@
 //! directory. What was found stays: who owns a zone, how many names an inode has, which zones have numbers of zones.
 //!
 //! A survey takes memory for each zone and each inode that is in use, and for each name. It reads an inode once for
-//! each of its names, each block of a directory once, an indirect zone once for each number in it, and a sector of a
-//! bitmap for each mark that it tests.
+//! each of its names, and each block of a directory and each indirect zone once. The volume holds the sectors that were
+//! read last, so that neighbouring inodes, and the bits of neighbouring zones, mostly cost one read.
 #![tactic(auto)]
 
 mod findings;

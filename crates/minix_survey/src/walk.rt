@@ -8,6 +8,7 @@ ghost use Rattle.lilo_model.specs.MinixParts.{parts_of, is_directory, has_zones,
 ghost use Rattle.lilo_model.specs.MinixEntries.{is_dots, entries_per_block};
 ghost use Rattle.lilo_model.specs.MinixSurvey.{Reaches, Refers, Stands, Ends, with_zones, zones_of, right_inode};
 ghost use Rattle.minix_layout.specs.View.{kind_view, super_view, inode_view};
+ghost use Rattle.minix_zones.specs.Held.{AreHeld};
 ghost use Rattle.minix_zones.specs.View.{IsDataZone};
 ghost use Rattle.minix_zones.specs.Volume.{volume_view, past_of, faults_of, SameVolume};
 ghost use Rattle.minix_zones.specs.Walk.{visit_view, rest_of, turns_left};
@@ -30,7 +31,7 @@ use minix_tree::{
     DirEntry, TreeFault, directory_blocks, entries_per_block, entry_at, is_directory, is_file,
     is_link, places, stat_of,
 };
-use minix_zones::{Visit, Volume, Walk, ZoneFault, read_at};
+use minix_zones::{HeldZones, Visit, Volume, Walk, ZoneFault, read_at};
 use std::alloc::Global;
 
 /// Directories are nested below at most so many others, the root counted.
@@ -48,6 +49,7 @@ pub fn survey<D: Disks>(alloc: Global, volume: &mut Volume<'_, D>) -> Result<Fin
     ensures later { faults_of volume.old ≤ faults_of volume.new }
     ensures same { SameVolume volume.old volume.new }
 {
+    volume.hold_sectors();
     survey_root(alloc, volume)
 }
 
@@ -131,7 +133,8 @@ fn meet_zones<D: Disks>(
         return Ok(());
     }
     let mut walk = Walk::new(node, volume.layout().kind);
-    while let Some(visit) = next_zone(volume, &mut walk)? {
+    let mut held = HeldZones::of(volume);
+    while let Some(visit) = next_zone(volume, &mut walk, &mut held)? {
         meet_zone(volume, tables, inode, visit)?;
     }
     Ok(())
@@ -431,17 +434,20 @@ fn read_block<D: Disks>(
 fn next_zone<D: Disks>(
     volume: &mut Volume<'_, D>,
     walk: &mut Walk,
+    held: &mut HeldZones,
 ) -> Result<Option<Visit>, SurveyFault>
+    requires { AreHeld volume.old held.old }
     ensures meets { Told (past_of volume.old) (λ now. WalksOn result
         (rest_of (super_view volume.old.layout) (parts_of (volume_view volume.old) now) walk.old)
         (rest_of (super_view volume.old.layout) (parts_of (volume_view volume.old) now) walk.new)) }
     ensures data { IfOk result (λ met. IfSome met (λ visit. IsDataZone volume.old.layout visit.zone)) }
+    ensures held { AreHeld volume.new held.new }
     ensures fewer { IfOk result (λ met. OnSome met (turns_left walk.new < turns_left walk.old)) }
     ensures cause { IfErr result (HasSurveyCause (faults_of volume.old) (faults_of volume.new)) }
     ensures later { faults_of volume.old ≤ faults_of volume.new }
     ensures same { SameVolume volume.old volume.new }
 {
-    match walk.next(volume) {
+    match walk.next_held(volume, held) {
         Ok(visit) => Ok(visit),
         Err(fault) => Err(SurveyFault::Tree(TreeFault::Zone(fault))),
     }

@@ -1,7 +1,7 @@
 -- What a cursor takes of the sectors that are left.
 use Rattle.std.proofs.Common.{◌≡◌, ◌<◌, ℕ, zero, suc, ◌+◌, Bool, true, false, List, [], ◌∷◌, length, drop, Option, Some, None, Result, Ok, Err, refl, sym, ap, ◌∙◌, arith}
 use Rattle.std.specs.Result.{result_ok}
-use Rattle.lilo_model.specs.Checks.{◌>>=◌, each}
+use Rattle.lilo_model.specs.Checks.{◌>>=◌}
 use Rattle.lilo_model.specs.Disks.{DiskSector, Geometry}
 use Rattle.lilo_model.specs.Slots.{Slot, Mode, AddressFault, slot_make, could_be_one}
 use Rattle.lilo_model.specs.Plan.{joined_slots, compact_slots}

@@ -1,6 +1,6 @@
 -- The sectors of runs from a place on.
-use Rattle.std.proofs.Common.{◌≡◌, ◌≤◌, ◌<◌, ℕ, zero, suc, ◌+◌, ◌-◌, List, [], ◌∷◌, ◌++◌, length, map, take, drop, get_or, replicate, Option, Some, None, add-one, drop-cons, drop-drop, refl, sym, ap, ◌∙◌, arith}
-use Rattle.std.proofs.lemmas.List.{map-append, length-map, drop_all}
+use Rattle.std.proofs.Common.{◌≡◌, ◌≤◌, ◌<◌, ℕ, zero, suc, ◌+◌, ◌-◌, List, [], ◌∷◌, ◌++◌, length, drop, get_or, replicate, None, add-one, drop-cons, refl, sym, ap, ◌∙◌, arith}
+use Rattle.std.proofs.lemmas.List.{map-append, drop_all}
 use Rattle.std.proofs.Math.Seq.{drop-append-add, drop-nil}
 use Rattle.lilo_model.specs.Disks.{DiskSector}
 use Rattle.lilo_model.specs.Plan.{filled_places}

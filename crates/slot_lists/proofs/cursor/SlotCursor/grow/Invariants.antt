@@ -1,4 +1,4 @@
-use Rattle.std.proofs.Common.{◌≡◌, ◌-◌, ℕ}
+use Rattle.std.proofs.Common.{◌≡◌, ◌-◌}
 use Rattle.sector_address.specs.View.{mode_view, geometry_view, slot_view}
 use Rattle.slot_lists.specs.Made.{place_view, IsWritable}
 use Rattle.slot_lists.specs.Cursor.{left_of, grown, SameKind}

@@ -1,5 +1,5 @@
 -- The slot of the next sector is made, and grows where slots are joined.
-use Rattle.std.proofs.Common.{◌≡◌, ◌∙◌, true, false, length, Ok, Some, refl, sym, ap, arith}
+use Rattle.std.proofs.Common.{◌∙◌, true, false, length, Ok, Some, refl, sym, ap, arith}
 use Rattle.slot_lists.specs.Made.{place_view}
 use Rattle.slot_lists.specs.Cursor.{left_of, Answered}
 use Rattle.slot_lists.proofs.CursorLemmas.{next-with}

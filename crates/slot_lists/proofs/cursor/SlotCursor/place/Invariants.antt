@@ -1,4 +1,4 @@
-use Rattle.std.proofs.Common.{◌≡◌, ◌-◌, ℕ, length}
+use Rattle.std.proofs.Common.{◌≡◌, ◌-◌, length}
 use Rattle.slot_lists.specs.Made.{place_view}
 use Rattle.slot_lists.specs.Cursor.{left_of, SameKind}
 use Rattle.slot_lists.proofs.cursor.SlotCursor.place.Given as goal

@@ -1,14 +1,15 @@
 -- What indirect zones and the inode of a new file change of the parts of a volume.
-use Rattle.std.proofs.Common.{◌≡◌, ◌≢◌, ◌≤◌, ◌<◌, ◌+◌, ◌^◌, ℕ, zero, suc, Bool, true, false, List, [], ◌∷◌, length, take, All, refl, sym, ap, ◌∙◌, subst, lit<, arith, ⊎_elim}
+use Rattle.std.proofs.Common.{◌≡◌, ◌≢◌, ◌≤◌, ◌<◌, ◌+◌, ◌^◌, ℕ, zero, suc, List, [], ◌∷◌, All, refl, sym, ap, ◌∙◌, subst, lit<, arith, ⊎_elim}
 use Rattle.std.specs.Prelude.{slice_index, if◌then◌else◌}
 use Rattle.std.proofs.lemmas.Bool.{cases_eq, cases_lt}
-use Rattle.lilo_model.specs.MinixLayout.{Kind, V1Short, V1Long, V2Short, V2Long, Super, Inode, FitsInode, IsSuper, is_v1, is_size, number_size, numbers_in_zone, most_links, inode_of, inode_bytes, kept_inode}
+use Rattle.lilo_model.specs.MinixLayout.{Kind, V1Short, V1Long, V2Short, V2Long, Super, Inode, FitsInode, IsSuper, is_v1, number_size, numbers_in_zone, most_links, kept_inode}
 use Rattle.lilo_model.specs.MinixParts as model
 use Rattle.lilo_model.specs.MinixParts.{Parts, is_directory}
 use Rattle.minix_beside_laws.specs.Beside.{IsDataZone}
-use Rattle.minix_fill_laws.specs.Sources.{Source, Block, Indirect, FileZones, zone_from, top_source, below_source}
-use Rattle.minix_fill_laws.specs.Laws.{MayBeFile, HasZones, IsNewInode, AreNewZones}
-use Rattle.minix_steps.specs.Laws.{OneZone, OneInode}
+use Rattle.minix_fill_laws.specs.Sources.{Source, Block, Indirect, FileZones, zone_from, top_source}
+use Rattle.minix_fill_laws.proofs.Given.{past_end}
+use Rattle.minix_fill_laws.specs.Laws.{MayBeFile}
+use Rattle.minix_steps.specs.Laws.{OneZone}
 use Rattle.minix_fill.specs.Numbers.{AreNumbers, HasNumbers, tops_of}
 use Rattle.minix_fill.specs.Fill.{NumbersWritten}
 
@@ -91,11 +92,6 @@ numbers_fit super sectors zones is range source = ⊎_elim
     (cases_eq (zone_from zones source) 0)
 
 -- ---- the inode
-
-pub past_end : (numbers : List ℕ) (at : ℕ) → length numbers ≤ at → slice_index numbers at ≡ 0
-past_end [] at long = refl
-past_end (number ∷ numbers) zero long = absurd (omega (arith, long))
-past_end (number ∷ numbers) (suc at) long = past_end numbers at (omega (arith, long))
 
 pub tops_at : (kind : Kind) (zones : FileZones) (top : ℕ) → top < 10 → slice_index (tops_of kind zones) top ≡ zone_from zones (top_source (numbers_in_zone kind) top)
 unfolding top_source

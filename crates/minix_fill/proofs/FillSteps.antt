@@ -1,11 +1,11 @@
 -- What calls leave that write indirect zones and the inode of a new file.
-use Rattle.std.proofs.Common.{◌≡◌, ◌≢◌, ◌≤◌, ◌<◌, ◌+◌, ◌/◌, ◌^◌, ◌==◌, ℕ, true, false, List, All, length, Option, Result, Ok, Err, OnOk, refl, sym, ap, ◌∙◌, subst, arith, ⊎_elim}
+use Rattle.std.proofs.Common.{◌≡◌, ◌≢◌, ◌≤◌, ◌<◌, ◌+◌, ◌/◌, ◌^◌, ◌==◌, ℕ, true, false, List, All, length, Result, Ok, Err, OnOk, refl, sym, ap, ◌∙◌, subst, arith, ⊎_elim}
 use Rattle.std.specs.Prelude.{slice_index}
 use Rattle.std.proofs.lemmas.Bool.{cases_lt}
 use Rattle.disk_trait.specs.declared.disks.Disks.{Ghosts}
 use Rattle.disk_trait.specs.declared.disks.Span.{Span}
-use Rattle.disk_trait.specs.Past.{Image, Past}
-use Rattle.disk_trait.specs.Moments.{IsTold, now, begun, IsQuiet}
+use Rattle.disk_trait.specs.Past.{Image}
+use Rattle.disk_trait.specs.Moments.{IsTold, now, begun}
 use Rattle.disk_trait.specs.NotWritten.{IsOther, NotWritten}
 use Rattle.disk_trait.specs.Range.{IsOutside}
 use Rattle.disk_trait.proofs.MomentLemmas.{on_ok}
@@ -19,14 +19,15 @@ use Rattle.lilo_model.specs.MinixNames.{Named, Refers}
 use Rattle.minix_beside_laws.specs.Beside.{IsDataZone}
 use Rattle.minix_entry_laws.specs.Enter.{MayStand}
 use Rattle.minix_entry_laws.proofs.Names.{new_file_law}
-use Rattle.minix_fill_laws.specs.Sources.{Source, Indirect, FileZones, zone_from}
-use Rattle.minix_fill_laws.specs.Laws.{MayBeFile, HasZones, IsNewInode, AreNewZones}
+use Rattle.minix_fill_laws.specs.Sources.{Indirect, FileZones, zone_from}
+use Rattle.minix_fill_laws.specs.Laws.{MayBeFile, IsNewInode, AreNewZones}
 use Rattle.minix_fill_laws.proofs.Filled.{filled_law}
+use Rattle.minix_fill_laws.proofs.Given.{past_end}
 use Rattle.minix_layout.specs.View.{kind_view, super_view, inode_view}
 use Rattle.minix_layout.specs.declared.inode.Inode as layouts
 use Rattle.minix_layout.specs.declared.superblock.Super.{Super}
 use Rattle.minix_steps.specs.Laws.{OneZone, OneInode}
-use Rattle.minix_steps.specs.Steps.{IsReady, IsUnusedZone, IsUnnamedInode, Steps}
+use Rattle.minix_steps.specs.Steps.{IsReady, IsUnnamedInode, Steps}
 use Rattle.minix_steps.specs.Written.{parts_now}
 use Rattle.minix_steps.proofs.PartLemmas.{kept_inode_law}
 use Rattle.minix_steps.proofs.StepLemmas.{same_view, no_step, steps_join}
@@ -37,7 +38,7 @@ use Rattle.minix_zones.specs.declared.zone_fault.ZoneFault.TheVariants.{Device}
 use Rattle.minix_zones.proofs.WriteLemmas.{cause_after}
 use Rattle.minix_fill.specs.Numbers.{AreNumbers, HasNumbers, tops_of}
 use Rattle.minix_fill.specs.Fill.{MayHoldFile, NumbersWritten, IsOffIndirect, WritesNumbers, IsFilled, FillsFile, IsOfFile, AreMarked, MayGetName}
-use Rattle.minix_fill.proofs.FillLemmas.{numbers_none, numbers_hole, numbers_one, numbers_join, numbers_fit, past_end, kept_tops, KeepsFields, kept_fields, gid_small}
+use Rattle.minix_fill.proofs.FillLemmas.{numbers_none, numbers_hole, numbers_one, numbers_join, numbers_fit, kept_tops, KeepsFields, kept_fields, gid_small}
 
 -- ---- a volume that stays as it is
 

@@ -1,14 +1,13 @@
 -- What the bits of many zones change of the parts of a volume.
-use Rattle.std.proofs.Common.{◌≡◌, ◌≢◌, ◌≤◌, ◌<◌, ◌+◌, ◌*◌, ◌%◌, ◌||◌, ◌==◌, ℕ, zero, suc, Bool, true, false, List, [], ◌∷◌, ◌++◌, length, All, refl, sym, ap, ap₂, ◌∙◌, subst, arith, ⊎_elim}
+use Rattle.std.proofs.Common.{◌≡◌, ◌+◌, ◌%◌, ◌||◌, ◌==◌, ℕ, suc, Bool, true, false, List, [], ◌∷◌, ◌++◌, length, All, refl, sym, ap, ap₂, ◌∙◌, subst, arith, ⊎_elim}
 use Rattle.std.proofs.lemmas.Bool.{cases_Bool, cases_eq}
 use Rattle.std.proofs.lemmas.Bool.Decides.{nat_tests}
 use Rattle.std.proofs.lemmas.List.{length-set}
-use Rattle.std.specs.List.{list_any}
 use Rattle.disk_trait.specs.Past.{with_sector}
 use Rattle.disk_trait.proofs.MomentLemmas.{here, here_true, here_is, with_same, with_other}
 use Rattle.lilo_model.specs.Disks.{Image}
 use Rattle.lilo_model.specs.MinixLayout.{Super, IsSuper}
-use Rattle.lilo_model.specs.MinixParts.{Parts, Volume, sector_of, parts_of, zone_bit, zone_mark_sector, with_bit, byte_with}
+use Rattle.lilo_model.specs.MinixParts.{Parts, Volume, sector_of, parts_of, zone_bit, zone_mark_sector, with_bit}
 use Rattle.minix_beside_laws.specs.Beside.{IsDataZone, IsOfBitmaps, Harmless}
 use Rattle.minix_beside_laws.proofs.Harmless.{set_bit_law}
 use Rattle.lilo_model.specs.MinixNames.{IsSound}

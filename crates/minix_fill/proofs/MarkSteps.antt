@@ -1,5 +1,5 @@
 -- What a call leaves that sets the bits of many zones.
-use Rattle.std.proofs.Common.{◌≡◌, ◌≢◌, ◌≤◌, ◌<◌, ◌+◌, ◌*◌, ◌/◌, ◌++◌, ℕ, List, [], length, take, drop, All, Option, Result, Ok, Err, OnOk, refl, sym, ap, ◌∙◌, subst, arith, inl, inr}
+use Rattle.std.proofs.Common.{◌≡◌, ◌≢◌, ◌≤◌, ◌<◌, ◌+◌, ◌*◌, ◌++◌, ℕ, List, [], length, take, drop, All, Option, Result, Ok, Err, OnOk, refl, sym, ap, ◌∙◌, subst, arith}
 use Rattle.std.specs.Prelude.{◌-◌, slice_index}
 use Rattle.std.proofs.Math.Seq.{take-append-add}
 use Rattle.std.proofs.lemmas.List.{length-take-le, take-append-drop, take_rest, length-drop}
@@ -20,12 +20,12 @@ use Rattle.minix_bits.proofs.BitmapLemmas.{fits}
 use Rattle.minix_layout.specs.View.{super_view}
 use Rattle.minix_layout.specs.declared.superblock.Super.{Super}
 use Rattle.minix_steps.specs.Steps.{IsReady, Steps}
-use Rattle.minix_steps.specs.Written.{with_sector_of, parts_now}
+use Rattle.minix_steps.specs.Written.{parts_now}
 use Rattle.minix_steps.proofs.HarmlessLemmas.{held}
 use Rattle.minix_steps.proofs.RegionLemmas.{sector_there, zone_mark_in, bitmap_there}
 use Rattle.minix_steps.proofs.StepLemmas.{same_view, no_step, after_step, steps_join}
 use Rattle.minix_zones.specs.View.{IsDataZone}
-use Rattle.minix_zones.specs.Volume.{volume_view, past_of, faults_of, KeepsVolume, SameVolume, HasDeviceCause, WritesSector}
+use Rattle.minix_zones.specs.Volume.{volume_view, past_of, faults_of, SameVolume, HasDeviceCause, WritesSector}
 use Rattle.minix_zones.specs.declared.volume.Volume.{Volume}
 use Rattle.minix_zones.specs.declared.zone_fault.ZoneFault.{ZoneFault}
 use Rattle.minix_zones.specs.declared.zone_fault.ZoneFault.TheVariants.{Device}

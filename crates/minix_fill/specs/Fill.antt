@@ -1,5 +1,5 @@
 -- A new file that stands but for its name: its inode and its indirect zones have the numbers that were chosen for it.
-use Rattle.std.specs.Prelude.{◌≡◌, ◌≢◌, ◌≤◌, ◌<◌, ℕ, ◌+◌, true, false, List, length, slice_index, Result, OnOk}
+use Rattle.std.specs.Prelude.{◌≡◌, ◌≢◌, ◌≤◌, ◌<◌, ℕ, ◌+◌, true, false, slice_index, Result, OnOk}
 use Rattle.disk_trait.specs.declared.disks.Disks.{Ghosts}
 use Rattle.disk_trait.specs.Moments.{IsTold, now, begun, IsQuiet}
 use Rattle.disk_trait.specs.NotWritten.{IsOther, NotWritten}

@@ -1,5 +1,5 @@
 -- The numbers in a new file's inode and in its indirect zones.
-use Rattle.std.specs.Prelude.{◌≡◌, ◌≢◌, ◌≤◌, ◌<◌, ℕ, ◌+◌, ◌^◌, List, [], ◌∷◌, slice_index}
+use Rattle.std.specs.Prelude.{◌≡◌, ◌<◌, ℕ, ◌+◌, ◌^◌, List, [], ◌∷◌, slice_index}
 use Rattle.lilo_model.specs.MinixLayout.{Kind, numbers_in_zone, number_size}
 use Rattle.lilo_model.specs.MinixParts.{number_in}
 use Rattle.minix_fill.specs.declared.numbers.FileZones.{FileZones}

@@ -1,6 +1,4 @@
-use Rattle.std.proofs.Common.{◌≡◌, rules, get_or}
-use Rattle.lilo_model.specs.MinixParts.{zone_mark_sector}
-use Rattle.minix_layout.specs.View.{super_view}
+use Rattle.std.proofs.Common.{rules}
 use Rattle.minix_fill.proofs.MarkSteps.{are_in, marks_range, marks_there, marks_inside_mid, marks_harmless_mid, marks_written, marks_refused}
 use Rattle.minix_fill.proofs.mark.mark_together.Goals as goal
 

@@ -1,5 +1,4 @@
-use Rattle.std.proofs.Common.{◌≡◌, ◌≤◌, ◌+◌, length, take, drop, List, ℕ, Err, Ok, Result, subst, rules, arith}
-use Rattle.minix_zones.specs.declared.zone_fault.ZoneFault.{ZoneFault}
+use Rattle.std.proofs.Common.{◌≡◌, take, List, ℕ, Err, Ok, subst, rules, arith}
 use Rattle.minix_fill.specs.Marks.{MarksZones}
 use Rattle.minix_fill.proofs.MarkSteps.{marks_start, marks_join, marks_failed, rest_of, rest_length, take_further}
 use Rattle.minix_fill.proofs.mark.mark_zones.Goals as goal

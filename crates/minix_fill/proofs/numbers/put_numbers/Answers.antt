@@ -1,4 +1,4 @@
-use Rattle.std.proofs.Common.{◌≡◌, ◌<◌, ◌+◌, ◌^◌, ℕ, List, length, sym, ◌∙◌, ap, subst, rules, arith}
+use Rattle.std.proofs.Common.{◌≡◌, ◌<◌, ◌+◌, ◌^◌, ℕ, List, sym, subst, rules, arith}
 use Rattle.lilo_model.specs.MinixLayout.{numbers_in_zone, number_size}
 use Rattle.minix_layout.specs.View.{kind_view}
 use Rattle.minix_fill_laws.specs.Sources.{zone_from, below_source}

@@ -1,5 +1,5 @@
 -- What a choice from a good map comes to, whatever its message is.
-use Rattle.std.proofs.Common.{◌≡◌, ◌==◌, ℕ, zero, suc, Bool, true, false, not, ◌||◌, if◌then◌else◌, refl, sym, ◌∙◌, ap, List, [], ◌∷◌, ◌++◌, length, map, zip, slice_get, Option, None, Some, is_some, option_map, Result, Ok, Err, arith}
+use Rattle.std.proofs.Common.{◌≡◌, ℕ, zero, suc, Bool, true, false, not, ◌||◌, if◌then◌else◌, refl, sym, ap, List, [], ◌∷◌, ◌++◌, length, map, zip, slice_get, Option, None, Some, is_some, option_map, Result, Ok, Err, arith}
 use Rattle.lilo_model.specs.Checks.{◌>>=◌, each}
 use Rattle.lilo_model.specs.Disks.{Image, Machine}
 use Rattle.lilo_model.specs.BootSector as maps

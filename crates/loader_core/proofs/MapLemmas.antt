@@ -1,5 +1,5 @@
 -- The steps of reading a map.
-use Rattle.std.proofs.Common.{◌≡◌, ◌∙◌, ℕ, Bool, true, false, refl, sym, ap, List, [], ◌∷◌, ◌++◌, length, map, zip, append_assoc, length-append, Option, None, Some, is_some, option_map, Result, Ok, Err, if◌then◌else◌, arith}
+use Rattle.std.proofs.Common.{◌≡◌, ◌∙◌, ℕ, Bool, true, false, refl, sym, ap, List, [], ◌∷◌, ◌++◌, length, map, zip, append_assoc, length-append, Option, None, Some, option_map, Result, Ok, Err, if◌then◌else◌, arith}
 use Rattle.std.specs.Prelude.{IsErr}
 use Rattle.std.specs.Option.{option_and_then}
 use Rattle.std.specs.Result.{result_ok}
@@ -33,7 +33,7 @@ use Rattle.section_loader.specs.View.{reason_view}
 use Rattle.section_loader.specs.File.{ReadsOne}
 use Rattle.loader_core.specs.declared.map.Choices.{Choices}
 use Rattle.loader_core.specs.declared.map.Texts.{Texts}
-use Rattle.loader_core.specs.Map.{ReadsThere, ReadsExtra, password_sector, prompt_entry, JudgesChoice, IsChoice, Adds, ListsAs, Lists, JudgesList, AreChoices, ReadsChoices, IsReadMap, ReadsMap, IsBecause, AreTexts, ReadsTexts, JudgesTexts}
+use Rattle.loader_core.specs.Map.{ReadsThere, ReadsExtra, password_sector, prompt_entry, JudgesChoice, IsChoice, Adds, ListsAs, JudgesList, AreChoices, ReadsChoices, IsReadMap, ReadsMap, IsBecause, AreTexts, ReadsTexts, JudgesTexts}
 
 -- ---- passwords
 

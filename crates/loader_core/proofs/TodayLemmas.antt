@@ -16,7 +16,7 @@ use Rattle.lilo_model.specs.Boot.{Boot, Ending, MapSectors, GoodMap, error_text,
 use Rattle.section_loader.specs.Reading.{Why, Unbuilt, Because, FileRest}
 use Rattle.section_loader.proofs.AgreementLemmas.{FileAgrees, file_agrees}
 use Rattle.prompt_loop.specs.Message.{no_rest}
-use Rattle.loader_core.specs.Today.{Report, is_empty_line, message_by, message_read, decision_today, line_behind, standing_line, report_behind, or_device, asking_report, refused_report, entry_today, entry_report, line_report, middle_report, texts_report, picked_report, decided_report, prompt_report, asked_report, good_report, judged_report, sectors_report, map_report, foreign_report, report_by, boot_today, end_text}
+use Rattle.loader_core.specs.Today.{Report, is_empty_line, message_by, message_read, decision_today, line_behind, standing_line, report_behind, or_device, asking_report, entry_today, entry_report, middle_report, texts_report, picked_report, decided_report, prompt_report, asked_report, good_report, judged_report, sectors_report, map_report, foreign_report, report_by, boot_today, end_text}
 use Rattle.loader_core.specs.Laws.{IsReported, TodayLaw}
 use Rattle.loader_core.proofs.EndLemmas.{SameResult, entry_same}
 use Rattle.loader_core.proofs.ChoiceLemmas.{line_stands, same_empty, choice_unopened}

@@ -410,9 +410,10 @@ fn what_is_not_built(rt: HostRuntime) -> Result<(), Fail> {
         } else {
             b"".as_slice()
         };
+        let all = [edits[0], edits[1], (95, 56, extra)];
         let case = Case {
             keys,
-            ..changed(&[edits[0], edits[1], (95, 56, extra)])
+            ..changed(&all)
         };
         let booted = boot_case(rt.alloc(), &case)?;
         expect_end(&rt, &booted, Outcome::Refused(Reason::Unbuilt), shown);
@@ -469,18 +470,19 @@ fn a_boot_by_keys(rt: HostRuntime) -> Result<(), Fail> {
         } else {
             b"".as_slice()
         };
+        let all = [
+            edits[0],
+            edits[1],
+            PROMPT,
+            (0, 0x28, message),
+            (102, 0, b"\0\0\x03".as_slice()),
+            (102, 480, b"tux".as_slice()),
+            (103, 0, b"\x03\x80\x01\0\x68\0\0\0".as_slice()),
+            (104, 0, b"Hello.\n".as_slice()),
+        ];
         let case = Case {
             keys,
-            ..changed(&[
-                edits[0],
-                edits[1],
-                PROMPT,
-                (0, 0x28, message),
-                (102, 0, b"\0\0\x03".as_slice()),
-                (102, 480, b"tux".as_slice()),
-                (103, 0, b"\x03\x80\x01\0\x68\0\0\0".as_slice()),
-                (104, 0, b"Hello.\n".as_slice()),
-            ])
+            ..changed(&all)
         };
         let booted = boot_case(rt.alloc(), &case)?;
         expect_end(&rt, &booted, outcome, shown);
@@ -498,36 +500,32 @@ fn each_part_of_a_prompt_fails(rt: HostRuntime) -> Result<(), Fail> {
         (103, 0, b"\x03\x80\x01\0\x68\0\0\0".as_slice()),
         (104, 0, b"Hello.\n".as_slice()),
     ];
+    // No call has the number 99.
     for (failing_reads, failing_keys, outcome, shown) in [
+        ([99], [0], Outcome::Keys, b"LILO\nHello.\nboot: ".as_slice()),
         (
-            &[].as_slice(),
-            &[0].as_slice(),
-            Outcome::Keys,
-            b"LILO\nHello.\nboot: ".as_slice(),
-        ),
-        (
-            &[].as_slice(),
-            &[3].as_slice(),
+            [99],
+            [3],
             Outcome::Keys,
             b"LILO\nHello.\nboot: lin".as_slice(),
         ),
         (
-            &[5].as_slice(),
-            &[].as_slice(),
+            [5],
+            [99],
             Outcome::Device(Phase::Before),
             b"LILO\nError 80\n".as_slice(),
         ),
         (
-            &[6].as_slice(),
-            &[].as_slice(),
+            [6],
+            [99],
             Outcome::Device(Phase::Before),
             b"LILO\nError 80\n".as_slice(),
         ),
     ] {
         let case = Case {
             keys: b"linux\n",
-            failing_reads,
-            failing_keys,
+            failing_reads: &failing_reads,
+            failing_keys: &failing_keys,
             ..changed(&edits)
         };
         let booted = boot_case(rt.alloc(), &case)?;
@@ -621,8 +619,10 @@ fn each_text_fails(rt: HostRuntime) -> Result<(), Fail> {
         (0, b"".as_slice(), true),
         (1, b"L".as_slice(), true),
         (2, b"LIL".as_slice(), true),
+        // The three parts of the prompt's answer, which are empty.
         (3, b"LILO\n".as_slice(), true),
-        (4, LOADING, false),
+        (6, b"LILO\n".as_slice(), true),
+        (7, LOADING, false),
     ] {
         let case = Case {
             failing_puts: &[call],

@@ -2,10 +2,8 @@ use Rattle.std.proofs.Common.{length}
 use Rattle.std.proofs.lemmas.Option.{slice_get_past}
 use Rattle.sector_address.specs.Machine.{machine_of}
 use Rattle.bios_model.specs.Memory.{memory_of}
-use Rattle.boot_map.specs.View.{descriptor_view}
 use Rattle.stream_trait.specs.Shows.{sink_of}
 use Rattle.disk_trait.proofs.ToldLemmas.{told_all, told_map}
-use Rattle.loader_core.specs.View.{picked_view}
 use Rattle.loader_core.proofs.BootLemmas.{item_there, none_there, entry_there}
 use Rattle.loader_core.proofs.loader.boot_picked.Goals as goal
 

@@ -1,4 +1,4 @@
-use Rattle.std.proofs.Common.{◌≡◌, ◌∙◌, ap, Some}
+use Rattle.std.proofs.Common.{◌∙◌, ap, Some}
 use Rattle.std.specs.Option.{option_map}
 use Rattle.lilo_model.specs.Checks.{seen}
 use Rattle.boot_map.specs.View.{extra_view, map_fault_view}

@@ -1,5 +1,5 @@
 -- One more sector was read.
-use Rattle.std.proofs.Common.{◌≡◌, ◌∙◌, ◌+◌, ◌∷◌, suc, refl, sym, ap, map, drop, add-one, arith, rules}
+use Rattle.std.proofs.Common.{◌≡◌, ◌∙◌, ◌+◌, ◌∷◌, suc, sym, ap, map, drop, add-one, arith, rules}
 use Rattle.std.proofs.Math.Seq.{drop-cons}
 use Rattle.lilo_model.specs.Checks.{each}
 use Rattle.sector_address.specs.Machine.{machine_of}

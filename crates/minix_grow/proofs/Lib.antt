@@ -4,3 +4,4 @@ pub mod PlaceLemmas
 pub mod ExtendLemmas
 pub mod ZoneLemmas
 pub mod HookLemmas
+pub mod AfterLemmas

@@ -6,12 +6,13 @@ ghost use Rattle.lilo_model.specs.MinixLayout.{FitsInode, is_size, reach};
 ghost use Rattle.minix_grow.specs.Hook.{MayHookTopNow};
 ghost use Rattle.minix_grow.specs.Places.{IsFreePlaceNow};
 ghost use Rattle.minix_grow.specs.Way.{depth_of};
-ghost use Rattle.minix_grow.specs.Zones.{AreData, AreGrownNow};
+ghost use Rattle.minix_grow.specs.Zones.{AreData, AreUnused, AreGrownNow};
 ghost use Rattle.minix_layout.specs.View.{kind_view, inode_view};
 ghost use Rattle.minix_turns.specs.Joined.{Unseen};
 ghost use Rattle.minix_zones.specs.Volume.{past_of, HasDeviceCause};
 
 use crate::way::branch_of;
+use crate::zones::make_zones;
 use disk_trait::Disks;
 use minix_layout::Inode;
 use minix_turns::turn_pointer;
@@ -52,4 +53,41 @@ pub fn hook_in_inode<D: Disks>(
     let branch = branch_of(volume.layout().kind, block);
     let zone = growth[branch.depth as usize];
     turn_pointer(volume, directory, node, branch.top, zone, size)
+}
+
+/// Makes new zones that no name needs, by which the way to a block of a directory is completed, the lowest first, and
+/// hooks them in the directory's inode, with a size at once. No name sees it at any moment.
+///
+/// # Errors
+///
+/// `Device` alone.
+pub fn grow_in_inode<D: Disks>(
+    volume: &mut Volume<'_, D>,
+    directory: u32,
+    node: &Inode,
+    block: u32,
+    growth: &[u32],
+    size: u32,
+) -> Result<(), ZoneFault>
+    requires some { 1 ≤ directory }
+    requires there { directory ≤ volume.old.layout.inodes }
+    requires fits { FitsInode (kind_view volume.old.layout.kind) (inode_view node.now) }
+    requires near { block < reach (kind_view volume.old.layout.kind) }
+    requires few { length growth.now ≤ 4 }
+    requires all { length growth.now ≡ depth_of (kind_view volume.old.layout.kind) block + 1 }
+    requires data { AreData volume.old.layout growth.now }
+    requires sized { is_size (kind_view volume.old.layout.kind) size ≡ true }
+    requires quiet { IsQuiet (past_of volume.old) }
+    requires unused { AreUnused volume.old growth.now }
+    requires may { IsTold (past_of volume.old) → MayHookTopNow volume.old directory (inode_view node.now) block size }
+    ensures unseen { Unseen volume.old volume.new }
+    ensures places { (place : _) → IsTold (past_of volume.old)
+        → place / entries_per_block (kind_view volume.old.layout.kind) ≡ block
+        → place < places (kind_view volume.old.layout.kind) size
+        → OnOk result (IsFreePlaceNow volume.new directory place) }
+    ensures quiet { OnOk result (IsQuiet (past_of volume.new)) }
+    ensures device { HasDeviceCause volume.old volume.new ZoneFault.Device result }
+{
+    make_zones(volume, block, growth)?;
+    hook_in_inode(volume, directory, node, block, growth, size)
 }

@@ -8,5 +8,5 @@ mod way;
 mod zones;
 
 pub use extend::extend_in_zone;
-pub use hook::hook_in_inode;
+pub use hook::{grow_in_inode, hook_in_inode};
 pub use zones::make_zones;

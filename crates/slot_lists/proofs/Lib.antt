@@ -1,4 +1,5 @@
 pub mod CursorLemmas
 pub mod JoinLemmas
 pub mod MadeLemmas
+pub mod OwnPlaces
 pub mod RunLemmas

@@ -9,7 +9,7 @@ use Rattle.lilo_model.specs.Slots.{Mode, slot_make}
 use Rattle.sector_address.specs.declared.slot.Slot.{Slot}
 use Rattle.sector_address.specs.View.{slot_view}
 use Rattle.slot_lists.specs.declared.slots.DiskSector.{DiskSector}
-use Rattle.slot_lists.specs.Made.{place_view, made_slots}
+use Rattle.slot_lists.specs.Made.{place_view, made_slots, is_made, places_check}
 
 module _ {X Y A F : Type 0} (check : Y → Result A F) (view : X → Y) where
   -- a check that passes after some that passed
@@ -75,3 +75,31 @@ module _ (mode : Mode) (geometry : Geometry) (places : List DiskSector) (index :
       → made_slots mode geometry (map place_view places) ≡ Err fault
   made-stops fault is =
       each-stops (λ place. slot_make mode geometry place.disk place.sector 1) place_view places index other (map slot_view slots) fault below before is
+
+module _ (mode : Mode) (geometry : Geometry) (places : List DiskSector) (index : ℕ) (other : DiskSector) (below : index < length places)
+    (before : places_check mode geometry (map place_view (take index places)) ≡ Ok tt) where
+  abbrev next-place : DiskSector
+  next-place = slice_index_or places index other
+
+  -- those before it have slots
+  some-made : (made : Result (List model.Slot) model.AddressFault) → made_slots mode geometry (map place_view (take index places)) ≡ made
+      → is_made made ≡ Ok tt → {P : Type 0} → ((slots : List model.Slot) → made_slots mode geometry (map place_view (take index places)) ≡ Ok slots → P) → P
+  some-made (Ok slots) is passes then-so = then-so slots is
+  some-made (Err fault) is passes then-so = cc
+
+  -- one place more has a slot
+  pub check-more :
+      (slot : model.Slot) → slot_make mode geometry next-place.disk next-place.sector 1 ≡ Ok slot
+      → places_check mode geometry (map place_view (take (index + 1) places)) ≡ Ok tt
+  check-more slot is =
+      ap (λ n. places_check mode geometry (map place_view (take n places))) (add-one index)
+      ∙ some-made (made_slots mode geometry (map place_view (take index places))) refl before
+      (λ slots made. ap is_made (each-more (λ place. slot_make mode geometry place.disk place.sector 1) place_view places index other slots slot below made is))
+
+  -- or has none
+  pub check-stops :
+      (fault : model.AddressFault) → slot_make mode geometry next-place.disk next-place.sector 1 ≡ Err fault
+      → places_check mode geometry (map place_view places) ≡ Err fault
+  check-stops fault is =
+      some-made (made_slots mode geometry (map place_view (take index places))) refl before
+      (λ slots made. ap is_made (each-stops (λ place. slot_make mode geometry place.disk place.sector 1) place_view places index other slots fault below made is))

@@ -1,3 +1,4 @@
 pub mod Cursor
 pub mod Made
+pub mod OwnPlaces
 pub mod Runs

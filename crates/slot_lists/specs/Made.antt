@@ -29,6 +29,14 @@ one_geometry geometry = record { size_of = λ disk. 0; geometry_of = λ disk. ge
 abbrev pub made_slots : Mode → Geometry → List disks.DiskSector → Result (List slots.Slot) slots.AddressFault
 made_slots mode geometry places = each (map (λ place. slot_make mode geometry place.disk place.sector 1) places)
 
+-- whether something is made
+abbrev pub is_made : {A F : Type 0} → Result A F → Result (Unit {0}) F
+is_made made = made >>= λ value. Ok tt
+
+-- each sector has a slot, or the first refusal
+abbrev pub places_check : Mode → Geometry → List disks.DiskSector → Result (Unit {0}) slots.AddressFault
+places_check mode geometry places = is_made (made_slots mode geometry places)
+
 -- slots of which no two neighbours could be one, or the first refusal
 abbrev pub compact_made : Mode → Geometry → List disks.DiskSector → Result (List slots.Slot) slots.AddressFault
 compact_made mode geometry places =

@@ -10,6 +10,6 @@ mod slots;
 mod tests;
 
 pub use cursor::SlotCursor;
-pub use laws::cursor_gives_all_slots;
+pub use laws::{checked_places_are_the_maps, cursor_gives_all_slots};
 pub use runs::{Run, RunList};
-pub use slots::{CompactFault, DiskSector, compact, plain_slots};
+pub use slots::{CompactFault, DiskSector, check_places, compact, plain_slots};

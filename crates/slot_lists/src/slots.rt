@@ -2,8 +2,9 @@
 ghost use Rattle.std.specs.Prelude.{◌≡◌, ◌≤◌, map, All, Ok, IfOk, IfErr};
 ghost use Rattle.lilo_model.specs.Slots.{could_be_one, follows};
 ghost use Rattle.lilo_model.specs.Plan.{compact_slots};
-ghost use Rattle.sector_address.specs.View.{geometry_view, mode_view, slot_view, address_view};
-ghost use Rattle.slot_lists.specs.Made.{place_view, IsWritable, IsFaultOf, made_slots, compact_made, one_geometry};
+ghost use Rattle.lilo_model.specs.Checks.{seen};
+ghost use Rattle.sector_address.specs.View.{geometry_view, mode_view, slot_view, address_view, address_fault_view};
+ghost use Rattle.slot_lists.specs.Made.{place_view, IsWritable, IsFaultOf, made_slots, compact_made, places_check, one_geometry};
 
 use disk_trait::Geometry;
 use sector_address::{Address, AddressFault, Mode, Slot};
@@ -53,6 +54,25 @@ pub fn plain_slots(
         }
     }
     Ok(slots)
+}
+
+/// Whether each sector has a slot of its own: the first that no slot can name is reported. It takes no memory.
+pub fn check_places(
+    places: &[DiskSector],
+    mode: Mode,
+    geometry: Geometry,
+) -> Result<(), AddressFault>
+    requires { All (λ place. place.disk ≤ 3) places.now }
+    ensures { seen (λ done. tt) address_fault_view result
+        ≡ places_check (mode_view mode) (geometry_view geometry) (map place_view places.now) }
+{
+    for place in places {
+        match Slot::make(mode, geometry, place.disk, place.sector, 1) {
+            Ok(_) => {}
+            Err(fault) => return Err(fault),
+        }
+    }
+    Ok(())
 }
 
 /// Slots that name the sectors in order, each as many as it can: no two neighbours could be one. The first sector that

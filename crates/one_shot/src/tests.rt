@@ -166,7 +166,8 @@ fn refusals_come_in_order(rt: HostRuntime) -> Result<(), Fail> {
     let mut disks = map_disk(alloc, &[], &[])?;
     let words = vec![in alloc; b'x'; 255]?;
     assert_eq!(rt; shoot(&mut disks, words.as_slice()), Ok(()));
-    assert_eq!(rt; held(&mut disks, LINE)[..10], *b"LINE\x01\0\xFF\0xx");
+    let line = held(&mut disks, LINE);
+    assert_eq!(rt; &line[..10], b"LINE\x01\0\xFF\0xx".as_slice());
     Ok(())
 }
 

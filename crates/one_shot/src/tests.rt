@@ -2,17 +2,17 @@ ghost use Rattle.std.specs.Prelude.{◌≡◌, []};
 
 use super::*;
 use disk_trait::{Disks, Failing, Geometry, MemDisk, MemDisks, Phase, Span};
-use sector_parts::{Sector, put_part};
+use sector_parts::{Sector, part, put_part};
 use std::alloc::{AllocError, Global};
 use std::test::Fail;
 
 // Bytes of the boot sector from an offset on.
 type Edit<'a> = (usize, &'a [u8]);
 
-// The line's sector is 94 of disk 0, and the one behind it has other bytes.
+// The line's sector is 94 of disk 0, and the next one has other bytes.
 const LINE: u32 = 94;
 
-const BEHIND: u32 = 95;
+const NEXT: u32 = 95;
 
 // A disk of 128 sectors with 16 heads and 63 sectors per track. Its boot sector, by hand, has some changes, and the
 // line is kept: `linux`.
@@ -31,7 +31,7 @@ fn map_disk(
     let mut disks = MemDisks::new(alloc, &[disk], 16, failing)?;
     put_sector(&mut disks, 0, &boot_sector(edits));
     put_sector(&mut disks, LINE, &sector_of(b"LINE\x02\0\x05\0linux"));
-    put_sector(&mut disks, BEHIND, &[95; 512]);
+    put_sector(&mut disks, NEXT, &[95; 512]);
     Ok(disks)
 }
 
@@ -127,7 +127,7 @@ fn a_line_is_set_and_cleared(rt: HostRuntime) -> Result<(), Fail> {
     assert_eq!(rt; held(&mut disks, LINE), once);
     assert_eq!(rt; shoot(&mut disks, b""), Ok(()));
     assert_eq!(rt; held(&mut disks, LINE), empty);
-    assert_eq!(rt; held(&mut disks, BEHIND), [95; 512]);
+    assert_eq!(rt; held(&mut disks, NEXT), [95; 512]);
     assert_eq!(rt; disks.events(), 4);
     for (prefix, lines) in [
         (0, [kept, kept]),
@@ -167,7 +167,7 @@ fn refusals_come_in_order(rt: HostRuntime) -> Result<(), Fail> {
     let words = vec![in alloc; b'x'; 255]?;
     assert_eq!(rt; shoot(&mut disks, words.as_slice()), Ok(()));
     let line = held(&mut disks, LINE);
-    assert_eq!(rt; &line[..10], b"LINE\x01\0\xFF\0xx".as_slice());
+    assert_eq!(rt; part(&line, 0, 10), b"LINE\x01\0\xFF\0xx".as_slice());
     Ok(())
 }
 

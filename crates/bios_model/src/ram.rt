@@ -60,7 +60,7 @@ impl Ram {
     pub fn place(&mut self, at: u32, bytes: &[u8]) -> Result<(), BiosFault>
         ensures placed { OnOk result (self.new ≡ with_part self.old at bytes.now) }
 
-        // The same in the words of the model, where memory has a byte at each address.
+        // The same in terms of the model, where memory has a byte at each address.
         ensures memory { OnOk result (memory_of self.new
             ≡ with_bytes (memory_of self.old) (record { address = at; bytes = bytes.now })) }
         ensures refused { OnErr result (self.new ≡ self.old) }

@@ -1,4 +1,4 @@
--- Chains of checks: they are the same where what stands behind a check is the same for what it gives.
+-- Chains of checks: they are the same where what comes after a check is the same for what it gives.
 use Rattle.std.proofs.Common.{◌≡◌, Result, Ok, Err, refl}
 use Rattle.lilo_model.specs.Checks.{◌>>=◌, with_fault}
 
@@ -11,7 +11,7 @@ pub bind-given : {A B F : Type 0} (first : Result A F) (next : A → Result B F)
 bind-given (Ok value) next given gives = (value, refl, gives)
 bind-given (Err fault) next given gives = absurd (cc)
 
--- what is given with a fault told otherwise is given
+-- what is given with a fault reported otherwise is given
 pub told-given : {A F G : Type 0} (told : F → G) (first : Result A F) (given : A) → with_fault told first ≡ Ok given → first ≡ Ok given
 told-given told (Ok value) given gives = cc
 told-given told (Err fault) given gives = cc

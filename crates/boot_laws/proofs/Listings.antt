@@ -37,7 +37,7 @@ module _ (image other : Image) where
         ap (λ bytes. with_looked place (listing_of given (suc needed) (slots_steps machine (number * 64) (slot_parts bytes) ++ behind' (link_at number bytes)))) looked.0
         ∙ ap (with_looked place) (listing-behind first (behind link) (behind' link) (same link) given (suc needed) looked.1)
 
-    -- what stands behind a link is the same, where the chain behind it is
+    -- what comes after a link is the same, where the chain after it is
     link-same : (follow follow' : Slot → List Step) → ((slot : Slot) → SameListings image other (follow slot) (follow' slot))
         → (link : Result (Option Slot) SectionFault) → SameListings image other (link_steps follow link) (link_steps follow' link)
     link-same follow follow' same (Ok None) given needed looked = refl

@@ -50,7 +50,7 @@ module _ (image other : Image) (machine : Machine) where
       ap (λ places. places ++ flat_map (entry_places other machine) entries) (file-places boot.message_length boot.message_chain boot.message (same-front image other message behind same))
       ∙ ap (λ places. message ++ places) (entries-places entries (same-back image other message behind same))
 
-  -- what stands behind a table of which these places are found
+  -- what a table leads to of which these places are found
   behind-places : (boot : BootSector) (tried : Result (List DiskSector) slots.AddressFault)
       → ((places : List DiskSector) → tried ≡ Ok places → Same image other places)
       → Same image other (behind_table image machine boot tried) → behind_table other machine boot tried ≡ behind_table image machine boot tried

@@ -67,7 +67,7 @@ module _ (image other : Image) (machine : Machine) where
   table-same : (table : List Slot) → Same image other (found_places (table_checks machine table)) → each (map (slot_bytes_at other machine) table) ≡ each (map (slot_bytes_at image machine) table)
   table-same table same = each-bytes other machine table ∙ found-bytes (table_checks machine table) same ∙ sym (each-bytes image machine table)
 
-  -- what stands behind a table that was read
+  -- what a table that was read leads to
   table-behind : (boot : BootSector) (sectors : List (List ℕ)) → Same image other (behind_table image machine boot (each (table_checks machine boot.table)))
       → each (map (slot_bytes_at image machine) boot.table) ≡ Ok sectors → Same image other (table_places image machine boot (table_at boot.names sectors))
   table-behind boot sectors same is =
@@ -123,7 +123,7 @@ module _ (image other : Image) (machine : Machine) where
       let entries : EntriesSame image other machine (entries_of (table_at boot.names sectors)) = table-entries boot (table_at boot.names sectors) (table-behind boot sectors same.behind is) in
       ap (λ extras. each extras >>= λ extras. Ok (record { line = line; table = table_at boot.names sectors; extras = extras })) (extras-same image other machine password_flag (entries_of (table_at boot.names sectors)) entries))))
 
-  -- the sectors behind the table of a map that was read
+  -- the sectors to which the table of a map that was read leads
   pub map_sectors-behind : (boot : BootSector) (found : MapSectors) → MapSame boot → map_sectors image machine boot ≡ Ok found → Same image other (table_places image machine boot found.table)
   unfolding map_sectors
   map_sectors-behind boot found same is =

@@ -115,7 +115,7 @@ module _ (one two : Image) where
         needed
         within
 
-    -- what holds on a listing's sectors holds on those of the listing behind the write
+    -- what holds on a listing's sectors holds on those of the listing after the write
     pub listing-keeps : (first : Slot) (len chain : ℕ) → Same one two (listing_places (file_listing image machine first len chain)) → Same one two (listing_places (file_listing written machine first len chain))
     unfolding section
     listing-keeps first len chain same =

@@ -40,7 +40,7 @@ pub any_setting : (option : Opt) (settings : List Setting)
 unfolding model.has_option
 any_setting option settings = any-map setting_view (λ setting. same_option setting.option (opt_view option)) settings
 
--- how many pass a test at the front, seen otherwise
+-- how many pass a test at the start, seen otherwise
 pub prefix_len-map : {A B : Type 0} (view : A → B) (p : B → Bool) (xs : List A)
     → prefix_len (λ x. p (view x)) xs ≡ prefix_len p (map view xs)
 prefix_len-map view p [] = refl

@@ -1,4 +1,4 @@
--- Settings cut by how many stand before all that open sections.
+-- Settings cut by how many come before all that open sections.
 use Rattle.std.proofs.Common.{◌≡◌, ℕ, ◌+◌, ◌-◌, ◌<◌, Bool, true, false, not, List, [], ◌∷◌, length, take, drop, refl, sym, one-add, arith}
 use Rattle.std.proofs.lemmas.List.{take_all, length-drop, drop-drop}
 use Rattle.std.specs.List.{prefix_len}
@@ -7,7 +7,7 @@ use Rattle.lilo_model.specs.ConfOptions.{opens}
 use Rattle.conf_settings.specs.View.{opt_view, settings_view}
 use Rattle.conf_settings.specs.declared.setting.Setting.{Setting}
 
--- how many settings stand before all that open sections
+-- how many settings come before all that open sections
 abbrev pub front_length : List Setting → ℕ
 front_length settings = prefix_len (λ setting. not (opens (opt_view setting.option))) settings
 
@@ -28,7 +28,7 @@ parts_of-front (setting ∷ settings) = by (opens (opt_view setting.option)) ref
     by false is rest =
         rw (is, one-add) (record { front = rw (is, with_front, rest.front) refl; sections = rw (is, with_front, rest.sections) refl; behind = rest.behind })
 
--- settings that begin with a section, cut behind it
+-- settings that begin with a section, cut after it
 pub record IsSection (settings : List Setting) (count : ℕ) : Type 0 where
   pub sections : (parts_of (settings_view settings)).sections ≡ settings_view (take count settings) ∷ (parts_of (settings_view (drop count settings))).sections
   pub behind : (parts_of (settings_view (drop count settings))).front ≡ []
@@ -44,11 +44,11 @@ parts_of-section (setting ∷ settings) some none = by (opens (opt_view setting.
     by true is rest = rw one-add (record { sections = rw (is, with_front, rest.front, rest.sections) refl; behind = rest.behind })
     by false is rest = let e = rw (is, with_front) at none in absurd (cc)
 
--- all that stands from a place on
+-- all from a place on
 pub rest_of : (settings : List Setting) (at : ℕ) → take (length settings - at) (drop at settings) ≡ drop at settings
 rest_of settings at = take_all _ _ (rw length-drop (omega arith))
 
--- behind the section that begins at a place stand the parts of what is behind it
+-- after the section that begins at a place come the parts of what is after it
 pub parts_of-next : (settings : List Setting) (at count : ℕ) → at < length settings → (parts_of (settings_view (drop at settings))).front ≡ []
     → count ≡ 1 + front_length (drop 1 (take (length settings - at) (drop at settings)))
     → ((parts_of (settings_view (drop at settings))).sections

@@ -15,7 +15,7 @@ use Rattle.conf_settings.specs.declared.setting.Setting.{Setting}
 abbrev pub part_at : ℕ → ℕ → List Setting → List Setting
 part_at start index all = take (index - start) (drop start all)
 
--- a setting that is refused where it stands is the first refusal
+-- a setting that is refused at its place is the first refusal
 pub settings_refusal-here : (own behind : List model.Setting) (setting : Setting) (reason : ConfReason)
     → Some (reason_view reason) ≡ option_map (λ x. Some x) (setting_reason own (setting_view setting))
     → Some (fault_view (record { reason = reason; option = setting.option; line = setting.line }))
@@ -30,7 +30,7 @@ settings_refusal-here own behind setting reason = by (setting_reason own (settin
     by None is told = let e = told in cc
     by (Some judged) is told = let e : reason_view reason ≡ Some judged = cc in rw (is, settings_refusal, e) refl
 
--- one that isn't stands before the rest
+-- one that isn't comes before the rest
 pub settings_refusal-next : (own behind : List model.Setting) (setting : model.Setting)
     → None ≡ option_map (λ x. Some x) (setting_reason own setting)
     → settings_refusal own (setting ∷ behind) ≡ settings_refusal (part_after own setting) behind
@@ -48,7 +48,7 @@ pub settings_at : (all : List Setting) (index : ℕ) (setting : Setting) → ind
 settings_at all index setting within is =
     rw (add-one, drop-cons all index setting within, ← is) refl
 
--- the settings of a part up to behind a place end with the one there
+-- the settings of a part up to and with a place end with the one there
 pub part_at-more : (all : List Setting) (start index : ℕ) (setting : Setting) → start ≤ index → index < length all
     → setting ≡ get_or all index setting
     → settings_view (part_at start (index + 1) all) ≡ settings_view (part_at start index all) ++ setting_view setting ∷ []
@@ -59,7 +59,7 @@ part_at-more all start index setting before within is =
     rw (size, take_more (drop start all) (index - start) setting room, get_or-drop start all (index - start) setting, place, ← is)
     (map-append setting_view (part_at start index all) (setting ∷ []))
 
--- what is left behind one that isn't refused
+-- what is left after one that isn't refused
 pub settings_refusal-rest : (all : List Setting) (start index next : ℕ) (setting : Setting) → start ≤ index → index < length all
     → setting ≡ get_or all index setting
     → None ≡ option_map (λ x. Some x) (setting_reason (settings_view (part_at start index all)) (setting_view setting))

@@ -1,4 +1,4 @@
--- Sections, each judged behind those before it.
+-- Sections, each judged after those before it.
 use Rattle.std.proofs.Common.{◌≡◌, ◌∙◌, ℕ, ◌+◌, ◌≤◌, ◌<◌, Bool, true, false, List, [], ◌∷◌, ◌++◌, length, take, drop, get_or, refl, sym, ap, add-one, drop-cons, append-nil, arith}
 use Rattle.std.specs.Prelude.{Option, None, Some, Err, ◌||◌, ◌==◌, flat_map, nat_lt}
 use Rattle.std.specs.Borrow.{Bor}
@@ -39,7 +39,7 @@ sections_refusal-here front section behind fault = by (conf.section_refusal fron
     by None is told = let e = told in cc
     by (Some judged) is told = rw (is, conf.sections_refusal) told
 
--- one that isn't stands before the rest
+-- one that isn't comes before the rest
 pub sections_refusal-next : (front section : List model.Setting) (behind : List (List model.Setting))
     → None ≡ option_map (λ x. Some x) (conf.section_refusal front section)
     → conf.sections_refusal front (section ∷ behind) ≡ conf.sections_refusal front behind
@@ -51,7 +51,7 @@ sections_refusal-next front section behind = by (conf.section_refusal front sect
     by None is told = rw (is, conf.sections_refusal) refl
     by (Some judged) is told = let e = told in cc
 
--- names that are refused behind others are the first refusal
+-- names that are refused after others are the first refusal
 pub names_from-here : (names : List (List ℕ)) (section : List model.Setting) (behind : List (List model.Setting)) (fault : ConfFault)
     → Some (fault_view fault) ≡ option_map (λ x. Some x) (conf.names_reason names section)
     → Err (fault_view fault) ≡ with_fault (λ x. Some x) (conf.names_from names (section ∷ behind))
@@ -64,7 +64,7 @@ names_from-here names section behind fault = by (conf.names_reason names section
     by None is told = let e = told in cc
     by (Some judged) is told = let e : fault_view fault ≡ Some judged = cc in rw (is, conf.names_from, e) refl
 
--- those that aren't stand before the rest
+-- those that aren't come before the rest
 pub names_from-next : (names : List (List ℕ)) (section : List model.Setting) (behind : List (List model.Setting))
     → None ≡ option_map (λ x. Some x) (conf.names_reason names section)
     → conf.names_from names (section ∷ behind) ≡ conf.names_from (names ++ conf.section_names section) behind
@@ -76,7 +76,7 @@ names_from-next names section behind = by (conf.names_reason names section) refl
     by None is told = rw (is, conf.names_from) refl
     by (Some judged) is told = let e = told in cc
 
--- the names of sections up to behind a place end with those of the one there
+-- the names of sections up to and with a place end with those of the one there
 pub names_of-more : (all : List (Bor (List Setting))) (index : ℕ) (section : Bor (List Setting)) → index < length all → section ≡ get_or all index section
     → names_of (take (index + 1) all) ≡ names_of (take index all) ++ conf.section_names (settings_view section.now)
 names_of-more all index section within is =
@@ -109,7 +109,7 @@ names_reason-few names section = by (conf.has_name (conf.section_label section) 
     by true is none = let e = rw (is, conf.names_reason) at none in cc
     by false is none = aliased _ refl is none
 
--- whether a name stands among those of some of many
+-- whether a name is among those of some of many
 pub any-flat_map : {A B : Type 0} (f : A → List B) (p : B → Bool) (xs : List A)
     → list_any (λ x. list_any p (f x)) xs ≡ list_any p (flat_map f xs)
 any-flat_map f p [] = refl

@@ -1,4 +1,4 @@
--- What is told of disks that isn't refused: each is told once, and in its range.
+-- What is said of disks that isn't refused: each is spoken of once, and in its range.
 use Rattle.std.proofs.Common.{◌≡◌, ◌≢◌, ℕ, ◌+◌, ◌≤◌, Bool, true, false, List, [], ◌∷◌, ◌++◌, Some, None, Option, refl, sym, ◌∙◌, cond, arith}
 use Rattle.std.specs.Prelude.{IfSome, AllPairs, is_some, if◌then◌else◌, find, take_while, ◌==◌}
 use Rattle.std.specs.List.{AllByRecursion, list_any}
@@ -40,7 +40,7 @@ detail-fine disk own setting told inside group none = by _ refl (rw (inside, of_
     by true has e = let f = rw has at e in absurd (cc)
     by false has e = rw has at e
 
--- a value that is told of the disk of a group fits it
+-- a value that is said of the disk of a group fits it
 details-given : (size : ℕ) (one : Opt) (disk : ℕ) (own settings : List Setting) (text : List ℕ) → group_disk own ≡ Some disk → AllStand size own settings
     → value_of one (take_while (λ d. is_of_disk d.option) settings) ≡ Some text → FitsValue one disk text
 unfolding value_of setting_of
@@ -91,7 +91,7 @@ disk_apart one is = by _ refl
     by false e = e
     by true e = let f = of_disk-apart one e in absurd (cc)
 
--- what it is told of it is in its range, and is told of its disk
+-- what is said of it is in its range, and is said of its disk
 record IsTold (own : List Setting) (setting : Setting) (disk : DiskSection) : Type 0 where
   lawful : IsLawfulDisk disk
   named : setting_disk setting ≡ Some disk.device.disk
@@ -101,7 +101,7 @@ is_whole : (one : Opt) (text : List ℕ) → takes_of one ≡ options.AWholeDisk
 unfolding is_value
 is_whole one text takes fits = let e = fits.value in rw takes at e
 
--- the settings that tell something of the disk of a group
+-- the settings that say something of the disk of a group
 abbrev details : List Setting → List Setting
 details settings = take_while (λ d. is_of_disk d.option) settings
 
@@ -118,7 +118,7 @@ number-told one low high disk text number takes fits is =
     let e = fits.value in
     number_between-narrow 0 255 low high text number is (rw takes at e)
 
--- a disk whose group goes on behind others
+-- a disk whose group goes on after others
 told-lawful : (size : ℕ) (own settings : List Setting) (device : Device) (line : ℕ) → IsDevice device → device.partition ≡ 0 → group_disk own ≡ Some device.disk → AllStand size own settings
     → IsLawfulDisk (record {
       device = device;
@@ -170,7 +170,7 @@ disk_of-told size own setting settings is here behind = by _ refl
 
 -- ---- disks
 
--- a disk that is told of in its range, and not before
+-- a disk of which something in its range is said, and nothing before
 pub record IsFresh (own : List Setting) (disk : DiskSection) : Type 0 where
   lawful : IsLawfulDisk disk
   once : list_any (λ other. is_same_disk (Some disk.device.disk) (setting_disk other)) own ≡ false
@@ -179,7 +179,7 @@ pub record AreDisks (own : List Setting) (disks : List DiskSection) : Type 0 whe
   pub fresh : AllByRecursion (IsFresh own) disks
   pub apart : AllPairs (λ one other. one.device.disk ≢ other.device.disk) disks
 
--- disks that aren't told of up to a setting aren't before it, nor by it
+-- disks of which nothing is said up to a setting aren't spoken of before it, nor by it
 fresh-before : (own : List Setting) (setting : Setting) (disks : List DiskSection) → AllByRecursion (IsFresh (own ++ setting ∷ [])) disks → AllByRecursion (IsFresh own) disks
 fresh-before own setting [] fresh = tt
 fresh-before own setting (disk ∷ disks) fresh =

@@ -115,7 +115,7 @@ module _ (size : ℕ) (front : List Setting) (first : Setting) (rest : List Sett
       by (Some other) own = let e = rw own at is in let same : other ≡ text = cc in own-given one text plain (own ∙ ap Some same)
       by None own = global _ refl (rw own at is)
 
-  -- what may not stand there isn't in effect
+  -- what isn't allowed there isn't in effect
   pub effect-none : (one : Opt) → is_plain one ≡ true → stands_in (part_kind (first ∷ rest)) one ≡ false → effect_value one front (first ∷ rest) ≡ None
   effect-none one plain misplaced = never-some _ (λ text is. let e = (effect-given one text plain is).placed in absurd (cc))
 

@@ -1,4 +1,4 @@
--- What a part says of an option that stands in it.
+-- What a part says of an option that is in it.
 use Rattle.std.proofs.Common.{◌≡◌, ℕ, ◌≤◌, Bool, true, false, ◌||◌, List, [], ◌∷◌, ◌++◌, length, Some, refl, cond}
 use Rattle.std.specs.Prelude.{find}
 use Rattle.std.specs.List.{list_any}
@@ -41,7 +41,7 @@ value_of-given size one own (setting ∷ settings) text plain stand is =
         rw same at (here-given size own setting text (rw same plain) stand.0 e)
     by false here e rest = rest e
 
--- an option that stands in a part may do so
+-- an option that is in a part is allowed there
 pub has_option-placed : (size : ℕ) (one : Opt) (own settings : List Setting) → is_plain one ≡ true → AllStand size own settings
     → has_option one settings ≡ true → stands_in (part_kind own) one ≡ true
 unfolding has_option
@@ -57,7 +57,7 @@ has_option-placed size one own (setting ∷ settings) plain stand is =
         rw same at (plain-fits own setting (rw same plain) stand.0.fine).placed
     by false here e rest = rest e
 
--- what has a value stands there
+-- what has a value is there
 pub value_of-has : (one : Opt) (settings : List Setting) (text : List ℕ) → value_of one settings ≡ Some text → has_option one settings ≡ true
 unfolding value_of setting_of has_option
 value_of-has one [] text is = absurd (cc)
@@ -84,7 +84,7 @@ excluded_in-some : (own : List Setting) (one two : Opt) → excluded_by one ≡ 
 unfolding excluded_in
 excluded_in-some own one two excludes is = rw (excludes, is) refl
 
--- behind one of them the other doesn't stand
+-- after one of them the other doesn't come
 excluded-behind : (size : ℕ) (one two : Opt) (own settings : List Setting) → is_plain one ≡ true → excluded_by one ≡ Some two
     → has_option two own ≡ true → AllStand size own settings → has_option one settings ≡ false
 unfolding has_option
@@ -101,7 +101,7 @@ excluded-behind size one two own (setting ∷ settings) plain excludes before st
         let none = rw same at alone in
         absurd (cc)
 
--- they don't both stand in a part
+-- they aren't both in a part
 pub excluded-apart : (size : ℕ) (one two : Opt) (own settings : List Setting) → is_plain one ≡ true → is_plain two ≡ true → same_option one two ≡ false
     → excluded_by one ≡ Some two → excluded_by two ≡ Some one → AllStand size own settings
     → has_option one settings ≡ true → has_option two settings ≡ true → ⊥

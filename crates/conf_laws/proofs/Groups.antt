@@ -1,4 +1,4 @@
--- The disk of a group: that of the `disk` which stands before what is told of it.
+-- The disk of a group: that of the `disk` which comes before what is said of it.
 use Rattle.std.proofs.Common.{◌≡◌, ℕ, zero, suc, ◌+◌, ◌-◌, ◌<◌, ◌≤◌, Bool, true, false, List, [], ◌∷◌, ◌++◌, length, Some, refl, ◌∙◌, cond, arith}
 use Rattle.std.specs.Prelude.{nat_lt, slice_get}
 use Rattle.std.proofs.lemmas.Bool.{ltb-true, ltb-false, lt-ltb, le-ltb}
@@ -20,7 +20,7 @@ details_count-push : (own : List Setting) (setting : Setting) → details_count 
 unfolding details_count
 details_count-push own setting = rw (reverse-append own (setting ∷ [])) refl
 
--- a setting that tells nothing of a disk begins what comes behind it
+-- a setting that says nothing of a disk begins what comes after it
 pub group_disk-begun : (own : List Setting) (setting : Setting) → is_of_disk setting.option ≡ false → group_disk (own ++ setting ∷ []) ≡ setting_disk setting
 unfolding group_disk
 group_disk-begun own setting none =
@@ -30,7 +30,7 @@ group_disk-begun own setting none =
     let place : length own + 1 - 0 - 1 ≡ length own = omega arith in
     rw (count, many, some, place, slice_get-last own setting) refl
 
--- the group goes on with what tells something of its disk
+-- the group goes on with what says something of its disk
 pub group_disk-told : (own : List Setting) (setting : Setting) → is_of_disk setting.option ≡ true → group_disk (own ++ setting ∷ []) ≡ group_disk own
 unfolding group_disk
 group_disk-told own setting told = by _ refl

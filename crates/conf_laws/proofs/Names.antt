@@ -1,4 +1,4 @@
--- The names of sections: none stands twice, and there are few.
+-- The names of sections: none appears twice, and there are few.
 use Rattle.std.proofs.Common.{◌≡◌, ◌≢◌, ℕ, zero, suc, ◌+◌, ◌≤◌, ◌<◌, get_or, Bool, true, false, List, [], ◌∷◌, ◌++◌, map, length, Some, None, Ok, Option, refl, sym, ◌∙◌, arith}
 use Rattle.std.specs.Prelude.{IsTrue, IfSome, AllPairs, bytes_eq, flat_map, nat_lt}
 use Rattle.std.proofs.lemmas.Bool.{ltb-false, or_parts}
@@ -25,7 +25,7 @@ pub names_of-sections : (front : List Setting) (sections : List (List Setting)) 
 names_of-sections front [] = refl
 names_of-sections front (section ∷ sections) = rw (names_of_section-names front section, names_of-sections front sections) refl
 
--- names that may stand together
+-- names that may be together
 pub record AreNames (names : List (List ℕ)) : Type 0 where
   pub apart : AllPairs (λ one other. one ≢ other) names
   pub few : length names ≤ names_limit
@@ -51,7 +51,7 @@ many_refusal-few count section none = by _ refl
     by true is = let e = rw is at none in absurd (cc)
     by false is = ltb-false names_limit count is
 
--- behind those of a section that isn't refused they still are
+-- after those of a section that isn't refused they still are
 names_reason-names : (names : List (List ℕ)) (section : List Setting) → names_reason names section ≡ None → AreNames names → AreNames (names ++ section_names section)
 unfolding names_reason section_names
 names_reason-names names section none before = first _ refl

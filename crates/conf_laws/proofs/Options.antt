@@ -1,4 +1,4 @@
--- Options, told apart by their numbers.
+-- Options, distinguished by their numbers.
 use Rattle.std.proofs.Common.{◌≡◌, true, false, refl, sym, ◌∙◌, ap, get_or}
 use Rattle.std.proofs.lemmas.Bool.{eqb-true}
 use Rattle.lilo_model.specs.ConfOptions as options

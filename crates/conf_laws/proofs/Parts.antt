@@ -1,4 +1,4 @@
--- Where no setting is refused, those of each part stand unrefused in it.
+-- Where no setting is refused, those of each part are unrefused in it.
 use Rattle.std.proofs.Common.{◌≡◌, ℕ, Bool, true, false, List, [], ◌∷◌, ◌++◌, Some, None, Option, refl}
 use Rattle.std.specs.List.{AllByRecursion}
 use Rattle.lilo_model.specs.ConfOptions.{opens}
@@ -9,7 +9,7 @@ use Rattle.lilo_model.specs.Conf.{ConfParts, with_front, parts_of}
 use Rattle.conf_laws.proofs.Settings.{Stands, AllStand}
 use Rattle.conf_laws.proofs.Sizes.{IsSmall}
 
--- settings of a section: the first opens it with a value, and the others stand behind it
+-- settings of a section: the first opens it with a value, and the others come after it
 pub record Opened (size : ℕ) (first : Setting) (rest : List Setting) : Type 0 where
   pub opening : opens first.option ≡ true
   pub fine : value_reason 0 first ≡ None
@@ -20,7 +20,7 @@ abbrev pub IsOpened : ℕ → List Setting → Type 0
 IsOpened size [] = ⊥
 IsOpened size (first ∷ rest) = Opened size first rest
 
--- the settings of parts stand there, those before all sections behind others
+-- the settings of parts are there, those before all sections after others
 pub record AreParts (size : ℕ) (own : List Setting) (parts : ConfParts) : Type 0 where
   pub front : AllStand size own parts.front
   pub sections : AllByRecursion (IsOpened size) parts.sections

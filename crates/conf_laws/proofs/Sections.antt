@@ -1,4 +1,4 @@
--- Each section that isn't refused may stand in a configuration.
+-- Each section that isn't refused may be in a configuration.
 use Rattle.std.proofs.Common.{◌≡◌, ℕ, ◌≤◌, Bool, true, false, List, [], ◌∷◌, length, Some, None, Option, inl, inr, refl, arith}
 use Rattle.std.specs.Prelude.{IsTrue, IsSome, IfSome, is_some, is_none, unwrap_or, nat_lt, ◌⊎◌}
 use Rattle.std.proofs.lemmas.Bool.{ltb-false}
@@ -76,7 +76,7 @@ module _ (size : ℕ) (front : List Setting) (first : Setting) (rest : List Sett
         table = rw (own-none size front first rest stand opened options.Table refl (rw image refl)) refl;
       }
 
-  -- how a kernel is to mount its root isn't said where that may not stand
+  -- how a kernel is to mount its root isn't said where that isn't allowed
   mount-unsaid : stands_in (part_kind (first ∷ rest)) options.ReadOnly ≡ false → stands_in (part_kind (first ∷ rest)) options.ReadWrite ≡ false → effect_mount front (first ∷ rest) ≡ Unsaid
   unfolding effect_mount mount_of opens is_of_disk opt_number
   mount-unsaid misplaced misplaced' =

@@ -1,4 +1,4 @@
--- Settings that stand unrefused in a part, and the values that they give.
+-- Settings that are unrefused in a part, and the values that they give.
 use Rattle.std.proofs.Common.{◌≡◌, ℕ, ◌≤◌, Bool, true, false, not, ◌||◌, ◌&&◌, List, [], ◌∷◌, ◌++◌, length, Some, None, Option, refl}
 use Rattle.std.specs.Prelude.{⊤, nat_lt}
 use Rattle.std.proofs.lemmas.Bool.{ltb-false, or_parts, not-true}
@@ -9,18 +9,18 @@ use Rattle.lilo_model.specs.ConfSettings.{Given, Bare, Sign, Value, Setting}
 use Rattle.lilo_model.specs.ConfJudge.{given_text, has_option, part_kind, excluded_in, text_reason, given_reason, value_reason, part_reason, setting_reason}
 use Rattle.conf_laws.proofs.Options.{opened_part-global}
 
--- a setting that isn't refused behind others of its part, and opens none; its value has at most so many bytes
+-- a setting that isn't refused after others of its part, and opens none; its value has at most so many bytes
 pub record Stands (size : ℕ) (own : List Setting) (setting : Setting) : Type 0 where
   pub inside : opens setting.option ≡ false
   pub fine : setting_reason own setting ≡ None
   pub small : (text : List ℕ) → given_text setting.given ≡ Some text → length text ≤ size
 
--- each of settings does, behind others
+-- each of settings does, after others
 abbrev pub AllStand : ℕ → List Setting → List Setting → Type 0
 AllStand size own [] = ⊤
 AllStand size own (setting ∷ settings) = Stands size own setting × AllStand size (own ++ setting ∷ []) settings
 
--- whether an option may stand anywhere in its part
+-- whether an option may be anywhere in its part
 abbrev pub is_plain : Opt → Bool
 is_plain option = not (opens option || (same_option option options.Disk || is_of_disk option))
 
@@ -59,7 +59,7 @@ value_reason-none disk setting text none is = by setting.given none is
     by Sign e f = absurd (cc)
     by (Value other) e f = let same : other ≡ text = cc in rw same at (text_reason-none setting.option disk other e)
 
--- what holds of an option that isn't refused where it stands in its part
+-- what holds of an option that isn't refused where it is in its part
 pub record FitsPart (own : List Setting) (setting : Setting) : Type 0 where
   pub placed : stands_in (part_kind own) setting.option ≡ true
   pub fresh : has_option setting.option own ≡ false

@@ -1,4 +1,4 @@
--- No value has more bytes than the text that it stands in.
+-- No value has more bytes than the text that it is in.
 use Rattle.std.proofs.Common.{◌≡◌, ℕ, zero, suc, ◌+◌, ◌≤◌, Bool, true, false, not, ◌||◌, ◌&&◌, List, [], ◌∷◌, length, take, drop, Some, None, Ok, Err, Option, arith}
 use Rattle.std.specs.Prelude.{⊤, IfSome, if◌then◌else◌, ◌==◌, position}
 use Rattle.std.specs.List.{AllByRecursion, take_while, prefix_len}
@@ -145,7 +145,7 @@ given_of-small size token text small is = by token.kind is
     by Quoted e = let same : plain_bytes Quoted token.bytes ≡ text = cc in rw (← same) (omega (arith, plain_bytes-small Quoted token.bytes, small))
     by Equals e = absurd (cc)
 
--- what is cut first has a small value, and small tokens stand behind it
+-- what is cut first has a small value, and small tokens come after it
 abbrev CutWithin : ℕ → SettingCut → Type 0
 CutWithin size End = ⊤
 CutWithin size (Refused refusal) = ⊤

@@ -17,13 +17,13 @@ ItemFails one next state [] item test refusal = ⊥
 ItemFails one next state (x ∷ xs) zero test refusal = one state x test refusal
 ItemFails one next state (x ∷ xs) (suc item) test refusal = ItemFails one next (next state x) xs item test refusal
 
--- ---- the tests at an option, behind the options `own` of its part
+-- ---- the tests at an option, after the options `own` of its part
 
--- an option that belongs to a part as a whole, and neither opens one nor tells of a disk
+-- an option that belongs to a part as a whole, and neither opens one nor speaks of a disk
 abbrev pub IsOfPart : Setting → Type 0
 IsOfPart setting = (opens setting.option ≡ false) × (same_option setting.option options.Disk ≡ false) × (is_of_disk setting.option ≡ false)
 
--- an option that tells of the disk of its group
+-- an option that speaks of the disk of its group
 abbrev pub IsDetail : Setting → Type 0
 IsDetail setting = (opens setting.option ≡ false) × (same_option setting.option options.Disk ≡ false) × (is_of_disk setting.option ≡ true)
 
@@ -93,7 +93,7 @@ pub data WholeFails (front section : List Setting) : ℕ → ConfRefusal → Typ
       is_open_restricted front section ≡ true
       → WholeFails front section 4 (record { reason = reasons.Needs options.Password; option = options.Restricted; line = opening_line section })
 
--- ---- the tests of a section's names, behind those of the sections before
+-- ---- the tests of a section's names, after those of the sections before
 
 pub data NewNameFails (names : List (List ℕ)) (section : List Setting) : ℕ → ConfRefusal → Type 0 where
   label :
@@ -106,7 +106,7 @@ pub data NewNameFails (names : List (List ℕ)) (section : List Setting) : ℕ �
       names_limit < length (names ++ section_names section)
       → NewNameFails names section 3 (record { reason = reasons.TooManyNames; option = opener_of section; line = opening_line section })
 
--- the names behind those of one more section
+-- the names after those of one more section
 abbrev pub names_after : List (List ℕ) → List Setting → List (List ℕ)
 names_after names section = names ++ section_names section
 
@@ -133,7 +133,7 @@ pub data Fails (text : List ℕ) : Place → ConfRefusal → Type 0 where
   unread :
       (refusal : ConfRefusal) → (text_settings text).refusal ≡ Some refusal
       → Fails text (place 1 (length (text_settings text).settings) 1) refusal
-  -- and what is wrong where it stands
+  -- and what is wrong where it is
   of_option :
       (item test : ℕ) (refusal : ConfRefusal) → ItemFails SettingFails part_after [] (text_settings text).settings item test refusal
       → Fails text (place 1 item test) refusal

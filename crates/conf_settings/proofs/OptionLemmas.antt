@@ -8,7 +8,7 @@ use Rattle.conf_settings.specs.declared.option.Opt.{Opt}
 use Rattle.conf_settings.specs.declared.option.Opt.TheVariants as options
 use Rattle.conf_settings.specs.contracts.option.Opt.{the_type}
 
--- the variants stand in the model's order
+-- the variants are in the model's order
 pub tag_of-number : (option : Opt) → tag_of the_type option ≡ opt_number (opt_view option)
 unfolding opt_number
 tag_of-number options.Boot = refl

@@ -15,7 +15,7 @@ use Rattle.conf_settings.specs.declared.setting.Setting as its
 use Rattle.conf_settings.specs.declared.reader.Step.{Step}
 use Rattle.conf_settings.specs.declared.reader.Step.TheVariants as steps
 
--- an option that takes no value, by what stands behind its word
+-- an option that takes no value, by what comes after its word
 pub flag_sign : (option : Opt) (line : ℕ) (pieces : List Piece) → begins_with_equals pieces ≡ true
     → flag_cut option line pieces ≡ First (record { option = option; given = Sign; line = line }) pieces
 unfolding flag_cut is_equals flag_given
@@ -42,7 +42,7 @@ flag_bare chosen line (Ok token ∷ pieces) none = by token.kind none
     by Quoted is = refl
     by Equals is = absurd (cc)
 
--- at most so many pieces are left behind a setting
+-- at most so many pieces are left after a setting
 abbrev IsShort : ℕ → SettingCut → Type 0
 IsShort most End = Unit {0}
 IsShort most (Refused refusal) = Unit {0}
@@ -141,12 +141,12 @@ settings_from-room (suc one) (suc other) text begun pieces room more =
         ∙ ap (with_setting setting) (rest setting behind (setting_cut-shorter text begun pieces setting behind is))
         ∙ sym (settings_from-first other text begun pieces setting behind is)
 
--- the settings of a text are those behind nothing
+-- the settings of a text are those after nothing
 pub text_settings-start : (text : List ℕ) → text_settings text ≡ joined [] (settings_behind text options.Other (text_pieces text))
 unfolding text_settings
 text_settings-start text = refl
 
--- they go on behind the first
+-- they go on after the first
 pub joined-first : (text : List ℕ) (front : List Setting) (begun : Opt) (pieces : List Piece) (setting : Setting) (behind : List Piece)
     → setting_cut text begun pieces ≡ First setting behind
     → joined front (settings_behind text begun pieces) ≡ joined (front ++ setting ∷ []) (settings_behind text setting.option behind)
@@ -157,7 +157,7 @@ joined-first text front begun pieces setting behind is =
     let first = settings_from-first (length pieces) text begun pieces setting behind is ∙ ap (with_setting setting) rest in
     rw (first, append_assoc) refl
 
--- and end where nothing stands, or with a refusal
+-- and end where there is nothing, or with a refusal
 pub joined-end : (text : List ℕ) (front : List Setting) (begun : Opt) (pieces : List Piece) → setting_cut text begun pieces ≡ End
     → joined front (settings_behind text begun pieces) ≡ record { settings = front; refusal = None }
 joined-end text front begun pieces is = rw (settings_from-end (length pieces) text begun pieces is, append-nil) refl

@@ -1,4 +1,4 @@
--- For which plain value of the model each value of this crate stands.
+-- Which plain value of the model each value of this crate stands for.
 use Rattle.std.specs.Prelude.{◌≡◌, List, Option, None, Some, map}
 use Rattle.std.specs.Option.{option_map}
 use Rattle.lilo_model.specs.ConfOptions as model

@@ -8,7 +8,7 @@ pub unescaped-cons : (escaped : Bool) (byte : ℕ) (bytes : List ℕ)
 unfolding unescaped
 unescaped-cons escaped byte bytes = refl
 
--- a byte, and those behind it
+-- a byte, and those after it
 pub unescaped_step : (escaped : Bool) (bytes : List ℕ) (index : ℕ) → index < length bytes
     → unescaped escaped (drop index bytes)
     ≡ unescaped_byte escaped (get_or bytes index 0) ++ unescaped (is_escape escaped (get_or bytes index 0)) (drop (index + 1) bytes)

@@ -1,4 +1,4 @@
--- Where a piece comes from, and what comes behind it.
+-- Where a piece comes from, and what comes after it.
 use Rattle.std.proofs.Common.{◌≡◌, ℕ, zero, suc, ◌+◌, ◌<◌, ◌≤◌, List, [], ◌∷◌, Bool, true, false, refl, sym, ◌∙◌, ap, length, drop, take, add-one, arith}
 use Rattle.std.proofs.lemmas.Bool.{eqb-true}
 use Rattle.std.specs.Prelude.{Option, None, Some, Ok, Err, slice_get, ◌==◌, if◌then◌else◌}
@@ -9,13 +9,13 @@ use Rattle.lilo_model.specs.Bytes.{part_of}
 use Rattle.lilo_model.specs.ConfTokens.{Word, Quoted, Equals, Token, TextFault, Piece, is_of_word, line_at, blank_length, quoted_length, sound_token, word_at, quoted_at, equals_at, token_start, piece_at, next_piece, token_end, is_equals, pieces_from}
 use Rattle.conf_text.proofs.TokensLemmas.{sound_token-token, closed-token, pieces_from-none, pieces_from-fault, pieces_from-token}
 
--- a piece stands first from some place on, behind an equals sign or not
+-- a piece comes first from some place on, after an equals sign or not
 pub record IsPieceOf (text : List ℕ) (piece : Piece) : Type 0 where
   pub behind : Bool
   pub place : ℕ
   pub is : next_piece text behind place ≡ Some piece
 
--- each piece stands first from a place on
+-- each piece comes first from a place on
 pub pieces_from-piece : (most : ℕ) (text : List ℕ) (value : Bool) (place index : ℕ) (piece : Piece)
     → slice_get (pieces_from most text value place) index ≡ Some piece → IsPieceOf text piece
 unfolding pieces_from
@@ -41,7 +41,7 @@ pieces_from-piece (suc most) text value place index piece is =
     at (Some (Ok token)) first (suc i) is rest =
         rest token i (rw (pieces_from-token most text value place token first) at is)
 
--- a token is a part of the text, from a place on, and ends behind its start
+-- a token is a part of the text, from a place on, and ends after its start
 pub record IsPart (text : List ℕ) (place : ℕ) (token : Token) : Type 0 where
   pub part : token.bytes ≡ part_of text token.start (length token.bytes)
   pub from : place ≤ token.start
@@ -58,7 +58,7 @@ part-of : (text : List ℕ) (start n : ℕ) (bytes : List ℕ) → bytes ≡ tak
     → bytes ≡ part_of text start (length bytes)
 part-of text start n bytes is = take-part n (drop start text) bytes is
 
--- what is behind the first byte
+-- what is after the first byte
 drop-behind : (text : List ℕ) (start byte : ℕ) (bytes : List ℕ) → drop start text ≡ byte ∷ bytes
     → drop (suc start) text ≡ bytes
 drop-behind text start byte bytes is =
@@ -103,7 +103,7 @@ equals_at-part text line start byte bytes token at sign is =
     let part : 61 ∷ [] ≡ take 1 (drop start text) = rw (at, sign) refl in
     rw same (record { part = part; from = omega arith; ends = omega arith })
 
--- what stands at a place is a part from there on
+-- what is at a place is a part from there on
 piece_at-part : (text : List ℕ) (line : ℕ) (value : Bool) (start : ℕ) (bytes : List ℕ) (token : Token)
     → drop start text ≡ bytes → piece_at line value start bytes ≡ Some (Ok token) → IsPart text start token
 unfolding piece_at
@@ -126,7 +126,7 @@ next_piece-part text value place token is =
     let part = piece_at-part text (line_at text start) value start (drop start text) token refl is in
     record { part = part.part; from = omega (arith, part.from); ends = part.ends }
 
--- the first piece is what stands first
+-- the first piece is what comes first
 pub pieces_from-head : (most : ℕ) (text : List ℕ) (value : Bool) (place : ℕ) (piece : Piece)
     → slice_get (pieces_from most text value place) 0 ≡ Some piece → next_piece text value place ≡ Some piece
 unfolding pieces_from
@@ -138,7 +138,7 @@ pieces_from-head (suc most) text value place piece is = at (next_piece text valu
     at (Some (Err fault)) first = let e = rw (pieces_from-fault most text value place fault first) at is in first ∙ e
     at (Some (Ok token)) first = let e = rw (pieces_from-token most text value place token first) at is in first ∙ e
 
--- behind a token stands the piece that is first from its end on
+-- after a token comes the piece that is first from its end on
 pub pieces_from-next : (most : ℕ) (text : List ℕ) (value : Bool) (place index : ℕ) (token : Token) (piece : Piece)
     → slice_get (pieces_from most text value place) index ≡ Some (Ok token)
     → slice_get (pieces_from most text value place) (suc index) ≡ Some piece

@@ -23,7 +23,7 @@ pub quoted_length-inside : (escaped : Bool) (byte : ℕ) (bytes : List ℕ) → 
 unfolding quoted_length
 quoted_length-inside escaped byte bytes inside = rw inside refl
 
--- behind a blank byte the count goes on
+-- after a blank byte the count goes on
 pub blank_step : (comment : Bool) (bytes : List ℕ) (index : ℕ) → index < length bytes
     → is_blank comment (get_or bytes index 0) ≡ true
     → index + blank_length comment (drop index bytes)

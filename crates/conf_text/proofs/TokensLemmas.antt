@@ -1,4 +1,4 @@
--- Pieces one by one: the first, and those behind it.
+-- Pieces one by one: the first, and those after it.
 use Rattle.std.proofs.Common.{◌≡◌, ℕ, zero, suc, ◌+◌, ◌-◌, ◌<◌, ◌≤◌, List, [], ◌∷◌, Bool, true, false, refl, sym, ◌∙◌, ap, length, drop, take, arith}
 use Rattle.std.specs.Prelude.{Option, None, Some, Ok, Err, count_by, position, cond, ◌==◌, if◌then◌else◌}
 use Rattle.std.specs.List.{take_while}
@@ -8,7 +8,7 @@ use Rattle.std.proofs.lemmas.List.Sums.{sum_by-take-drop, count_by-le-length}
 use Rattle.conf_text.specs.View.{pieces_left}
 use Rattle.lilo_model.specs.ConfTokens.{TokenKind, Word, Quoted, Equals, Token, TextFault, OpenQuote, is_bad_byte, blank_length, is_of_word, quoted_length, unless_bad, sound_token, closed, word_at, quoted_at, equals_at, Piece, line_at, token_start, piece_at, next_piece, token_end, is_equals, pieces_from}
 
--- where nothing stands, there are no pieces
+-- where there is nothing, there are no pieces
 pub pieces_from-none : (most : ℕ) (text : List ℕ) (value : Bool) (place : ℕ) → next_piece text value place ≡ None
     → pieces_from most text value place ≡ []
 unfolding pieces_from
@@ -22,7 +22,7 @@ pub pieces_from-fault : (most : ℕ) (text : List ℕ) (value : Bool) (place : �
 unfolding pieces_from
 pieces_from-fault most text value place fault is = rw (is, pieces_from) refl
 
--- behind a token stand the pieces from its end on
+-- after a token come the pieces from its end on
 pub pieces_from-token : (most : ℕ) (text : List ℕ) (value : Bool) (place : ℕ) (token : Token)
     → next_piece text value place ≡ Some (Ok token)
     → pieces_from (suc most) text value place ≡ Ok token ∷ pieces_from most text (is_equals token.kind) (token_end token)
@@ -84,7 +84,7 @@ equals_at-ends line start token is =
     let same : token ≡ made = cc in
     rw same (omega arith)
 
--- a token ends behind its place
+-- a token ends after its place
 pub piece_at-ends : (line : ℕ) (value : Bool) (start : ℕ) (bytes : List ℕ) (token : Token)
     → piece_at line value start bytes ≡ Some (Ok token) → start < token_end token
 unfolding piece_at
@@ -107,7 +107,7 @@ next_piece-ends text value place token is =
     let ends = piece_at-ends (line_at text start) value start (drop start text) token is in
     omega (arith, ends)
 
--- nothing stands from the end of the text on
+-- there is nothing from the end of the text on
 pub next_piece-none : (text : List ℕ) (value : Bool) (place : ℕ) → length text ≤ place → next_piece text value place ≡ None
 unfolding next_piece token_start piece_at
 next_piece-none text value place end =
@@ -139,7 +139,7 @@ pieces_from-room (suc most) text value place room =
         ∙ ap (λ pieces. Ok token ∷ pieces) (rest token (next_piece-ends text value place token is))
         ∙ sym (pieces_from-token most text value place token is)
 
--- what is counted in a part and behind it
+-- what is counted in a part and after it
 count_by-parts : (p : ℕ → Bool) (text : List ℕ) (from more : ℕ)
     → count_by p (take from text) + count_by p (take more (drop from text)) ≡ count_by p (take (from + more) text)
 count_by-parts p text from more =
@@ -174,7 +174,7 @@ line_at-small text place =
     small : (a b n : ℕ) → a ≤ b → b ≤ n → suc a ≤ 1 + n
     small a b n few short = omega arith
 
--- what stands next, by its place and line
+-- what comes next, by its place and line
 pub next_piece-at : (text : List ℕ) (value : Bool) (place start line : ℕ) (piece : Option Piece)
     → start ≡ place + blank_length false (drop place text) → line ≡ line_at text start
     → piece ≡ piece_at line value start (drop start text)
@@ -182,7 +182,7 @@ pub next_piece-at : (text : List ℕ) (value : Bool) (place start line : ℕ) (p
 unfolding next_piece token_start
 next_piece-at text value place start line piece from on is = rw (← from, ← on) (sym is)
 
--- what is left where nothing stands, where a fault does, and where a token does
+-- what is left where there is nothing, a fault, or a token
 pub pieces_left-none : (text : List ℕ) (value : Bool) (place : ℕ) → next_piece text value place ≡ None
     → pieces_left false text value place ≡ []
 pieces_left-none text value place is = pieces_from-none (suc (length text)) text value place is
@@ -203,7 +203,7 @@ pieces_left-token text value place token is =
 pub take-rest : (place : ℕ) (text : List ℕ) → take (length text - place) (drop place text) ≡ drop place text
 take-rest place text = rw (← length-drop place text) (take-length (drop place text))
 
--- what is left to one reader is left to another that stands the same
+-- what is left to one reader is left to another that is the same
 pub pieces_left-same : (text : List ℕ) {refused value value' : Bool} {place place' : ℕ}
     → refused ≡ false → value ≡ value' → place ≡ place'
     → pieces_left refused text value place ≡ pieces_left false text value' place'

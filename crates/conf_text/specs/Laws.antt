@@ -9,7 +9,7 @@ PartLaw =
     (text : List ℕ) (index : ℕ) (token : Token) → slice_get (text_pieces text) index ≡ Some (Ok token)
     → token.bytes ≡ part_of text token.start (length token.bytes)
 
--- a token starts behind the bytes of the one before it, and behind its start
+-- a token starts after the bytes of the one before it, and after its start
 abbrev pub RiseLaw : Type 0
 RiseLaw =
     (text : List ℕ) (index : ℕ) (one next : Token) → slice_get (text_pieces text) index ≡ Some (Ok one)

@@ -1,4 +1,4 @@
--- For which plain value of the model each value of this crate stands.
+-- Which plain value of the model each value of this crate stands for.
 use Rattle.std.specs.Prelude.{ℕ, List, Bool, true, false, suc, length, []}
 use Rattle.lilo_model.specs.Checks.{seen}
 use Rattle.lilo_model.specs.ConfTokens as model
@@ -33,7 +33,7 @@ text_fault_view (faults.BadByte place) = model.BadByte place
 abbrev pub piece_view : Result Token TextFault → model.Piece
 piece_view piece = seen token_view text_fault_view piece
 
--- the pieces that are left to a reader that stands at a place, none where it was refused
+-- the pieces that are left to a reader at a place, none where it was refused
 abbrev pub pieces_left : Bool → List ℕ → Bool → ℕ → List model.Piece
 pieces_left true text value place = []
 pieces_left false text value place = model.pieces_from (suc (length text)) text value place

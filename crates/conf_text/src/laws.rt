@@ -6,7 +6,7 @@ pub fn tokens_are_parts()
     ensures { PartLaw }
 {}
 
-/// A token starts behind the one before it.
+/// A token starts after the one before it.
 pub fn starts_rise()
     ensures { RiseLaw }
 {}

@@ -1,4 +1,4 @@
-// How far blanks, words and quoted texts reach, and what stands at a place.
+// How far blanks, words and quoted texts reach, and what is at a place.
 ghost use Rattle.std.specs.Prelude.{◌≡◌, ℕ, List, ◌∷◌, ◌+◌, ◌-◌, ◌^◌, ◌≤◌, ◌<◌, ◌==◌, false, length, take, position, count_by, slice_index, IfSome, IfOk};
 ghost use Rattle.std.specs.Option.{option_map};
 ghost use Rattle.std.specs.List.{prefix_len};
@@ -16,7 +16,7 @@ fn is_separator(byte: u8) -> bool
     byte == b' ' || byte == b'\t' || byte == b'\r' || byte == b'\n'
 }
 
-/// Whether a byte may not stand outside comments.
+/// Whether a byte isn't allowed outside comments.
 #[tactic(auto, unfolding(lilo_model::specs::ConfTokens::is_bad_byte))]
 fn is_bad_byte(byte: u8) -> bool
     ensures { result ≡ is_bad_byte byte }
@@ -32,7 +32,7 @@ fn is_blank(comment: bool, byte: u8) -> bool
     comment || byte == b'#' || is_separator(byte)
 }
 
-/// Whether the byte behind one is in a comment.
+/// Whether the byte after one is in a comment.
 #[tactic(auto, unfolding(lilo_model::specs::ConfTokens::in_comment))]
 fn in_comment(comment: bool, byte: u8) -> bool
     ensures { result ≡ in_comment comment byte }
@@ -40,7 +40,7 @@ fn in_comment(comment: bool, byte: u8) -> bool
     (comment || byte == b'#') && byte != b'\n'
 }
 
-/// How many bytes stand before the first token.
+/// How many bytes come before the first token.
 fn blank_length(bytes: &[u8]) -> usize
     ensures value { result ≡ blank_length false bytes.now }
     ensures within { result ≤ length bytes.now }
@@ -62,7 +62,7 @@ fn newlines(bytes: &[u8]) -> usize
     bytes.iter().filter(|byte| **byte == b'\n').count()
 }
 
-/// Whether a byte belongs to a word, behind an equals sign or not.
+/// Whether a byte belongs to a word, after an equals sign or not.
 #[tactic(auto, unfolding(lilo_model::specs::ConfTokens::is_of_word))]
 fn is_of_word(value: bool, byte: u8) -> bool
     ensures { result ≡ is_of_word value byte }
@@ -97,7 +97,7 @@ fn ends_quoted(escaped: bool, byte: u8) -> bool
     (byte == b'"' && !escaped) || byte == b'\n'
 }
 
-/// How many bytes stand before the end of a quoted text.
+/// How many bytes come before the end of a quoted text.
 fn quoted_length(bytes: &[u8]) -> usize
     ensures value { result ≡ quoted_length false bytes.now }
     ensures within { result ≤ length bytes.now }
@@ -112,14 +112,14 @@ fn quoted_length(bytes: &[u8]) -> usize
     bytes.len()
 }
 
-/// The first byte that may not stand outside comments.
+/// The first byte that isn't allowed outside comments.
 fn bad_byte(bytes: &[u8]) -> Option<usize>
     ensures { result ≡ position is_bad_byte bytes.now }
 {
     bytes.iter().position(|byte| is_bad_byte(*byte))
 }
 
-/// A token, unless a byte of it may not stand there.
+/// A token, unless a byte of it isn't allowed there.
 #[tactic(auto, unfolding(lilo_model::specs::ConfTokens::sound_token, lilo_model::specs::ConfTokens::unless_bad))]
 fn sound_token(
     line: u32,
@@ -155,7 +155,7 @@ fn word_at(line: u32, value: bool, start: usize, bytes: &[u8]) -> Result<Token<'
     sound_token(line, TokenKind::Word, start, &bytes[..reach])
 }
 
-/// The quoted text whose opening quote stands at a place, with the bytes behind the quote.
+/// The quoted text whose opening quote is at a place, with the bytes after the quote.
 #[tactic(auto, unfolding(lilo_model::specs::ConfTokens::quoted_at, lilo_model::specs::ConfTokens::closed))]
 fn quoted_at(line: u32, start: usize, bytes: &[u8]) -> Result<Token<'_>, TextFault>
     requires { start + 1 + length bytes.now < 2 ^ 32 }
@@ -189,7 +189,7 @@ fn equals_at(line: u32, start: usize, bytes: &[u8]) -> Token<'_>
     }
 }
 
-/// What stands at a place where a token begins, with the bytes from there on; nothing at the end.
+/// What is at a place where a token begins, with the bytes from there on; nothing at the end.
 #[tactic(auto, unfolding(lilo_model::specs::ConfTokens::piece_at))]
 fn piece_at(
     line: u32,
@@ -209,7 +209,7 @@ fn piece_at(
     }
 }
 
-/// What stands first from a place on, or nothing, with its place and line.
+/// What comes first from a place on, or nothing, with its place and line.
 #[derive(Clone, Copy)]
 pub(crate) struct Ahead<'a> {
     pub(crate) start: usize,
@@ -217,7 +217,7 @@ pub(crate) struct Ahead<'a> {
     pub(crate) piece: Option<Result<Token<'a>, TextFault>>,
 }
 
-/// What stands first from a place on, behind an equals sign or not. The line is that of an earlier place.
+/// What comes first from a place on, after an equals sign or not. The line is that of an earlier place.
 pub(crate) fn next_piece(
     text: &[u8],
     value: bool,

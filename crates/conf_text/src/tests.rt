@@ -10,7 +10,7 @@ fn token(kind: TokenKind, bytes: &[u8], start: u32, line: u32) -> Token<'_> {
     }
 }
 
-// Whether a text has these tokens, and behind them this fault or its end.
+// Whether a text has these tokens, and after them this fault or its end.
 fn has(text: &[u8], wanted: &[Token], fault: Option<TextFault>) -> bool {
     if text.len() > 65536 {
         return false;

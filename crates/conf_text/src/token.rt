@@ -27,7 +27,7 @@ pub struct Token<'a> {
 pub enum TextFault {
     /// The opening quote at this place has no closing one on its line.
     OpenQuote(u32),
-    /// The byte at this place may not stand outside comments.
+    /// The byte at this place isn't allowed outside comments.
     BadByte(u32),
 }
 
@@ -36,7 +36,7 @@ impl Token<'_> {
     ghost use Rattle.lilo_model.specs.ConfTokens.{token_end, is_equals};
     ghost use Rattle.conf_text.specs.View.{token_view};
 
-    /// The place behind it.
+    /// The place after it.
     pub(crate) fn end(&self) -> usize
         requires { token_end (token_view self.now) < 2 ^ 32 }
         ensures { result ≡ token_end (token_view self.now) }

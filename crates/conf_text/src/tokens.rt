@@ -8,7 +8,7 @@ use std::marker::Model;
 #[derive(Drop)]
 pub struct Tokens<'a> {
     text: &'a [u8],
-    // where the next token is looked for, and whether behind an equals sign
+    // where the next token is looked for, and whether after an equals sign
     place: usize,
     value: bool,
     // a place before it, and the line of that
@@ -67,7 +67,7 @@ impl<'a> Tokens<'a> {
         }
     }
 
-    /// The next token, or why there is none. Behind a fault, and at the end, there is nothing.
+    /// The next token, or why there is none. After a fault, and at the end, there is nothing.
     pub fn next(&mut self) -> Option<Result<Token<'a>, TextFault>>
         ensures given { option_map piece_view result ≡ slice_get self.old 0 }
         ensures left { self.new ≡ drop 1 self.old }

@@ -1,4 +1,4 @@
-//! Updates of disks that a stop may interrupt, in the words of moments.
+//! Updates of disks that a stop may interrupt, in terms of moments.
 #![tactic(auto)]
 
 ghost use Rattle.std.specs.Prelude.{◌≡◌, ◌⊎◌, ◌<◌, ◌≤◌, ℕ, List, length, EachIndex, SomeIndex, slice_index};

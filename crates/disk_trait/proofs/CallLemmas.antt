@@ -135,13 +135,13 @@ module _ {D : Type 0} (disks : Ghosts D) where
       goes_on = goes_on_join old mid new first next.goes_on;
     }
 
-    -- a write of bytes that are others where the past is told
+    -- a write of bytes that are others where the past is known
     module _ (old new : D) (disk sector : ℕ) (from bytes : List ℕ) (result : Result (Unit {0}) E) (is : IsTold (disks.past old) → from ≡ bytes)
         (writes : Writes disks old new disk sector from result) where
       as_bytes : (c : Image) → LeftOrWritten (disks.past old) disk sector from c → LeftOrWritten (disks.past old) disk sector bytes c
       as_bytes c left = (left.0, left.1, subst (λ (b : List ℕ). (c ≡ left.0) ⊎ (c ≡ with_sector left.0 disk sector b)) (is (left_told (disks.past old) left.0 left.1)) left.2)
 
-      -- a past that isn't told holds nothing, and stays so
+      -- a past that isn't known holds nothing, and stays so
       untold_now : (IsTold (disks.past old) → ⊥) → now (disks.past new) ≡ now (disks.past old)
       untold_now not = untold_same (disks.past old) (disks.past new) not (λ told. not (writes.goes_on.told_before told))
 

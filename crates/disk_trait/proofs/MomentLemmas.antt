@@ -1,4 +1,4 @@
--- What one event changes in the words of moments, and how runs go on.
+-- What one event changes in terms of moments, and how runs go on.
 use Rattle.std.proofs.Common.{◌≡◌, ◌⊎◌, inl, inr, ⊎_elim, ℕ, suc, ◌-◌, ◌≤◌, ◌==◌, ◌&&◌, Bool, true, false, List, [], ◌∷◌, length, drop, Option, None, Some, OnOk, OnErr, Result, Ok, Err, refl, sym, ◌∙◌, ap, ap₂, subst, subst₂, arith}
 use Rattle.std.proofs.lemmas.Bool.{cases_Bool, cases_lt, cond_both}
 use Rattle.std.proofs.lemmas.Bool.Decides.{nat_tests}
@@ -39,7 +39,7 @@ unfolding IsTold MayLeave now
 at_now None told = absurd told
 at_now (Some past) told = may_hold_now past.start past.events
 
--- an event keeps it told
+-- an event keeps it known
 
 pub told_appended : (event : Event) (past : Option Past) → IsTold past → IsTold (appended event past)
 unfolding IsTold
@@ -160,7 +160,7 @@ later event (Some past) = omega arith
 -- for a function that returns before its first call, or begins with a loop
 pub ruleset at_entry = (at_now, left_now)
 
--- where an image is left, the past is told
+-- where an image is left, the past is known
 pub left_told : (past : Option Past) (c : Image) → MayLeave past c → IsTold past
 unfolding MayLeave IsTold
 left_told None c left = left
@@ -171,7 +171,7 @@ unfolding IsTold
 told_or_not None = inr (λ told. told)
 told_or_not (Some past) = inl tt
 
--- pasts that aren't told hold the same
+-- pasts that aren't known hold the same
 pub untold_same : (old new : Option Past) → (IsTold old → ⊥) → (IsTold new → ⊥) → now new ≡ now old
 unfolding IsTold
 untold_same None None old new = refl
@@ -236,7 +236,7 @@ whole_write size_of old new disk sector bytes write run long whole = record {
   any_moment = leaves_weaker old new (LeftOrWritten old disk sector bytes) (IsWholeImage size_of) run (whole_written size_of old disk sector bytes long whole);
 }
 
--- what a call's answer tells
+-- what a call's answer says
 
 pub on_ok : {T E : Type 0} (r : Result T E) (P Q : Type 0) → OnOk r P → (P → Q) → OnOk r Q
 on_ok (Ok x) P Q holds so = so holds

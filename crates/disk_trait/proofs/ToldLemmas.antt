@@ -1,4 +1,4 @@
--- Facts about what disks hold, where they tell it.
+-- Facts about what disks hold, where they report it.
 use Rattle.std.proofs.Common.{Option, None, Some}
 use Rattle.disk_trait.specs.Past.{Image, Past, now_of, Told}
 

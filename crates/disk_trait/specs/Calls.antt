@@ -1,4 +1,4 @@
--- What a call leaves of disks, in the words of moments. The trait's members are passed whole.
+-- What a call leaves of disks, in terms of moments. The trait's members are passed whole.
 use Rattle.std.specs.Prelude.{◌≡◌, ◌⊎◌, ◌≤◌, ℕ, List, length, Result, OnOk, OnErr}
 use Rattle.disk_trait.specs.declared.disks.Disks.{Ghosts}
 use Rattle.disk_trait.specs.declared.disks.DiskFault.{DiskFault}

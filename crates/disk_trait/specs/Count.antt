@@ -1,4 +1,4 @@
--- Counts that stand still at their last value.
+-- Counts that stay at their last value.
 use Rattle.std.specs.Prelude.{ℕ, ◌+◌, nat_lt, if◌then◌else◌}
 
 -- a count of 64 bits, one more

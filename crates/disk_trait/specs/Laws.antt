@@ -62,7 +62,7 @@ EndOfRunLaw P = (old new : Option Past) → LeavesOnly old new P → (c : Image)
 abbrev pub WholeLaw : Type 0
 WholeLaw = (past : Past) (size_of : ℕ → ℕ) → IsWholeImage size_of past.start → All WritesWholeSector past.events → IsWhole size_of (Some past)
 
--- a past that isn't told leaves no image, and so none that isn't whole
+-- a past that isn't known leaves no image, and so none that isn't whole
 abbrev pub UntoldLaw : Type 0
 UntoldLaw = (size_of : ℕ → ℕ) → IsWhole size_of None
 

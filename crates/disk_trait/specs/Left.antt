@@ -5,7 +5,7 @@ use Rattle.disk_trait.specs.declared.event.Event.TheVariants.{Write, Flush}
 use Rattle.disk_trait.specs.Past.{Image, Past, with_sector, now_after, first_events}
 use Rattle.disk_trait.specs.MemDisks.{StartDisk, sizes_of, geometries_of}
 
--- how many events stand after the last flush, or in all where there is none
+-- how many events come after the last flush, or in all where there is none
 abbrev pub unflushed_count : List Event → ℕ
 unflushed_count [] = 0
 unflushed_count (Write disk sector bytes ∷ older) = unflushed_count older + 1

@@ -82,7 +82,7 @@ zero_state disks room failing = fresh_state (map zero_disk disks) room failing
 abbrev pub past_in : MemState → Past
 past_in disks = record { start = image_of disks.start; events = disks.events }
 
--- their past, which is told
+-- their past, which is known
 abbrev pub past_of : MemState → Option Past
 past_of disks = Some (past_in disks)
 

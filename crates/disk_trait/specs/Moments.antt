@@ -1,11 +1,11 @@
 -- What a stop may leave, at each moment: each sector by itself holds its value at the last flush or the bytes of one
--- write since. A moment is a number of events. Where no past is told, no image is left, and nothing is said.
+-- write since. A moment is a number of events. Where no past is known, no image is left, and nothing is said.
 use Rattle.std.specs.Prelude.{◌≡◌, ◌⊎◌, ◌<◌, ◌≤◌, ℕ, List, [], ◌∷◌, length, Option, None, Some}
 use Rattle.disk_trait.specs.declared.event.Event.{Event}
 use Rattle.disk_trait.specs.declared.event.Event.TheVariants.{Write, Flush}
 use Rattle.disk_trait.specs.Past.{Image, Past, with_sector, now_after, now_of, MayHold, Leaves}
 
--- the past is told
+-- the past is known
 unfoldable pub IsTold : Option Past → Type 0
 IsTold None = ⊥
 IsTold (Some past) = Unit {0}

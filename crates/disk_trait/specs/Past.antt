@@ -26,7 +26,7 @@ now_after start (Flush ∷ older) = now_after start older
 abbrev pub now_of : Past → Image
 now_of past = now_after past.start past.events
 
--- Quiet: no write stands after the last flush
+-- Quiet: no write comes after the last flush
 abbrev pub IsQuietAfter : List Event → Type 0
 IsQuietAfter [] = Unit {0}
 IsQuietAfter (Write disk sector bytes ∷ older) = ⊥
@@ -46,12 +46,12 @@ first_events k events = drop (length events - k) events
 abbrev pub Leaves : Past → ℕ → Image → Type 0
 Leaves past k image = (d s : ℕ) → MayHold past.start (first_events k past.events) d s (image d s)
 
--- a fact about what disks hold, where they tell their past
+-- a fact about what disks hold, where they report their past
 abbrev pub Told : Option Past → (Image → Type 0) → Type 0
 Told None P = Unit {0}
 Told (Some past) P = P (now_of past)
 
--- a past with one more event, where it is told
+-- a past with one more event, where it is known
 abbrev pub appended : Event → Option Past → Option Past
 appended event None = None
 appended event (Some past) = Some (record past { events = event ∷ past.events })

@@ -25,12 +25,12 @@ IsOutside disk start count d s = (d ≢ disk) ⊎ (s < start) ⊎ (start + count
 abbrev pub SameOutside : ℕ → ℕ → ℕ → Image → Image → Type 0
 SameOutside disk start count old new = (d s : ℕ) → IsOutside disk start count d s → new d s ≡ old d s
 
--- the first count of these sectors stand in the new image from start on, and all else is as in the old one
+-- the first count of these sectors are in the new image from start on, and all else is as in the old one
 pub record IsWritten (disk start : ℕ) (sectors : List (List ℕ)) (count : ℕ) (old new : Image) : Type 0 where
   pub inside : (i : ℕ) → i < count → new disk (start + i) ≡ slice_index_or sectors i []
   pub outside : SameOutside disk start count old new
 
--- some of these sectors stand in the new image from start on, each whole or not at all, and all else is as in the old
+-- some of these sectors are in the new image from start on, each whole or not at all, and all else is as in the old
 pub record IsPartWritten (disk start : ℕ) (sectors : List (List ℕ)) (old new : Image) : Type 0 where
   pub inside : (i : ℕ) → i < length sectors → (new disk (start + i) ≡ slice_index_or sectors i []) ⊎ (new disk (start + i) ≡ old disk (start + i))
   pub outside : SameOutside disk start (length sectors) old new

@@ -1,4 +1,4 @@
--- What stands behind an installation's answer, and behind a refusal.
+-- What an installation's answer says, and what a refusal says.
 use Rattle.std.specs.Prelude.{◌≡◌, ◌≤◌, ℕ, true, List, Option, Result, Ok, Err}
 use Rattle.lilo_model.specs.Disks.{Image, Machine, DiskSector}
 use Rattle.lilo_model.specs.Devices.{Device}

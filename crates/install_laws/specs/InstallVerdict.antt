@@ -70,7 +70,7 @@ abbrev pub name_refusal_line : List ℕ → TreeFault → List ℕ
 name_refusal_line path find.NotFile = codes "lilo: volume: not a file\n"
 name_refusal_line path fault = refusal_line (path_refusal path fault)
 
--- what stands before the reason of a refusal of a plan
+-- what comes before the reason of a refusal of a plan
 abbrev pub plan_kind : ℕ → List ℕ
 plan_kind status = if status == 3 then codes "volume: " else codes "address: "
 

@@ -22,7 +22,7 @@ fn main(rt: HostRuntime) -> ExitCode {
     }
 }
 
-/// Tells a fault. Words that ask for nothing have a status and no text.
+/// Reports a fault. Arguments that ask for nothing have a status and no text.
 fn tell(rt: &HostRuntime, fault: &StartFault) {
     if !matches!(fault, StartFault::NotText) {
         let _ = println!(rt; "ldisk: {fault}");

@@ -1,4 +1,4 @@
--- Texts that are added one behind the other, and commands.
+-- Texts that are added one after the other, and commands.
 use Rattle.std.proofs.Common.{◌≡◌, ◌≢◌, ◌==◌, ◌+◌, ◌≤◌, ◌-◌, ◌∙◌, ℕ, zero, suc, Bool, true, false, List, [], ◌++◌, Result, Ok, Err, IsErr, refl, sym, ap, subst, arith, append-nil, append_assoc, inl, inr}
 use Rattle.std.proofs.lemmas.Bool.{eqb-true, ne_eqb}
 use Rattle.stream_trait.proofs.ShowsLemmas.{shows_nothing, shows_join}
@@ -45,14 +45,14 @@ front_nothing a text = ([], text, refl, adds_nothing a)
 alike : (v w : Verdict) → v.status ≡ w.status → v.text ≡ w.text → v ≡ w
 alike v w status text = rw (status, text) refl
 
--- a piece behind others of which none was refused
+-- a piece after others of which none was refused
 pub piece_behind :
     {F : Type 0} (before : Verdict) (piece : Result (List ℕ) F) → before.status ≡ 0
     → then_piece before piece ≡ verdict_behind before.text (piece_verdict piece)
 unfolding then_piece
 piece_behind before piece fine = rw fine refl
 
--- .. and behind others of which one was
+-- .. and after others of which one was
 pub piece_stuck :
     {F : Type 0} (before : Verdict) (piece : Result (List ℕ) F) → before.status ≢ 0 → then_piece before piece ≡ before
 unfolding then_piece

@@ -103,7 +103,7 @@ piece_by super parts inode index file within =
 
 -- ---- blocks
 
--- the file's bytes in a block go behind those before it
+-- the file's bytes in a block go after those before it
 text_more :
     (size count : ℕ) (bytes block : List ℕ) → length bytes ≡ 1024 * count → length block ≡ 1024 → 1024 * count < size
     → take size bytes ++ take (bytes_in_block size count) block ≡ take size (bytes ++ block)

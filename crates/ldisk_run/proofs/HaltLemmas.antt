@@ -1,4 +1,4 @@
--- Refusals of the calls below, as this crate tells them.
+-- Refusals of the calls below, as this crate reports them.
 use Rattle.std.proofs.Common.{◌≡◌, ℕ, Result, Ok, Err, IsErr, refl}
 use Rattle.lilo_model.specs.Faults.{Rose}
 use Rattle.lilo_model.specs.Checks.{◌>>=◌, with_fault}

@@ -62,7 +62,7 @@ unfolding then_piece
 nothing_by v true is = let none = eqb-true v.status 0 is in rw (is, append-nil v.text, ← none) refl
 nothing_by v false is = rw is refl
 
--- no text behind others
+-- no text after others
 piece_nothing : (v : Verdict) → then_piece {F = Refusal} v (Ok []) ≡ v
 piece_nothing v = nothing_by v (v.status == 0) refl
 
@@ -141,7 +141,7 @@ block_lines super parts inode index block (suc count) place read fits =
     ∙ block_lines super parts inode index block count (place + 1) read (omega arith)
     ∙ ap (printed P) (omega arith)
 
--- ---- behind the blocks before it
+-- ---- after the blocks before it
 
 fine_shift : (v : Verdict) → v.status ≡ 0 → verdict_behind v.text (silent 0) ≡ v
 fine_shift v fine = rw (append-nil v.text, ← fine) refl
@@ -206,7 +206,7 @@ block_by super parts inode index (suc count) (Err fault) some is few fine =
 few_places : (kind : Kind) (size index : ℕ) → places_in kind size index ≤ entries_per_block kind
 few_places kind size index = omega arith
 
--- what is printed of a block goes behind what was printed of those before it
+-- what is printed of a block goes after what was printed of those before it
 pub block_printed :
     (super : Super) (parts : Parts) (inode : Inode) (index : ℕ)
     → (printed (place_text super parts inode) (entries_per_block super.kind * index)).status ≡ 0

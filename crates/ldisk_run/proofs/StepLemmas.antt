@@ -1,4 +1,4 @@
--- Turns of a loop that adds one piece after another, where disks tell what they hold.
+-- Turns of a loop that adds one piece after another, where disks report what they hold.
 use Rattle.std.proofs.Common.{◌≡◌, ◌+◌, ◌∙◌, ℕ, suc, List, Option, Result, Err, sym, ap, arith}
 use Rattle.disk_trait.specs.declared.disks.Disks.{Ghosts}
 use Rattle.disk_trait.specs.Past.{Past, Image, Told}
@@ -22,7 +22,7 @@ Verdicts = model.Volume → Image → Verdict
 abbrev pub Added : Verdict → Held → Held → Type 0
 Added so_far a b = (so_far.status ≡ 0) × Adds a so_far.text b
 
--- a further part, behind a verdict that stays as it is
+-- a further part, after a verdict that stays as it is
 pub told_behind :
     {D : Type 0} {disks : Ghosts D} (old mid : Volume D disks) (before part whole : Verdicts)
     (result : Result (Unit {0}) Halt) (a b c : Held)

@@ -1,4 +1,4 @@
--- Words ask for something exactly where the grammar says so.
+-- Arguments ask for something exactly where the grammar says so.
 use Rattle.std.proofs.Common.{◌≡◌, ℕ, Bool, true, false, List, [], ◌∷◌, Option, None, Some, refl}
 use Rattle.std.specs.Prelude.{bytes_eq, codes}
 use Rattle.std.specs.Option.{option_and_then}

@@ -1,4 +1,4 @@
--- For which plain value of the model each value of this crate stands.
+-- Which plain value of the model each value of this crate stands for.
 use Rattle.lilo_model.specs.LdiskWords as model
 use Rattle.mbr_table.specs.View.{device_view}
 use Rattle.ldisk_run.specs.declared.asked.Asked.{Asked}

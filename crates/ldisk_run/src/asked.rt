@@ -55,7 +55,7 @@ fn device_in(name: &str) -> Option<Device>
     }
 }
 
-// A word that is a path of a volume.
+// An argument that is a path of a volume.
 fn path_in(word: &str) -> Option<&[u8]>
     ensures { option_map (λ path. path.now) result ≡ (if is_volume_path word.now then Some word.now else None) }
 {
@@ -72,7 +72,7 @@ fn is_path(word: &[u8]) -> bool
     }
 }
 
-// The command of a word.
+// The command of an argument.
 #[tactic(auto, unfolding(lilo_model::specs::LdiskWords::command_of))]
 fn command_of<'a>(word: &str, device: Device, path: &'a [u8]) -> Option<Command<'a>>
     ensures { option_map command_view result ≡ command_of word.now (device_view device) path.entry.now }

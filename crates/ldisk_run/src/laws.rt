@@ -2,7 +2,7 @@
 ghost use Rattle.lilo_model.specs.LdiskWords.{AskedLaw};
 ghost use Rattle.ldisk_run.specs.Laws.{ContentLaw, ListingLaw};
 
-/// Words ask for something exactly where the grammar says so.
+/// Arguments ask for something exactly where the grammar says so.
 pub fn words_ask_as_the_grammar_says()
     ensures { AskedLaw }
 {}

@@ -44,7 +44,7 @@ pub fn ldisk<D: Disks, I: Source, O: Sink>(
     out: &mut O,
     now: u32,
 ) -> u8
-    // Where the disks tell what they hold, the status is the verdict's, but for faults.
+    // Where the disks report what they hold, the status is the verdict's, but for faults.
     ensures status { OnDisks D.Disks disks.old (λ now machine. Answers (ldisk_verdict now machine words.now) result) }
     ensures device { result ≡ 8 → Rose (D.faults disks.old) (D.faults disks.new) }
     ensures sink { result ≡ 12 → Rose (O.faults out.old) (O.faults out.new) }
@@ -55,7 +55,7 @@ pub fn ldisk<D: Disks, I: Source, O: Sink>(
     ensures whole { result ≡ 0 → OnDisks D.Disks disks.old (λ now machine.
         Takes (O.taken out.old) (ldisk_verdict now machine words.now).text (O.taken out.new)) }
 
-    // Whatever the disks tell, these are the statuses, and what arguments or an absent disk decide is known.
+    // Whatever the disks report, these are the statuses, and what arguments or an absent disk decide is known.
     ensures statuses { IsTrue (is_status result) }
     ensures usage { (result ≡ 1) ↔ (asked_at words.now ≡ None) }
     ensures no_disk { D.size_of disks.old 0 ≡ 0 → IsSome (asked_at words.now) → result ≡ 3 }

@@ -75,7 +75,7 @@ fn disk_with(alloc: Global, failing: &[Failing]) -> Result<MemDisks, AllocError>
     Ok(disks)
 }
 
-// The status and text of words over such a disk, with a call of the disk or of the sink that fails.
+// The status and text of arguments over such a disk, with a call of the disk or of the sink that fails.
 fn run(
     alloc: Global,
     line: &[&str],

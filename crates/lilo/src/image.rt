@@ -1,10 +1,10 @@
-// An IMAGE word of the command line.
+// An IMAGE argument of the command line.
 ghost use Rattle.std.specs.Prelude.{◌≤◌, IfSome};
 
 use disk_trait::{FileDisk, Geometry};
 use std::fs::File;
 
-/// Opens the image that a word names. One that can't be opened, or is too large for a disk, can't be used.
+/// Opens the image that an argument names. One that can't be opened, or is too large for a disk, can't be used.
 pub fn open_image(rt: &HostRuntime, word: &str) -> Option<FileDisk<File>>
     ensures few { IfSome result (λ disk. disk.sectors ≤ 4294967296) }
 {
@@ -13,8 +13,8 @@ pub fn open_image(rt: &HostRuntime, word: &str) -> Option<FileDisk<File>>
 }
 
 /// The path of an image, and its geometry: what is stated, else 16 heads and 63 sectors. A geometry is
-/// stated exactly where the word has three parts between colons and the last two are decimal numbers in
-/// range; every other word is a path.
+/// stated exactly where the argument has three parts between colons and the last two are decimal numbers in
+/// range; every other argument is a path.
 fn parts_of(word: &str) -> Option<(&str, Geometry)> {
     match stated(word) {
         Some(parts) => Some(parts),

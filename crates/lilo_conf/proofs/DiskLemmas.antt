@@ -1,4 +1,4 @@
--- What is told of disks, setting by setting.
+-- What is said of disks, setting by setting.
 use Rattle.std.proofs.Common.{◌≡◌, ℕ, ◌≤◌, Bool, true, false, List, ◌∷◌, refl}
 use Rattle.std.specs.Prelude.{Option, None, Some, if◌then◌else◌, ◌&&◌, nat_le}
 use Rattle.std.proofs.lemmas.Bool.{leb-true}
@@ -36,7 +36,7 @@ number_of-most high number option settings = by (model.value_of option settings)
     by None is same = let e = rw (is, model.number_of) at same in absurd (cc)
     by (Some text) is same = number_between-most 0 high number text (rw (is, model.number_of) at same)
 
--- a setting that tells of a disk comes before those behind it
+-- a setting that speaks of a disk comes before those after it
 pub disks_of-some : (setting : Setting) (behind : List Setting) (disk : model.DiskSection)
     → Some disk ≡ (if same_option setting.option options.Disk then model.disk_of setting behind else None)
     → model.disks_of (setting ∷ behind) ≡ disk ∷ model.disks_of behind

@@ -64,7 +64,7 @@ cut_line_last first (Byte byte ∷ keys) =
       | false ↦ onto_line_last (Byte byte) keys byte (cut_line false keys) rest
     ]
 
--- the keys behind an answer
+-- the keys after an answer
 abbrev keys_behind : AnswerCut → List Key
 keys_behind (Missing keys) = keys
 keys_behind (Given _ keys) = keys
@@ -132,7 +132,7 @@ line_turn_last setup text keys (Ended bytes by left) last =
 next_line_turn_last : (setup : Setup) (keys : List Key) → TurnIsLast keys (next_line_turn setup keys)
 next_line_turn_last setup keys = line_turn_last setup [] keys (cut_line true keys) (cut_line_last true keys)
 
--- the keys behind a wait
+-- the keys after a wait
 abbrev keys_of_wait : WaitCut → List Key
 keys_of_wait (Elapsed keys) = keys
 keys_of_wait (Interrupted byte keys) = Byte byte ∷ keys

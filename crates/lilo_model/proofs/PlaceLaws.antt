@@ -13,7 +13,7 @@ use Rattle.lilo_model.specs.Boot.{Ending, Loaded, loaded_ending, first_two_check
 abbrev pub whole_file : List ℕ → Content
 whole_file bytes = record { bytes = bytes; refusal = None }
 
--- how a boot tells a kernel's loading
+-- how a boot reports a kernel's loading
 abbrev pub ending_of : Result Loading SetupFault → Result Ending Reason
 ending_of (Ok loading) = Ok (record { outcome = Loaded loading.layout; written = loading.written })
 ending_of (Err fault) = Err (reasons.Header fault)
@@ -31,7 +31,7 @@ pub initrd_check-whole : (initrd : Option (List ℕ)) → initrd_check (option_m
 initrd_check-whole None = refl
 initrd_check-whole (Some bytes) = refl
 
--- the layout's refusal or what is written by it, told by a boot
+-- the layout's refusal or what is written by it, reported by a boot
 layout_step : (header : Header) (kernel : List ℕ) (initrd : Option (List ℕ)) (line : List ℕ) (video : Option ℕ) (layout : Result Layout SetupFault) →
     (with_fault reasons.Header layout >>= λ laid. whole_check (whole_file kernel) >>= λ b. initrd_check (option_map whole_file initrd) >>= λ bytes. Ok (record { outcome = Loaded laid; written = written_by header laid kernel bytes line video }))
     ≡ ending_of (layout >>= λ laid. Ok (record { layout = laid; written = written_by header laid kernel initrd line video }))

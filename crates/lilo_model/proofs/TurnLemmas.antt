@@ -13,7 +13,7 @@ lines_of_turn (Takes _ _ _) = 0
 lines_of_turn (Idles _) = 0
 lines_of_turn (Again _ _ keys) = suc (length keys)
 
--- a number of lines that are few enough behind a text too
+-- a number of lines that are few enough after a text too
 behind_few : (text : List ℕ) (turn : Turn) (most : ℕ) → lines_of_turn turn ≤ most → lines_of_turn (turn_behind text turn) ≤ most
 behind_few text (Takes _ _ _) most few = few
 behind_few text (Idles _) most few = few
@@ -40,7 +40,7 @@ lines_of_cut-cut_line first (Byte byte ∷ keys) =
       | false ↦ omega arith
     ]
 
--- the keys behind an answer
+-- the keys after an answer
 abbrev keys_behind : AnswerCut → List Key
 keys_behind (Missing keys) = keys
 keys_behind (Given _ keys) = keys
@@ -49,7 +49,7 @@ keys_behind-onto_answer : (byte : ℕ) (cut : AnswerCut) → keys_behind (onto_a
 keys_behind-onto_answer byte (Missing _) = refl
 keys_behind-onto_answer byte (Given _ _) = refl
 
--- the keys behind an answer are no more than before
+-- the keys after an answer are no more than before
 length-keys_behind : (quiet : ℕ) (keys : List Key) → length (keys_behind (cut_answer quiet keys)) ≤ length keys
 length-keys_behind quiet [] = omega arith
 length-keys_behind quiet (Tick ∷ keys) =
@@ -112,7 +112,7 @@ next_line_turn_few setup keys =
     let fewer = lines_of_cut-cut_line true keys in
     omega arith
 
--- the keys behind a wait
+-- the keys after a wait
 abbrev keys_of_wait : WaitCut → List Key
 keys_of_wait (Elapsed keys) = keys
 keys_of_wait (Interrupted byte keys) = Byte byte ∷ keys

@@ -1,5 +1,5 @@
 -- What a boot does, as a function of what the disks hold, the keys and the size of the memory. The order of
--- its steps, the texts and the codes are this project's own, after LILO's manners; a boot sector stands at
+-- its steps, the texts and the codes are this project's own, after LILO's manners; a boot sector lies at
 -- 0x7C00 and a partition table at 0x7BE, as the IBM PC has them.
 use Rattle.std.specs.Prelude.{ℕ, ◌+◌, nat_lt, min, Bool, true, false, if◌then◌else◌, List, [], ◌∷◌, ◌++◌, map, length, slice_get, zip, codes, Option, Some, None, option_map, option_and_then, Result, Ok, Err}
 use Rattle.std.specs.Option.{option_or}
@@ -25,9 +25,9 @@ use Rattle.lilo_model.specs.Reason.{Reason, NotBootable, BadTable, NotFound, Idl
 
 -- how a boot ends
 pub data Outcome : Type 0 where
-  -- a kernel stands in memory by this layout
+  -- a kernel lies in memory by this layout
   Loaded : Layout → Outcome
-  -- a boot sector stands at 0x7C00
+  -- a boot sector lies at 0x7C00
   Handed : Outcome
   -- nothing is started
   Refused : Reason → Outcome
@@ -46,7 +46,7 @@ pub record Boot : Type 0 where
 
 -- ---- the ends of a boot
 
--- a refused boot, of which nothing is told of memory
+-- a refused boot, which says nothing of memory
 abbrev pub refused_boot : List ℕ → Option DefaultLine → List Key → Reason → Boot
 refused_boot shown line left reason = record {
   outcome = Refused reason;
@@ -56,7 +56,7 @@ refused_boot shown line left reason = record {
   left = left;
 }
 
--- the text behind a failure while an entry is loaded
+-- the text after a failure while an entry is loaded
 abbrev pub error_text : Reason → List ℕ
 error_text NotFound = codes "Error 04\n"
 error_text _ = codes "Error\n"
@@ -125,7 +125,7 @@ map_sectors image machine boot = do
   extras ← each (map (λ entry. optional_at image machine (extra_slot password_flag entry)) (entries_of (table_at boot.names sectors)))
   Ok (record { line = line; table = table_at boot.names sectors; extras = extras })
 
--- the default line that stands on the disks
+-- the default line on the disks
 unfoldable pub present_line : Image → Machine → BootSector → Option DefaultLine
 present_line image machine boot =
     option_and_then (λ bytes. result_ok (line_at bytes)) (result_ok (slot_bytes_at image machine boot.line))
@@ -218,7 +218,7 @@ middle_of image machine entry = do
   password ← with_fault map_reason (password_at extra)
   Ok middle
 
--- an image with the sector of a line, unless it stands there already
+-- an image with the sector of a line, unless it is there already
 abbrev pub line_written : Image → DefaultLine → Bool → Result DiskSector slots.AddressFault → Image
 line_written image line true place = image
 line_written image line false (Ok place) = with_sector image place (line_bytes line)

@@ -97,7 +97,7 @@ has_message bytes = if has_no_message bytes then true else has_whole_message byt
 unfoldable pub has_zeros : List ℕ → Bool
 has_zeros bytes = is_zero (part_of bytes 0x48 24) && is_zero (part_of bytes 0x62 30)
 
--- whether each field behind the version is as the format has it
+-- whether each field after the version is as the format has it
 unfoldable pub is_whole : List ℕ → Bool
 is_whole bytes =
     has_options bytes && has_names bytes && has_slots bytes && has_message bytes && has_zeros bytes
@@ -168,7 +168,7 @@ field_bytes boot =
     ++ replicate 30 0
 
 -- the sector with these fields, with bytes 128 to 439 of one that has code, and with bytes 440 to 509 of
--- the one that stood there before
+-- the one that was there before
 unfoldable pub merged_sector : BootSector → List ℕ → List ℕ → List ℕ
 merged_sector boot code present =
     field_bytes boot ++ part_of code 128 312 ++ part_of present 440 70 ++ last_bytes

@@ -28,7 +28,7 @@ bytes16 number = to_le_bytes w16 number
 abbrev pub bytes32 : ℕ → List ℕ
 bytes32 number = to_le_bytes w32 number
 
--- bytes, and zeros behind them up to a length
+-- bytes, and zeros after them up to a length
 abbrev pub filled_bytes : ℕ → List ℕ → List ℕ
 filled_bytes len bytes = bytes ++ replicate (len - length bytes) 0
 

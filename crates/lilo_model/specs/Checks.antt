@@ -1,7 +1,7 @@
 -- A chain of checks, of which the first refusal decides (a form of this project's own).
 use Rattle.std.specs.Prelude.{Bool, true, false, List, [], ◌∷◌, Option, None, Some, Result, Ok, Err}
 
--- what a check gives is handed to those behind it
+-- what a check gives is handed to those after it
 infixl 10 ◌>>=◌
 abbrev pub ◌>>=◌ : {A B F : Type 0} → Result A F → (A → Result B F) → Result B F
 (Ok value) >>= next = next value
@@ -17,7 +17,7 @@ abbrev pub no_fault : {F : Type 0} → Option F → Result (Unit {0}) F
 no_fault None = Ok tt
 no_fault (Some fault) = Err fault
 
--- a check whose fault is told otherwise
+-- a check whose fault is reported otherwise
 abbrev pub with_fault : {A F G : Type 0} → (F → G) → Result A F → Result A G
 with_fault told (Ok value) = Ok value
 with_fault told (Err fault) = Err (told fault)

@@ -22,7 +22,7 @@ pub record Setup : Type 0 where
 pub record Candidate : Type 0 where
   -- the place of the entry in the list
   pub entry : ℕ
-  -- the words behind its name
+  -- the words after its name
   pub words : List (List ℕ)
   -- whether it comes without a typed line
   pub automatic : Bool
@@ -65,7 +65,7 @@ newline = 10 ∷ []
 
 -- what comes of one part of the keys
 pub data Turn : Type 0 where
-  -- a candidate is chosen: what was shown, and the keys behind
+  -- a candidate is chosen: what was shown, and the keys that are left
   Takes : Candidate → List ℕ → List Key → Turn
   -- the keys ended at the prompt: what was shown
   Idles : List ℕ → Turn
@@ -83,7 +83,7 @@ abbrev pub is_right : List ℕ → Option (List ℕ) → Bool
 is_right password None = false
 is_right password (Some answer) = bytes_eq answer password
 
--- what comes of an answer to the password's question, of which a part stands already
+-- what comes of an answer to the password's question, of which a part is there already
 abbrev pub answer_turn : Candidate → List ℕ → Option (List ℕ) → AnswerCut → Turn
 answer_turn candidate password answer (Missing keys) = Again newline keys keys
 answer_turn candidate password answer (Given bytes keys) =
@@ -117,7 +117,7 @@ line_end_turn setup text by keys =
     if is_enter_key by then meaning_turn setup (meaning setup.entries text) keys
     else (if is_erase_key by then Again [] keys keys else Again (listing setup.entries) keys keys)
 
--- what comes of a line, of which a text stands already
+-- what comes of a line, of which a text is there already
 abbrev pub line_turn : Setup → List ℕ → LineCut → Turn
 line_turn setup text (Unended bytes) = Idles (echoes setup.settings.capacity text bytes)
 line_turn setup text (Ended bytes by keys) =

@@ -22,7 +22,7 @@ pub data Mount : Type 0 where
   ReadOnlyMount : Mount
   ReadWriteMount : Mount
 
--- what is told of a disk
+-- what is said of a disk
 pub record DiskSection : Type 0 where
   pub device : Device
   pub bios : Option ℕ
@@ -73,7 +73,7 @@ pub record Config : Type 0 where
 pub record ConfParts : Type 0 where
   -- those before all sections
   pub front : List Setting
-  -- those of each section, the one that opens it at their front
+  -- those of each section, the one that opens it at their start
   pub sections : List (List Setting)
 
 -- the parts with one more setting before them
@@ -96,7 +96,7 @@ value_of option settings = option_and_then (λ setting. given_text setting.given
 unfoldable pub line_of : Opt → List Setting → ℕ
 line_of option settings = unwrap_or (option_map (λ setting. setting.line) (setting_of option settings)) 0
 
--- the value that is in effect in a section: its own, or else the global one where the option may stand there
+-- the value that is in effect in a section: its own, or else the global one where the option may be there
 unfoldable pub effect_value : Opt → List Setting → List Setting → Option (List ℕ)
 effect_value option front section = own (value_of option section)
   where
@@ -174,7 +174,7 @@ sections_refusal front (section ∷ sections) =
       | None ↦ sections_refusal front sections
     ]
 
--- whether a name stands among names
+-- whether a name is among names
 abbrev pub has_name : List ℕ → List (List ℕ) → Bool
 has_name name names = list_any (λ other. bytes_eq other name) names
 
@@ -193,7 +193,7 @@ many_refusal count section =
     then Some (record { reason = reasons.TooManyNames; option = opener_of section; line = opening_line section })
     else None
 
--- why the names of a section are refused behind others
+-- why the names of a section are refused after others
 unfoldable pub names_reason : List (List ℕ) → List Setting → Option ConfRefusal
 names_reason names section =
     if has_name (section_label section) names
@@ -207,7 +207,7 @@ names_reason names section =
         then Some (record { reason = reasons.RepeatedName; option = options.Alias; line = opening_line section })
         else many_refusal (length names + 2) section
 
--- the names of sections behind others, or the first refusal of them
+-- the names of sections after others, or the first refusal of them
 unfoldable pub names_from : List (List ℕ) → List (List Setting) → Result (List (List ℕ)) ConfRefusal
 names_from names [] = Ok names
 names_from names (section ∷ sections) =
@@ -274,7 +274,7 @@ section_of front section = record {
 unfoldable pub number_of : ℕ → Opt → List Setting → Option ℕ
 number_of most option settings = option_and_then (number_between 0 most) (value_of option settings)
 
--- what is told of a disk by a `disk` and the settings behind it
+-- what is said of a disk by a `disk` and the settings after it
 unfoldable pub disk_of : Setting → List Setting → Option DiskSection
 disk_of setting settings = option_map told (option_and_then device_at (given_text setting.given))
   where
@@ -290,7 +290,7 @@ disk_of setting settings = option_map told (option_and_then device_at (given_tex
       line = setting.line;
     }
 
--- what is told of disks
+-- what is said of disks
 unfoldable pub disks_of : List Setting → List DiskSection
 disks_of [] = []
 disks_of (setting ∷ settings) = here (same_option setting.option options.Disk) ++ disks_of settings
@@ -329,7 +329,7 @@ config_of parts = record {
   sections = map (section_of parts.front) parts.sections;
 }
 
--- the parts of a configuration, once none of its settings is refused where it stands
+-- the parts of a configuration, once none of its settings is refused at its place
 unfoldable pub whole_of : ConfParts → Result Config ConfRefusal
 whole_of parts =
     no_fault (sections_refusal parts.front parts.sections)

@@ -1,4 +1,4 @@
--- Which settings of a lilo.conf are refused where they stand, by those before them in their part. The order of
+-- Which settings of a lilo.conf are refused where they are, by those before them in their part. The order of
 -- what is tested is this project's own.
 use Rattle.std.specs.Prelude.{ℕ, ◌+◌, ◌-◌, ◌==◌, nat_lt, Bool, true, false, not, ◌&&◌, ◌||◌, if◌then◌else◌, List, [], ◌∷◌, ◌++◌, length, drop, find, slice_get, is_some, Option, None, Some}
 use Rattle.std.specs.List.{list_any, suffix_len}
@@ -10,7 +10,7 @@ use Rattle.lilo_model.specs.ConfRefusal as reasons
 use Rattle.lilo_model.specs.ConfRefusal.{ConfReason, ConfRefusal}
 use Rattle.lilo_model.specs.ConfSettings.{Given, Bare, Sign, Value, Setting}
 
--- the value that stands behind an option
+-- the value that comes after an option
 unfoldable pub given_text : Given → Option (List ℕ)
 given_text Bare = None
 given_text Sign = None
@@ -20,7 +20,7 @@ given_text (Value text) = Some text
 unfoldable pub setting_of : Opt → List Setting → Option Setting
 setting_of option settings = find (λ setting. same_option setting.option option) settings
 
--- whether an option stands among settings
+-- whether an option is among settings
 unfoldable pub has_option : Opt → List Setting → Bool
 has_option option settings = list_any (λ setting. same_option setting.option option) settings
 
@@ -30,7 +30,7 @@ opened_part Image = ImagePart
 opened_part OtherDevice = OtherPart
 opened_part _ = GlobalPart
 
--- the part that settings stand in, the one that opens it at their front
+-- the part that settings are in, the one that opens it at their start
 unfoldable pub part_kind : List Setting → Part
 part_kind [] = GlobalPart
 part_kind (setting ∷ _) = opened_part setting.option
@@ -40,11 +40,11 @@ unfoldable pub setting_disk : Setting → Option ℕ
 setting_disk setting =
     if same_option setting.option Disk then option_and_then whole_disk_at (given_text setting.given) else None
 
--- how many settings at the end tell something of a disk
+-- how many settings at the end say something of a disk
 unfoldable pub details_count : List Setting → ℕ
 details_count own = suffix_len (λ setting. is_of_disk setting.option) own
 
--- the settings at the end that tell something of a disk
+-- the settings at the end that say something of a disk
 unfoldable pub details_of : List Setting → List Setting
 details_of own = drop (length own - details_count own) own
 
@@ -73,7 +73,7 @@ text_reason option disk text =
     if is_of_name option && nat_lt name_limit (length text) then Some reasons.NameTooLong else
     None
 
--- what is wrong with what stands behind an option
+-- what is wrong with what comes after an option
 unfoldable pub given_reason : Opt → ℕ → Given → Option ConfReason
 given_reason option disk Bare = if takes_nothing (takes_of option) then None else Some reasons.NoValue
 given_reason option disk Sign = if takes_nothing (takes_of option) then Some reasons.BadValue else Some reasons.NoValue
@@ -83,14 +83,14 @@ given_reason option disk (Value text) = text_reason option disk text
 unfoldable pub value_reason : ℕ → Setting → Option ConfReason
 value_reason disk setting = given_reason setting.option disk setting.given
 
--- what is wrong with a `disk`, behind others of its part
+-- what is wrong with a `disk`, after others of its part
 unfoldable pub disk_reason : List Setting → Setting → Option ConfReason
 disk_reason own setting =
     if not (stands_in (part_kind own) Disk) then Some reasons.Misplaced else
     if list_any (λ other. is_same_disk (setting_disk setting) (setting_disk other)) own then Some reasons.Repeated else
     value_reason 0 setting
 
--- what is wrong with what is told of a disk, behind others of its part
+-- what is wrong with what is said of a disk, after others of its part
 unfoldable pub detail_reason : List Setting → Setting → Option ConfReason
 detail_reason own setting = of_group (group_disk own)
   where
@@ -104,7 +104,7 @@ unfoldable pub excluded_in : List Setting → Opt → Option Opt
 excluded_in own option =
     option_and_then (λ other. if has_option other own then Some other else None) (excluded_by option)
 
--- what is wrong with an option of a part, behind others of it
+-- what is wrong with an option of a part, after others of it
 unfoldable pub part_reason : List Setting → Setting → Option ConfReason
 part_reason own setting =
     if not (stands_in (part_kind own) setting.option) then Some reasons.Misplaced else
@@ -115,7 +115,7 @@ part_reason own setting =
     beside (Some other) = Some (reasons.Excludes other)
     beside None = value_reason 0 setting
 
--- what is wrong with a setting, behind others of its part
+-- what is wrong with a setting, after others of its part
 unfoldable pub setting_reason : List Setting → Setting → Option ConfReason
 setting_reason own setting =
     if opens setting.option then value_reason 0 setting else
@@ -123,11 +123,11 @@ setting_reason own setting =
     if is_of_disk setting.option then detail_reason own setting else
     part_reason own setting
 
--- the settings of a part, behind one more
+-- the settings of a part, after one more
 unfoldable pub part_after : List Setting → Setting → List Setting
 part_after own setting = if opens setting.option then setting ∷ [] else own ++ setting ∷ []
 
--- the first refusal of settings where they stand, behind those of their part
+-- the first refusal of settings where they are, after those of their part
 unfoldable pub settings_refusal : List Setting → List Setting → Option ConfRefusal
 settings_refusal own [] = None
 settings_refusal own (setting ∷ settings) =

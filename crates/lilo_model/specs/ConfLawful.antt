@@ -16,12 +16,12 @@ names_of_section section = section.label ∷ other section.alias
 unfoldable pub names_of_config : Config → List (List ℕ)
 names_of_config config = flat_map names_of_section config.sections
 
--- a text that may stand where a path does
+-- a text that may be where a path is
 pub record IsPath (text : List ℕ) : Type 0 where
   pub path : IsTrue (is_path text)
   pub size : length text ≤ conf_limit
 
--- a text that may stand on a command line
+-- a text that may be on a command line
 pub record IsLineText (text : List ℕ) : Type 0 where
   pub plain : IsTrue (is_text text)
   pub size : length text ≤ conf_limit
@@ -31,7 +31,7 @@ pub record IsEntryName (text : List ℕ) : Type 0 where
   pub name : IsTrue (is_name text)
   pub size : length text ≤ name_limit
 
--- a section of a kernel has what may stand there
+-- a section of a kernel has what may be there
 pub record IsImageSection (section : ConfSection) : Type 0 where
   pub path : IsPath section.path
   pub initrd : IfSome section.initrd IsPath
@@ -41,7 +41,7 @@ pub record IsImageSection (section : ConfSection) : Type 0 where
   pub vga : IfSome section.vga (λ vga. vga ≤ 65535)
   pub table : section.table ≡ None
 
--- a section of another system, whose device is this one, has what may stand there
+-- a section of another system, whose device is this one, has what may be there
 pub record IsOtherSection (section : ConfSection) (device : Device) : Type 0 where
   pub named : IsDevice device
   pub name : section.path ≡ device_name device
@@ -58,7 +58,7 @@ abbrev pub IsOfKind : ConfSection → Option Device → Type 0
 IsOfKind section None = IsImageSection section
 IsOfKind section (Some device) = IsOtherSection section device
 
--- a section that may stand in a configuration
+-- a section that may be in a configuration
 pub record IsLawfulSection (section : ConfSection) : Type 0 where
   pub kind : IsOfKind section section.other
   pub label : IsEntryName section.label
@@ -70,7 +70,7 @@ pub record IsLawfulSection (section : ConfSection) : Type 0 where
   -- it isn't restricted without a password
   pub restricted : IsTrue section.restricted → IsSome section.password
 
--- what may be told of a disk
+-- what may be said of a disk
 pub record IsLawfulDisk (disk : DiskSection) : Type 0 where
   pub device : IsDevice disk.device
   pub whole : disk.device.partition ≡ 0
@@ -91,11 +91,11 @@ pub record IsLawful (config : Config) : Type 0 where
   -- it hasn't both backups
   pub one_backup : IsSome config.backup → config.force_backup ≡ None
   pub disks : All IsLawfulDisk config.disks
-  -- no two of what is told of disks speak of one
+  -- no two of what is said of disks speak of one
   pub disks_apart : AllPairs (λ one other. one.device.disk ≢ other.device.disk) config.disks
   pub some : 1 ≤ length config.sections
   pub sections : All IsLawfulSection config.sections
   pub few_names : length (names_of_config config) ≤ names_limit
-  -- no name stands twice
+  -- no name appears twice
   pub names_apart : AllPairs (λ one other. one ≢ other) (names_of_config config)
   pub default_name : IfSome config.default_name (λ name. IsTrue (has_name name (names_of_config config)))

@@ -1,6 +1,6 @@
--- The options of lilo.conf(5) that are told apart, over several releases of LILO: their names and sense are
+-- The options of lilo.conf(5) that are distinguished, over several releases of LILO: their names and sense are
 -- that page's. Which of them are taken, which are refused by name, what values they may have and where they may
--- stand is this project's own profile.
+-- be is this project's own profile.
 use Rattle.std.specs.Prelude.{ℕ, ◌==◌, Bool, true, false, List, [], ◌∷◌, codes, find, bytes_eq, unwrap_or, Option, None, Some}
 
 pub data Opt : Type 0 where
@@ -200,7 +200,7 @@ opt_number Other = 55
 abbrev pub same_option : Opt → Opt → Bool
 same_option one other = opt_number one == opt_number other
 
--- what an option takes behind an equals sign
+-- what an option takes after an equals sign
 pub data Takes : Type 0 where
   -- it takes no value
   Nothing : Takes
@@ -280,13 +280,13 @@ takes_of Partition = LeftOut
 takes_of MapDrive = LeftOut
 takes_of Other = Unknown
 
--- where options stand: in the part before all sections, in an image's section, or in another system's
+-- where options are: in the part before all sections, in an image's section, or in another system's
 pub data Part : Type 0 where
   GlobalPart : Part
   ImagePart : Part
   OtherPart : Part
 
--- where an option may stand that belongs to a part
+-- where an option may be that belongs to a part
 pub record Places : Type 0 where
   pub in_global : Bool
   pub in_image : Bool
@@ -329,7 +329,7 @@ places_of Table = record { in_global = false; in_image = false; in_other = true 
 places_of Loader = record { in_global = false; in_image = false; in_other = true }
 places_of _ = record { in_global = false; in_image = false; in_other = false }
 
--- whether an option may stand in a part
+-- whether an option may be in a part
 unfoldable pub stands_in : Part → Opt → Bool
 stands_in GlobalPart option = (places_of option).in_global
 stands_in ImagePart option = (places_of option).in_image
@@ -341,7 +341,7 @@ opens Image = true
 opens OtherDevice = true
 opens _ = false
 
--- whether an option tells something of the disk of its group
+-- whether an option says something of the disk of its group
 unfoldable pub is_of_disk : Opt → Bool
 is_of_disk Bios = true
 is_of_disk Sectors = true

@@ -10,21 +10,21 @@ pub data ConfReason : Type 0 where
   Unknown : ConfReason
   -- the option is one of LILO that isn't taken here
   LeftOut : ConfReason
-  -- it stands a second time
+  -- it appears a second time
   Repeated : ConfReason
   -- it wants a value and has none
   NoValue : ConfReason
   -- its value is out of its range, or it has one and wants none
   BadValue : ConfReason
-  -- it may not stand there
+  -- it isn't allowed there
   Misplaced : ConfReason
   -- the name has too many bytes
   NameTooLong : ConfReason
-  -- the name stands a second time
+  -- the name appears a second time
   RepeatedName : ConfReason
   -- there are more names than a map holds
   TooManyNames : ConfReason
-  -- it may not stand beside this option
+  -- it isn't allowed beside this option
   Excludes : (other : Opt) → ConfReason
   -- the default is no name
   NoDefault : ConfReason
@@ -62,7 +62,7 @@ conf_reason_text (Text (tokens.OpenQuote place)) = codes "open quote"
 conf_reason_text (Text (tokens.BadByte place)) = codes "bad byte"
 conf_reason_text (TooLong size) = codes "too long"
 
--- what tells a refusal, behind the word that it is one of the configuration
+-- what reports a refusal, after the word that it is one of the configuration
 unfoldable pub config_line : ConfRefusal → List ℕ
 config_line refusal =
     opt_name refusal.option ++ codes ": " ++ conf_reason_text refusal.reason ++ codes " at line " ++ decimal refusal.line

@@ -1,5 +1,5 @@
--- The pieces of a lilo.conf as settings: an option with what stands behind it. That an option has an equals sign
--- and a value, or stands alone, is lilo.conf(5)'s; what is refused on the way is this project's own.
+-- The pieces of a lilo.conf as settings: an option with what comes after it. That an option has an equals sign
+-- and a value, or is alone, is lilo.conf(5)'s; what is refused on the way is this project's own.
 use Rattle.std.specs.Prelude.{ℕ, zero, suc, Bool, true, false, List, [], ◌∷◌, length, Option, None, Some, Result, Ok, Err}
 use Rattle.lilo_model.specs.ConfTokens.{TokenKind, Word, Quoted, Equals, Token, TextFault, OpenQuote, BadByte, Piece, line_at, plain_bytes, text_pieces}
 use Rattle.lilo_model.specs.ConfOptions as options
@@ -7,7 +7,7 @@ use Rattle.lilo_model.specs.ConfOptions.{Opt, Other, Takes, option_at, takes_of}
 use Rattle.lilo_model.specs.ConfRefusal as reasons
 use Rattle.lilo_model.specs.ConfRefusal.{ConfReason, ConfRefusal}
 
--- what stands behind an option
+-- what comes after an option
 pub data Given : Type 0 where
   -- no equals sign
   Bare : Given
@@ -16,19 +16,19 @@ pub data Given : Type 0 where
   -- an equals sign and a value
   Value : List ℕ → Given
 
--- an option, what stands behind it, and its line
+-- an option, what comes after it, and its line
 pub record Setting : Type 0 where
   pub option : Opt
   pub given : Given
   pub line : ℕ
 
--- what stands first in pieces
+-- what comes first in pieces
 pub data SettingCut : Type 0 where
   -- nothing
   End : SettingCut
   -- a refusal
   Refused : ConfRefusal → SettingCut
-  -- a setting, and the pieces behind it
+  -- a setting, and the pieces after it
   First : Setting → List Piece → SettingCut
 
 -- the place of a fault
@@ -44,13 +44,13 @@ text_refusal text option fault = record {
   line = line_at text (fault_place fault);
 }
 
--- what stands behind an option that takes no value, by the kind of the next token
+-- what comes after an option that takes no value, by the kind of the next token
 unfoldable pub flag_given : TokenKind → Given
 flag_given Word = Bare
 flag_given Quoted = Bare
 flag_given Equals = Sign
 
--- an option that takes no value, with what stands behind its word: an equals sign there is none of its own
+-- an option that takes no value, with what comes after its word: an equals sign there is none of its own
 unfoldable pub flag_cut : Opt → ℕ → List Piece → SettingCut
 flag_cut option line [] = First (record { option = option; given = Bare; line = line }) []
 flag_cut option line (Err fault ∷ pieces) =
@@ -58,7 +58,7 @@ flag_cut option line (Err fault ∷ pieces) =
 flag_cut option line (Ok token ∷ pieces) =
     First (record { option = option; given = flag_given token.kind; line = line }) (Ok token ∷ pieces)
 
--- what a token gives behind an equals sign
+-- what a token gives after an equals sign
 unfoldable pub given_of : Token → Given
 given_of token = by token.kind
   where
@@ -67,13 +67,13 @@ given_of token = by token.kind
     by Quoted = Value (plain_bytes Quoted token.bytes)
     by Equals = Sign
 
--- what stands behind an option's equals sign
+-- what comes after an option's equals sign
 unfoldable pub signed_cut : List ℕ → Opt → ℕ → List Piece → SettingCut
 signed_cut text option line [] = First (record { option = option; given = Sign; line = line }) []
 signed_cut text option line (Err fault ∷ pieces) = Refused (text_refusal text option fault)
 signed_cut text option line (Ok token ∷ pieces) = First (record { option = option; given = given_of token; line = line }) pieces
 
--- an option that takes a value, with what stands behind its word
+-- an option that takes a value, with what comes after its word
 unfoldable pub valued_cut : List ℕ → Opt → ℕ → List Piece → SettingCut
 valued_cut text option line [] = First (record { option = option; given = Bare; line = line }) []
 valued_cut text option line (Err fault ∷ pieces) = Refused (text_refusal text option fault)
@@ -84,7 +84,7 @@ valued_cut text option line (Ok token ∷ pieces) = behind token.kind
     behind Quoted = First (record { option = option; given = Bare; line = line }) pieces
     behind Equals = signed_cut text option line pieces
 
--- an option by what it takes, with what stands behind its word
+-- an option by what it takes, with what comes after its word
 unfoldable pub taken_cut : List ℕ → Opt → Takes → ℕ → List Piece → SettingCut
 taken_cut text chosen options.Unknown line pieces =
     Refused (record { reason = reasons.Unknown; option = Other; line = line })
@@ -93,11 +93,11 @@ taken_cut text chosen options.LeftOut line pieces =
 taken_cut text chosen options.Nothing line pieces = flag_cut chosen line pieces
 taken_cut text chosen _ line pieces = valued_cut text chosen line pieces
 
--- the option of a word, by what stands behind it
+-- the option of a word, by what comes after it
 unfoldable pub word_cut : List ℕ → Opt → ℕ → List Piece → SettingCut
 word_cut text option line pieces = taken_cut text option (takes_of option) line pieces
 
--- the setting of a token, by what stands behind it; only a word is an option
+-- the setting of a token, by what comes after it; only a word is an option
 unfoldable pub token_cut : List ℕ → Token → List Piece → SettingCut
 token_cut text token pieces = by token.kind
   where
@@ -106,22 +106,22 @@ token_cut text token pieces = by token.kind
     by Quoted = Refused (record { reason = reasons.Unknown; option = Other; line = token.line })
     by Equals = Refused (record { reason = reasons.Unknown; option = Other; line = token.line })
 
--- the first setting of pieces, behind an option
+-- the first setting of pieces, after an option
 unfoldable pub setting_cut : List ℕ → Opt → List Piece → SettingCut
 setting_cut text begun [] = End
 setting_cut text begun (Err fault ∷ pieces) = Refused (text_refusal text begun fault)
 setting_cut text begun (Ok token ∷ pieces) = token_cut text token pieces
 
--- settings, and the refusal that stands behind them, where there is one
+-- settings, and the refusal that comes after them, where there is one
 pub record Settings : Type 0 where
   pub settings : List Setting
   pub refusal : Option ConfRefusal
 
--- settings with one more at their front
+-- settings with one more at their start
 unfoldable pub with_setting : Setting → Settings → Settings
 with_setting setting cut = record { settings = setting ∷ cut.settings; refusal = cut.refusal }
 
--- at most so many settings of pieces, behind an option
+-- at most so many settings of pieces, after an option
 unfoldable pub settings_from : ℕ → List ℕ → Opt → List Piece → Settings
 settings_from zero text begun pieces = record { settings = []; refusal = None }
 settings_from (suc most) text begun pieces =

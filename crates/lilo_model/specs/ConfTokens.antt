@@ -21,10 +21,10 @@ pub record Token : Type 0 where
 pub data TextFault : Type 0 where
   -- the opening quote at this place has no closing one on its line
   OpenQuote : (place : ℕ) → TextFault
-  -- a byte at this place may not stand outside comments
+  -- a byte at this place isn't allowed outside comments
   BadByte : (place : ℕ) → TextFault
 
--- what stands at the front of a text: a token, or a fault, which ends it
+-- what is at the start of a text: a token, or a fault, which ends it
 abbrev pub Piece : Type 0
 Piece = Result Token TextFault
 
@@ -32,7 +32,7 @@ Piece = Result Token TextFault
 unfoldable pub is_separator : ℕ → Bool
 is_separator byte = byte == 32 || byte == 9 || byte == 13 || byte == 10
 
--- whether a byte may not stand outside comments: a control byte that separates nothing
+-- whether a byte isn't allowed outside comments: a control byte that separates nothing
 unfoldable pub is_bad_byte : ℕ → Bool
 is_bad_byte byte = (nat_lt byte 32 && not (is_separator byte)) || byte == 127
 
@@ -40,7 +40,7 @@ is_bad_byte byte = (nat_lt byte 32 && not (is_separator byte)) || byte == 127
 unfoldable pub line_at : List ℕ → ℕ → ℕ
 line_at text place = suc (count_by (λ byte. byte == 10) (take place text))
 
--- whether a byte stands in a comment or begins one, where the byte before it did or didn't
+-- whether a byte is in a comment or begins one, where the byte before it did or didn't
 unfoldable pub in_comment : Bool → ℕ → Bool
 in_comment before byte = (before || byte == 35) && not (byte == 10)
 
@@ -48,13 +48,13 @@ in_comment before byte = (before || byte == 35) && not (byte == 10)
 unfoldable pub is_blank : Bool → ℕ → Bool
 is_blank before byte = before || byte == 35 || is_separator byte
 
--- how many bytes stand before the first token, the first of them in a comment or not
+-- how many bytes come before the first token, the first of them in a comment or not
 unfoldable pub blank_length : Bool → List ℕ → ℕ
 blank_length comment [] = 0
 blank_length comment (byte ∷ bytes) =
     if is_blank comment byte then suc (blank_length (in_comment comment byte) bytes) else 0
 
--- whether a byte belongs to a word, which behind an equals sign may have such signs itself
+-- whether a byte belongs to a word, which after an equals sign may have such signs itself
 unfoldable pub is_of_word : Bool → ℕ → Bool
 is_of_word value byte = not (is_separator byte) && (value || not (byte == 61))
 
@@ -66,32 +66,32 @@ is_escape escaped byte = byte == 92 && not escaped
 unfoldable pub ends_quoted : Bool → ℕ → Bool
 ends_quoted escaped byte = (byte == 34 && not escaped) || byte == 10
 
--- how many bytes stand before the end of a quoted text, the first of them escaped or not
+-- how many bytes come before the end of a quoted text, the first of them escaped or not
 unfoldable pub quoted_length : Bool → List ℕ → ℕ
 quoted_length escaped [] = 0
 quoted_length escaped (byte ∷ bytes) =
     if ends_quoted escaped byte then 0 else suc (quoted_length (is_escape escaped byte) bytes)
 
--- a token on a line whose bytes begin at a place, unless the one of this index may not stand there
+-- a token on a line whose bytes begin at a place, unless the one of this index isn't allowed there
 unfoldable pub unless_bad : ℕ → TokenKind → ℕ → List ℕ → Option ℕ → Piece
 unless_bad line kind start bytes (Some index) = Err (BadByte (start + index))
 unless_bad line kind start bytes None = Ok (record { kind = kind; bytes = bytes; start = start; line = line })
 
--- a token on a line whose bytes begin at a place, unless one of them may not stand there
+-- a token on a line whose bytes begin at a place, unless one of them isn't allowed there
 unfoldable pub sound_token : ℕ → TokenKind → ℕ → List ℕ → Piece
 sound_token line kind start bytes = unless_bad line kind start bytes (position is_bad_byte bytes)
 
--- the word whose first byte stands at a place, with the bytes behind it
+-- the word whose first byte is at a place, with the bytes after it
 unfoldable pub word_at : ℕ → Bool → ℕ → ℕ → List ℕ → Piece
 word_at line value start byte bytes = sound_token line Word start (byte ∷ take_while (is_of_word value) bytes)
 
--- a quoted text whose opening quote stands at a place, with what stands behind it
+-- a quoted text whose opening quote is at a place, with what comes after it
 unfoldable pub closed : ℕ → Piece → List ℕ → Piece
 closed start (Err fault) behind = Err fault
 closed start (Ok token) [] = Err (OpenQuote start)
 closed start (Ok token) (byte ∷ _) = if byte == 34 then Ok token else Err (OpenQuote start)
 
--- the quoted text whose opening quote stands at a place, with the bytes behind the quote
+-- the quoted text whose opening quote is at a place, with the bytes after the quote
 unfoldable pub quoted_at : ℕ → ℕ → List ℕ → Piece
 quoted_at line start bytes =
     let len = quoted_length false bytes in
@@ -101,7 +101,7 @@ quoted_at line start bytes =
 unfoldable pub equals_at : ℕ → ℕ → Piece
 equals_at line start = Ok (record { kind = Equals; bytes = 61 ∷ []; start = start; line = line })
 
--- what stands on a line at a place where a token begins, with the bytes from there on; none at the end
+-- what is on a line at a place where a token begins, with the bytes from there on; none at the end
 unfoldable pub piece_at : ℕ → Bool → ℕ → List ℕ → Option Piece
 piece_at line value start [] = None
 piece_at line value start (byte ∷ bytes) =
@@ -114,18 +114,18 @@ piece_at line value start (byte ∷ bytes) =
 unfoldable pub token_start : List ℕ → ℕ → ℕ
 token_start text place = place + blank_length false (drop place text)
 
--- what stands first from a place on, behind an equals sign or not
+-- what comes first from a place on, after an equals sign or not
 unfoldable pub next_piece : List ℕ → Bool → ℕ → Option Piece
 next_piece text value place =
     let start = token_start text place in piece_at (line_at text start) value start (drop start text)
 
--- how many bytes of a token stand behind its own
+-- how many bytes of a token come after its own
 abbrev pub quote_length : TokenKind → ℕ
 quote_length Word = 0
 quote_length Quoted = 1
 quote_length Equals = 0
 
--- the place behind a token
+-- the place after a token
 abbrev pub token_end : Token → ℕ
 token_end token = token.start + length token.bytes + quote_length token.kind
 

@@ -22,7 +22,7 @@ is_path text = starts_with nat_eq text (codes "/") && list_all (λ byte. not (by
 unfoldable pub is_name : List ℕ → Bool
 is_name text = not (length text == 0) && list_all (is_between 33 126) text
 
--- whether a text may stand on a command line
+-- whether a text may be on a command line
 unfoldable pub is_text : List ℕ → Bool
 is_text text = list_all (λ byte. nat_le 32 byte && not (byte == 127)) text
 
@@ -64,10 +64,10 @@ is_value (AShown most) disk text = is_shown most text
 is_value LeftOut disk text = false
 is_value Unknown disk text = false
 
--- how many bytes of a path stand behind its last slash, all where it has none
+-- how many bytes of a path come after its last slash, all where it has none
 unfoldable pub last_length : List ℕ → ℕ
 last_length path = suffix_len (λ byte. not (byte == 47)) path
 
--- the part of a path behind its last slash
+-- the part of a path after its last slash
 unfoldable pub last_part : List ℕ → List ℕ
 last_part path = drop (length path - last_length path) path

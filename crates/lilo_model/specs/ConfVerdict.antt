@@ -16,12 +16,12 @@ use Rattle.lilo_model.specs.Verdict.{Verdict, verdict_of, names_text}
 use Rattle.lilo_model.specs.VolumeSearch as search
 use Rattle.lilo_model.specs.VolumeSearch.{Located, VolumeFault, volume_place}
 
--- how a missing volume is told
+-- how a missing volume is reported
 abbrev pub volume_refusal : VolumeFault → Refusal
 volume_refusal search.NoVolume = refusals.NoVolume
 volume_refusal (search.Place fault) = refusals.Device fault
 
--- how a path that is refused is told
+-- how a path that is refused is reported
 abbrev pub path_refusal : List ℕ → TreeFault → Refusal
 path_refusal path (find.NotFound position) = refusals.Missing path
 path_refusal path (find.Zone fault) = refusals.Layout
@@ -56,7 +56,7 @@ conf_device image machine root path = do
   config ← with_fault refusals.Config (conf_at file.text)
   Ok (unwrap_or config.boot file.device)
 
--- where a device lies, as commands tell it
+-- where a device lies, as commands report it
 unfoldable pub place_at : Image → Machine → Device → Result Span DeviceFault
 place_at image machine device = with_fault device_fault (span_of image machine device)
 

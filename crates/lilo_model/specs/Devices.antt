@@ -22,7 +22,7 @@ disk_name disk =
 unfoldable pub last_partition : ℕ → ℕ
 last_partition disk = if nat_le disk 1 then 63 else 15
 
--- what stands behind the disk's name: a partition's number, or nothing for the whole disk
+-- what comes after the disk's name: a partition's number, or nothing for the whole disk
 unfoldable pub partition_name : ℕ → List ℕ
 partition_name partition = if partition == 0 then [] else decimal partition
 

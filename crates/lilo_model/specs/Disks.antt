@@ -20,7 +20,7 @@ pub record Geometry : Type 0 where
   pub heads : ℕ
   pub sectors : ℕ
 
--- a geometry that a BIOS can tell: 1 to 255 heads, and 1 to 63 sectors on a track
+-- a geometry that a BIOS can report: 1 to 255 heads, and 1 to 63 sectors on a track
 pub record IsGeometry (geometry : Geometry) : Type 0 where
   pub some_head : 1 ≤ geometry.heads
   pub most_heads : geometry.heads ≤ 255

@@ -6,11 +6,11 @@ use Rattle.lilo_model.specs.Checks.{◌>>=◌, require}
 
 -- what the header of a kernel says
 pub record Header : Type 0 where
-  -- the sectors of the real-mode part behind its first
+  -- the sectors of the real-mode part after its first
   pub setup : ℕ
   -- the version of the protocol, where there is one
   pub version : Option ℕ
-  -- whether the protected-mode part stands above the first 1,048,576 bytes
+  -- whether the protected-mode part lies above the first 1,048,576 bytes
   pub high : Bool
   -- the address of the last byte that an initrd may take
   pub initrd_max : ℕ
@@ -22,7 +22,7 @@ pub record Region : Type 0 where
   pub address : ℕ
   pub size : ℕ
 
--- where a kernel and what goes with it stand in memory
+-- where a kernel and what goes with it lie in memory
 pub record Layout : Type 0 where
   pub real : Region
   pub protected : Region
@@ -38,7 +38,7 @@ pub data SetupFault : Type 0 where
   NoBootFlag : SetupFault
   -- it has more than 64 setup sectors
   SetupTooLarge : (setup : ℕ) → SetupFault
-  -- a low kernel has more than 524,288 bytes behind its setup
+  -- a low kernel has more than 524,288 bytes after its setup
   LowTooLarge : (size : ℕ) → SetupFault
   -- an initrd goes with a kernel that can't take one
   NoInitrd : SetupFault
@@ -49,7 +49,7 @@ pub data SetupFault : Type 0 where
 
 -- ---- the header
 
--- the sectors of the real-mode part behind its first
+-- the sectors of the real-mode part after its first
 unfoldable pub setup_of : List ℕ → ℕ
 setup_of bytes = if slice_index bytes 0x1F1 == 0 then 4 else slice_index bytes 0x1F1
 
@@ -131,13 +131,13 @@ initrd_least header len = page_above (if header.high then protected_end header l
 abbrev pub initrd_end : Header → ℕ → ℕ
 initrd_end header memory = min memory (header.initrd_max + 1)
 
--- where an initrd of some bytes stands between two addresses: as high as it can at a multiple of 4096
+-- where an initrd of some bytes lies between two addresses: as high as it can at a multiple of 4096
 abbrev pub initrd_between : ℕ → ℕ → ℕ → Result (Option Region) SetupFault
 initrd_between least end size = do
   a ← require (nat_le (least + size) end) (NoRoom (least + size) end)
   Ok (Some (record { address = page_below (end - size); size = size }))
 
--- where the initrd stands, if there is one
+-- where the initrd lies, if there is one
 abbrev pub initrd_region : Header → ℕ → ℕ → Option ℕ → Result (Option Region) SetupFault
 initrd_region header len memory None = Ok None
 initrd_region header len memory (Some size) =
@@ -158,7 +158,7 @@ plan_memory header len initrd line memory = do
 
 -- ---- the fields that are replaced
 
--- an offset, and the bytes that stand there from then on
+-- an offset, and the bytes that are there from then on
 pub record Field : Type 0 where
   pub at : ℕ
   pub bytes : List ℕ

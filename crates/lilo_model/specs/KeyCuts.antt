@@ -1,4 +1,4 @@
--- Where a list of keys is cut: behind a wait, behind a line, behind an answer to the password's
+-- Where a list of keys is cut: after a wait, after a line, after an answer to the password's
 -- question. A cut knows no text, no reply and no entry. The keys that end a line follow LILO's
 -- manners; how long is waited for an answer is a rule of this project's own.
 use Rattle.std.specs.Prelude.{ℕ, zero, suc, List, [], ◌∷◌, Bool, false, ◌&&◌, ◌||◌, ◌==◌, if◌then◌else◌}
@@ -6,12 +6,12 @@ use Rattle.lilo_model.specs.Prompt.{Key, Byte, Tick}
 
 -- a wait for a number of ticks, cut off from the keys
 pub data WaitCut : Type 0 where
-  -- the ticks came, or the keys ended before: the keys behind
+  -- the ticks came, or the keys ended before: the keys after them
   Elapsed : List Key → WaitCut
-  -- a byte came before: the byte, and the keys behind it
+  -- a byte came before: the byte, and the keys after it
   Interrupted : ℕ → List Key → WaitCut
 
--- the keys, cut where so many ticks stand before the first byte, at that byte, or at their end
+-- the keys, cut where so many ticks come before the first byte, at that byte, or at their end
 abbrev pub cut_wait : ℕ → List Key → WaitCut
 cut_wait zero keys = Elapsed keys
 cut_wait (suc ticks) [] = Elapsed []
@@ -22,10 +22,10 @@ cut_wait (suc ticks) (Byte byte ∷ keys) = Interrupted byte keys
 pub data LineCut : Type 0 where
   -- the keys ended before the line did: its bytes
   Unended : List ℕ → LineCut
-  -- its bytes, the byte that ended it, and the keys behind
+  -- its bytes, the byte that ended it, and the keys after it
   Ended : List ℕ → ℕ → List Key → LineCut
 
--- the cut line with a byte more at its front
+-- the cut line with a byte more at its start
 abbrev pub onto_line : ℕ → LineCut → LineCut
 onto_line byte (Unended bytes) = Unended (byte ∷ bytes)
 onto_line byte (Ended bytes by keys) = Ended (byte ∷ bytes) by keys
@@ -46,7 +46,7 @@ is_list_key byte = byte == 9 || byte == 63
 abbrev pub ends_line : Bool → ℕ → Bool
 ends_line first byte = is_enter_key byte || is_erase_key byte || (first && is_list_key byte)
 
--- the keys, cut behind the byte that ends a line, whose first byte or a later one is next; ticks are passed over
+-- the keys, cut after the byte that ends a line, whose first byte or a later one is next; ticks are passed over
 abbrev pub cut_line : Bool → List Key → LineCut
 cut_line first [] = Unended []
 cut_line first (Tick ∷ keys) = cut_line first keys
@@ -55,12 +55,12 @@ cut_line first (Byte byte ∷ keys) =
 
 -- an answer, cut off from the keys
 pub data AnswerCut : Type 0 where
-  -- no answer came: the keys behind
+  -- no answer came: the keys that are left
   Missing : List Key → AnswerCut
-  -- the bytes before the one that finished it, and the keys behind
+  -- the bytes before the one that finished it, and the keys after it
   Given : List ℕ → List Key → AnswerCut
 
--- the cut answer with a byte more at its front
+-- the cut answer with a byte more at its start
 abbrev pub onto_answer : ℕ → AnswerCut → AnswerCut
 onto_answer byte (Missing keys) = Missing keys
 onto_answer byte (Given bytes keys) = Given (byte ∷ bytes) keys
@@ -69,7 +69,7 @@ onto_answer byte (Given bytes keys) = Given (byte ∷ bytes) keys
 abbrev pub most_quiet_ticks : ℕ
 most_quiet_ticks = 600
 
--- the keys, cut behind the byte that finishes an answer, or where no answer comes: behind so many ticks
+-- the keys, cut after the byte that finishes an answer, or where no answer comes: after so many ticks
 -- in a row, of which some came already, or at their end
 abbrev pub cut_answer : ℕ → List Key → AnswerCut
 cut_answer quiet [] = Missing []

@@ -25,7 +25,7 @@ pub data Refusal : Type 0 where
   NoVolume : ZoneFault → Refusal
   -- the path leads nowhere, or an inode or a zone is refused
   NoPath : TreeFault → Refusal
-  -- what stands there is no file for `get`, or no directory for `ls`
+  -- what is there is no file for `get`, or no directory for `ls`
   WrongKind : Refusal
   -- an entry names an inode that isn't there
   NoInode : (number : ℕ) → Refusal
@@ -36,7 +36,7 @@ pub data Refusal : Type 0 where
 abbrev pub silent : ℕ → Verdict
 silent status = record { status = status; text = [] }
 
--- what is checked decides, or else what comes behind it
+-- what is checked decides, or else what comes after it
 abbrev pub checked : {A F : Type 0} → Result A F → (A → Verdict) → Verdict
 checked (Ok value) next = next value
 checked (Err fault) next = silent 3
@@ -46,7 +46,7 @@ abbrev pub piece_verdict : {F : Type 0} → Result (List ℕ) F → Verdict
 piece_verdict (Ok piece) = record { status = 0; text = piece }
 piece_verdict (Err fault) = silent 3
 
--- a piece behind some others: where one of them was refused, it isn't looked at
+-- a piece after some others: where one of them was refused, it isn't looked at
 unfoldable pub then_piece : {F : Type 0} → Verdict → Result (List ℕ) F → Verdict
 then_piece before piece = if before.status == 0 then verdict_behind before.text (piece_verdict piece) else before
 
@@ -151,11 +151,11 @@ unfoldable pub command_verdict : Image → Machine → Command → Verdict
 command_verdict now machine command =
     checked (volume_on now machine (device_of command)) (λ volume. verdict_on volume.layout (parts_of volume now) command)
 
--- words that ask for something, or are of no grammar
+-- arguments that ask for something, or are of no grammar
 abbrev pub asked_verdict : Image → Machine → Option Asked → Verdict
 asked_verdict now machine (Some asked) = command_verdict now machine asked.command
 asked_verdict now machine None = silent 1
 
--- what `ldisk` answers and prints for words, over disks that hold this image
+-- what `ldisk` answers and prints for arguments, over disks that hold this image
 unfoldable pub ldisk_verdict : Image → Machine → List (List ℕ) → Verdict
 ldisk_verdict now machine words = asked_verdict now machine (asked_at words)

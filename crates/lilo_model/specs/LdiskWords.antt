@@ -1,8 +1,8 @@
--- The words of a command line of `ldisk`, and what they ask for (this project's own grammar).
+-- The arguments of a command line of `ldisk`, and what they ask for (this project's own grammar).
 --
 --     run  = "ls" image device path | "get" image device path
 --
--- An image is any word. A device is one that has a name. A path begins with `/` and has no zero byte.
+-- An image is any argument. A device is one that has a name. A path begins with `/` and has no zero byte.
 use Rattle.std.specs.Prelude.{◌≡◌, ◌↔◌, ℕ, ◌==◌, Bool, not, ◌&&◌, if◌then◌else◌, IsTrue, List, [], ◌∷◌, bytes_eq, codes, Option, None, Some}
 use Rattle.std.specs.List.{list_any}
 use Rattle.std.specs.Option.{option_and_then}
@@ -33,13 +33,13 @@ pub record Asked : Type 0 where
 abbrev pub asked_of : List ℕ → Command → Asked
 asked_of image command = record { image = image; sectors = 0; command = command }
 
--- whether a word is a path of a volume
+-- whether an argument is a path of a volume
 unfoldable pub is_volume_path : List ℕ → Bool
 is_volume_path word = is_path word && not (list_any (λ byte. byte == 0) word)
 
 -- ---- the grammar
 
--- words that ask for something
+-- arguments that ask for something
 pub data IsAsked : List (List ℕ) → Asked → Type 0 where
   ls :
       (image name path : List ℕ) (device : Device) → device_at name ≡ Some device → IsTrue (is_volume_path path)
@@ -48,9 +48,9 @@ pub data IsAsked : List (List ℕ) → Asked → Type 0 where
       (image name path : List ℕ) (device : Device) → device_at name ≡ Some device → IsTrue (is_volume_path path)
       → IsAsked (codes "get" ∷ image ∷ name ∷ path ∷ []) (asked_of image (Get device path))
 
--- ---- what words ask for
+-- ---- what arguments ask for
 
--- the command of a word, with its device and path
+-- the command of an argument, with its device and path
 unfoldable pub command_of : List ℕ → Device → List ℕ → Option Command
 command_of word device path =
     if bytes_eq word (codes "ls") then Some (Ls device path) else
@@ -64,11 +64,11 @@ asked_by word image path device =
     then option_and_then (λ command. Some (asked_of image command)) (command_of word device path)
     else None
 
--- what words ask for, if they are of the grammar
+-- what arguments ask for, if they are of the grammar
 unfoldable pub asked_at : List (List ℕ) → Option Asked
 asked_at (word ∷ (image ∷ (name ∷ (path ∷ [])))) = option_and_then (asked_by word image path) (device_at name)
 asked_at _ = None
 
--- words ask for this exactly where the grammar says so
+-- arguments ask for this exactly where the grammar says so
 abbrev pub AskedLaw : Type 0
 AskedLaw = (words : List (List ℕ)) (asked : Asked) → (asked_at words ≡ Some asked) ↔ IsAsked words asked

@@ -61,7 +61,7 @@ pub data Meaning : Type 0 where
   -- its first word is no name
   NoSuch : Meaning
 
--- what a first word means that is the name of an entry, or of none, with the words behind it
+-- what a first word means that is the name of an entry, or of none, with the words after it
 abbrev pub named_meaning : Option ℕ → List (List ℕ) → Meaning
 named_meaning None words = NoSuch
 named_meaning (Some entry) words = Names entry words

@@ -47,20 +47,20 @@ table_places image machine boot (Ok entries) =
     file_places (λ slot. file_listing image machine slot boot.message_length boot.message_chain) boot.message
     ++ flat_map (entry_places image machine) entries
 
--- what stands behind the table, where all of its sectors are there
+-- what the table leads to, where all of its sectors are there
 abbrev pub behind_table : Image → Machine → BootSector → Result (List DiskSector) slots.AddressFault → List DiskSector
 behind_table image machine boot (Err fault) = []
 behind_table image machine boot (Ok places) =
     table_places image machine boot (table_at boot.names (map (bytes_at image) places))
 
--- the sectors of a map: the default line's, the table's, and those behind it
+-- the sectors of a map: the default line's, the table's, and those that it leads to
 unfoldable pub map_places : Image → Machine → BootSector → List DiskSector
 map_places image machine boot =
     slot_places machine boot.line
     ++ found_places (map (λ slot. place_at machine slot 0) boot.table)
     ++ behind_table image machine boot (each (map (λ slot. place_at machine slot 0) boot.table))
 
--- those behind a boot sector, where it is of this format
+-- those that a boot sector leads to, where it is of this format
 abbrev pub behind_sector : Image → Machine → Result BootSector MapFault → List DiskSector
 behind_sector image machine (Err fault) = []
 behind_sector image machine (Ok boot) = map_places image machine boot

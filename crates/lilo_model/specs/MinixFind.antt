@@ -26,7 +26,7 @@ pub data TreeFault : Type 0 where
 
 -- ---- components
 
--- a component of a path, and the text behind it
+-- a component of a path, and the text after it
 pub record Component : Type 0 where
   pub name : List ℕ
   pub rest : List ℕ
@@ -68,7 +68,7 @@ components (byte ∷ text) =
 pub data Walked : Type 0 where
   -- at an inode
   Ends : (inode : ℕ) → Walked
-  -- at a link in a directory, with the text behind it
+  -- at a link in a directory, with the text after it
   Meets : (directory link : ℕ) (rest : List ℕ) → Walked
 
 -- an inode, where its size is one of its kind
@@ -122,7 +122,7 @@ abbrev pub end_of : Walked → Result ℕ TreeFault
 end_of (Ends inode) = Ok inode
 end_of (Meets directory link rest) = Err TooManyLinks
 
--- the end of a walk, where the text of a link is walked before the text behind it: from the root where it
+-- the end of a walk, where the text of a link is walked before the text after it: from the root where it
 -- begins with a slash, else from the directory that has the link
 abbrev pub through_link : Super → Parts → (ℕ → List ℕ → Result ℕ TreeFault) → Walked → Result ℕ TreeFault
 through_link super parts find (Ends inode) = Ok inode
@@ -167,7 +167,7 @@ first_of_block super parts inode index zero = Ok []
 first_of_block super parts inode index (suc count) =
     with_fault Zone (block_at super parts inode index) >>= λ block. Ok (take (suc count) block)
 
--- the bytes of a regular file in a block, none behind its end
+-- the bytes of a regular file in a block, none after its end
 unfoldable pub file_block : Super → Parts → Inode → ℕ → Result (List ℕ) TreeFault
 file_block super parts inode index = do
   a ← require (is_file inode) NotFile

@@ -55,7 +55,7 @@ child_path names path position name = do
 pub data NameWalked : Type 0 where
   -- at a path
   EndsAt : (path : List (List ℕ)) → NameWalked
-  -- at a link in the directory of a path, with its text and the text behind it
+  -- at a link in the directory of a path, with its text and the text after it
   MeetsLink : (path : List (List ℕ)) (text rest : List ℕ) → NameWalked
 
 -- the walk stops at a link, or goes on
@@ -85,7 +85,7 @@ abbrev pub path_end : NameWalked → Result (List (List ℕ)) TreeFault
 path_end (EndsAt path) = Ok path
 path_end (MeetsLink path text rest) = Err TooManyLinks
 
--- the end of a walk, where the text of a link is walked before the text behind it
+-- the end of a walk, where the text of a link is walked before the text after it
 abbrev pub path_through : (List (List ℕ) → List ℕ → Result (List (List ℕ)) TreeFault) → NameWalked → Result (List (List ℕ)) TreeFault
 path_through find (EndsAt path) = Ok path
 path_through find (MeetsLink path text rest) = do

@@ -316,7 +316,7 @@ pub record Place : Type 0 where
   pub sector : ℕ
   pub at : ℕ
 
--- where the inode with a number stands, from 1 on
+-- where the inode with a number lies, from 1 on
 unfoldable pub inode_place : Super → ℕ → Place
 inode_place super number = record {
   sector = 2 * table_start super + (number - 1) * inode_size super.kind / 512;

@@ -133,7 +133,7 @@ depth_limit = 64
 
 -- ---- Sound
 
--- the parts of a volume are sound; marks without a use are allowed
+-- the parts of a volume are sound; bitmap bits that are set without a use are allowed
 pub record Sound (super : Super) (parts : Parts) : Type 0 where
   pub root : is_directory (parts.node 1) ≡ true
   pub in_range : (number : ℕ) → Named super parts number → (0 < number) × (number ≤ super.inodes)
@@ -146,7 +146,7 @@ pub record Sound (super : Super) (parts : Parts) : Type 0 where
   pub once : (number other : ℕ) (at there : Pointer) (zone : ℕ) → Refers super parts number at zone → Refers super parts other there zone → (number ≡ other) × (at ≡ there)
   -- a directory is reached by one path; the root thus has no name
   pub one_name : (number : ℕ) (path other : List (List ℕ)) → is_directory (parts.node number) ≡ true → reached super parts path ≡ Some number → reached super parts other ≡ Some number → path ≡ other
-  -- no name stands twice in a directory
+  -- no name appears twice in a directory
   pub no_twice : (directory place other inode inode' : ℕ) (name : List ℕ) → Named super parts directory → is_directory (parts.node directory) ≡ true → inode ≢ 0 → inode' ≢ 0 → HasEntry super parts directory place (entry_with inode name) → HasEntry super parts directory other (entry_with inode' name) → place ≡ other
   -- `.` is there and right
   pub here : (directory : ℕ) → Named super parts directory → is_directory (parts.node directory) ≡ true → HasSomeEntry super parts directory (entry_with directory here_name)
@@ -159,7 +159,7 @@ pub record Sound (super : Super) (parts : Parts) : Type 0 where
 
 -- an image has a sound volume
 pub record HasSound (volume : Volume) (image : Image) : Type 0 where
-  -- its superblock stands in block 1
+  -- its superblock is in block 1
   pub super : super_at (sector_of volume image super_sector) volume.span.count ≡ Ok volume.layout
   -- each of its sectors is there
   pub whole : (sector : ℕ) → sector < 2 * volume.layout.zones → length (sector_of volume image sector) ≡ 512

@@ -1,4 +1,4 @@
--- What a Minix volume holds, part by part: inodes, zones and marks, and the zone that stands at each index of a
+-- What a Minix volume holds, part by part: inodes, zones and bitmap bits, and the zone at each index of a
 -- file (Minix file system, versions 1 and 2). A refusal of a zone's number is this project's own. Inodes are
 -- counted from 1, zones and the blocks of a file from 0.
 use Rattle.std.specs.Prelude.{◌<◌, ◌≤◌, ℕ, zero, suc, ◌+◌, ◌-◌, ◌*◌, ◌/◌, ◌%◌, ◌^◌, ◌==◌, nat_le, nat_lt, bit_and, bit_or, Bool, true, false, ◌&&◌, ◌||◌, if◌then◌else◌, List, [], ◌∷◌, ◌++◌, length, take, replicate, slice_index, slice_set, All, Result, Ok, Err}
@@ -42,7 +42,7 @@ byte_with byte at false = bit_and byte (255 - 2 ^ at)
 unfoldable pub with_bit : List ℕ → ℕ → Bool → List ℕ
 with_bit bytes at value = slice_set bytes (at / 8) (byte_with (slice_index bytes (at / 8)) (at % 8) value)
 
--- the sector with an inode's mark; the bitmap begins at block 2
+-- the sector with an inode's bitmap bit; the bitmap begins at block 2
 abbrev pub inode_mark_sector : ℕ → ℕ
 inode_mark_sector number = 4 + number / 4096
 
@@ -50,7 +50,7 @@ inode_mark_sector number = 4 + number / 4096
 abbrev pub zone_bit : Super → ℕ → ℕ
 zone_bit super zone = zone + 1 - super.first
 
--- the sector with a zone's mark
+-- the sector with a zone's bitmap bit
 abbrev pub zone_mark_sector : Super → ℕ → ℕ
 zone_mark_sector super zone = 2 * (2 + super.imap) + zone_bit super zone / 4096
 
@@ -79,7 +79,7 @@ pub data ZoneFault : Type 0 where
 abbrev pub volume_with : Span → Super → Volume
 volume_with span super = record { span = span; layout = super }
 
--- the volume that stands in a span, by the first sector of its block 1
+-- the volume in a span, by the first sector of its block 1
 unfoldable pub volume_at : Image → Span → Result Volume ZoneFault
 volume_at image span =
     with_fault Layout (super_at (image span.disk (span.start + super_sector)) span.count) >>= λ super. Ok (volume_with span super)
@@ -102,7 +102,7 @@ has_zones inode = is_directory inode || is_file inode || is_link inode
 
 -- ---- pointers
 
--- a number of a zone, by where it stands: one of an inode's ten, and the indices on the way down from it
+-- a number of a zone, by where it lies: one of an inode's ten, and the indices on the way down from it
 -- through indirect zones, the last one first
 pub record Pointer : Type 0 where
   pub top : ℕ

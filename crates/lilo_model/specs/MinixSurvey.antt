@@ -1,7 +1,7 @@
--- What a survey of a Minix volume meets, and the first thing that is wrong with it (the directories, zones and marks:
--- Minix file system; the order, the refusals and what counts as wrong are this project's own). A survey goes over all
--- names from the root on, depth first, entries in order. What is met is a list, the newest first, and each thing in it
--- is judged by what was met before.
+-- What a survey of a Minix volume meets, and the first thing that is wrong with it (the directories, zones and bitmap
+-- bits: Minix file system; the order, the refusals and what counts as wrong are this project's own). A survey goes over
+-- all names from the root on, depth first, entries in order. What is met is a list, the newest first, and each thing in
+-- it is judged by what was met before.
 use Rattle.std.specs.Prelude.{ℕ, zero, suc, ◌==◌, nat_le, nat_lt, Bool, true, false, not, ◌&&◌, ◌||◌, if◌then◌else◌, List, [], ◌∷◌, length, filter, bytes_eq, Option, None, Some, Result, Ok, Err}
 use Rattle.std.specs.List.{list_any}
 use Rattle.std.specs.Option.{option_or}
@@ -169,7 +169,7 @@ has_that_name inode name (Reaches spot) = false
 has_that_name inode name (Refers other found) = false
 has_that_name inode name (Ends directory places) = false
 
--- a name stands in a directory so far
+-- a name is in a directory so far
 unfoldable pub has_name : List Met → ℕ → List ℕ → Bool
 has_name met directory name = list_any (has_that_name directory name) met
 
@@ -196,7 +196,7 @@ zone_check volume before inode (Ok visit) = do
 abbrev pub right_inode : Spot → List ℕ → ℕ
 right_inode directory name = if bytes_eq here_name name then directory.inode else directory.above
 
--- `.` or `..`: it is right, and stands once
+-- `.` or `..`: it is right, and appears once
 abbrev pub dots_check : List Met → Spot → ℕ → Entry → Result (Unit {0}) SurveyFault
 dots_check before directory place what =
     require
@@ -218,7 +218,7 @@ abbrev pub entry_check : Surveyable → List Met → Spot → ℕ → Entry → 
 entry_check volume before directory place what true = dots_check before directory place what
 entry_check volume before directory place what false = name_check volume before directory place what
 
--- the end of a directory: `.` and `..` stand in it
+-- the end of a directory: `.` and `..` are in it
 abbrev pub end_check : List Met → Spot → ℕ → Result (Unit {0}) SurveyFault
 end_check before directory places =
     require

@@ -45,7 +45,7 @@ pub data TableFault : Type 0 where
   -- the disk couldn't be read: no definition gives it, since no disk fails in them
   Device : TableFault
 
--- how a refusal of a command tells it
+-- how a refusal of a command reports it
 abbrev pub device_fault : TableFault → refusals.DeviceFault
 device_fault (NoDisk disk) = refusals.NoDisk
 device_fault (NoPartition number) = refusals.NoPartition
@@ -125,7 +125,7 @@ listed_from size disk number (entry ∷ entries) =
 -- ---- the chain of tables inside an extended partition
 
 -- the sector to which the link of the table in a sector leads: it counts from the start of the outer extended
--- partition. There is none behind a table past the disk's end.
+-- partition. There is none after a table past the disk's end.
 unfoldable pub linked_sector : (ℕ → List ℕ) → ℕ → ℕ → ℕ → Option ℕ
 linked_sector sectors size outer sector =
     if nat_lt sector size then option_map (λ entry. outer + entry.start) (link_of (entries_of (sectors sector))) else None
@@ -137,7 +137,7 @@ chain_from linked (suc most) None = []
 chain_from linked (suc most) (Some sector) = sector ∷ chain_from linked most (linked sector)
 
 -- the entries of a table of the chain: it lies on the disk, and wasn't read before, as were the table in sector 0
--- and those that stand earlier in the chain
+-- and those that are earlier in the chain
 unfoldable pub chain_entries : (ℕ → List ℕ) → ℕ → List ℕ → ℕ → Result (List Entry) TableFault
 chain_entries sectors size earlier sector = do
   new ← require (not (list_any (nat_eq sector) (0 ∷ earlier))) (LoopedChain sector)

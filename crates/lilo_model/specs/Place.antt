@@ -42,11 +42,11 @@ memory_after memory (first ∷ others) = memory_after (with_bytes memory first) 
 
 -- ---- a kernel in memory
 
--- the first two sectors of a file, with zeros behind its end
+-- the first two sectors of a file, with zeros after its end
 abbrev pub first_two : List ℕ → List ℕ
 first_two kernel = filled_bytes 1024 (take 1024 kernel)
 
--- what is put where the initrd stands
+-- what is put where the initrd lies
 abbrev pub initrd_written : Option Region → Option (List ℕ) → List Written
 initrd_written None initrd = []
 initrd_written (Some region) None = []
@@ -60,12 +60,12 @@ written_by header layout kernel initrd line video =
     ∷ (initrd_written layout.initrd initrd
     ++ (record { address = layout.line.address; bytes = line ++ (0 ∷ []) } ∷ [])))
 
--- a layout, and what stands there
+-- a layout, and what lies there
 pub record Loading : Type 0 where
   pub layout : Layout
   pub written : List Written
 
--- Place: where a kernel, its initrd and its line stand in a memory of some bytes, or why they don't
+-- Place: where a kernel, its initrd and its line lie in a memory of some bytes, or why they don't
 unfoldable pub place : List ℕ → Option (List ℕ) → List ℕ → Option ℕ → ℕ → Result Loading SetupFault
 place kernel initrd line video memory = do
   header ← header_at (first_two kernel) (length kernel)

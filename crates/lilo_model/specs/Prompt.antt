@@ -10,7 +10,7 @@ pub data Key : Type 0 where
   -- a tenth of a second without a byte
   Tick : Key
 
--- the keys that are left are the last of all of them, behind those that are taken
+-- the keys that are left are the last of all of them, after those that are taken
 pub record AreLastKeys (keys left : List Key) : Type 0 where
   pub taken : List Key
   pub joined : keys ≡ taken ++ left

@@ -11,7 +11,7 @@ use Rattle.lilo_model.specs.Slots.{Slot, slot_at, slot_bytes, optional_bytes, pl
 pub data SectionFault : Type 0 where
   -- eight bytes are no slot, or those of a link no slot of one sector; the place counts 64 a section sector
   BadSlot : (place : ℕ) → SectionFault
-  -- more sectors are needed, and a link stands behind as many section sectors as there may be
+  -- more sectors are needed, and a link comes after as many section sectors as there may be
   ChainTooLong : (chain : ℕ) → SectionFault
   -- more sectors are needed, and the section ends after so many
   ShortChain : (sectors : ℕ) → SectionFault
@@ -48,13 +48,13 @@ abbrev pub slot_steps : Machine → Slot → List Step
 slot_steps machine slot =
     map (λ index. sector_step (place_at machine slot index)) (range_with_len 0 slot.count)
 
--- the steps at what stands at a place for a slot, and behind it
+-- the steps at what is at a place for a slot, and after it
 abbrev pub slot_steps_then : Machine → ℕ → Result (Option Slot) slots.AddressFault → List Step → List Step
 slot_steps_then machine place (Ok None) behind = []
 slot_steps_then machine place (Ok (Some slot)) behind = slot_steps machine slot ++ behind
 slot_steps_then machine place (Err fault) behind = Refuses (BadSlot place) ∷ []
 
--- the steps at slots, of which the first stands at a place, up to a zero one
+-- the steps at slots, of which the first is at a place, up to a zero one
 abbrev pub slots_steps : Machine → ℕ → List (List ℕ) → List Step
 slots_steps machine place [] = []
 slots_steps machine place (part ∷ parts) =
@@ -75,7 +75,7 @@ link_of number (Err fault) = Err (BadSlot (number * 64 + 63))
 unfoldable pub link_at : ℕ → List ℕ → Result (Option Slot) SectionFault
 link_at number bytes = link_of number (slot_at (part_of bytes 504 8))
 
--- the steps at a section sector, with those behind its link
+-- the steps at a section sector, with those after its link
 abbrev pub sector_steps : Image → Machine → ℕ → (Result (Option Slot) SectionFault → List Step) → Result DiskSector slots.AddressFault → List Step
 sector_steps image machine number behind (Ok place) =
     Reads place
@@ -83,7 +83,7 @@ sector_steps image machine number behind (Ok place) =
     ++ behind (link_at number (bytes_at image place)))
 sector_steps image machine number behind (Err fault) = Refuses NotFound ∷ []
 
--- the steps behind a link
+-- the steps after a link
 abbrev pub link_steps : (Slot → List Step) → Result (Option Slot) SectionFault → List Step
 link_steps follow (Ok None) = []
 link_steps follow (Ok (Some slot)) = follow slot

@@ -169,7 +169,7 @@ unfoldable pub same_name : List (List ℕ) → ℕ → ℕ → Bool
 same_name sectors entry other =
     bytes_eq (entry_name (entry_bytes sectors other)) (entry_name (entry_bytes sectors entry))
 
--- whether the name of an entry stands in an earlier one
+-- whether the name of an entry is in an earlier one
 unfoldable pub repeats : List (List ℕ) → ℕ → Bool
 repeats sectors entry = is_some (first_below (same_name sectors entry) entry)
 

@@ -27,9 +27,9 @@ abbrev pub verdict_of : Result (List ℕ) Refusal → Verdict
 verdict_of (Ok text) = record { status = 0; text = text }
 verdict_of (Err refusal) = record { status = refusal_status refusal; text = refusal_line refusal }
 
--- ---- the names behind a boot sector
+-- ---- the names in the map of a boot sector
 
--- how a listing tells what is wrong with a map
+-- how a listing reports what is wrong with a map
 abbrev pub map_refusal : MapFault → Refusal
 map_refusal maps.NotOurs = NotOurs
 map_refusal (maps.BadVersion version) = NotOurs
@@ -50,7 +50,7 @@ lines_from default place (entry ∷ entries) =
 abbrev pub table_sectors : Image → Machine → List Slot → Result (List (List ℕ)) Refusal
 table_sectors image machine slots = with_fault (λ fault. Boot NotFound) (each (map (slot_bytes_at image machine) slots))
 
--- the names behind a boot sector
+-- the names in the map of a boot sector
 unfoldable pub names_behind : Image → Machine → BootSector → Result (List ℕ) Refusal
 names_behind image machine boot = do
   sectors ← table_sectors image machine boot.table
@@ -88,7 +88,7 @@ region_text written =
     ++ codes "\n"
     ++ hex_lines ((length written.bytes + 31) / 32) written.bytes
 
--- the regions that are told: all that a kernel's loading put there, or the boot sector alone
+-- the regions that are reported: all that a kernel's loading put there, or the boot sector alone
 abbrev pub told_regions : Outcome → List Written → List Written
 told_regions (Loaded layout) written = written
 told_regions Handed written = filter (λ region. region.address == boot_address) written
@@ -106,7 +106,7 @@ start_check (Loaded layout) = Ok tt
 start_check Handed = Ok tt
 start_check (Refused reason) = Err (Boot reason)
 
--- the text behind what a boot showed
+-- the text after what a boot showed
 abbrev pub boot_text : Bool → boots.Boot → Result (List ℕ) Refusal
 boot_text dump boot = start_check boot.outcome >>= λ a. Ok (if dump then dump_text boot else [])
 

@@ -12,7 +12,7 @@ numeral_value radix [] = None
 numeral_value radix (digit ∷ digits) =
     if list_all (λ c. is_digit c radix) (digit ∷ digits) then Some (digits_value radix (digit ∷ digits)) else None
 
--- the number that a text writes: in decimal, or in hexadecimal behind `0x`
+-- the number that a text writes: in decimal, or in hexadecimal after `0x`
 abbrev pub written_number : List ℕ → Option ℕ
 written_number text = if starts_with nat_eq text (codes "0x") then numeral_value 16 (drop 2 text) else numeral_value 10 text
 

@@ -2,5 +2,5 @@
 //! boot of them reads, shows and loads, and what the commands answer.
 //!
 //! There is no code here, and no other crate below: plain numbers, lists and records. A crate with a type of
-//! its own says for which plain value one of its values stands.
+//! its own says which plain value one of its values represents.
 #![tactic(auto)]

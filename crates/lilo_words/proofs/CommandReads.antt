@@ -1,4 +1,4 @@
--- What is read of words that stand from one place to before another.
+-- What is read of arguments from one place to before another.
 use Rattle.std.proofs.Common.{◌≡◌, ◌<◌, ◌≤◌, inl, inr, ℕ, ◌+◌, List, ◌∷◌, length, true, false, refl, arith}
 use Rattle.std.specs.Prelude.{Some, None, Option, Ok, Err, Result, ◌==◌, if◌then◌else◌, slice_get, slice_range, not, bytes_eq, codes}
 use Rattle.std.specs.List.{position_from}
@@ -11,7 +11,7 @@ use Rattle.lilo_words.specs.declared.part.Command.{Command}
 use Rattle.lilo_words.specs.View.{command_view}
 use Rattle.lilo_words.proofs.Ranges.{range_empty, range_word, range_some, range_rest}
 
--- a command behind which nothing may stand
+-- a command after which nothing may come
 pub ended_seen : (words : List (List ℕ)) (command : Command) (at end : ℕ) (read : Result Command ℕ) → at ≤ end → end ≤ length words
     → read ≡ (if at == end then Ok command else Err at)
     → seen {F = ℕ} {G = ℕ} (command_view words) (λ place. place) read ≡ ended at (slice_range words at end) (command_view words command)
@@ -73,7 +73,7 @@ pub path_from-word : (words : List (List ℕ)) (at end : ℕ) (word : List ℕ) 
     → path_from at (slice_range words at end) ≡ (if model.is_path word then Ok word else Err at)
 path_from-word words at end word less within e = rw (range_word words at end word less within e) refl
 
--- the first word of a command
+-- the first argument of a command
 pub command_from-word : (words : List (List ℕ)) (at end : ℕ) (word : List ℕ) → at < end → end ≤ length words
     → slice_get words at ≡ Some word
     → command_from at (slice_range words at end) ≡ command_from at (word ∷ slice_range words (at + 1) end)

@@ -1,4 +1,4 @@
--- Which words are a command, and how far those that are none can be followed.
+-- Which arguments are a command, and how far those that are none can be followed.
 use Rattle.std.proofs.Common.{◌≡◌, ◌<◌, ◌≤◌, ℕ, suc, ◌+◌, List, [], ◌∷◌, ◌++◌, length, take, Bool, true, false, refl, arith, append-nil}
 use Rattle.std.specs.Prelude.{Some, None, Option, Ok, Err, Result, All, bytes_eq, not, codes}
 use Rattle.std.specs.List.{list_all, position_from}
@@ -7,7 +7,7 @@ use Rattle.std.proofs.lemmas.List.Elements.{All-nil, All-cons}
 use Rattle.lilo_model.specs.Devices.{Device, device_at, named_devices, devices_of, device_name, disk_name, partition_name, last_partition}
 use Rattle.lilo_model.specs.Words.{Command, IsCommand, Install, Test, Query, SetLine, Restore, Boot, install, test, query, query_device, set_line, restore, boot, boot_dump, is_line_word, is_then, command_from, ended}
 
--- the word that a test found
+-- the argument that a test found
 pub same : (word text : List ℕ) → bytes_eq word text ≡ true → word ≡ text
 same word text e = (bytes_eq-Decides word text).0 e
 
@@ -15,7 +15,7 @@ differs_by : (word text : List ℕ) (is : Bool) → bytes_eq word text ≡ is �
 differs_by word text true e differs = absurd (differs (same word text e))
 differs_by word text false e differs = e
 
--- a word that is another
+-- an argument that is another
 pub differs : (word text : List ℕ) → (word ≡ text → ⊥) → bytes_eq word text ≡ false
 differs word text other = differs_by word text (bytes_eq word text) refl other
 
@@ -36,7 +36,7 @@ free_none = All-nil (λ word. is_then word ≡ false)
 pub free_one : (word : List ℕ) → is_then word ≡ false → IsFree (word ∷ [])
 free_one word e = All-cons (λ word. is_then word ≡ false) word [] e free_none
 
--- How words stand whose reading fails at one of them, or behind the last: those before it can go on, and with it
+-- How far arguments go whose reading fails at one of them, or after the last: those before it can go on, and with it
 -- the reading fails whatever follows.
 pub record Stuck (Can Fails : List (List ℕ) → Type 0) (words : List (List ℕ)) (place : ℕ) : Type 0 where
   pub within : place ≤ length words
@@ -242,7 +242,7 @@ after_boot at [] = (
 )
 after_boot at (name ∷ words) = boot_by at name words (device_at name) refl
 
--- a word that no command begins with
+-- an argument that no command begins with
 pub no_command : (at : ℕ) (word : List ℕ) (words : List (List ℕ))
     → bytes_eq word (codes "-t") ≡ false → bytes_eq word (codes "-q") ≡ false → bytes_eq word (codes "-R") ≡ false
     → bytes_eq word (codes "-u") ≡ false → bytes_eq word (codes "boot") ≡ false → command_from at (word ∷ words) ≡ Err at
@@ -294,7 +294,7 @@ unfolding Judged command_from
 by_test at word words true is = rw (same word (codes "-t") is) (after_test at words)
 by_test at word words false isnt = by_query at word words (bytes_eq word (codes "-q")) refl isnt
 
--- what a reading of a command says of the words
+-- what a reading of a command says of the arguments
 pub judged_command : (at : ℕ) (words : List (List ℕ)) → JudgedCommand at words (command_from at words)
 unfolding Judged command_from
 judged_command at [] = install

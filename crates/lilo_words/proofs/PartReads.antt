@@ -1,4 +1,4 @@
--- What is read of the options that stand from one place to before another.
+-- What is read of the options from one place to before another.
 use Rattle.std.proofs.Common.{◌≡◌, ◌<◌, ◌≤◌, inl, inr, ℕ, ◌+◌, List, [], ◌∷◌, length, get_or, true, refl, arith}
 use Rattle.std.specs.Prelude.{Some, None, Ok, Err, slice_get, slice_range, not, bytes_eq, is_none, codes}
 use Rattle.std.proofs.lemmas.Bool.{cases_lt}
@@ -55,7 +55,7 @@ config_refused words at end place part word less within e is read =
           rw (range_word words at end word less within e, empty, last) (config_last at part word is))
     ]
 
--- a word that is `--root`
+-- an argument that is `--root`
 root_word : (part : Part) (word : List ℕ) → is_root part word ≡ true → word ≡ codes "--root"
 root_word part word is = same word (codes "--root") (and_first (bytes_eq word (codes "--root")) (is_none part.root) is)
 
@@ -115,7 +115,7 @@ verbose_read words at end part word less within e is =
     let unset = not_set part.verbose (and_second (bytes_eq word (codes "-v")) (not part.verbose) is) in
     rw (range_word words at end word less within e, named) (verbose_from at part (slice_range words (at + 1) end) unset)
 
--- the command stands behind the options
+-- the command comes after the options
 pub command_read : (words : List (List ℕ)) (at end : ℕ) (part : Part) (word : List ℕ)
     → at < end → end ≤ length words → slice_get words at ≡ Some word → IsNoNewOption part word
     → part_from at part (slice_range words at end) ≡ commanded at part (slice_range words at end)

@@ -1,4 +1,4 @@
--- Which words are a part, and how far those that are none can be followed.
+-- Which arguments are a part, and how far those that are none can be followed.
 use Rattle.std.proofs.Common.{◌≡◌, ℕ, suc, ◌+◌, List, [], ◌∷◌, ◌++◌, take, Bool, true, false, refl, arith}
 use Rattle.std.specs.Prelude.{Some, None, Option, Ok, Err, Result, bytes_eq, not, is_none, codes, ◌&&◌, ◌||◌}
 use Rattle.lilo_model.specs.Devices.{Device, device_at}
@@ -39,7 +39,7 @@ not_set false e = refl
 root_path : List ℕ
 root_path = codes "/"
 
--- ---- where a command stands
+-- ---- where a command is
 
 pub not_option : (at : ℕ) (part : Part) (word : List ℕ) (words : List (List ℕ))
     → is_config part word ≡ false → is_root part word ≡ false → is_verbose part word ≡ false
@@ -229,7 +229,7 @@ at_verbose_word at part words unset judged =
     rw (verbose_from at part words unset)
     (verbose_behind at part words (part_from (at + 1) (with_verbose part) words) unset judged)
 
--- ---- an option's word at the end
+-- ---- an option without its value at the end
 
 no_value : (at : ℕ) (part : Part) (word : List ℕ) → (is_config part word || is_root part word) ≡ true
     → part_from at part (word ∷ []) ≡ Err (at + 1)
@@ -240,7 +240,7 @@ nothing_behind : (at : ℕ) (part : Part) → Judged at part []
 unfolding part_from command_from
 nothing_behind at part = at_command part [] Install install
 
--- ---- all words, by what the first of them is
+-- ---- all arguments, by what the first of them is
 
 by_verbose : (at : ℕ) (part : Part) (word : List ℕ) (words : List (List ℕ)) (verbose : Bool)
     → is_verbose part word ≡ verbose → is_config part word ≡ false → is_root part word ≡ false
@@ -312,7 +312,7 @@ last_config at part word true is =
     )
 last_config at part word false isnt = last_root at part word (is_root part word) refl isnt
 
--- what a reading of a part says of the words
+-- what a reading of a part says of the arguments
 pub judged_part : (at : ℕ) (part : Part) (words : List (List ℕ)) → JudgedPart at part words (part_from at part words)
 judged_part at part [] = nothing_behind at part
 judged_part at part (word ∷ []) = last_config at part word (is_config part word) refl

@@ -1,4 +1,4 @@
--- The words from one place to before another.
+-- The arguments from one place to before another.
 use Rattle.std.proofs.Common.{◌≡◌, ◌<◌, ◌≤◌, ℕ, suc, ◌+◌, ◌-◌, List, [], ◌∷◌, length, drop, get_or, refl, arith, add-one}
 use Rattle.std.specs.Prelude.{Some, slice_get, slice_range}
 use Rattle.std.proofs.Math.Seq.{drop-cons}
@@ -19,7 +19,7 @@ range_word words at end word less within e =
     let there : at < length words = omega arith in
     rw (drop_word words at word there e, gap) refl
 
--- the same, where the word isn't known
+-- the same, where the argument isn't known
 pub range_some : (words : List (List ℕ)) (at end : ℕ) → at < end → end ≤ length words
     → slice_range words at end ≡ get_or words at [] ∷ slice_range words (at + 1) end
 range_some words at end less within =

@@ -1,4 +1,4 @@
--- Which words are a run, and how far those that are none can be followed.
+-- Which arguments are a run, and how far those that are none can be followed.
 use Rattle.std.proofs.Common.{◌≡◌, ◌<◌, ◌≤◌, ◌⊎◌, inl, inr, ℕ, suc, ◌+◌, List, [], ◌∷◌, ◌++◌, length, take, drop, Bool, true, false, refl, sym, ◌∙◌, ap, subst, arith, append_assoc, append-nil, length-append, add-one}
 use Rattle.std.specs.Prelude.{Some, None, Ok, Err, Result, codes}
 use Rattle.std.specs.List.{slice_split}
@@ -11,7 +11,7 @@ use Rattle.lilo_model.specs.Words.{Part, IsPartBehind, IsRun, one, more, Begins,
 use Rattle.lilo_words.proofs.Commands.{same, IsFree, free_none, Stuck}
 use Rattle.lilo_words.proofs.Parts.{JudgedPart, judged_part, part_from-IsPartBehind}
 
--- ---- words cut at each `--then`
+-- ---- arguments cut at each `--then`
 
 abbrev NotThen : List ℕ → Type 0
 NotThen word = is_then word ≡ false
@@ -112,9 +112,9 @@ run_from-IsRun at _ _ (more words part rest parts is behind) =
     )
     refl
 
--- ---- what a reading of a run says of the words
+-- ---- what a reading of a run says of the arguments
 
--- where a front of the first part can't go on, the run can't
+-- where a prefix of the first part can't go on, the run can't
 front_fails : (at wrong : ℕ) (front others : List (List ℕ)) → IsFree front
     → ((more : List (List ℕ)) → part_from at bare_part (front ++ more) ≡ Err wrong)
     → run_from at (front ++ others) ≡ Err wrong
@@ -141,7 +141,7 @@ unfolding parts_from run_from
 rest_fails at wrong piece rest part free e fails =
     rw (slice_split_at is_then piece (codes "--then") rest free refl, e, fails) refl
 
--- how words stand whose reading fails at one of them, or at the end
+-- how far arguments go whose reading fails at one of them, or at the end
 pub record StuckRun (at wrong : ℕ) (words : List (List ℕ)) : Type 0 where
   pub place : ℕ
   pub is : wrong ≡ at + place
@@ -286,7 +286,7 @@ judged_run at words =
 
 -- ---- the laws
 
--- what begins a run, begins one in each front too
+-- what begins a run, begins one in each prefix too
 begins_front : (words : List (List ℕ)) (few many : ℕ) → few ≤ many → Begins (take many words) → Begins (take few words)
 begins_front words few many less begins = (
   drop few (take many words) ++ begins.0,
@@ -332,7 +332,7 @@ run_at-read : (words : List (List ℕ)) (parts : List Part) → run_from 0 words
 unfolding run_at
 run_at-read words parts e = rw e refl
 
--- what is told of words that are no run
+-- what is reported of arguments that are no run
 record Told (words : List (List ℕ)) (wrong : ℕ) : Type 0 where
   run : run_at words ≡ Err (place_in words wrong)
   stuck : StuckAt words wrong
@@ -348,7 +348,7 @@ told : (words : List (List ℕ))
     → ((parts : List Part) × (run_at words ≡ Ok parts) × IsRun words parts) ⊎ ((wrong : ℕ) × Told words wrong)
 told words = read_or_told words (run_from 0 words) refl (judged_run 0 words)
 
--- words of a run can all stand
+-- arguments of a run are all allowed
 run_begins : (words : List (List ℕ)) (parts : List Part) → IsRun words parts → Begins words
 run_begins words parts run = ([], parts, rw append-nil run)
 
@@ -370,7 +370,7 @@ wrong_here : (words : List (List ℕ)) (wrong place : ℕ) → Told words wrong 
 wrong_here words wrong place found e less =
     found.run ∙ ap (λ p. Err p) (ap (λ p. place_in words p) e ∙ place_in-inside words place less)
 
--- two places at which words are stuck are one
+-- two places at which arguments are stuck are one
 same_place : (words : List (List ℕ)) (wrong place : ℕ) → StuckAt words wrong → place < length words
     → Begins (take place words) → (Begins (take (place + 1) words) → ⊥) → wrong ≡ place
 same_place words wrong place stuck less begins stays =

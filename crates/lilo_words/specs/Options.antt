@@ -1,4 +1,4 @@
--- What a word is to a part that has some options already.
+-- What an argument is to a part that has some options already.
 use Rattle.std.specs.Prelude.{◌≡◌, ℕ, List, true, false}
 use Rattle.lilo_model.specs.Words.{Part, is_config, is_root, is_verbose}
 use Rattle.lilo_words.specs.declared.options.PartOption.{PartOption}

@@ -4,7 +4,7 @@ use Rattle.std.specs.Result.{result_unwrap_or}
 use Rattle.lilo_model.specs.Checks.{◌>>=◌}
 use Rattle.lilo_model.specs.Words.{Part, run_from}
 
--- the run that begins at a place of the words
+-- the run that begins at a place of the arguments
 abbrev pub run_behind : List (List ℕ) → ℕ → Result (List Part) ℕ
 run_behind words from = run_from from (drop from words)
 
@@ -12,7 +12,7 @@ run_behind words from = run_from from (drop from words)
 abbrev pub parts_behind : List (List ℕ) → ℕ → List Part
 parts_behind words from = result_unwrap_or (run_behind words from) []
 
--- the parts that are left behind one
+-- the parts that are left after one
 abbrev pub parts_of_next : List (List ℕ) → Option ℕ → List Part
 parts_of_next words None = []
 parts_of_next words (Some next) = parts_behind words next

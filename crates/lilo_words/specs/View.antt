@@ -1,4 +1,4 @@
--- For which plain value of the model each value of this crate stands. A command speaks of the words that it was
+-- Which plain value of the model each value of this crate stands for. A command speaks of the arguments that it was
 -- read from.
 use Rattle.std.specs.Prelude.{ℕ, List, option_map, option_copied, slice_range}
 use Rattle.lilo_model.specs.Words as model

@@ -1,5 +1,5 @@
-// The command of a part. The words of a part stand from one place to before another, and an error is the place of
-// the first word that can't stand there, which may be the place behind the last.
+// The command of a part. The arguments of a part are from one place to before another, and an error is the place of
+// the first argument that isn't allowed there, which may be the place after the last.
 ghost use Rattle.std.specs.Prelude.{◌≡◌, ◌≤◌, ◌<◌, ◌==◌, length, slice_range, Ok, Err, IfOk, if◌then◌else◌};
 ghost use Rattle.std.specs.List.{list_all};
 ghost use Rattle.lilo_model.specs.Bytes.{is_between};
@@ -13,7 +13,7 @@ use crate::part::Command;
 use mbr_table::{Device, device_of};
 use stream_trait::Words;
 
-/// The command that stands from `at` to before `end`.
+/// The command from `at` to before `end`.
 pub fn command_in(words: &Words, at: usize, end: usize) -> Result<Command, usize>
     requires at { at ≤ end }
     requires end { end ≤ length words.now }
@@ -32,14 +32,14 @@ pub fn command_in(words: &Words, at: usize, end: usize) -> Result<Command, usize
     }
 }
 
-// A command behind which nothing may stand.
+// A command after which nothing may come.
 fn ended(command: Command, at: usize, end: usize) -> Result<Command, usize>
     ensures { result ≡ (if at == end then Ok command else Err at) }
 {
     if at == end { Ok(command) } else { Err(at) }
 }
 
-// What stands behind `-q`.
+// What comes after `-q`.
 fn query_in(words: &Words, at: usize, end: usize) -> Result<Command, usize>
     requires at { at ≤ end }
     requires end { end ≤ length words.now }
@@ -52,7 +52,7 @@ fn query_in(words: &Words, at: usize, end: usize) -> Result<Command, usize>
     ended(Command::Query(Some(device)), at + 1, end)
 }
 
-// What stands behind `-R`.
+// What comes after `-R`.
 fn line_in(words: &Words, at: usize, end: usize) -> Result<Command, usize>
     requires at { at ≤ end }
     requires end { end ≤ length words.now }
@@ -66,7 +66,7 @@ fn line_in(words: &Words, at: usize, end: usize) -> Result<Command, usize>
     Ok(Command::SetLine { from: at, to: end })
 }
 
-// What stands behind `-u`.
+// What comes after `-u`.
 fn restore_in(words: &Words, at: usize, end: usize) -> Result<Command, usize>
     requires at { at ≤ end }
     requires end { end ≤ length words.now }
@@ -76,7 +76,7 @@ fn restore_in(words: &Words, at: usize, end: usize) -> Result<Command, usize>
     ended(Command::Restore(device), at + 1, end)
 }
 
-// What stands behind `boot`.
+// What comes after `boot`.
 fn boot_in(words: &Words, at: usize, end: usize) -> Result<Command, usize>
     requires at { at ≤ end }
     requires end { end ≤ length words.now }
@@ -86,7 +86,7 @@ fn boot_in(words: &Words, at: usize, end: usize) -> Result<Command, usize>
     dump_in(words, at + 1, end, device)
 }
 
-// What stands behind `boot` and its device.
+// What comes after `boot` and its device.
 fn dump_in(words: &Words, at: usize, end: usize, device: Device) -> Result<Command, usize>
     requires at { at ≤ end }
     requires end { end ≤ length words.now }
@@ -105,7 +105,7 @@ fn dump_in(words: &Words, at: usize, end: usize, device: Device) -> Result<Comma
     ended(Command::Boot { device, dump: true }, at + 1, end)
 }
 
-/// The device whose name stands at a place before `end`.
+/// The device whose name is at a place before `end`.
 pub fn device_in(words: &Words, at: usize, end: usize) -> Result<Device, usize>
     requires at { at ≤ end }
     requires end { end ≤ length words.now }
@@ -121,7 +121,7 @@ pub fn device_in(words: &Words, at: usize, end: usize) -> Result<Device, usize>
     }
 }
 
-// Whether a word may stand behind `-R`.
+// Whether an argument may come after `-R`.
 fn is_line_word(word: &str) -> bool
     ensures { result ≡ is_line_word word.now }
 {

@@ -1,4 +1,4 @@
-//! The words of a command line of `lilo`: whether they are in its grammar, and what they ask for.
+//! The arguments of a command line of `lilo`: whether they are in its grammar, and what they ask for.
 //!
 //! ```text
 //! run     = part { "--then" part }
@@ -6,7 +6,7 @@
 //! command = (nothing) | "-t" | "-q" [device] | "-R" { word } | "-u" device | "boot" device ["--dump"]
 //! ```
 //!
-//! An option stands at most once in a part. A path begins with `/`. The words of `-R` run to `--then` or the end,
+//! An option appears at most once in a part. A path begins with `/`. The arguments of `-R` run to `--then` or the end,
 //! and have bytes of 0x20 to 0x7E alone, at least one each. No call takes memory.
 #![tactic(auto)]
 

@@ -9,8 +9,8 @@ use crate::command::{command_in, device_in};
 use crate::part::{Command, Part};
 use stream_trait::Words;
 
-/// The part that stands from one place to before another. An error is the place of the first word that can't stand
-/// there, which may be the place behind the last.
+/// The part from one place to before another. An error is the place of the first argument that isn't allowed
+/// there, which may be the place after the last.
 pub fn part_in(words: &Words, from: usize, end: usize) -> Result<Part<'_>, usize>
     requires from { from ≤ end }
     requires end { end ≤ length words.now }
@@ -53,7 +53,7 @@ enum PartOption {
     Verbose,
 }
 
-// The option that a word is, where the part doesn't have it yet.
+// The option that an argument is, where the part doesn't have it yet.
 fn new_option(part: &Part<'_>, word: &str) -> Option<PartOption>
     ensures some { IfSome result (λ option. IsNewOption option (bare_view part.now) word.now) }
     ensures none { IfNone result (IsNoNewOption (bare_view part.now) word.now) }
@@ -66,7 +66,7 @@ fn new_option(part: &Part<'_>, word: &str) -> Option<PartOption>
     }
 }
 
-// The path that stands at a place before `end`.
+// The path at a place before `end`.
 fn path_in(words: &Words, at: usize, end: usize) -> Result<&str, usize>
     requires at { at ≤ end }
     requires end { end ≤ length words.now }
@@ -80,7 +80,7 @@ fn path_in(words: &Words, at: usize, end: usize) -> Result<&str, usize>
     if is_path(word) { Ok(word) } else { Err(at) }
 }
 
-// Whether a word is a path.
+// Whether an argument is a path.
 fn is_path(word: &str) -> bool
     ensures { result ≡ is_path word.now }
 {

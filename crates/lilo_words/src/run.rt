@@ -18,11 +18,11 @@ pub struct PartAt<'w> {
     pub next: Option<usize>,
 }
 
-/// Whether words are a run.
+/// Whether arguments are a run.
 ///
 /// # Errors
 ///
-/// They are none. The error is the first word that can't stand where it stands, or the end.
+/// They are none. The error is the first argument that isn't allowed where it is, or the end.
 pub fn check(words: &Words) -> Result<(), Wrong>
     ensures run { OnOk result (run_at words.now ≡ Ok (parts_behind words.now 0)) }
     ensures begins { OnOk result (IsOk (run_behind words.now 0)) }
@@ -55,7 +55,7 @@ pub fn part_at(words: &Words, from: usize) -> PartAt<'_>
     }
 }
 
-// The part that begins at a place, or the place of the first word that can't stand where it stands.
+// The part that begins at a place, or the place of the first argument that isn't allowed where it is.
 fn read_part(words: &Words, from: usize) -> Result<PartAt<'_>, usize>
     requires { from ≤ length words.now }
     ensures { MatchResult result (λ read. IsPartAt words.now from (part_view words.now read.part) read.next)
@@ -75,7 +75,7 @@ fn read_part(words: &Words, from: usize) -> Result<PartAt<'_>, usize>
     }
 }
 
-// The place of the `--then` behind a part, or of the end.
+// The place of the `--then` after a part, or of the end.
 fn part_end(words: &Words, from: usize) -> usize
     requires { from ≤ length words.now }
     ensures end { result ≡ from + position_or_len is_then (drop from words.now) }
@@ -89,7 +89,7 @@ fn part_end(words: &Words, from: usize) -> usize
     words.count()
 }
 
-// The word at a place, or the end.
+// The argument at a place, or the end.
 fn wrong_at(words: &Words, place: usize) -> Wrong
     ensures wrong { wrong_view result ≡ place_in words.now place }
     ensures place { IsPlaceIn words.now result }

@@ -15,7 +15,7 @@ pub chain_from-step :
 chain_from-step linked most tables sector left =
     let one : most - tables ≡ suc (most - (tables + 1)) = omega arith in rw one refl
 
--- behind a table with no link there is none
+-- after a table with no link there is none
 pub chain_from-none : (linked : ℕ → Option ℕ) (most : ℕ) → chain_from linked most None ≡ []
 chain_from-none linked zero = refl
 chain_from-none linked (suc most) = refl
@@ -68,7 +68,7 @@ chain_from-next linked tables at sector next last is =
     ∙ chain_from-more linked tables at sector next (ap (λ n. chain_from linked n at) one ∙ last) is
     ∙ ap (λ n. chain_from linked n at ++ (next ∷ [])) one
 
--- ---- the same of what disks hold, where they tell it
+-- ---- the same of what disks hold, where they report it
 
 -- whether a sector is among some tables
 abbrev pub is_in : Image → ℕ → ℕ → ℕ → ℕ → ℕ → Option ℕ → Bool

@@ -174,7 +174,7 @@ unfolding device_at
 device_at-is name device e =
     let found = found_named (λ d. bytes_eq name (device_name d)) device e in (found.0, named_by name device found.1)
 
--- the letters that tell the disks apart
+-- the letters that distinguish the disks
 disk_from : List ℕ → ℕ
 disk_from name = (get_or name 5 0 - 104) / 11 * 2 + (get_or name 7 0 - 97)
 

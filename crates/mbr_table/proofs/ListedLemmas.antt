@@ -134,7 +134,7 @@ partitions_view-add xs (Some partition) = map-append partition_view xs (partitio
 abbrev pub Listing : Type 0
 Listing = Result (List model.Partition) model.TableFault
 
--- some partitions, and those behind them
+-- some partitions, and those after them
 abbrev pub behind : List model.Partition → Listing → Listing
 behind front rest = rest >>= λ others. Ok (front ++ others)
 

@@ -25,7 +25,7 @@ whole_of now disk size outer = logical_from (now disk) size disk 5 [] (chain_tab
 abbrev pub first_tables : Image → ℕ → ℕ → ℕ → ℕ → List ℕ
 first_tables now disk size outer tables = chain_from (linked_sector (now disk) size outer) tables (Some outer)
 
--- some partitions, and those of the tables that are left behind the first ones, from a sector on
+-- some partitions, and those of the tables that are left after the first ones, from a sector on
 abbrev pub rest_at : Image → ℕ → ℕ → ℕ → ℕ → ℕ → List model.Partition → Option ℕ → Listing
 rest_at now disk size outer number tables found at =
     behind found (logical_from (now disk) size disk number (first_tables now disk size outer tables) (chain_from (linked_sector (now disk) size outer) (size - tables) at))
@@ -116,7 +116,7 @@ one_table now disk size outer number tables sector found entries logical left so
     so_far
     ∙ rw (chain_from-step (linked_sector (now disk) size outer) size tables sector left, read, is) (rw (← earlier, link) (behind-behind found (option_to_list logical) _))
 
--- ---- the same of what disks hold, where they tell it
+-- ---- the same of what disks hold, where they report it
 
 pub told_refused_table :
     (past : Option Past) (disk size outer number tables sector : ℕ) (found : List model.Partition) (fault : TableFault)
@@ -178,7 +178,7 @@ told_next_table (Some past) disk size outer tables sector entries next link earl
     let found = linked_sector-entries (now_of past disk) size outer _ sector entries read in
     chain_from-next (linked_sector (now_of past disk) size outer) tables (Some outer) sector next earlier (sym same ∙ linked ∙ sym found)
 
--- behind the last table there is none
+-- after the last table there is none
 pub told_last_table :
     (past : Option Past) (disk size outer number tables : ℕ) (found : List model.Partition)
     → Told past (λ now. whole_of now disk size outer ≡ rest_at now disk size outer number tables found None)

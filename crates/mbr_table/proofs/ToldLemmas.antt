@@ -3,7 +3,7 @@ use Rattle.std.proofs.Common.{◌≡◌, ℕ, ◌∙◌, subst}
 use Rattle.std.specs.Prelude.{Option}
 use Rattle.disk_trait.specs.Past.{Image, Past, Told, SameDisks}
 
--- what is told of disks was told of them before they were left as they are
+-- what is reported of disks was reported of them before they were left as they are
 pub told_before : (old new : Option Past) (P : Image → Type 0) → new ≡ old → Told new P → Told old P
 told_before old new P same known = subst (λ past. Told past P) same known
 

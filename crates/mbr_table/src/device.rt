@@ -25,7 +25,7 @@ pub fn device_of(name: &[u8]) -> Result<Device, TableFault>
     ensures found { IfOk result (λ device. device_at name.now ≡ Some (device_view device)) }
     ensures unknown { OnErr result (device_at name.now ≡ None) }
 
-    // In the words of names.
+    // In terms of names.
     ensures named { IfOk result (λ device. IsDevice (device_view device)) }
     ensures name { IfOk result (λ device. name.now ≡ device_name (device_view device)) }
 {

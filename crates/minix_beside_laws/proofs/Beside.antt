@@ -38,7 +38,7 @@ module _ (volume : Volume) (old : Image) (sound : HasSound volume old) where
       let low = zone_mark-below volume.layout lies zone range in
       omega (arith, low, lies.table, lies.first)
 
-  -- ---- what stands is harmless
+  -- ---- what is there is harmless
 
   same-harmless : (sector : ℕ) → sector < 2 * volume.layout.zones → Harmless volume old sector (sector_of volume old sector)
   unfolding parts_of

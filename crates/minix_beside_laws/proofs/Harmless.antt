@@ -19,7 +19,7 @@ zone-of : (zone sector : ℕ) → IsOfZone zone sector → zone ≡ sector / 2
 zone-of zone sector (inl is) = omega (arith, is)
 zone-of zone sector (inr is) = omega (arith, is)
 
--- ---- inodes of one sector stand apart
+-- ---- inodes of one sector lie apart
 
 -- where the inode with a number begins in its sector, and that sector in the table
 abbrev offset : Kind → ℕ → ℕ
@@ -60,7 +60,7 @@ module _ (volume : Volume) (old : Image) (sound : HasSound volume old) where
   abbrev Lies : Laid volume.layout
   Lies = lies volume old sound
 
-  -- ---- where things stand
+  -- ---- where things lie
 
   zone-from : (number : ℕ) (at : Pointer) (zone sector : ℕ) → RefersIn volume old number at zone → IsOfZone zone sector → 2 * volume.layout.first ≤ sector
   zone-from number at zone sector refers is =
@@ -138,7 +138,7 @@ module _ (volume : Volume) (old : Image) (sound : HasSound volume old) where
       stands other (inl before) = inl (omega (arith, before, place-offset volume.layout other, place-offset volume.layout number))
       stands other (inr behind) = inr (omega (arith, behind, long, place-offset volume.layout other, place-offset volume.layout number))
 
-  -- ---- marks
+  -- ---- bitmap bits
 
   bitmap : (sector : ℕ) (bytes : List ℕ) → IsOfBitmaps volume.layout sector → length bytes ≡ 512
       → ((number : ℕ) → NamedIn volume old number → inode_mark_sector number ≡ sector → bit bytes (number % 4096) ≡ true)

@@ -22,7 +22,7 @@ link-zones false true link is = refl
 link-zones false false link is = is
 
 module _ (super : Super) (old new : Parts) (keeps : Keeps super old new) where
-  -- ---- what stands in an inode that has a name
+  -- ---- what is in an inode that has a name
 
   module _ (number : ℕ) (named : Named super old number) where
     module _ (zones : has_zones (old.node number) ≡ true) where

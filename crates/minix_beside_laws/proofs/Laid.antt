@@ -1,5 +1,5 @@
 -- How the regions of a Minix volume lie whose superblock passed the checks: the superblock, the bitmaps of
--- inodes and of zones, the table of inodes, and the data zones, one behind the other.
+-- inodes and of zones, the table of inodes, and the data zones, one after the other.
 use Rattle.std.proofs.Common.{◌≡◌, ℕ, ◌+◌, ◌-◌, ◌*◌, ◌/◌, ◌<◌, ◌≤◌, ◌==◌, ◌&&◌, Bool, true, false, nat_le, nat_lt, List, Option, Some, None, Result, Ok, Err, refl, subst, arith}
 use Rattle.std.proofs.lemmas.Bool.{leb-true, ltb-true}
 use Rattle.std.proofs.lemmas.Bool.Decides.{nat_tests}
@@ -72,7 +72,7 @@ pub laid : (bytes : List ℕ) (sectors : ℕ) (super : Super) → super_at bytes
 unfolding super_at
 laid bytes sectors super given = laid-by (kind_of (number16 bytes 16)) bytes sectors super given
 
--- ---- where the parts stand
+-- ---- where the parts lie
 
 module _ (super : Super) (lies : Laid super) where
   pub mark-from : (number : ℕ) → 4 ≤ inode_mark_sector number

@@ -19,7 +19,7 @@ RefersIn volume image number at zone = Refers volume.layout (parts_of volume ima
 abbrev pub IsOfZone : ℕ → ℕ → Type 0
 IsOfZone zone sector = (zone_sector zone ≡ sector) ⊎ (zone_sector zone + 1 ≡ sector)
 
--- bytes that may stand in a sector without touching what has a name in an image
+-- bytes that may be in a sector without touching what has a name in an image
 pub record Harmless (volume : Volume) (old : Image) (sector : ℕ) (bytes : List ℕ) : Type 0 where
   pub long : length bytes ≡ 512
   -- the superblock stays
@@ -28,7 +28,7 @@ pub record Harmless (volume : Volume) (old : Image) (sector : ℕ) (bytes : List
   pub nodes : (number : ℕ) → NamedIn volume old number → (inode_place volume.layout number).sector ≡ sector → part_of bytes (inode_place volume.layout number).at (inode_size volume.layout.kind) ≡ inode_part volume old (inode_place volume.layout number)
   -- a zone that is referred to stays
   pub zones : (number : ℕ) (at : Pointer) (zone : ℕ) → RefersIn volume old number at zone → IsOfZone zone sector → bytes ≡ sector_of volume old sector
-  -- the marks of these inodes and zones stay set, whatever the others become
+  -- the bitmap bits of these inodes and zones stay set, whatever the others become
   pub marks : (number : ℕ) → NamedIn volume old number → inode_mark_sector number ≡ sector → bit bytes (number % 4096) ≡ true
   pub zone_marks : (number : ℕ) (at : Pointer) (zone : ℕ) → RefersIn volume old number at zone → zone_mark_sector volume.layout zone ≡ sector → bit bytes (zone_bit volume.layout zone % 4096) ≡ true
 
@@ -76,7 +76,7 @@ pub record NamedAsIn (volume : Volume) (old image : Image) : Type 0 where
   pub nodes : (number : ℕ) → NamedIn volume old number → (parts_of volume image).node number ≡ (parts_of volume old).node number
   pub refers : (number : ℕ) (at : Pointer) (zone : ℕ) → RefersIn volume image number at zone ↔ RefersIn volume old number at zone
 
--- a volume's inodes, data zones and marks stand in sectors of the volume, the marks in the bitmaps
+-- a volume's inodes, data zones and bitmap bits lie in sectors of the volume, the bitmap bits in the bitmaps
 pub record Regions (super : Super) : Type 0 where
   pub marks : (number : ℕ) → IsInode super number → IsOfBitmaps super (inode_mark_sector number)
   pub zone_marks : (zone : ℕ) → IsDataZone super zone → IsOfBitmaps super (zone_mark_sector super zone)

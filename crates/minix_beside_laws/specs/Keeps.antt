@@ -5,7 +5,7 @@ use Rattle.lilo_model.specs.MinixParts.{Parts, Pointer}
 use Rattle.lilo_model.specs.MinixNames.{names, Named, Refers, Sound}
 
 -- the inodes that have a name, and the zones that they refer to, are in the new parts as in the old ones, and so
--- are their marks
+-- are their bitmap bits
 pub record Keeps (super : Super) (old new : Parts) : Type 0 where
   pub nodes : (number : ℕ) → Named super old number → new.node number ≡ old.node number
   pub marks : (number : ℕ) → Named super old number → new.has_inode number ≡ old.has_inode number

@@ -21,7 +21,7 @@ BesideLaw = (volume : Volume) (old image : Image) → IsSound volume old → Bes
 abbrev pub NamedLaw : Type 0
 NamedLaw = (volume : Volume) (old image : Image) → IsSound volume old → Beside volume old image → NamedAsIn volume old image
 
--- what stands is harmless
+-- what is there is harmless
 abbrev pub SameLaw : Type 0
 SameLaw = (volume : Volume) (old : Image) → IsSound volume old → Beside volume old old
 
@@ -38,7 +38,7 @@ WriteLaw =
     → IsSound volume old → Beside volume old image → sector < 2 * volume.layout.zones → Harmless volume old sector bytes
     → Beside volume old (with_sector image (record { disk = volume.span.disk; sector = volume.span.start + sector }) bytes)
 
--- where inodes, zones and marks stand
+-- where inodes, zones and bitmap bits lie
 abbrev pub RegionLaw : Type 0
 RegionLaw = (volume : Volume) (image : Image) → IsSound volume image → Regions volume.layout
 
@@ -66,7 +66,7 @@ SetBitLaw =
     → IsSound volume old → IsOfBitmaps volume.layout sector → at < 4096 → Harmless volume old sector bytes
     → Harmless volume old sector (with_bit bytes at true)
 
--- harmless bytes in which the mark of an inode without a name is cleared
+-- harmless bytes in which the bitmap bit of an inode without a name is cleared
 abbrev pub ClearInodeLaw : Type 0
 ClearInodeLaw =
     (volume : Volume) (old : Image) (number : ℕ) (bytes : List ℕ)
@@ -74,7 +74,7 @@ ClearInodeLaw =
     → Harmless volume old (inode_mark_sector number) bytes
     → Harmless volume old (inode_mark_sector number) (with_bit bytes (number % 4096) false)
 
--- harmless bytes in which the mark of a data zone is cleared to which no named inode refers
+-- harmless bytes in which the bitmap bit of a data zone is cleared to which no named inode refers
 abbrev pub ClearZoneLaw : Type 0
 ClearZoneLaw =
     (volume : Volume) (old : Image) (zone : ℕ) (bytes : List ℕ)

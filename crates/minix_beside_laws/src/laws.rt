@@ -31,7 +31,7 @@ pub fn harmless_bytes_keep_what_is_named()
     ensures { NamedLaw }
 {}
 
-/// What stands is harmless.
+/// What is there is harmless.
 pub fn what_stands_is_harmless()
     ensures { SameLaw }
 {}
@@ -46,7 +46,7 @@ pub fn harmless_writes_join()
     ensures { WriteLaw }
 {}
 
-/// Inodes, data zones and marks stand in sectors of the volume.
+/// Inodes, data zones and bitmap bits lie in sectors of the volume.
 pub fn parts_stand_on_the_volume()
     ensures { RegionLaw }
 {}

@@ -27,7 +27,7 @@ module _ (name : List ℕ) (size : ℕ) (short : length name ≤ size) (no_zero 
   length-field : length (filled_bytes size name) ≡ size
   length-field = length-append name (replicate (size - length name) 0) ∙ (let more = length-replicate {A = ℕ} (size - length name) 0 in omega (arith, more, short))
 
-  -- the first zero byte is the one behind the name
+  -- the first zero byte is the one after the name
   name-ends : position_or_len (λ byte. byte == 0) (filled_bytes size name) ≡ length name
   name-ends = position_or_len_is (λ byte. byte == 0) (filled_bytes size name) (length name) 0
       (omega (arith, length-field, short))

@@ -10,7 +10,7 @@ use Rattle.minix_entry_laws.specs.Comes.{HasOnlyDots}
 use Rattle.minix_entry_laws.specs.Enter.{MayStand, DirectoryMayStand, MayEnter}
 use Rattle.minix_entry_laws.proofs.Dots.{new_directory_law}
 
--- the root directory has `.` and `..` in one zone, and a free entry behind them; inode 2 is an empty file, and inode
+-- the root directory has `.` and `..` in one zone, and a free entry after them; inode 2 is an empty file, and inode
 -- 3 a directory with its two entries in another zone
 pub record RootRoom (super : Super) (parts : Parts) (zone other : ℕ) : Type 0 where
   pub directory : is_directory (parts.node 1) ≡ true

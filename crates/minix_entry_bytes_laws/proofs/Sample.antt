@@ -261,7 +261,7 @@ plain-other : is_dots other_name ≡ false
 unfolding is_dots
 plain-other = refl
 
--- ---- where they stand
+-- ---- where they lie
 
 module _ (kind : Kind) (image : Image) (has : HasEntryBytes (root_volume kind) (room_image kind) image 1 2 (entry_bytes kind 2 sample_name)) where
   may-enter : (name : List ℕ) → is_dots name ≡ false → MayEnter (root_layout kind) (parts_of (root_volume kind) (room_image kind)) [] 1 2 name

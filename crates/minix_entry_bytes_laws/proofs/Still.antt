@@ -51,7 +51,7 @@ module _ (super : Super) (old new : Parts) (sound : Sound super old) (sees : See
         free = ap (λ (e : Entry). e.inode) (sees.entries directory place named is below) ∙ enter.free;
       }
 
-      -- what a name that stands leads to has it
+      -- what a name that is there leads to has it
       stands-named : (number : ℕ) (name : List ℕ) → MayRemove super old outer directory place number name → Named super old number
       unfolding reached
       stands-named number name remove =

@@ -24,7 +24,7 @@ empty_file = record { mode = 0x81A4; links = 1; uid = 0; gid = 0; size = 0; time
 abbrev pub new_directory : Kind → Inode
 new_directory kind = record (root_inode kind) { zones = 6 ∷ replicate 9 0 }
 
--- the sectors: the superblock, the marks of three inodes and two zones, these inodes, and the entries of both
+-- the sectors: the superblock, the bitmap bits of three inodes and two zones, these inodes, and the entries of both
 -- directories
 abbrev pub room_sector : Kind → ℕ → List ℕ
 room_sector kind sector =
@@ -58,7 +58,7 @@ pub record IsEntered (kind : Kind) (image : Image) : Type 0 where
   pub may_remove : MayRemove (root_layout kind) (parts_of (root_volume kind) image) [] 1 2 2 sample_name
   pub may_rename : MayRename (root_layout kind) (parts_of (root_volume kind) image) [] 1 2 2 sample_name other_name
 
--- the volume is sound, the file and the directory may get the name in the root, and have it where the entry stands
+-- the volume is sound, the file and the directory may get the name in the root, and have it where the entry lies
 pub record CanEnter (kind : Kind) : Type 0 where
   pub sound : IsSound (root_volume kind) (room_image kind)
   pub placed : IsPlaced (root_volume kind) (room_image kind) 1 2

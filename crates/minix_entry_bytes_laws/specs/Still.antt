@@ -6,7 +6,7 @@ use Rattle.minix_beside_laws.specs.Beside.{NamedIn, IsUnnamed}
 use Rattle.minix_entry_laws.specs.Enter.{MayStand, MayEnter, MayRemove, MayRename, IsOnlyName}
 use Rattle.minix_entry_bytes_laws.specs.Written.{place_in, IsPlaced}
 
--- what stands, and may be done to entries, in an image is and may be in another
+-- what is there, and may be done to entries, in an image is and may be in another
 pub record StandsAsIn (volume : Volume) (old image : Image) : Type 0 where
   pub placed : (directory place : ℕ) → IsPlaced volume old directory place → IsPlaced volume image directory place
   pub place : (directory place : ℕ) → IsPlaced volume old directory place → place_in volume image directory place ≡ place_in volume old directory place

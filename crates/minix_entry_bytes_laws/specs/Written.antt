@@ -24,7 +24,7 @@ pub record FitsEntry (kind : Kind) (name : List ℕ) : Type 0 where
 abbrev pub offset_of_entry : Super → ℕ → ℕ
 offset_of_entry super place = entry_size super.kind * (place % entries_per_block super.kind)
 
--- where an entry stands; it lies whole in one sector
+-- where an entry lies; it lies whole in one sector
 unfoldable pub place_of_entry : Super → Parts → ℕ → ℕ → Place
 place_of_entry super parts directory place = record {
   sector = zone_sector (zone_of_entry super parts directory place) + offset_of_entry super place / 512;
@@ -44,7 +44,7 @@ pub record IsPlaced (volume : Volume) (image : Image) (directory place : ℕ) : 
   pub below : place < places volume.layout.kind ((parts_of volume image).node directory).size
   pub some : zone_of_entry volume.layout (parts_of volume image) directory place ≢ 0
 
--- an image has other bytes where an entry stands, and all others of the volume as another image has them
+-- an image has other bytes where an entry lies, and all others of the volume as another image has them
 pub record HasEntryBytes (volume : Volume) (old image : Image) (directory place : ℕ) (bytes : List ℕ) : Type 0 where
   pub long : length bytes ≡ entry_size volume.layout.kind
   pub here : sector_of volume image (place_in volume old directory place).sector ≡ with_part (sector_of volume old (place_in volume old directory place).sector) (place_in volume old directory place).at bytes

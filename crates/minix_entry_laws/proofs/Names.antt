@@ -135,7 +135,7 @@ pub enter_directory_law : EnterDirectoryLaw
 enter_directory_law super old new outer directory place number name sound enter stand becomes kept =
     enter-directory super old new outer directory place number name sound enter becomes kept stand
 
--- ---- an entry stood that is no directory's
+-- ---- an entry was there that is no directory's
 
 module _ (super : Super) (old : Parts) (outer : List (List ℕ)) (directory place number : ℕ) (name : List ℕ) (remove : MayRemove super old outer directory place number name) where
   stood-goes : MayGo old (entry super old directory place)

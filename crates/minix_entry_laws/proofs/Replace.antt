@@ -19,7 +19,7 @@ use Rattle.minix_entry_laws.proofs.Changed.{changed_law}
 use Rattle.minix_entry_laws.specs.Replaces.{Replaces}
 use Rattle.minix_entry_laws.specs.Laws.{StoodLaw, RemoveLowerLaw, ReplaceLaw}
 
--- ---- where an entry stands its name leads to its inode
+-- ---- where an entry lies its name leads to its inode
 
 module _ (super : Super) (old : Parts) (outer : List (List ℕ)) (directory place number : ℕ) (name : List ℕ) (sound : Sound super old) (stands : MayRemove super old outer directory place number name) (change : ChangesEntry super old old directory place) where
   stood-found : lookup super old name directory ≡ Some number

@@ -52,7 +52,7 @@ pub record MayEnter (super : Super) (parts : Parts) (outer : List (List ℕ)) (d
   pub absent : lookup super parts name directory ≡ None
   pub free : (entry super parts directory place).inode ≡ 0
 
--- the name that stands there may go, since its inode is no directory
+-- the name that is there may go, since its inode is no directory
 pub record MayRemove (super : Super) (parts : Parts) (outer : List (List ℕ)) (directory place number : ℕ) (name : List ℕ) : Type 0 where
   pub leads : reached super parts outer ≡ Some directory
   pub plain : is_dots name ≡ false

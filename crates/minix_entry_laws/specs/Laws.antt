@@ -88,7 +88,7 @@ RenameLaw =
     → Becomes super old new directory place (entry_with number name)
     → TreeMoved super old new (former ∷ outer) (name ∷ outer)
 
--- where an entry stands that may go, its name leads to its inode, which isn't the root
+-- where an entry lies that may go, its name leads to its inode, which isn't the root
 abbrev pub StoodLaw : Type 0
 StoodLaw =
     (super : Super) (parts : Parts) (outer : List (List ℕ)) (directory place number : ℕ) (name : List ℕ)

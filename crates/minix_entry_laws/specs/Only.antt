@@ -12,7 +12,7 @@ zone_of_entry super parts directory place =
     zone_number super parts directory (place / entries_per_block super.kind)
 
 -- in the new parts one entry of a directory may be another; the inodes that have a name and the zones that they
--- refer to are as in the old ones, but for the bytes of the zone with that entry, and so are their marks
+-- refer to are as in the old ones, but for the bytes of the zone with that entry, and so are their bitmap bits
 pub record ChangesOnlyEntry (super : Super) (old new : Parts) (directory place : ℕ) : Type 0 where
   pub change : ChangesEntry super old new directory place
   pub nodes : (number : ℕ) → Named super old number → new.node number ≡ old.node number
@@ -20,7 +20,7 @@ pub record ChangesOnlyEntry (super : Super) (old new : Parts) (directory place :
   pub zones : (number : ℕ) (at : Pointer) (zone : ℕ) → Refers super old number at zone → zone ≢ zone_of_entry super old directory place → new.zone zone ≡ old.zone zone
   pub zone_marks : (number : ℕ) (at : Pointer) (zone : ℕ) → Refers super old number at zone → new.has_zone zone ≡ old.has_zone zone
 
--- an inode, whether it has a name or not, its zones and their marks are in the new parts as in the old ones
+-- an inode, whether it has a name or not, its zones and their bitmap bits are in the new parts as in the old ones
 pub record KeepsInode (super : Super) (old new : Parts) (number : ℕ) : Type 0 where
   pub node : new.node number ≡ old.node number
   pub mark : new.has_inode number ≡ old.has_inode number

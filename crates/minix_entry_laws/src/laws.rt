@@ -78,7 +78,7 @@ pub fn redirected_last_name_leaves_an_inode()
     ensures { RedirectLastLaw }
 {}
 
-/// Where an entry stands that may go, its name leads to its inode.
+/// Where an entry lies that may go, its name leads to its inode.
 pub fn standing_entry_leads_its_name()
     ensures { StoodLaw }
 {}

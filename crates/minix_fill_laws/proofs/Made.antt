@@ -217,7 +217,7 @@ module _ (per : ℕ) (some : 0 < per) where
   past_made (one ∷ made) zero past = absurd (omega (arith, past))
   past_made (one ∷ made) (suc k) past = past_made made k (omega (arith, past))
 
-  -- what stands behind a first piece that isn't whole: nothing
+  -- what comes after a first piece that isn't whole: nothing
   short_rest : (most : ℕ) (blocks : List Bool) → length blocks ≤ size → flat_map (made_above per 1) (pieces size most (drop size blocks)) ≡ []
   short_rest most blocks short =
       ap (λ rest. flat_map (made_above per 1) (pieces size most rest)) (drop_past size blocks short) ∙ ap (flat_map (made_above per 1)) (no_pieces most)

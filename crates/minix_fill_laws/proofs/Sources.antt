@@ -51,7 +51,7 @@ below_three per index some =
     let d : (2 + per == 2 + per) ≡ true = grind (arith, nat_tests) in
     rw (a, b, c, d) refl
 
--- those behind the first of the third level, by their quotient and remainder
+-- those after the first of the third level, by their quotient and remainder
 below_behind : (per place outer inner index : ℕ) → inner < 1 + per → place ≡ 3 + per + (outer * (1 + per) + inner)
     → below_source per place index ≡ below_third per outer inner index
 unfolding below_source

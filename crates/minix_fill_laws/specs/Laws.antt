@@ -14,7 +14,7 @@ pub record MayBeFile (kind : Kind) (zones : FileZones) : Type 0 where
   pub two_levels : is_v1 kind ≡ true → length zones.indirect ≤ 2 + numbers_in_zone kind
   -- below an indirect zone that isn't made all is a hole
   pub holes : (place index : ℕ) → index < numbers_in_zone kind → slice_index zones.indirect place ≡ 0 → zone_from zones (below_source (numbers_in_zone kind) place index) ≡ 0
-  -- none stands twice
+  -- none appears twice
   pub once : (one other : Source) → zone_from zones one ≡ zone_from zones other → zone_from zones one ≢ 0 → one ≡ other
 
 -- an inode and its indirect zones have the numbers of these

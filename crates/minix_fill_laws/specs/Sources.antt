@@ -1,6 +1,6 @@
 -- Where each number of a new file is taken from: from the zones of its blocks, or from its indirect zones in the order of
 -- a walk (pointers and indirect zones: Minix file system, versions 1 and 2; the order is this project's own). A file's
--- last level has as many indirect zones as its blocks take, so those of the levels before it stand at fixed places.
+-- last level has as many indirect zones as its blocks take, so those of the levels before it are at fixed places.
 use Rattle.std.specs.Prelude.{ℕ, zero, suc, ◌+◌, ◌-◌, ◌*◌, ◌/◌, ◌%◌, ◌==◌, nat_lt, if◌then◌else◌, List, [], ◌∷◌, slice_index}
 use Rattle.lilo_model.specs.MinixParts.{Pointer}
 

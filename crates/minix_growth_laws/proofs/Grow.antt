@@ -28,7 +28,7 @@ either-by q at true false top is = inr (λ e. let t = (bytes_eq-Decides q.trail 
 pub either : (q at : Pointer) → (q ≡ at) ⊎ (q ≢ at)
 either q at = either-by q at _ _ refl refl
 
--- what stands in a zone isn't where its number stands
+-- what is in a zone isn't where its number lies
 pub not-itself : (top index : ℕ) (before : List ℕ) (at : Pointer) → at.trail ≡ (index ∷ before) → pointer_at top before ≢ at
 not-itself top index before at trail same =
     let one : length before ≡ length at.trail = ap (λ (p : Pointer). length p.trail) same in
@@ -43,7 +43,7 @@ module _ (super : Super) (old new : Parts) (directory : ℕ) (at : Pointer) (zon
   some-by y index some true hole = absurd (some (eqb-true y 0 hole))
   some-by y index some false hole = rw hole refl
 
-  -- below the zone, which is full of zeros, stands no number
+  -- below the zone, which is full of zeros, is no number
   pub below-zone : (index : ℕ) → number_below super.kind new.zone zone index ≡ 0
   below-zone index =
       some-by zone index hooks.some _ refl ∙ (ap (λ bytes. number_in super.kind bytes index) zeros ∙ number-zeros super.kind index)

@@ -14,7 +14,7 @@ pointer_at top trail = record { top = top; trail = trail }
 abbrev pub below : Pointer → ℕ → Pointer
 below outer index = pointer_at outer.top (index ∷ outer.trail)
 
--- a number stands in the zone to which a pointer leads
+-- a number is in the zone to which a pointer leads
 abbrev pub IsBelow : Pointer → Pointer → Type 0
 IsBelow at outer = (index : ℕ) × (at ≡ below outer index)
 
@@ -25,7 +25,7 @@ pub record Hooks (super : Super) (old new : Parts) (directory : ℕ) (at : Point
   pub hole : pointer super old directory at ≡ 0
   pub some : zone ≢ 0
   pub fresh : IsFresh super old new zone
-  -- the zone in which its number stands, where that isn't the inode
+  -- the zone in which its number is, where that isn't the inode
   pub outer : (index : ℕ) (before : List ℕ) → at.trail ≡ (index ∷ before) → pointer super old directory (pointer_at at.top before) ≢ 0
   -- its inode
   pub mode : (new.node directory).mode ≡ (old.node directory).mode
@@ -43,10 +43,10 @@ pub record Hooks (super : Super) (old new : Parts) (directory : ℕ) (at : Point
   pub marks : (number : ℕ) → Named super old number → new.has_inode number ≡ old.has_inode number
   pub zones : (number : ℕ) (there : Pointer) (y : ℕ) → Refers super old number there y → ((number ≡ directory) → IsBelow at there → ⊥) → new.zone y ≡ old.zone y
   pub zone_marks : (number : ℕ) (there : Pointer) (y : ℕ) → Refers super old number there y → new.has_zone y ≡ old.has_zone y
-  -- past its entries stand only free ones
+  -- past its entries are only free ones
   pub free : (place : ℕ) → places super.kind (old.node directory).size ≤ place → place < places super.kind (new.node directory).size → (entry super old directory place).inode ≡ 0
 
--- a zone further down, and the index at which its number stands in the zone above
+-- a zone further down, and the index at which its number is in the zone above
 pub record Deeper : Type 0 where
   pub index : ℕ
   pub zone : ℕ

@@ -27,7 +27,7 @@ pub fn size_of_a_directory_may_rise()
     ensures { SizeChangeLaw }
 {}
 
-/// Nor what bytes stand past its entries.
+/// Nor what bytes are past its entries.
 pub fn bytes_past_the_entries_are_unseen()
     ensures { FillLaw }
 {}

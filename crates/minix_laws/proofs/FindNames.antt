@@ -71,7 +71,7 @@ module _ (super : Super) (parts : Parts) where
         → child super parts directory position name ≡ Err (NotFound position)
     child-absent directory position name named is first = child-found directory position name None named is first
 
-    -- an entry of a name is the first one, since it stands once
+    -- an entry of a name is the first one, since it appears once
     first-entry : (directory inode : ℕ) (name : List ℕ) → Named super parts directory → is_directory (parts.node directory) ≡ true → inode ≢ 0
         → HasSomeEntry super parts directory (entry_with inode name)
         → first_named (entry super parts directory) name (places super.kind (parts.node directory).size) ≡ Some inode

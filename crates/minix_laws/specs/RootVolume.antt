@@ -32,7 +32,7 @@ root_inode kind = record {
 abbrev pub root_entry : Kind → List ℕ → List ℕ
 root_entry kind name = bytes16 1 ++ filled_bytes (name_size kind) name
 
--- its sectors: the superblock, the marks of inode 1 and of zone 5, the root's inode and entries, else zeros
+-- its sectors: the superblock, the bitmap bits of inode 1 and of zone 5, the root's inode and entries, else zeros
 abbrev pub root_sector : Kind → ℕ → List ℕ
 root_sector kind sector =
     if sector == 2 then super_bytes (root_layout kind) (replicate 512 0) else

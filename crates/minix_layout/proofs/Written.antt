@@ -1,4 +1,4 @@
--- Bytes written one behind the other are written as one.
+-- Bytes written one after the other are written as one.
 use Rattle.std.proofs.Common.{◌≡◌, ℕ, ◌+◌, ◌*◌, ◌<◌, ◌≤◌, List, [], ◌∷◌, ◌++◌, length, take, drop, get_or, map, refl, sym, ◌∙◌, ap, subst, arith, append_assoc, append-nil, add-one, length-append, length-drop}
 use Rattle.std.proofs.Math.Seq.{drop-append-add, take-append_seam, drop-append_seam, take-suc, drop-length}
 use Rattle.std.proofs.lemmas.List.{length-take-le, take-append-drop, map-append}
@@ -7,14 +7,14 @@ use Rattle.std.specs.List.{concat}
 use Rattle.lilo_model.specs.Bytes.{with_part, bytes16, bytes32}
 use Rattle.lilo_model.specs.MinixLayout.{bytes16_of, bytes32_of}
 
--- what stands behind two parts
+-- what comes after two parts
 drop-twice : (m n : ℕ) (r : List ℕ) → m ≤ length r → drop n (drop m r) ≡ drop (m + n) r
 drop-twice m n r fits =
     let P : List ℕ → Type 0 = λ s. drop (length (take m r) + n) s ≡ drop n (drop m r) in
     let Q : ℕ → Type 0 = λ k. drop (k + n) r ≡ drop n (drop m r) in
     sym (subst Q (length-take-le m r fits) (subst P (take-append-drop m r) (drop-append-add (take m r) (drop m r) n)))
 
--- bytes written behind some that were written
+-- bytes written after some that were written
 pub with_part-joined :
     (b : List ℕ) (at : ℕ) (x y : List ℕ) (next : ℕ) → next ≡ at + length x → next + length y ≤ length b
     → with_part (with_part b at x) next y ≡ with_part b at (x ++ y)
@@ -51,7 +51,7 @@ pub length-bytes32_of : (numbers : List ℕ) → length (bytes32_of numbers) ≡
 length-bytes32_of [] = refl
 length-bytes32_of (number ∷ numbers) = let h = length-bytes32_of numbers in omega (arith, h)
 
--- one more number of two bytes written behind some
+-- one more number of two bytes written after some
 pub put16-more :
     (b now : List ℕ) (at : ℕ) (numbers : List ℕ) (index : ℕ) → index < length numbers → at + 2 * length numbers ≤ length b
     → now ≡ with_part b at (bytes16_of (take index numbers))
@@ -77,7 +77,7 @@ put32-more b now at numbers index below fits is =
     ∙ with_part-joined b at (bytes32_of (take index numbers)) (bytes32 (get_or numbers index 0)) (at + 4 * index) long (omega (arith, below, fits))
     ∙ ap (with_part b at) (sym (bytes32_of-more (take index numbers) (get_or numbers index 0)) ∙ ap bytes32_of (sym more))
 
--- one more part written behind some
+-- one more part written after some
 pub part-more :
     (b now after : List ℕ) (at : ℕ) (x y : List ℕ) (next : ℕ) → now ≡ with_part b at x → after ≡ with_part now next y
     → next ≡ at + length x → next + length y ≤ length b → after ≡ with_part b at (x ++ y)

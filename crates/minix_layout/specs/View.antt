@@ -1,4 +1,4 @@
--- For which plain value of the model each value of this crate stands.
+-- Which plain value of the model each value of this crate stands for.
 use Rattle.lilo_model.specs.MinixLayout as model
 use Rattle.minix_layout.specs.declared.kind.FsKind.{FsKind}
 use Rattle.minix_layout.specs.declared.kind.FsKind.TheVariants as kinds

@@ -1,4 +1,4 @@
-//! The superblock and the inodes of a Minix volume, versions 1 and 2, and where they stand.
+//! The superblock and the inodes of a Minix volume, versions 1 and 2, and where they lie.
 //!
 //! A volume has blocks of 1024 bytes: block 0 is the boot block, block 1 the superblock, then come the
 //! bitmaps of inodes and of zones, the table of inodes and the data zones. Numbers are little-endian.

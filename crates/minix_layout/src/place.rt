@@ -1,4 +1,4 @@
-// Where inodes and zones stand.
+// Where inodes and zones lie.
 ghost use Rattle.std.specs.Prelude.{◌≡◌, ◌+◌, ◌*◌, ◌<◌, ◌≤◌, ◌^◌};
 ghost use Rattle.lilo_model.specs.MinixLayout.{inode_place, inode_size, zone_sector};
 ghost use Rattle.minix_layout.specs.View.{kind_view, place_view, super_view};
@@ -15,7 +15,7 @@ pub struct Place {
     pub at: u16,
 }
 
-/// Where the inode with a number stands, whole in one sector. The numbers begin at 1.
+/// Where the inode with a number lies, whole in one sector. The numbers begin at 1.
 #[tactic(auto, unfolding(lilo_model::specs::MinixLayout::inode_place))]
 pub fn where_inode(volume: &Super, inode: u32) -> Place
     requires some { 1 ≤ inode }

@@ -107,7 +107,7 @@ impl Super {
         }
     }
 
-    // The block behind the table of inodes.
+    // The block after the table of inodes.
     fn table_end(&self) -> u32
         requires { (self.now.inodes < 2 ^ 16) × (self.now.imap < 2 ^ 16) × (self.now.zmap < 2 ^ 16) }
         ensures { result ≡ table_start (super_view self.now) + table_blocks (super_view self.now) }

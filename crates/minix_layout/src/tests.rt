@@ -66,7 +66,7 @@ fn first_broken_field_is_told(rt: HostRuntime) {
     assert_eq!(rt; Super::read(&sector, 63), Err(LayoutFault::BadMagic));
 }
 
-// A first data zone behind the zones passes the check of the zone bitmap, even where that has no blocks.
+// A first data zone after the zones passes the check of the zone bitmap, even where that has no blocks.
 #[test]
 fn first_zone_behind_the_zones(rt: HostRuntime) {
     let mut sector = superblock();
@@ -138,7 +138,7 @@ fn size_beyond_version_1(rt: HostRuntime) {
     );
 }
 
-// The second inode of version 2 stands 64 bytes behind the first, the ninth in the next sector.
+// The second inode of version 2 is 64 bytes after the first, the ninth in the next sector.
 #[test]
 fn places(rt: HostRuntime) {
     let volume = Super {

@@ -21,7 +21,7 @@ use Rattle.mbr_table.specs.declared.partition.Partition as coded
 use Rattle.mbr_table.specs.declared.table_fault.TableFault.{TableFault}
 use Rattle.mbr_table.specs.declared.table_fault.TableFault.TheVariants as faults
 
--- what stands where there is no partition
+-- what is where there is no partition
 abbrev pub no_partition : coded.Partition
 no_partition = record { number = 0; kind = 0; span = record { disk = 0; start = 0; count = 0 } }
 
@@ -65,7 +65,7 @@ pub goes_on :
     → Ends (Ok None) (find p first) → find p (first ++ rest) ≡ find p rest
 goes_on p first rest ends = find-append p first rest ∙ ap (λ end. option_or end (find p rest)) ends
 
--- the same of places of which some are left, where disks tell what they hold
+-- the same of places of which some are left, where disks report what they hold
 pub found_at_last :
     (past past' : Option Past) (all first rest : Image → Places) (found : Located)
     → past' ≡ past
@@ -116,7 +116,7 @@ partitions_left (Some past) all disk partitions index none inside left =
     ∙ ap (λ rest. find (ends_search now) (searched_partitions disk (Ok (partitions_view rest)))) (drop_more partitions index none inside)
     ∙ ap (find (ends_search now)) (partitions_more disk (partition_view (get_or partitions index none)) (partitions_view (drop (index + 1) partitions)))
 
--- where the search of some partitions stands before one of them
+-- where the search of some partitions is before one of them
 abbrev pub Left : Option Past → ℕ → List coded.Partition → ℕ → Type 0
 Left past disk partitions index =
     Told past (λ now. find (ends_search now) (searched_partitions disk (Ok (partitions_view partitions)))
@@ -222,7 +222,7 @@ disks_more (suc (suc zero)) below = refl
 disks_more (suc (suc (suc zero))) below = refl
 disks_more (suc (suc (suc (suc disk)))) below = absurd (omega (arith, below))
 
--- where the search of all disks stands before one of them
+-- where the search of all disks is before one of them
 abbrev pub LeftDisks : Option Past → Machine → ℕ → Type 0
 LeftDisks past machine disk =
     Told past (λ now. find (ends_search now) (searched now machine four_disks)
@@ -317,7 +317,7 @@ pub on_whole :
 on_whole None machine disk count size there holds = tt
 on_whole (Some past) machine disk count size there holds = rw size (whole_found (now_of past) machine disk there (sym holds))
 
--- a table that is refused, told of what disks hold
+-- a table that is refused, of what disks hold
 pub on_refused :
     (past past' : Option Past) (machine : Machine) (disk : ℕ) (fault : TableFault)
     → past' ≡ past → has_no_table fault ≡ false

@@ -10,7 +10,7 @@ use Rattle.minix_sees_laws.specs.Sees.{IsFresh, Sees}
 use Rattle.minix_sees_laws.specs.Laws.{SeesLaw}
 use Rattle.minix_sees_laws.proofs.Inode.{same-but-links, thing-directory, thing-same, points-old, points-new, keeps-above}
 
--- ---- entries past which only free ones stand
+-- ---- entries past which there are only free ones
 
 free-named : (name : List ℕ) (what : Entry) → what.inode ≡ 0 → named_inode name what ≡ None
 free-named name what free = rw free refl
@@ -167,7 +167,7 @@ module _ (super : Super) (old new : Parts) (sees : Sees super old new) where
     directory-old : (number : ℕ) → Named super old number → is_directory (new.node number) ≡ true → is_directory (old.node number) ≡ true
     directory-old number named is = sym (directory-same number named) ∙ is
 
-    -- an entry that isn't free stood there before
+    -- an entry that isn't free was there before
     has-old : (directory place : ℕ) (what : Entry) → Named super old directory → is_directory (old.node directory) ≡ true → what.inode ≢ 0 → HasEntry super new directory place what
         → (below : Bool) → (ltb place (places super.kind (old.node directory).size)) ≡ below → HasEntry super old directory place what
     has-old directory place what named is some has true below =

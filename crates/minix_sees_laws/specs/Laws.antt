@@ -32,7 +32,7 @@ KeptIsSeenLaw = (super : Super) (old new : Parts) → Sound super old → Keeps 
 abbrev pub SeenSameLaw : Type 0
 SeenSameLaw = (volume : Volume) (old : Image) → IsSound volume old → SeenAsIn volume old old
 
--- one beside which harmless bytes stand is seen as before
+-- one beside harmless bytes is seen as before
 abbrev pub SeenBesideLaw : Type 0
 SeenBesideLaw = (volume : Volume) (old image : Image) → IsSound volume old → Beside volume old image → SeenAsIn volume old image
 

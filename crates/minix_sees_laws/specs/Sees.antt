@@ -22,7 +22,7 @@ abbrev pub SameButLinks : Inode → Inode → Type 0
 SameButLinks old new = new ≡ with_links old new.links
 
 -- the inodes that have a name stay but for their links, which are enough; the zones that they refer to stay, and so do
--- their marks
+-- their bitmap bits
 pub record KeepsButLinks (super : Super) (old new : Parts) : Type 0 where
   pub nodes : (number : ℕ) → Named super old number → SameButLinks (old.node number) (new.node number)
   pub links : (number : ℕ) (paths : List (List (List ℕ))) → number ≢ 1 → AreDistinct paths → AllLead super old number paths → length paths ≤ (new.node number).links

@@ -66,7 +66,7 @@ has-name met directory place what inode name has same named =
     let two : bytes_eq what.name name ≡ true = (bytes_eq-Decides what.name name).1 named in
     any-in (has_that_name inode name) met (Stands directory place what) has (rw (one, two) refl)
 
--- the entry by which a name stands in a directory
+-- the entry by which a name is in a directory
 pub record IsNameIn (met : List Met) (inode : ℕ) (name : List ℕ) : Type 0 where
   pub directory : Spot
   pub place : ℕ

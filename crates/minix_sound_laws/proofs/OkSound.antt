@@ -188,7 +188,7 @@ module _ (super : Super) (parts : Parts) (numbers : HasNumbers super parts) (met
   met-at : (directory place : ℕ) → IsSeenDirectory parts seen directory → IsTaken super parts directory place → IsMet directory place
   met-at directory place from taken = met-by directory place from.is taken (spot-of directory from.was)
 
-  -- ---- names stand once
+  -- ---- names appear once
 
   twice-after : (spot other : Spot) (place there : ℕ) (what name : Entry) → IsAfter V met (Stands spot place what) (Stands other there name)
       → spot.inode ≡ other.inode → what.name ≡ name.name → ⊥

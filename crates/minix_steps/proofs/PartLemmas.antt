@@ -33,7 +33,7 @@ module _ (volume : Volume) (image : Image) (sector : ℕ) (bytes : List ℕ) whe
   pub other_sector : (other : ℕ) → other ≢ sector → sector_of volume written other ≡ sector_of volume image other
   other_sector other apart = with_other image volume.span.disk (volume.span.start + sector) bytes volume.span.disk (volume.span.start + other) (not_here other apart)
 
-  -- the parts that don't stand in the sector
+  -- the parts that aren't in the sector
 
   pub node_same : (number : ℕ) → (inode_place volume.layout number).sector ≢ sector → (parts_of volume written).node number ≡ (parts_of volume image).node number
   unfolding parts_of
@@ -180,7 +180,7 @@ offset_fits V1Long number = omega arith
 offset_fits V2Short number = omega arith
 offset_fits V2Long number = omega arith
 
--- an inode in the same sector stands behind one with a lower number
+-- an inode in the same sector comes after one with a lower number
 offset_before : (kind : Kind) (number other : ℕ) → 1 ≤ number → number < other → row kind number ≡ row kind other → offset kind number + inode_size kind ≤ offset kind other
 offset_before V1Short number other some below same = omega arith
 offset_before V1Long number other some below same = omega arith

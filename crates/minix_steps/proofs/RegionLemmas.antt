@@ -1,4 +1,4 @@
--- Where zones, marks and inodes stand on a volume whose superblock passed its checks.
+-- Where zones, bitmap bits and inodes lie on a volume whose superblock passed its checks.
 use Rattle.std.proofs.Common.{◌≡◌, ◌≤◌, ◌<◌, ◌+◌, ◌*◌, ◌-◌, ℕ, Bool, true, false, nat_le, nat_lt, ◌&&◌, Result, Ok, refl, arith}
 use Rattle.std.proofs.lemmas.Bool.Decides.{nat_tests}
 use Rattle.lilo_model.specs.Checks.{◌>>=◌, require}
@@ -16,7 +16,7 @@ passed_last : {F : Type 0} (test : Bool) (fault : F) → require test fault ≡ 
 passed_last true fault all = refl
 passed_last false fault all = cc
 
--- the table of inodes stands before the data zones
+-- the table of inodes comes before the data zones
 table_before : (super : Super) (sectors : ℕ) → super_checks super sectors ≡ Ok tt → table_start super + table_blocks super ≤ super.first
 unfolding super_checks
 table_before super sectors passes =
@@ -59,6 +59,6 @@ module _ (super : Super) (sectors : ℕ) (is : IsSuper super sectors) where
   pub bitmap_there : (sector : ℕ) → IsOfBitmaps super sector → sector < 2 * super.zones
   bitmap_there sector range = omega (arith, range.1, lies.table, lies.first)
 
-  -- data zones stand behind block 1
+  -- data zones come after block 1
   pub zone_behind : 2 ≤ super.first
   zone_behind = omega (arith, lies.table)

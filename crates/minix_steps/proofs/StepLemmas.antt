@@ -20,14 +20,14 @@ use Rattle.minix_zones.proofs.WriteLemmas.{goes_on_unchanged, keeps_join, keeps_
 use Rattle.minix_zones.specs.declared.volume.Volume.{Volume}
 use Rattle.minix_steps.specs.Steps.{Within, IsReady, IsUnusedZone, IsUnnamedInode, Steps}
 
--- ---- where an image is left, the past is told
+-- ---- where an image is left, the past is known
 
 since_told : (past : Option Past) (t : ℕ) (c : Image) → LeftSince past t c → IsTold past
 unfolding LeftSince IsTold
 since_told None t c left = left
 since_told (Some past) t c left = tt
 
--- a run leaves only what has a fact that follows where the past is told
+-- a run leaves only what has a fact that follows where the past is known
 pub leaves_told : (old new : Option Past) (P Q : Image → Type 0) → LeavesOnly old new P → (IsTold new → (c : Image) → P c → Q c) → LeavesOnly old new Q
 leaves_told old new P Q run weaker = record {
   later = run.later;

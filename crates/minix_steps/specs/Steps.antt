@@ -1,5 +1,5 @@
 -- When a step of a writer may be taken on a volume, and what it leaves (a rule of this project's own). What is said of
--- bytes holds where the disks tell their past; where they don't, the conditions hold of themselves.
+-- bytes holds where the disks report their past; where they don't, the conditions hold of themselves.
 use Rattle.std.specs.Prelude.{ℕ, Option}
 use Rattle.disk_trait.specs.declared.disks.Disks.{Ghosts}
 use Rattle.disk_trait.specs.Past.{Image, Past}

@@ -1,4 +1,4 @@
-// The marks of zones and inodes.
+// The bitmap bits of zones and inodes.
 ghost use Rattle.std.specs.Prelude.{◌≤◌, ◌<◌, true, false, OnOk};
 ghost use Rattle.disk_trait.specs.Moments.{IsTold};
 ghost use Rattle.lilo_model.specs.MinixParts.{inode_mark_sector, zone_mark_sector};
@@ -34,7 +34,7 @@ pub fn put_zone_mark<D: Disks>(volume: &mut Volume<'_, D>, zone: u32) -> Result<
     }
 }
 
-/// Clears the mark of a data zone to which no named inode referred at the last flush. It isn't flushed.
+/// Clears the bitmap bit of a data zone to which no named inode referred at the last flush. It isn't flushed.
 ///
 /// # Errors
 ///
@@ -77,7 +77,7 @@ pub fn put_inode_mark<D: Disks>(volume: &mut Volume<'_, D>, number: u32) -> Resu
     }
 }
 
-/// Clears the mark of an inode that was neither the root nor had a name at the last flush. The numbers begin at
+/// Clears the bitmap bit of an inode that was neither the root nor had a name at the last flush. The numbers begin at
 /// 1. It isn't flushed.
 ///
 /// # Errors

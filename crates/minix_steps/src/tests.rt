@@ -16,7 +16,7 @@ use std::alloc::{AllocError, Global};
 use std::process::Abort;
 use std::test::Fail;
 
-// Marks a zone and an inode, and makes the marks durable.
+// Marks a zone and an inode, and makes the bitmap bits durable.
 #[tactic(auto, using(crate::proofs::StepLemmas::steps_join))]
 fn reserve<D: Disks>(volume: &mut Volume<'_, D>, zone: u32, number: u32) -> Result<(), ZoneFault>
     requires from { volume.old.layout.first ≤ zone }
@@ -61,7 +61,7 @@ fn fill<D: Disks>(
     settle(volume)
 }
 
-// Disks in memory that don't tell their past: so the conditions of the steps hold of any volume.
+// Disks in memory that don't report their past: so the conditions of the steps hold of any volume.
 #[derive(Drop)]
 struct Untold {
     disks: MemDisks,
@@ -106,8 +106,8 @@ impl Disks for Untold {
     }
 }
 
-// A volume of 80 sectors behind 8 others, of version 2: 16 inodes, 40 zones, the first data zone 5. The inodes' bits
-// stand in sector 4 of the volume, those of the zones in sector 6, and the inodes in sectors 8 and 9.
+// A volume of 80 sectors after 8 others, of version 2: 16 inodes, 40 zones, the first data zone 5. The inodes' bits
+// are in sector 4 of the volume, those of the zones in sector 6, and the inodes in sectors 8 and 9.
 const SPAN: Span = Span {
     disk: 0,
     start: 8,
@@ -153,14 +153,14 @@ fn disks_with(alloc: Global, failing: &[Failing]) -> Result<Untold, AllocError> 
     Ok(Untold { disks })
 }
 
-// One byte, and zeros behind it.
+// One byte, and zeros after it.
 fn first_byte(byte: u8) -> Sector {
     let mut sector: Sector = [0; 512];
     sector[0] = byte;
     sector
 }
 
-// Four inodes, each of one byte again and again, and zeros behind them.
+// Four inodes, each of one byte again and again, and zeros after them.
 fn table(inodes: [u8; 4]) -> Sector {
     let mut sector: Sector = [0; 512];
     for (i, byte) in sector.iter_mut().enumerate() {
@@ -230,7 +230,7 @@ fn sector<D: Disks>(
     Ok(bytes)
 }
 
-// The bytes of `INODE` in version 2, and zeros behind them.
+// The bytes of `INODE` in version 2, and zeros after them.
 fn inode_bytes() -> Sector {
     let mut sector: Sector = [0; 512];
     let first = [
@@ -287,8 +287,8 @@ fn freed_marks_leave_their_neighbours(rt: HostRuntime) -> Result<(), Fail> {
     Ok(())
 }
 
-// The read of the superblock is call 0. Here fail the write of the mark, that of the zone's second half, the read of
-// the inode's sector, and the flush.
+// The read of the superblock is call 0. Here fail the write of the bitmap bit, that of the zone's second half, the read
+// of the inode's sector, and the flush.
 #[test]
 fn failed_calls(rt: HostRuntime) -> Result<(), Fail> {
     let failing = [2, 4, 5, 6].map(|call| Failing { call, made: false });

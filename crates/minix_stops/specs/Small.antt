@@ -26,7 +26,7 @@ with_root_entry kind at name bytes = with_part (with_part bytes at (bytes16 1)) 
 abbrev pub zeros : List ℕ
 zeros = replicate 512 0
 
--- its sectors: the superblock, the marks of inode 1 and of zone 5, the root's inode and entries, else zeros
+-- its sectors: the superblock, the bitmap bits of inode 1 and of zone 5, the root's inode and entries, else zeros
 abbrev pub small_sector : Kind → ℕ → List ℕ
 small_sector kind sector =
     if sector == 10 then with_root_entry kind (entry_size kind) above_name (with_root_entry kind 0 here_name zeros) else

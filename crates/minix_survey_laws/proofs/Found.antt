@@ -1,4 +1,4 @@
--- Where a directory finds a name, an entry of it stands.
+-- Where a directory finds a name, there is an entry of it.
 use Rattle.std.proofs.Common.{◌≡◌, ◌≢◌, ℕ, zero, suc, ◌<◌, ◌==◌, ◌&&◌, Bool, true, false, not, if◌then◌else◌, List, bytes_eq, Option, Some, None, refl, sym, ◌∙◌, ap, arith, eq-eqb}
 use Rattle.std.specs.Option.{option_or}
 use Rattle.std.proofs.lemmas.Bool.{eqb-true, ne_eqb}
@@ -25,7 +25,7 @@ named_inode-some name what inode given = some-by name what inode _ _ refl refl g
 
 -- ---- the first entry of a name
 
--- an entry of a name stands below a number
+-- an entry of a name is below a number
 pub record StandsBelow (at : ℕ → Entry) (name : List ℕ) (count inode : ℕ) : Type 0 where
   pub place : ℕ
   pub below : place < count
@@ -115,7 +115,7 @@ lookup-finds super parts name directory inode given = by_test _ _ refl refl give
     by_test true true is dots found = cc
     by_test false dots is is_dots found = cc
 
--- an entry whose name stands once is found
+-- an entry whose name appears once is found
 pub names-found : (super : Super) (parts : Parts) (seen : ℕ → Bool) (directory place inode : ℕ) → NamesAt super parts seen directory place inode
     → ((other : ℕ) → IsTaken super parts directory other → (entry super parts directory other).name ≡ (entry super parts directory place).name → other ≡ place)
     → lookup super parts (entry super parts directory place).name directory ≡ Some inode

@@ -29,7 +29,7 @@ pub record IsSeenDirectory (parts : Parts) (seen : ℕ → Bool) (directory : �
   pub was : seen directory ≡ true
   pub is : is_directory (parts.node directory) ≡ true
 
--- at a place below a directory's size stands an entry that isn't free
+-- at a place below a directory's size is an entry that isn't free
 pub record IsTaken (super : Super) (parts : Parts) (directory place : ℕ) : Type 0 where
   pub below : place < places super.kind (parts.node directory).size
   pub some : (entry super parts directory place).inode ≢ 0
@@ -81,7 +81,7 @@ pub record SurveyFacts (super : Super) (parts : Parts) (seen : ℕ → Bool) (le
   pub zones : (number : ℕ) (at : Pointer) (zone : ℕ) → seen number ≡ true → PointsTo super parts number at zone → IsGoodZone super parts zone
   -- and no other pointer refers to that
   pub once : (number other : ℕ) (at there : Pointer) (zone : ℕ) → seen number ≡ true → seen other ≡ true → PointsTo super parts number at zone → PointsTo super parts other there zone → (number ≡ other) × (at ≡ there)
-  -- no name stands twice in a directory
+  -- no name appears twice in a directory
   pub no_twice : (directory place other : ℕ) → IsSeenDirectory parts seen directory → IsTaken super parts directory place → IsTaken super parts directory other → (entry super parts directory place).name ≡ (entry super parts directory other).name → place ≡ other
   -- no entry names the root
   pub not_root : (directory place inode : ℕ) → NamesAt super parts seen directory place inode → inode ≢ 1

@@ -3,7 +3,7 @@ use Rattle.std.proofs.Common.{◌≡◌, ℕ, ◌<◌, suc, List, [], ◌∷◌,
 use Rattle.lilo_model.specs.MinixFind.{Component, components, begins_with_name, with_byte, one_byte}
 use Rattle.minix_tree.specs.Component.{slashes, name_length}
 
--- a slash at the front is skipped
+-- a slash at the start is skipped
 components-slash : (byte : ℕ) (text : List ℕ) → (byte == 47) ≡ true → components (byte ∷ text) ≡ components text
 unfolding components
 components-slash byte text is = rw is refl
@@ -31,7 +31,7 @@ pub skipped : (text : List ℕ) → components text ≡ components (drop (slashe
 skipped [] = refl
 skipped (byte ∷ text) = skipped_by (byte == 47) byte text refl (skipped text)
 
--- behind them there is a name, or nothing
+-- after them there is a name, or nothing
 none_by : (test : Bool) (byte : ℕ) (text : List ℕ) → (byte == 47) ≡ test
     → (name_length (drop (slashes text) text) ≡ 0 → drop (slashes text) text ≡ [])
     → name_length (drop (slashes (byte ∷ text)) (byte ∷ text)) ≡ 0
@@ -54,7 +54,7 @@ first_none text behind is none =
     let same : name_length (drop (slashes text) text) ≡ 0 = rw is at none in
     skipped text ∙ ap components (nothing_left text same) ∙ components-nil
 
--- a name at the front, and what stands behind it
+-- a name at the start, and what comes after it
 abbrev component_with : List ℕ → List ℕ → Component
 component_with name rest = record { name = name; rest = rest }
 
@@ -71,7 +71,7 @@ components-more : (byte : ℕ) (text : List ℕ) → (byte == 47) ≡ false → 
 unfolding components
 components-more byte text is more = rw (is, more) refl
 
--- the byte behind the first one is a slash, or belongs to the name
+-- the byte after the first one is a slash, or belongs to the name
 name_by : (test : Bool) (byte next : ℕ) (text : List ℕ) → (byte == 47) ≡ false → (next == 47) ≡ test
     → (0 < name_length (next ∷ text) → components (next ∷ text) ≡ first_of (name_length (next ∷ text)) (next ∷ text))
     → components (byte ∷ (next ∷ text)) ≡ first_of (suc (name_length (next ∷ text))) (byte ∷ (next ∷ text))

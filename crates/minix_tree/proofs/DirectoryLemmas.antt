@@ -13,7 +13,7 @@ use Rattle.minix_tree.proofs.FindLemmas.{round, all_before, entry_of_block, entr
 
 -- ---- a block
 
--- the entries from a place on, wherever they stand
+-- the entries from a place on, wherever they are
 abbrev plain : Kind → List ℕ → ℕ → ℕ → List Entry
 plain kind block place count = map without_place (placed_from kind block place count)
 

@@ -47,7 +47,7 @@ none_left kind block place end all =
     let e : end - place ≡ 0 = omega arith in
     rw e refl
 
--- ---- where their names stand
+-- ---- where their names lie
 
 -- a part of a part
 part_within : (block : List ℕ) (at size inner count : ℕ) → inner + count ≤ size

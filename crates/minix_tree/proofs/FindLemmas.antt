@@ -90,7 +90,7 @@ entry_refused super parts inode index place fault refused below =
     let at = position super.kind index place below in
     rw (at.0, refused) refl
 
--- what comes behind what was found
+-- what comes after what was found
 step_by : (kind : Kind) (at : ℕ → Result Entry volumes.ZoneFault) (name block : List ℕ) (whole place : ℕ) (before : Option ℕ)
     → at whole ≡ Ok (entry_in kind block place)
     → or_later at name whole before ≡ Ok (or_here kind block name place before)
@@ -176,12 +176,12 @@ refused_by super parts inode name index fault refused =
     let F : ℕ → Result (Option ℕ) volumes.ZoneFault = λ n. find_below (entry_at super parts inode) name n in
     ap F e ∙ refuse_more (entry_at super parts inode) name fault (places_before super.kind inode.size index) (places super.kind inode.size - places_before super.kind inode.size index) refused
 
--- a fault behind Zone is one
+-- a fault after Zone is one
 without_zone : {A : Type 0} (found : Result A volumes.ZoneFault) (value : A) → with_fault Zone found ≡ Ok value → found ≡ Ok value
 without_zone (Ok found) value is = cc
 without_zone (Err fault) value is = cc
 
--- ---- where disks tell their past
+-- ---- where disks report their past
 
 pub found_refused : (past : Option Past) (volume : Volume) (inode : Inode) (name : List ℕ) (index : ℕ) (fault : ZoneFault)
     → Told past (λ now. zones.Refuses fault (block_at volume.layout (parts_of volume now) inode index))

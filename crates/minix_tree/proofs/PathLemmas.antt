@@ -67,7 +67,7 @@ walk_ends None volume follows links directory text inode ends = tt
 walk_ends (Some past) volume follows links directory text inode ends =
     walk_ends_in volume.layout (parts_of volume (now_of past)) follows links directory text inode ends
 
--- behind a link that was met
+-- after a link that was met
 meets_in : (super : Super) (parts : Parts) (follows : Bool) (links directory : ℕ) (text : List ℕ) (holder link : ℕ) (node : Inode) (rest : List ℕ)
     → links ≢ 0 → walk super parts follows directory 0 (components text) ≡ Ok (Meets holder link rest) → node ≡ parts.node link
     → find_through super parts follows links directory text

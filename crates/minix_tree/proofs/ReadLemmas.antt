@@ -1,4 +1,4 @@
--- What a block of a directory or a file has, where disks tell their past.
+-- What a block of a directory or a file has, where disks report their past.
 use Rattle.std.proofs.Common.{◌≡◌, ◌≢◌, ℕ, zero, suc, List, [], Option, None, Some, Result, Ok, Err, true, false, map, take, refl, sym, ◌∙◌, ap, subst}
 use Rattle.disk_trait.specs.Past.{Past, Told, now_of}
 use Rattle.lilo_model.specs.Checks.{◌>>=◌, with_fault}
@@ -15,7 +15,7 @@ use Rattle.minix_tree.specs.Placed.{placed_from}
 use Rattle.minix_tree.specs.Directory.{places_in, without_place, first_entries, block_entries}
 use Rattle.minix_tree.specs.View.{RefusesZone}
 
--- a refusal of a zone refuses what comes behind
+-- a refusal of a zone refuses what comes after
 pub refused_before : {A B : Type 0} (fault : ZoneFault) (found : Result A parts.ZoneFault) (next : A → Result B parts.ZoneFault)
     → zones.Refuses fault found → RefusesZone fault (with_fault Zone (found >>= next))
 refused_before (faults.Layout fault) found next refused = rw refused refl
@@ -111,7 +111,7 @@ no_bytes_of super parts inode index zero fault some refused = absurd (some refl)
 no_bytes_of super parts inode index (suc count) fault some refused =
     refused_first fault (block_at super parts inode index) (λ block. Ok (take (suc count) block)) refused
 
--- none of its bytes stand in a block
+-- none of its bytes are in a block
 pub no_bytes : (past : Option Past) (volume : Volume) (inode : Inode) (index : ℕ)
     → is_file inode ≡ true → bytes_in_block inode.size index ≡ 0
     → Told past (λ now. file_block volume.layout (parts_of volume now) inode index ≡ Ok [])

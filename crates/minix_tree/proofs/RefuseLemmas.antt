@@ -1,4 +1,4 @@
--- A refusal is that of what comes behind.
+-- A refusal is that of what comes after.
 use Rattle.std.proofs.Common.{Result, Ok, refl}
 use Rattle.lilo_model.specs.Checks.{◌>>=◌}
 use Rattle.lilo_model.specs.MinixFind as model

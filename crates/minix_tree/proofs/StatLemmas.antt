@@ -1,4 +1,4 @@
--- The inode that stands at a number.
+-- The inode at a number.
 use Rattle.std.proofs.Common.{◌≡◌, ◌≤◌, ◌<◌, ◌+◌, ◌*◌, ◌-◌, ◌/◌, ◌^◌, ℕ, List, Option, None, Some, Result, Ok, Err, Bool, true, false, nat_le, nat_lt, ◌&&◌, if◌then◌else◌, refl, sym, ◌∙◌, ap, arith}
 use Rattle.std.proofs.lemmas.Bool.Decides.{nat_tests}
 use Rattle.disk_trait.specs.Past.{Past, Told, now_of}
@@ -8,9 +8,9 @@ use Rattle.lilo_model.specs.MinixLayout.{Kind, V1Short, V1Long, V2Short, V2Long,
 use Rattle.lilo_model.specs.MinixParts.{Volume, Layout, parts_of, sector_of, blocks_for}
 use Rattle.lilo_model.specs.MinixFind.{TreeFault, Zone, readable}
 
--- ---- where it stands
+-- ---- where it lies
 
--- a check that was passed, and those behind it
+-- a check that was passed, and those after it
 passed : {F : Type 0} (test : Bool) (fault : F) (rest : Result (Unit {0}) F)
     → (require test fault >>= λ a. rest) ≡ Ok tt → (test ≡ true) × (rest ≡ Ok tt)
 passed true fault rest all = (refl, all)
@@ -65,7 +65,7 @@ has_root super sectors whole =
     let is : nat_le 1 super.inodes ≡ true = one.0 in
     grind (arith, nat_tests)
 
--- ---- what stands there
+-- ---- what is there
 
 -- an inode was read where its size may be
 read_sized : (kind : Kind) (bytes : List ℕ) (node : Inode) (fits : Bool) → is_size kind (inode_of kind bytes).size ≡ fits

@@ -14,7 +14,7 @@ use Rattle.minix_tree.proofs.RefuseLemmas.{refused_then}
 
 -- ---- a component
 
--- what comes behind the entry that was found
+-- what comes after the entry that was found
 abbrev behind : Super → Parts → ℕ → ℕ → Option ℕ → Result ℕ model.TreeFault
 behind super parts directory position found =
     found_at position found >>= λ inode. require (nat_le inode super.inodes) (BadEntry directory) >>= λ b. readable super parts inode

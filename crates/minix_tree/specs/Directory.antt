@@ -1,4 +1,4 @@
--- A directory block by block: its entries are those of its blocks, one behind the other.
+-- A directory block by block: its entries are those of its blocks, one after the other.
 use Rattle.std.specs.Prelude.{ℕ, zero, suc, ◌+◌, ◌-◌, ◌*◌, ◌/◌, min, List, [], ◌++◌, map, Result, Ok}
 use Rattle.lilo_model.specs.Checks.{◌>>=◌}
 use Rattle.lilo_model.specs.MinixLayout.{Kind, Super, Inode}
@@ -14,7 +14,7 @@ places_in kind size index = min (entries_per_block kind) (places kind size - ent
 abbrev pub directory_blocks : Kind → ℕ → ℕ
 directory_blocks kind size = (places kind size + (entries_per_block kind - 1)) / entries_per_block kind
 
--- an entry, wherever it stands
+-- an entry, wherever it is
 abbrev pub without_place : PlacedEntry → Entry
 without_place entry = entry_with entry.inode entry.name
 

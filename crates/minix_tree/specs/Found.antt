@@ -21,6 +21,6 @@ unfoldable pub found_in : Super → Parts → Inode → List ℕ → ℕ → Res
 found_in super parts inode name index =
     block_at super parts inode index >>= λ block. Ok (found_among super.kind block name (places_in super.kind inode.size index))
 
--- how many places of a directory stand before a block
+-- how many places of a directory come before a block
 abbrev pub places_before : Kind → ℕ → ℕ → ℕ
 places_before kind size index = min (places kind size) (entries_per_block kind * index)

@@ -5,7 +5,7 @@ use Rattle.lilo_model.specs.MinixParts.{Parts}
 use Rattle.lilo_model.specs.MinixEntries.{entries_at}
 use Rattle.minix_tree.specs.Directory.{entries_before, directory_blocks}
 
--- the entries of all blocks, one behind the other, are those of the directory
+-- the entries of all blocks, one after the other, are those of the directory
 abbrev pub DirectoryLaw : Type 0
 DirectoryLaw =
     (super : Super) (parts : Parts) (inode : Inode)

@@ -1,4 +1,4 @@
--- The text that is walked in place of a link's name and what stands behind it.
+-- The text that is walked in place of a link's name and what comes after it.
 use Rattle.std.specs.Prelude.{ℕ, ◌+◌, nat_le, Bool, List, ◌++◌, length, take, Result, Ok}
 use Rattle.lilo_model.specs.Checks.{◌>>=◌, require, with_fault}
 use Rattle.lilo_model.specs.MinixLayout.{Super, Inode}
@@ -11,11 +11,11 @@ pub record LinkText : Type 0 where
   pub from_root : Bool
   pub text : List ℕ
 
--- it, with the text behind the link
+-- it, with the text after the link
 abbrev pub text_with : List ℕ → List ℕ → LinkText
 text_with rest text = record { from_root = begins_with_slash text; text = text ++ rest }
 
--- the text of a link and the one behind it, where they aren't too long
+-- the text of a link and the one after it, where they aren't too long
 abbrev pub link_text : Super → Parts → Inode → List ℕ → Result LinkText TreeFault
 link_text super parts link rest =
     require (nat_le (link.size + length rest) text_limit) PathTooLong

@@ -1,4 +1,4 @@
--- For which plain value of the model each value of this crate stands, and when an answer is the model's.
+-- Which plain value of the model each value of this crate stands for, and when an answer is the model's.
 use Rattle.std.specs.Prelude.{◌≡◌, ◌≤◌, ℕ, true, Result, Ok, Err}
 use Rattle.lilo_model.specs.Faults.{Rose}
 use Rattle.disk_trait.specs.Past.{Told}
@@ -72,6 +72,6 @@ pub record IsStat (layout : Super) (stat : Stat) : Type 0 where
   pub reached : parts.blocks_for stat.node.size ≤ reach (kind_view layout.kind)
   pub fields : FitsInode (kind_view layout.kind) (inode_view stat.node)
 
--- it is the inode that stands at its number now
+-- it is the inode at its number now
 abbrev pub IsNode : {D : Type 0} {disks : Ghosts D} → Volume D disks → Stat → Type 0
 IsNode volume stat = Told (past_of volume) (λ now. inode_view stat.node ≡ (parts.parts_of (volume_view volume) now).node stat.inode)

@@ -13,12 +13,12 @@ abbrev pub walked_view : Walked → model.Walked
 walked_view (Ends stat) = model.Ends stat.inode
 walked_view (Meets directory link rest) = model.Meets directory.inode link.inode rest.now
 
--- its inodes are some that a volume with this superblock can have, and the text behind a link isn't too long
+-- its inodes are some that a volume with this superblock can have, and the text after a link isn't too long
 abbrev pub IsWalked : Super → Walked → Type 0
 IsWalked layout (Ends stat) = IsStat layout stat
 IsWalked layout (Meets directory link rest) = IsStat layout directory × IsStat layout link × (length rest.now ≤ 1024)
 
--- they are those that stand at their numbers now
+-- they are those at their numbers now
 abbrev pub IsWalkedNow : {D : Type 0} {disks : Ghosts D} → Volume D disks → Walked → Type 0
 IsWalkedNow volume (Ends stat) = IsNode volume stat
 IsWalkedNow volume (Meets directory link rest) = IsNode volume directory × IsNode volume link

@@ -3,14 +3,14 @@ ghost use Rattle.std.specs.Prelude.{◌≡◌, ◌≤◌, ◌<◌, [], ◌∷◌
 ghost use Rattle.lilo_model.specs.MinixFind.{components};
 ghost use Rattle.minix_tree.specs.Component.{slashes, name_length};
 
-/// A component of a path, and the text behind it.
+/// A component of a path, and the text after it.
 #[derive(Clone, Copy)]
 pub(crate) struct Component<'t> {
     pub(crate) name: &'t [u8],
     pub(crate) rest: &'t [u8],
 }
 
-/// How many slashes stand at the front of a text.
+/// How many slashes are at the start of a text.
 fn slashes(text: &[u8]) -> usize
     ensures value { result ≡ slashes text.now }
     ensures within { result ≤ length text.now }
@@ -18,7 +18,7 @@ fn slashes(text: &[u8]) -> usize
     text.iter().take_while(|byte| **byte == b'/').count()
 }
 
-/// How many bytes stand before the first slash.
+/// How many bytes come before the first slash.
 fn name_length(text: &[u8]) -> usize
     ensures value { result ≡ name_length text.now }
     ensures within { result ≤ length text.now }

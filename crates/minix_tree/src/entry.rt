@@ -26,7 +26,7 @@ pub struct DirEntry<'b> {
 pub struct Entries<'b> {
     block: &'b [u8; 1024],
     kind: FsKind,
-    // The next place, and the one behind the last.
+    // The next place, and the one after the last.
     place: u16,
     end: u16,
 }

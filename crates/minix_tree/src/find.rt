@@ -30,7 +30,7 @@ const ROOT: u32 = 1;
 /// # Errors
 ///
 /// `NotFound` and `NotDirectory` have the position of the component in the text that is walked: the path, or a
-/// link's text with what was left behind the link. Empty components are skipped and not counted. A path that
+/// link's text with what was left after the link. Empty components are skipped and not counted. A path that
 /// doesn't begin with a slash is `NotFound(0)`. `TooManyLinks` is for a ninth link, `BadEntry` for an entry of
 /// this directory that is followed and names no inode, and `PathTooLong` for a text of more than 1024 bytes.
 pub fn lookup<D: Disks>(volume: &mut Volume<'_, D>, path: &[u8]) -> Result<Stat, TreeFault>
@@ -104,7 +104,7 @@ fn find_path<D: Disks>(
     find_through(volume, follows_last, LINKS, &root, root, path)
 }
 
-/// What a text leads to from a directory, with so many links at most. The text of a link, and the one behind
+/// What a text leads to from a directory, with so many links at most. The text of a link, and the one after
 /// it, are walked in a buffer of their own.
 fn find_through<D: Disks>(
     volume: &mut Volume<'_, D>,
@@ -144,7 +144,7 @@ fn find_through<D: Disks>(
     }
 }
 
-/// A text that is walked in place of a link's name and what stands behind it.
+/// A text that is walked in place of a link's name and what comes after it.
 #[derive(Clone, Copy)]
 struct Next {
     length: usize,
@@ -152,7 +152,7 @@ struct Next {
     from_root: bool,
 }
 
-/// Writes the text of a link, and the text behind it.
+/// Writes the text of a link, and the text after it.
 fn text_through<D: Disks>(
     volume: &mut Volume<'_, D>,
     link: &Inode,
@@ -204,7 +204,7 @@ fn read_link<D: Disks>(
     }
 }
 
-/// Writes a text behind the first bytes.
+/// Writes a text after the first bytes.
 fn put_behind(into: &mut [u8; 1024], at: usize, text: &[u8])
     requires { at + length text.now ≤ 1024 }
     ensures { take (at + length text.now) into.new ≡ take at into.old ++ text.now }

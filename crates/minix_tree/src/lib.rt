@@ -3,7 +3,7 @@
 //!
 //! Paths are walked from inode 1. Each component is found as the first entry of that name in the directory that
 //! was reached, and symbolic links are replaced by their texts, at most eight of them. Only `read_file` takes
-//! memory: a text that is walked behind a link stands in a buffer of 1024 bytes. Each call reads a block of a
+//! memory: a text that is walked after a link is in a buffer of 1024 bytes. Each call reads a block of a
 //! directory once for each component that is looked for in it, and an inode once when it is reached.
 #![tactic(auto)]
 

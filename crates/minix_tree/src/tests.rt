@@ -10,7 +10,7 @@ use std::alloc::{AllocError, Global};
 use std::process::Abort;
 use std::test::Fail;
 
-// A volume of version 2 with names of 14 bytes, in 80 sectors behind 8 others: 32 inodes in blocks 4 and 5, 40
+// A volume of version 2 with names of 14 bytes, in 80 sectors after 8 others: 32 inodes in blocks 4 and 5, 40
 // zones, the first data zone 6.
 const SPAN: Span = Span {
     disk: 0,
@@ -62,7 +62,7 @@ fn put(disks: &mut MemDisks, sector: u32, bytes: &Sector) {
     }
 }
 
-// Writes a text to the front of a zone.
+// Writes a text to the start of a zone.
 fn put_text(disks: &mut MemDisks, zone: u32, text: &[u8]) {
     let mut sector: Sector = [0; 512];
     if zone < 40 && text.len() <= 512 {
@@ -232,7 +232,7 @@ fn paths_that_lead_nowhere(rt: HostRuntime) -> Result<(), Fail> {
     Ok(())
 }
 
-// The link `d` has 4 bytes: with 1020 behind it the text is as long as it may be.
+// The link `d` has 4 bytes: with 1020 after it the text is as long as it may be.
 #[test]
 fn text_behind_a_link(rt: HostRuntime) -> Result<(), Fail> {
     let mut disks = tree(rt.alloc(), &[])?;
@@ -323,7 +323,7 @@ fn directories_block_by_block(rt: HostRuntime) -> Result<(), Fail> {
     Ok(())
 }
 
-// Free entries are passed, and a name that fills its field has no zero behind it.
+// Free entries are passed, and a name that fills its field has no zero after it.
 #[test]
 fn names_lent_from_a_block(rt: HostRuntime) -> Result<(), Fail> {
     let mut block = [0; 1024];
@@ -372,7 +372,7 @@ fn each_sector_is_read_once(rt: HostRuntime) -> Result<(), Fail> {
 }
 
 // A volume of 500 zones, the first data zone 6, with the root in zone 6. The file 2 has 300,000 bytes: its block with an
-// index stands in the zone 20 + index, which begins with that index. Numbers of zones from 400 on are indirect ones.
+// index is in the zone 20 + index, which begins with that index. Numbers of zones from 400 on are indirect ones.
 const LARGE: Span = Span {
     disk: 0,
     start: 8,
@@ -430,7 +430,7 @@ fn put_inodes_of_version_1(disks: &mut MemDisks) {
     }
 }
 
-// Version 2: numbers of four bytes, 256 in an indirect zone; the blocks from 263 on are behind two of them.
+// Version 2: numbers of four bytes, 256 in an indirect zone; the blocks from 263 on are reached through two of them.
 fn put_inodes_of_version_2(disks: &mut MemDisks) {
     let mut inodes: Sector = [0; 512];
     put_inode(&mut inodes, 1, DIRECTORY, 48, 6, 0);
@@ -473,7 +473,7 @@ fn large(alloc: Global, magic: u16, failing: &[Failing]) -> Result<MemDisks, All
     Ok(disks)
 }
 
-// The superblock is read by call 0; on the way to the file stand the root's inode, the two halves of its zone and the
+// The superblock is read by call 0; on the way to the file are the root's inode, the two halves of its zone and the
 // file's inode. Then each block has two reads, and each indirect zone two: one in version 1, three in version 2. The call
 // after these fails, which is the first of another reading.
 #[test]

@@ -26,7 +26,7 @@ use minix_zones::{Volume, read_at};
 pub(crate) enum Walked<'t> {
     /// At an inode.
     Ends(Stat),
-    /// At a link in a directory, with the text behind it.
+    /// At a link in a directory, with the text after it.
     Meets(Stat, Stat, &'t [u8]),
 }
 
@@ -125,7 +125,7 @@ fn child<D: Disks>(
     stat_of(volume, inode)
 }
 
-/// Whether an inode is a link that is to be followed, where this text stands behind its name.
+/// Whether an inode is a link that is to be followed, where this text comes after its name.
 fn is_followed(node: &Inode, follows_last: bool, rest: &[u8]) -> bool
     ensures { result ≡ (is_link (inode_view node.now) && (follows_last || not (is_last (components rest.now)))) }
 {

@@ -33,7 +33,7 @@ module _ (volume : Volume) (old image : Image) (zone offset : ℕ) (bytes : List
   here-below : Here < 2 * volume.layout.zones
   here-below = omega (arith, half, range.1)
 
-  -- ---- what stands elsewhere
+  -- ---- what is elsewhere
 
   before : (sector : ℕ) → sector < 2 * volume.layout.first → sector_of volume image sector ≡ sector_of volume old sector
   before sector low = written.others sector (omega (arith, low, lies.first)) (λ e. absurd (omega (arith, low, e, range.0)))

@@ -21,7 +21,7 @@ use Rattle.minix_zone_bytes_laws.specs.Sample.{sample_layout, number_zone, parts
 use Rattle.minix_zone_bytes_laws.specs.Laws.{GrowthSampleLaw}
 use Rattle.minix_zone_bytes_laws.proofs.Numbers.{number_bytes_law}
 
--- the marks of the zone in use alone
+-- the bitmap bit of the zone in use alone
 abbrev used : ℕ → Bool
 used zone = zone == 5
 
@@ -202,7 +202,7 @@ module _ (kind : Kind) (marks : ℕ → Bool) (five : marks 5 ≡ true) (nine : 
   grown-marked : Sound (sample_layout kind) (grown_with kind marks)
   grown-marked = (sees_law (sample_layout kind) (parts_with kind marks) (grown_with kind marks) (marked-sound kind marks five) grown).sound
 
--- all marks but one
+-- all bitmap bits but one
 abbrev but_six : ℕ → Bool
 but_six zone = not (zone == 6)
 

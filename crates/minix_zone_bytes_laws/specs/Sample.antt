@@ -28,14 +28,14 @@ sample_zone kind zone =
     if zone == 9 then number_zone kind 10 else
     replicate 1024 0
 
--- the parts, with some marks of zones
+-- the parts, with some bitmap bits of zones
 abbrev pub parts_with : Kind → (ℕ → Bool) → Parts
 parts_with kind marks = record { node = λ number. root_inode kind; zone = sample_zone kind; has_inode = λ number. true; has_zone = marks }
 
 abbrev pub sample_parts : Kind → Parts
 sample_parts kind = parts_with kind (λ zone. true)
 
--- a zone further down, whose number stands first
+-- a zone further down, whose number comes first
 abbrev pub deeper : ℕ → Deeper
 deeper zone = record { index = 0; zone = zone }
 

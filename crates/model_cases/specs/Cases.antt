@@ -41,6 +41,6 @@ abbrev pub expected : Option Picked → List ℕ → DefaultLine → List Key �
 expected picked shown line left opening =
     record { decision = record { picked = picked; shown = shown; line = line; left = left }; opening = opening }
 
--- the prompt is shown for the first time behind this text, with these keys left
+-- the prompt is shown for the first time after this text, with these keys left
 abbrev pub opened : List ℕ → List Key → Opening
 opened before left = record { before = before; left = left }

@@ -1,4 +1,4 @@
--- What a prompt comes to that is told keys is the choice by cutting.
+-- What a prompt comes to that is given keys is the choice by cutting.
 use Rattle.std.proofs.Common.{◌≡◌, ℕ, zero, suc, List, [], ◌∷◌, ◌++◌, map, slice_get, Bool, true, false, ◌&&◌, ◌||◌, if◌then◌else◌, Option, None, Some, refl, ◌∙◌, ap}
 use Rattle.std.specs.Prelude.{flat_map, unwrap_or, is_none}
 use Rattle.std.specs.Option.{option_map, option_and_then}
@@ -51,7 +51,7 @@ openings_same (Shows text ∷ pieces) =
     opening-shown text (flat_map piece_marks pieces) ∙ ap (option_map (opening_behind text)) (openings_same pieces)
 openings_same (Opens left ∷ pieces) = refl
 
--- ---- what the prompt isn't told has no part in the course
+-- ---- what the prompt isn't given has no part in the course
 
 abbrev plain : Setup → Setup
 plain setup = plain_setup setup.settings setup.entries setup.line

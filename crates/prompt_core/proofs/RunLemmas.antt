@@ -1,4 +1,4 @@
--- Told a list of keys one by one, the prompt does what the list does that is cut: by cases on each key, over one
+-- Given a list of keys one by one, the prompt does what the list does that is cut: by cases on each key, over one
 -- induction on the list.
 use Rattle.std.proofs.Common.{◌≡◌, ℕ, zero, suc, ◌≤◌, ◌<◌, ◌==◌, List, [], ◌∷◌, ◌++◌, length, slice_get, Bool, true, false, not, ◌&&◌, if◌then◌else◌, Option, None, Some, append_assoc, refl, sym, ◌∙◌, ap, arith}
 use Rattle.std.specs.Prelude.{codes, flat_map}
@@ -21,7 +21,7 @@ marks_on a b marks = ap (λ m. m ++ marks) (map-append Shown a b) ∙ append_ass
 abbrev with_shown : Run → List Mark → Run
 with_shown run marks = record { picked = run.picked; shown = marks; left = run.left }
 
--- a run behind two texts is one behind both
+-- a run after two texts is one after both
 pub behind_both : (a b : List ℕ) (run : Run) → run_behind (text_marks (a ++ b)) run ≡ run_behind (text_marks a) (run_behind (text_marks b) run)
 behind_both a b run = ap (λ marks. with_shown run marks) (marks_on a b run.shown)
 
@@ -78,7 +78,7 @@ password_same : (entries : List ListedEntry) (candidate : Candidate) → AreFill
     → asked_password entries candidate ≡ password_of entries (chosen_of entries candidate)
 password_same entries candidate all = asks_same entries candidate (slice_get entries candidate.entry) all
 
--- the words behind a name have a byte each
+-- the words after a name have a byte each
 names_filled : (entries : List ListedEntry) (words : List (List ℕ)) (place : ℕ) (behind : List (List ℕ)) → AreFilled words
     → words_meaning entries words ≡ Names place behind → AreFilled behind
 names_filled entries [] place behind all is = let never : Nothing ≡ Names place behind = is in cc
@@ -128,7 +128,7 @@ question_goes setup most keys opened candidate before (Some password) go =
     ∙ sym (behind_both before (codes "Password: ") (seen setup (course_from setup most opened asks)))
     ∙ ap (run_behind (text_marks (before ++ codes "Password: "))) (go candidate password (Some []) 0 opened)
 
--- a candidate behind a text
+-- a candidate after a text
 pub candidate_goes : (setup : Setup) (most : ℕ) (keys : List Key) (opened : Bool) (candidate : Candidate) (before : List ℕ) → AreFilled candidate.words
     → AnswersGo setup most keys
     → seen setup (course_from setup most opened (turn_behind before (candidate_turn setup candidate keys)))
@@ -139,7 +139,7 @@ candidate_goes setup most keys opened candidate before all go =
 
 -- ---- the prompt is shown again
 
--- behind a text, where it was shown before
+-- after a text, where it was shown before
 shown_again : (setup : Setup) (most : ℕ) (keys : List Key) (before text : List ℕ) → LinesGo setup most keys
     → seen setup (course_from setup (suc most) true (turn_behind before (Again text keys keys)))
     ≡ run_behind (text_marks ((before ++ text) ++ prompt_text)) (driven setup keys (Typing [] true))

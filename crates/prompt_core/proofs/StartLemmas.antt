@@ -203,7 +203,7 @@ started : (setup : Setup) (keys : List Key) (opens : Bool) → opens_at_once set
 started setup keys true is = shown_goes setup setup.settings.timeout keys
 started setup keys false is = waiting_at setup setup.settings.delay keys
 
--- told any keys one by one, the prompt does what the list does that is cut
+-- given any keys one by one, the prompt does what the list does that is cut
 pub keys_law : KeysLaw
 unfolding run_of start_step course_of
 keys_law setup keys =

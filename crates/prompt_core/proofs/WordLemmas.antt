@@ -5,7 +5,7 @@ use Rattle.std.proofs.lemmas.Bool.{eqb-true, eqb-false}
 use Rattle.lilo_model.specs.LineWords.{words_of, is_empty_list}
 use Rattle.prompt_core.specs.Reader.{spaces, word_length, onto_words, BeginsSpaced}
 
--- ---- spaces at the front
+-- ---- spaces at the start
 
 words_of-space : (byte : ℕ) (text : List ℕ) → (byte == 32) ≡ true → words_of (byte ∷ text) ≡ words_of text
 unfolding words_of
@@ -23,7 +23,7 @@ word_length-space byte text is = rw is refl
 word_length-other : (byte : ℕ) (text : List ℕ) → (byte == 32) ≡ false → word_length (byte ∷ text) ≡ suc (word_length text)
 word_length-other byte text is = rw is (omega arith)
 
--- ---- a word at the front
+-- ---- a word at the start
 
 abbrev space : ℕ → Bool
 space byte = byte == 32
@@ -31,7 +31,7 @@ space byte = byte == 32
 abbrev filled : List (List ℕ) → List (List ℕ)
 filled parts = filter (λ part. not (is_empty_list part)) parts
 
--- the parts of a text: its word, and others whose words are those behind
+-- the parts of a text: its word, and others whose words are those after it
 record PartsFrom (text : List ℕ) : Type 0 where
   others : List (List ℕ)
   parts : slice_split space text ≡ take (word_length text) text ∷ others
@@ -103,7 +103,7 @@ first_word_is text from word rest skipped long at_skipped at_from at_long at_wor
     let here : IsFirst text from = rw same (first_is text) in
     rw (at_word, at_rest, at_long) here
 
--- ---- what is behind a word begins with a space
+-- ---- what is after a word begins with a space
 
 spaced_by : (test : Bool) (byte : ℕ) (text : List ℕ) → (byte == 32) ≡ test → BeginsSpaced (drop (word_length text) text)
     → BeginsSpaced (drop (word_length (byte ∷ text)) (byte ∷ text))

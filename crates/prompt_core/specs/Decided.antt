@@ -1,4 +1,4 @@
--- What a prompt that is told a list of keys comes to, in the words of the choice by cutting.
+-- What a prompt that is given a list of keys comes to, in terms of the choice by cutting.
 use Rattle.std.specs.Prelude.{◌≡◌, ℕ, List, [], ◌∷◌, map, flat_map, false, ◌||◌, if◌then◌else◌, Option, None, Some, unwrap_or, slice_get}
 use Rattle.std.specs.Option.{option_map}
 use Rattle.lilo_model.specs.DefaultLine.{DefaultLine, Kept, line_text, line_after}
@@ -7,7 +7,7 @@ use Rattle.lilo_model.specs.Choice.{Setup, filled_text, opening_behind, choice, 
 use Rattle.prompt_core.specs.Steps.{Chosen}
 use Rattle.prompt_core.specs.Run.{Mark, Shown, Opened, Run, run_of}
 
--- ---- what the prompt is told of an entry, and of the default line
+-- ---- what the prompt is given of an entry, and of the default line
 
 -- an entry without what is kept for later boots
 abbrev pub plain_entry : ListedEntry → ListedEntry
@@ -19,7 +19,7 @@ plain_entry entry = record {
   fallback = None;
 }
 
--- what is chosen from, as far as the prompt is told it
+-- what is chosen from, as far as the prompt is given it
 abbrev pub plain_setup : Settings → List ListedEntry → DefaultLine → Setup
 plain_setup settings entries line =
     record { settings = settings; entries = map plain_entry entries; line = Kept (line_text line) }
@@ -77,8 +77,8 @@ decided entries line message run = record {
 
 -- ---- the laws
 
--- Told any list of keys one by one, the prompt comes to the choice by cutting: what is chosen, all that is shown, the
--- new default line, and the keys left. It is told neither an entry's lock nor its fallback, nor the line's state.
+-- Given any list of keys one by one, the prompt comes to the choice by cutting: what is chosen, all that is shown, the
+-- new default line, and the keys left. It is given neither an entry's lock nor its fallback, nor the line's state.
 abbrev pub ChoiceLaw : Type 0
 ChoiceLaw =
     (settings : Settings) (entries : List ListedEntry) (line : DefaultLine) (message : Option (List ℕ)) (keys : List Key)

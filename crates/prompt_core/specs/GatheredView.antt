@@ -1,4 +1,4 @@
--- For which plain value the words that were gathered stand.
+-- Which plain value the words that were gathered represent.
 use Rattle.prompt_core.specs.declared.word.Gathered as gathereds
 use Rattle.prompt_core.specs.Reader.{Gathered}
 

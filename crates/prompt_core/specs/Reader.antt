@@ -8,7 +8,7 @@ use Rattle.prompt_core.specs.Steps.{Chosen}
 abbrev pub spaces : List ℕ → ℕ
 spaces text = prefix_len (λ byte. byte == 32) text
 
--- how many bytes stand before its first space
+-- how many bytes come before its first space
 abbrev pub word_length : List ℕ → ℕ
 word_length text = prefix_len (λ byte. not (byte == 32)) text
 
@@ -56,7 +56,7 @@ gather gathered word = record {
 abbrev pub gather_all : Gathered → List (List ℕ) → Gathered
 gather_all gathered words = fold gather gathered words
 
--- before any word behind a name
+-- before any word after a name
 abbrev pub named : List ℕ → Gathered
 named name = record { words = []; lock_line = name; lock = false; vga = None }
 

@@ -1,4 +1,4 @@
--- What a prompt shows and comes to where it is told a list of keys, one by one. (This project's own.)
+-- What a prompt shows and comes to where it is given a list of keys, one by one. (This project's own.)
 use Rattle.std.specs.Prelude.{◌≡◌, ℕ, zero, suc, List, [], ◌∷◌, ◌++◌, length, take, drop, map, flat_map, Bool, true, false, if◌then◌else◌, Option, None, Some, unwrap_or, nat_eq}
 use Rattle.std.specs.Option.{option_map}
 use Rattle.std.specs.List.{starts_with}
@@ -30,7 +30,7 @@ abbrev pub first_prompt : List ℕ → ℕ
 first_prompt [] = 0
 first_prompt (byte ∷ text) = if begins_prompt (byte ∷ text) then 0 else suc (first_prompt text)
 
--- a place that was found behind a byte, or else the byte's own where that is one
+-- a place that was found after a byte, or else the byte's own where that is one
 abbrev pub later_place : Option ℕ → Bool → Option ℕ
 later_place (Some place) here = Some (suc place)
 later_place None here = if here then Some 0 else None
@@ -107,12 +107,12 @@ chosen_in _ = None
 abbrev pub ended : State → List Key → Run
 ended state left = record { picked = chosen_in state; shown = []; left = left }
 
--- a key, as the prompt is told it
+-- a key, as the prompt is given it
 abbrev pub heard_key : Key → heard.Key
 heard_key (Byte byte) = keys.Byte byte
 heard_key Tick = keys.Tick
 
--- what comes of silence, as long as it is told at most so often
+-- what comes of silence, as long as it is given at most so often
 abbrev pub silenced : Setup → ℕ → State → Run
 silenced setup zero state = ended state []
 silenced setup (suc more) state =
@@ -121,7 +121,7 @@ silenced setup (suc more) state =
     (said_marks setup.entries [] (key_step setup state keys.Silence).said)
     (silenced setup more (key_step setup state keys.Silence).state)
 
--- what comes of keys, and silence behind them: one that waits asks a password, and begins a line, at most
+-- what comes of keys, and silence after them: one that waits asks a password, and begins a line, at most
 abbrev pub driven : Setup → List Key → State → Run
 driven setup [] state = silenced setup 3 state
 driven setup (key ∷ left) state =
@@ -130,7 +130,7 @@ driven setup (key ∷ left) state =
     (said_marks setup.entries left (key_step setup state (heard_key key)).said)
     (driven setup left (key_step setup state (heard_key key)).state)
 
--- what comes of a step, with these keys behind it
+-- what comes of a step, with these keys after it
 abbrev pub after_step : Setup → List Key → Step → Run
 after_step setup left step = run_behind (said_marks setup.entries left step.said) (driven setup left step.state)
 
@@ -154,7 +154,7 @@ seen setup course = record {
 
 -- ---- the law
 
--- Told any list of keys one by one, the prompt chooses, shows and leaves what the list does that is cut: the same
+-- Given any list of keys one by one, the prompt chooses, shows and leaves what the list does that is cut: the same
 -- entry with its words, mode and lines, the same text with the message's place, and the same keys left.
 abbrev pub KeysLaw : Type 0
 KeysLaw = (setup : Setup) (keys : List Key) → run_of setup keys ≡ seen setup (course_of setup keys)

@@ -151,7 +151,7 @@ password_of entries chosen = option_and_then (entry_asks chosen) (slice_get entr
 
 -- ---- steps; each shows a text before what comes of it
 
--- a choice, behind the question for its password where there is one
+-- a choice, after the question for its password where there is one
 abbrev pub question_step : List ℕ → Bool → Chosen → Option (List ℕ) → Step
 question_step before opened chosen None = stepped (Decided chosen) (answers.Chosen chosen.picked) before
 question_step before opened chosen (Some password) =

@@ -4,12 +4,12 @@ ghost use Rattle.prompt_core.specs.Run.{KeysLaw};
 ghost use Rattle.prompt_core.specs.Short.{ShortLaw};
 ghost use Rattle.prompt_core.specs.Steps.{MoreLaw};
 
-/// Told any list of keys one by one, the prompt chooses, shows and leaves what the list does that is cut.
+/// Given any list of keys one by one, the prompt chooses, shows and leaves what the list does that is cut.
 pub fn keys_one_by_one()
     ensures { KeysLaw }
 {}
 
-/// Told any list of keys one by one, the prompt comes to the choice by cutting: what is chosen, all that is shown, the
+/// Given any list of keys one by one, the prompt comes to the choice by cutting: what is chosen, all that is shown, the
 /// new default line, and the keys left.
 pub fn comes_to_the_choice()
     ensures { ChoiceLaw }

@@ -1,4 +1,4 @@
-//! The prompt of a boot loader in LILO's manner: it is told one key at a time, and answers what it shows and what
+//! The prompt of a boot loader in LILO's manner: it is given one key at a time, and answers what it shows and what
 //! is chosen.
 //!
 //! The texts, as `boot: `, the keys that edit a line and the words `lock` and `vga=` follow LILO's manners; how long

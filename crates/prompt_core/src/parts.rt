@@ -10,9 +10,9 @@ use crate::reply::{Answer, Reply};
 /// A text to show, cut where its caller puts the message and the names.
 #[derive(Clone, Copy, Debug)]
 pub struct Parts<'t> {
-    /// What comes before the message; the message is shown behind it where the prompt opens.
+    /// What comes before the message; the message is shown after it where the prompt opens.
     pub before: &'t [u8],
-    /// What comes before the names; they are shown behind it where the answer is `List`.
+    /// What comes before the names; they are shown after it where the answer is `List`.
     pub middle: &'t [u8],
     pub rest: &'t [u8],
 }
@@ -45,7 +45,7 @@ fn message_cut(opened: bool, text: &[u8]) -> (&[u8], &[u8])
     }
 }
 
-// A text, cut directly before its last prompt where the names are listed, or else behind all of it.
+// A text, cut directly before its last prompt where the names are listed, or else after all of it.
 fn names_cut(answer: Answer, text: &[u8]) -> (&[u8], &[u8])
     ensures { (entries : List ListedEntry)
         → with_names entries answer text.now ≡ result.0.now ++ (listed entries answer ++ result.1.now) }

@@ -18,7 +18,7 @@ use boot_map::DefaultLine;
 use std::marker::Model;
 use std::mem;
 
-/// A prompt, told one key at a time.
+/// A prompt, given one key at a time.
 #[derive(Drop)]
 pub struct Prompt {
     settings: Settings,

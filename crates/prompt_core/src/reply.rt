@@ -7,7 +7,7 @@ pub struct Picked {
     pub entry: u16,
     /// Whether it was chosen without a typed line.
     pub automatic: bool,
-    /// Whether the word `lock` stood in the line.
+    /// Whether the word `lock` was in the line.
     pub lock: bool,
     /// The video mode that a word gave.
     pub vga: Option<u16>,

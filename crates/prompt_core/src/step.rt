@@ -63,7 +63,7 @@ fn password_of(choices: &[Choice], chosen: &Chosen) -> Option<ArrayVec<u8, 31>>
     Some(copy_of(password.as_slice()))
 }
 
-// A choice, behind the question for its password where there is one.
+// A choice, after the question for its password where there is one.
 fn choice_step(choices: &[Choice], before: Text, opened: bool, chosen: Chosen) -> Step
     requires { length before.items ≤ 40 }
     ensures { step_view result

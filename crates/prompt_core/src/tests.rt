@@ -5,7 +5,7 @@ use std::alloc::{AllocError, Global};
 use std::process::Abort;
 use std::test::Fail;
 
-/// What a prompt comes to that is told keys, with silence behind them.
+/// What a prompt comes to that is given keys, with silence after them.
 #[derive(Drop)]
 struct Run {
     /// All that was shown, with a message `<M>` and the names where the prompt's caller puts them.
@@ -70,7 +70,7 @@ fn show(text: &mut Vec<u8>, reply: &Reply) -> Result<(), AllocError> {
     text.extend_from_slice(parts.rest)
 }
 
-/// Tells a prompt keys, with 0x16 for a tick and silence behind them.
+/// Gives a prompt keys, with 0x16 for a tick and silence after them.
 fn tell(alloc: Global, mut prompt: Prompt, keys: &[u8]) -> Result<Run, AllocError> {
     let mut text = Vec::new(alloc);
     let mut taken = 0;

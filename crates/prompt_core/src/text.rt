@@ -4,7 +4,7 @@ ghost use Rattle.prompt_core.specs.Reader.{with_word};
 
 use arrayvec::ArrayVec;
 
-// Bytes with more behind them.
+// Bytes with more after them.
 pub(crate) fn with_bytes<const N: usize>(mut text: ArrayVec<u8, N>, bytes: &[u8]) -> ArrayVec<u8, N>
     requires { length text.items + length bytes.now ≤ N }
     ensures { result.items ≡ text.entry.items ++ bytes.now }
@@ -23,7 +23,7 @@ pub(crate) fn copy_of<const N: usize>(bytes: &[u8]) -> ArrayVec<u8, N>
     with_bytes(ArrayVec::new(), bytes)
 }
 
-// A text with one more word, behind a space where there is one already.
+// A text with one more word, after a space where there is one already.
 pub(crate) fn with_word(text: ArrayVec<u8, 470>, word: &[u8]) -> ArrayVec<u8, 470>
     requires { length text.items + length word.now < 470 }
     ensures { result.items ≡ with_word text.items word.now }

@@ -9,7 +9,7 @@ use crate::text::{copy_of, with_word};
 use arrayvec::ArrayVec;
 use text_numbers::video_mode;
 
-// A word, and the text behind it.
+// A word, and the text after it.
 #[derive(Clone, Copy)]
 pub(crate) struct Word<'t> {
     pub(crate) word: &'t [u8],
@@ -35,7 +35,7 @@ fn spaces(text: &[u8]) -> usize
     text.iter().take_while(|byte| **byte == b' ').count()
 }
 
-// How many bytes stand before its first space.
+// How many bytes come before its first space.
 fn word_length(text: &[u8]) -> usize
     ensures value { result ≡ word_length text.now }
     ensures within { result ≤ length text.now }
@@ -115,7 +115,7 @@ fn gather(gathered: Gathered, word: &[u8]) -> Gathered
     }
 }
 
-// What the words of a text come to, behind a name.
+// What the words of a text come to, after a name.
 pub(crate) fn gather_words(name: &[u8], text: &[u8]) -> Gathered
     requires fits { length name.now + length text.now ≤ 470 }
     requires spaced { BeginsSpaced text.now }

@@ -8,7 +8,7 @@ use Rattle.lilo_model.specs.Slots.{Address, Chs, Linear, Lba32, Slot, has_ranges
 use Rattle.sector_address.specs.Whole.{IsSlot}
 use Rattle.sector_address.specs.Laws.{AreBytes, EncodeLaw, OneSpellingLaw}
 
--- four bytes written one by one behind the first four of eight
+-- four bytes written one by one after the first four of eight
 pub four_put :
     (bytes : List ℕ) (a b c d : ℕ) → length bytes ≡ 8
     → with_part (with_part (with_part (with_part bytes 4 (a ∷ [])) 5 (b ∷ [])) 6 (c ∷ [])) 7 (d ∷ [])

@@ -14,6 +14,6 @@ machine_with size geometry = record { size_of = size; geometry_of = λ disk. geo
 abbrev pub machine_of : {D : Type 0} → Ghosts D → D → Machine
 machine_of g disks = machine_with (g.size_of disks) (g.geometry_of disks)
 
--- a fact about what disks hold and about their machine, where they tell their past
+-- a fact about what disks hold and about their machine, where they report their past
 abbrev pub OnDisks : {D : Type 0} → Ghosts D → D → (Image → Machine → Type 0) → Type 0
 OnDisks g disks P = Told (g.past disks) (λ now. P now (machine_of g disks))

@@ -1,4 +1,4 @@
--- For which plain value of the model each value of this crate stands.
+-- Which plain value of the model each value of this crate stands for.
 use Rattle.lilo_model.specs.Disks as disks
 use Rattle.lilo_model.specs.Slots as model
 use Rattle.disk_trait.specs.declared.geometry.Geometry.{Geometry}

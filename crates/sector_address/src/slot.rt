@@ -79,7 +79,7 @@ pub enum AddressFault {
 }
 
 impl Slot {
-    /// Names `count` sectors of a disk from a sector number on. `Cylinder` tells a last sector on a
+    /// Names `count` sectors of a disk from a sector number on. `Cylinder` reports a last sector on a
     /// cylinder above 1023, where the mode speaks of cylinders, and `TooFar` one whose number takes more
     /// than 32 bits.
     #[tactic(auto, unfolding(lilo_model::specs::Slots::slot_make))]
@@ -224,7 +224,7 @@ fn mode_number(address: &Address) -> u8
     }
 }
 
-// Writes the four bytes of the address behind the four that stand before it.
+// Writes the four bytes of the address after the four that come before it.
 fn put_address(into: &mut FieldMut<'_>, address: &Address)
     requires length { length into.old.bytes.now ≡ 8 }
     requires whole { IsAddress (address_view address.now) }

@@ -10,7 +10,7 @@ use disk_trait::Geometry;
 /// The last cylinder that INT 13h can name.
 pub(crate) const LAST_CYLINDER: u64 = 1023;
 
-/// The cylinder, head and sector of a sector number. `Cylinder` tells a cylinder above 1023.
+/// The cylinder, head and sector of a sector number. `Cylinder` reports a cylinder above 1023.
 #[tactic(auto, unfolding(lilo_model::specs::Slots::to_chs))]
 pub fn to_chs(geometry: Geometry, sector: u64) -> Result<Chs, AddressFault>
     ensures { seen chs_view address_fault_view result ≡ to_chs (geometry_view geometry) sector }

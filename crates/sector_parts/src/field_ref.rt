@@ -49,7 +49,7 @@ impl<'a> FieldRef<'a> {
     }
 }
 
-// Where the first zero byte stands, or the end.
+// Where the first zero byte lies, or the end.
 fn zero_at(field: &[u8]) -> usize
     ensures { result ≡ position_or_len (λ byte. byte == 0) field.now }
 {

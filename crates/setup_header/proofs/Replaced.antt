@@ -1,4 +1,4 @@
--- Fields that are replaced in two sectors, one behind the other, are replaced in one of them.
+-- Fields that are replaced in two sectors, one after the other, are replaced in one of them.
 use Rattle.std.proofs.Common.{◌≡◌, ℕ, ◌+◌, ◌-◌, ◌<◌, ◌≤◌, Bool, true, false, Option, Some, None, List, [], ◌∷◌, ◌++◌, length, take, drop, refl, sym, ◌∙◌, ap, subst, arith, append_assoc, length-append, length-drop}
 use Rattle.std.specs.Prelude.{slice_index}
 use Rattle.std.proofs.Math.Seq.{take-append-add}
@@ -43,7 +43,7 @@ abbrev AreWithin : ℕ → List Field → Type 0
 AreWithin size [] = Unit {0}
 AreWithin size (field ∷ fields) = (field.at + length field.bytes ≤ size) × AreWithin size fields
 
--- all of these fields begin behind the first 512 bytes
+-- all of these fields begin after the first 512 bytes
 abbrev AreBehind : List Field → Type 0
 AreBehind [] = Unit {0}
 AreBehind (field ∷ fields) = (512 ≤ field.at) × AreBehind fields
@@ -238,7 +238,7 @@ replaced-whole header initrd video sectors rest size =
     let flags : slice_index (sectors ++ rest) 0x211 ≡ slice_index sectors 0x211 = get_or_append_left sectors rest 0 0x211 inside in
     ap (λ (n : ℕ). video_fields video ++ loader_fields header.version initrd ++ heap_fields (is_from 0x201 header.version) n ++ line_fields (is_from 0x202 header.version)) flags
 
--- in a whole kernel the fields of its first two sectors are replaced, and nothing behind them
+-- in a whole kernel the fields of its first two sectors are replaced, and nothing after them
 pub patch-whole :
     (header : Header) (layout : Layout) (video : Option ℕ) (sectors rest : List ℕ) → length sectors ≡ 1024
     → patch header layout video (sectors ++ rest) ≡ patch header layout video sectors ++ rest

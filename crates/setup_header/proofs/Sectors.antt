@@ -1,4 +1,4 @@
--- Parts of two sectors, one behind the other, lie in one of them.
+-- Parts of two sectors, one after the other, lie in one of them.
 use Rattle.std.proofs.Common.{◌≡◌, ℕ, ◌+◌, ◌<◌, ◌≤◌, ◌%◌, ◌==◌, ◌&&◌, Bool, min, if◌then◌else◌, Option, Some, None, is_some, bytes_eq, codes, List, ◌++◌, length, take, drop, refl, ◌∙◌, ap, subst, arith, length-drop}
 use Rattle.std.specs.Prelude.{slice_index}
 use Rattle.std.specs.Int.{w16, w32, from_le_bytes}
@@ -13,7 +13,7 @@ byte-second a b at size =
     let P : ℕ → Type 0 = λ n. slice_index (a ++ b) (n + at) ≡ slice_index b at in
     subst P size (get_or-append-add a b at 0)
 
--- what lies behind the first
+-- what lies after the first
 pub drop-second : (a b : List ℕ) (at : ℕ) → length a ≡ 512 → drop (512 + at) (a ++ b) ≡ drop at b
 drop-second a b at size =
     let P : ℕ → Type 0 = λ n. drop (n + at) (a ++ b) ≡ drop at b in

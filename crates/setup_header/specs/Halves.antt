@@ -2,7 +2,7 @@
 use Rattle.std.specs.Prelude.{◌-◌, List, map}
 use Rattle.lilo_model.specs.Header.{Field}
 
--- a field behind the first 512 bytes, as it stands in the sector that begins there
+-- a field after the first 512 bytes, as it is in the sector that begins there
 abbrev pub behind_first : Field → Field
 behind_first field = record { at = field.at - 512; bytes = field.bytes }
 

@@ -1,4 +1,4 @@
--- For which plain value of the model each value of this crate stands.
+-- Which plain value of the model each value of this crate stands for.
 use Rattle.std.specs.Option.{option_map}
 use Rattle.lilo_model.specs.Header as model
 use Rattle.setup_header.specs.declared.header.Header.{Header}
@@ -21,7 +21,7 @@ header_view header = record {
 abbrev pub region_view : Region → model.Region
 region_view region = record { address = region.address; size = region.length }
 
--- where a kernel and what goes with it stand
+-- where a kernel and what goes with it lie
 abbrev pub layout_view : Layout → model.Layout
 layout_view layout = record {
   real = region_view layout.real;

@@ -16,7 +16,7 @@ pub record IsHeaderFor (header : Header) (len : ℕ) : Type 0 where
 abbrev pub EndsBy : ℕ → Region → Type 0
 EndsBy end region = region.address + region.length ≤ end
 
--- a region stands between two addresses
+-- a region lies between two addresses
 pub record StandsBetween (least end : ℕ) (region : Region) : Type 0 where
   pub begins_from : least ≤ region.address
   pub ends_by : EndsBy end region
@@ -34,7 +34,7 @@ pub record LiesIn (memory : ℕ) (layout : Layout) : Type 0 where
   pub line_inside : EndsBy memory layout.line
   pub initrd_inside : IfSome layout.initrd (EndsBy memory)
 
--- a region ends before another begins, or begins behind its end
+-- a region ends before another begins, or begins after its end
 abbrev pub IsApartFrom : Region → Region → Type 0
 IsApartFrom one other =
     (one.address + one.length ≤ other.address) ⊎ (other.address + other.length ≤ one.address)

@@ -15,7 +15,7 @@ const SECTOR: u32 = 512;
 /// The last two bytes of a boot sector, 55 AA (`boot_flag`).
 const BOOT_FLAG: u16 = 0xAA55;
 
-/// The most setup sectors behind the boot sector.
+/// The most setup sectors after the boot sector.
 const MOST_SETUP: u8 = 64;
 
 /// The most bytes of a command line that any kernel takes here.
@@ -27,7 +27,7 @@ const OLD_INITRD_MAX: u32 = 0x37FF_FFFF;
 /// What the header of a kernel says.
 #[derive(Clone, Copy, Debug, PartialEq, Eq)]
 pub struct Header {
-    /// The sectors of the real-mode part behind its first, the boot sector (`setup_sects`; 4 where that is 0).
+    /// The sectors of the real-mode part after its first, the boot sector (`setup_sects`; 4 where that is 0).
     pub setup: u8,
     /// The version of the protocol, 0x0206 for 2.06, or `None` where there is no `HdrS`.
     pub version: Option<u16>,

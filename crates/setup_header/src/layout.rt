@@ -1,4 +1,4 @@
-// Where a kernel and what goes with it stand in memory.
+// Where a kernel and what goes with it lie in memory.
 ghost use Rattle.std.specs.Prelude.{◌≡◌, ◌+◌, ◌-◌, ◌*◌, ◌/◌, ◌≤◌, ◌<◌, ◌^◌, ◌||◌, not, nat_le, if◌then◌else◌, true, false, min, IfOk, OnOk, IfSome};
 ghost use Rattle.std.specs.Option.{option_map};
 ghost use Rattle.lilo_model.specs.Checks.{seen, require};
@@ -18,14 +18,14 @@ pub struct Region {
     pub length: u32,
 }
 
-/// Where a kernel and what goes with it stand in memory.
+/// Where a kernel and what goes with it lie in memory.
 #[derive(Clone, Copy, Debug, PartialEq, Eq)]
 pub struct Layout {
     /// The real-mode part, from 0x90000 on.
     pub real: Region,
     /// The protected-mode part, from 0x100000 on, or from 0x10000 on for a low kernel.
     pub protected: Region,
-    /// The initrd, as high as it can stand at a multiple of 4096, if there is one.
+    /// The initrd, as high as it can be at a multiple of 4096, if there is one.
     pub initrd: Option<Region>,
     /// The command line and its zero byte, from 0x99800 on.
     pub line: Region,
@@ -41,7 +41,7 @@ pub(crate) const LINE_ADDRESS: u32 = 0x99800;
 const LOW_LIMIT: u32 = 524_288;
 
 /// Plans a memory of `memory` bytes for a kernel of `length` bytes with this header, an initrd of `initrd`
-/// bytes, if there is one, and a command line of `line` bytes. The first fault of these is told: a low kernel
+/// bytes, if there is one, and a command line of `line` bytes. The first fault of these is reported: a low kernel
 /// that is too large, an initrd that the kernel can't take, a line that is too long, no room for the
 /// protected-mode part, and no room for the initrd.
 #[tactic(auto, unfolding(lilo_model::specs::Header::plan_memory))]
@@ -113,7 +113,7 @@ fn protected_address(header: &Header) -> u32
     if header.high { 0x10_0000 } else { 0x1_0000 }
 }
 
-// The address behind the protected-mode part.
+// The address after the protected-mode part.
 fn protected_end(header: &Header, length: u32) -> u64
     ensures value { result ≡ protected_end (header_view header.now) length }
     ensures bound { result < 2 ^ 33 }
@@ -137,7 +137,7 @@ fn check_room(header: &Header, length: u32, memory: u32) -> Result<(), SetupFaul
     }
 }
 
-// Where the initrd stands, if there is one.
+// Where the initrd lies, if there is one.
 fn initrd_region(
     header: &Header,
     length: u32,
@@ -179,7 +179,7 @@ fn initrd_end(header: &Header, memory: u32) -> u32
     memory.min(header.initrd_max.saturating_add(1))
 }
 
-// Where an initrd of some bytes stands between two addresses: as high as it can at a multiple of 4096.
+// Where an initrd of some bytes lies between two addresses: as high as it can at a multiple of 4096.
 fn initrd_between(least: u64, end: u32, size: u32) -> Result<Option<Region>, SetupFault>
     requires small { least < 2 ^ 34 }
     requires page { least ≡ page_below least }

@@ -8,7 +8,7 @@ const MEMORY: u32 = 16_777_216;
 /// The least bytes of a memory.
 const LEAST: u32 = 1_048_576;
 
-/// Where a protected-mode part stands.
+/// Where a protected-mode part lies.
 const HIGH: u32 = 0x10_0000;
 
 const LOW: u32 = 0x1_0000;
@@ -133,7 +133,7 @@ fn fields_are_read_from_their_versions_on(rt: HostRuntime) {
     }
 }
 
-// The layout of a kernel with these first two sectors and `rest` bytes behind its one setup sector.
+// The layout of a kernel with these first two sectors and `rest` bytes after its one setup sector.
 fn plan(
     sectors: &(Sector, Sector),
     rest: u32,
@@ -233,7 +233,7 @@ fn what_does_not_fit_is_refused(rt: HostRuntime) {
     }
 }
 
-// An offset in a kernel, and the bytes that stand there.
+// An offset in a kernel, and the bytes that are there.
 type Edit = (usize, &'static [u8]);
 
 /// No edit.

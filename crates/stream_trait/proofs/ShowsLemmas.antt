@@ -23,7 +23,7 @@ shows_nothing a = record {
   front = λ fine failed. absurd (both_ways a.failed fine failed);
 }
 
--- behind a text that was shown, a sink that didn't fail hadn't failed before it either
+-- after a text that was shown, a sink that didn't fail hadn't failed before it either
 fine_before : (a b : SinkState) (text : List ℕ) → Shows a text b → b.failed ≡ false → a.failed ≡ false
 fine_before a b text shown fine =
     elim (cases_Bool a.failed) [

@@ -10,18 +10,18 @@ pub Takes-trans : (a b c : Option (List ℕ)) (s t : List ℕ) → Takes a s b �
 Takes-trans None b c s t p q = q ∙ ap (option_map (λ l. l ++ t)) p
 Takes-trans (Some x) b c s t p q = q ∙ ap (option_map (λ l. l ++ t)) p ∙ ap (λ l. Some l) (append_assoc x s t)
 
--- a text is a front of itself
+-- a text is a prefix of itself
 pub TakesFront-whole : (a b : Option (List ℕ)) (s : List ℕ) → Takes a s b → TakesFront a s b
 TakesFront-whole None b s p = p
 TakesFront-whole (Some x) b s p = (length s, omega arith, p ∙ ap (λ l. Some (x ++ l)) (sym (take_all (length s) s (omega arith))))
 
--- a front of a text is a front of a longer one
+-- a prefix of a text is a prefix of a longer one
 pub TakesFront-before : (a b : Option (List ℕ)) (s t : List ℕ) → TakesFront a s b → TakesFront a (s ++ t) b
 TakesFront-before None b s t p = p
 TakesFront-before (Some x) b s t (k, within, e) =
     (k, omega (arith, length-append s t), e ∙ ap (λ l. Some (x ++ l)) (sym (take-append-le k s t within)))
 
--- a text, and then a front of the next
+-- a text, and then a prefix of the next
 pub TakesFront-after : (a b c : Option (List ℕ)) (s t : List ℕ) → Takes a s b → TakesFront b t c → TakesFront a (s ++ t) c
 TakesFront-after None b c s t p q = subst (λ o. TakesFront o t c) p q
 TakesFront-after (Some x) b c s t p q =

@@ -5,7 +5,7 @@ use Rattle.stream_trait.specs.Sink.{Takes, TakesFront}
 use Rattle.stream_trait.specs.declared.sink.Sink.{Ghosts}
 use Rattle.stream_trait.specs.declared.shown.Shown.{Shown}
 
--- a sink behind which texts are shown: what it has taken, where it tells that, how often it failed, and whether it
+-- a sink after which texts are shown: what it has taken, where it reports that, how often it failed, and whether it
 -- refused a text that was to be shown
 pub record SinkState : Type 0 where
   pub taken : Option (List ℕ)
@@ -40,13 +40,13 @@ ShowsOne old (text ∷ texts) new = Shows old text new ⊎ ShowsOne old texts ne
 abbrev pub state_of : Option (List ℕ) → ℕ → Bool → SinkState
 state_of taken faults failed = record { taken = taken; faults = faults; failed = failed }
 
--- the sink behind which texts are shown
+-- the sink after which texts are shown
 abbrev pub sink_of : {O : Type 0} → Ghosts O → Shown O → SinkState
 sink_of g shown = record { taken = g.taken shown.out.now; faults = g.faults shown.out.now; failed = shown.failed }
 
 -- ---- the whole of what a sink took
 
--- a sink took a text whole, or its faults rose and it took a front
+-- a sink took a text whole, or its faults rose and it took a prefix
 abbrev pub Prints : Option (List ℕ) → List ℕ → Option (List ℕ) → ℕ → ℕ → Type 0
 Prints old text new before now = Takes old text new ⊎ (Rose before now × TakesFront old text new)
 

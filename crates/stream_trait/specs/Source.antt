@@ -3,7 +3,7 @@ use Rattle.std.specs.Prelude.{◌≡◌, ℕ, List, [], ◌∷◌, drop, Option,
 use Rattle.stream_trait.specs.declared.source.Next.{Next}
 use Rattle.stream_trait.specs.declared.source.Next.TheVariants.{Got, End, Failed}
 
--- what a call gave of the bytes that are left, where they are told, and what is left after it
+-- what a call gave of the bytes that are left, where they are known, and what is left after it
 abbrev pub Gives : Option (List ℕ) → Next → Option (List ℕ) → Type 0
 Gives None _ new = new ≡ None
 Gives (Some xs) (Got byte) new = (xs ≡ byte ∷ drop 1 xs) × (new ≡ Some (drop 1 xs))

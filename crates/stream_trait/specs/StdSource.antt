@@ -7,7 +7,7 @@ use Rattle.stream_trait.specs.Source.{Gives}
 
 -- a source over std
 pub record StdSourceState : Type 0 where
-  -- the bytes that are left, where the reader tells them
+  -- the bytes that are left, where the reader reports them
   pub unread : Option (List ℕ)
   -- how many bytes it can still give
   pub can_give : ℕ
@@ -16,7 +16,7 @@ pub record StdSourceState : Type 0 where
   -- how many calls have failed
   pub faults : ℕ
 
--- what a call gave of the bytes that are left, where the reader tells them; else it says nothing
+-- what a call gave of the bytes that are left, where the reader reports them; else it says nothing
 abbrev pub GivesKnown : Option (List ℕ) → Next → Option (List ℕ) → Type 0
 GivesKnown None _ new = ⊤
 GivesKnown (Some xs) next new = Gives (Some xs) next new

@@ -1,5 +1,5 @@
 //! Where bytes come from, one at a time, and where texts go: the traits, and types that have them
-//! over memory and over std's readers and writers. And the words of a command line.
+//! over memory and over std's readers and writers. And the arguments of a command line.
 #![tactic(auto)]
 
 mod mem_sink;

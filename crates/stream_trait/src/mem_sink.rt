@@ -35,8 +35,8 @@ impl MemSink {
     ghost use Rattle.stream_trait.specs.MemSink.{MemSinkState};
 
     /// An empty sink with room for so many bytes. The calls of `put` are counted from 0. One whose
-    /// number stands in `failing` fails, and so does one that would pass the room. One that fails
-    /// takes no byte. The counts stand still at `u64::MAX`.
+    /// number is in `failing` fails, and so does one that would pass the room. One that fails
+    /// takes no byte. The counts stay at `u64::MAX`.
     ///
     /// # Errors
     ///

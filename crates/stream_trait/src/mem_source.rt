@@ -36,8 +36,8 @@ impl MemSource {
     ghost use Rattle.stream_trait.specs.MemSource.{MemSourceState};
 
     /// A source of these bytes. The calls of `next_byte` are counted from 0, and the one whose
-    /// number stands in `failing` fails, unless the source has already answered `End`: from then on
-    /// no call is counted. The counts stand still at `u64::MAX`.
+    /// number is in `failing` fails, unless the source has already answered `End`: from then on
+    /// no call is counted. The counts stay at `u64::MAX`.
     ///
     /// # Errors
     ///

@@ -9,7 +9,7 @@ pub struct SinkFailed;
 
 /// Takes texts.
 pub trait Sink {
-    /// The bytes that it has taken, where they are told.
+    /// The bytes that it has taken, where they are known.
     ghost taken: { Self → Option (List ℕ) };
 
     /// How many faults there were.

@@ -17,7 +17,7 @@ pub enum Next {
 pub trait Source {
     ghost use Rattle.stream_trait.specs.Source.{Gives};
 
-    /// The bytes that are left, where they are told.
+    /// The bytes that are left, where they are known.
     ghost left: { Self → Option (List ℕ) };
 
     /// How many bytes it can still give, at most.

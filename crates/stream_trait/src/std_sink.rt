@@ -6,11 +6,11 @@ use crate::sink::{Sink, SinkFailed};
 use std::io::Write;
 use std::marker::Model;
 
-/// Writes texts to a writer, and flushes it after each. As a `Sink` it tells nothing of what it has
+/// Writes texts to a writer, and flushes it after each. As a `Sink` it reports nothing of what it has
 /// taken, since a writer may take more than it says.
 ///
 /// A write or a flush that fails is a fault, also one that was interrupted, and so is a write that
-/// takes nothing of a text that is not empty. The count of faults stands still at `u64::MAX`.
+/// takes nothing of a text that is not empty. The count of faults stays at `u64::MAX`.
 #[derive(Drop)]
 pub struct StdSink<W: Write + Drop> {
     writer: W,
@@ -51,7 +51,7 @@ impl<W: Write + Drop> Sink for StdSink<W> {
         ensures later { self.old.faults ≤ self.new.faults }
         ensures failed { OnErr result (Rose self.old.faults self.new.faults) }
 
-        // Where the writer tells its bytes, they grow by the text. The count rises at a fault alone.
+        // Where the writer reports its bytes, they grow by the text. The count rises at a fault alone.
         ensures written { OnOk result (Appends self.old.written self.new.written bytes.now) }
         ensures none { OnOk result (self.new.faults ≡ self.old.faults) }
         ensures one { OnErr result (self.new.faults ≡ count_after self.old.faults) }

@@ -9,11 +9,11 @@ const BUFFER: usize = 512;
 // How many bytes a source can give in all, 2 ^ 40.
 const CAN_GIVE: u64 = 1_099_511_627_776;
 
-/// Gives the bytes of a reader, of which it tells nothing beforehand.
+/// Gives the bytes of a reader, of which it reports nothing beforehand.
 ///
 /// It reads up to 512 bytes at a time. It can give 1,099,511,627,776 bytes in all, and then answers
 /// `Failed`, which is a fault. A read that fails is a fault too, also one that was interrupted. A
-/// read that gives no byte ends the source for good. The count of faults stands still at `u64::MAX`.
+/// read that gives no byte ends the source for good. The count of faults stays at `u64::MAX`.
 #[derive(Drop)]
 pub struct StdSource<R: Read + Drop> {
     reader: R,
@@ -86,7 +86,7 @@ impl<R: Read + Drop> Source for StdSource<R> {
         ensures end { IsTrue self.new.ended ↔ (result ≡ Next.End) }
         ensures stays { IsTrue self.old.ended → (result ≡ Next.End) × (self.new.faults ≡ self.old.faults) }
 
-        // Where the reader tells its bytes, they come in their order.
+        // Where the reader reports its bytes, they come in their order.
         ensures known { GivesKnown self.old.unread result self.new.unread }
 
         ensures counts { Counts self.old result self.new }

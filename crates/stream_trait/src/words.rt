@@ -1,8 +1,8 @@
-// The words of a command line.
+// The arguments of a command line.
 use std::alloc::{AllocError, Global};
 use std::marker::Model;
 
-/// The words of a command line, in order. To a contract they are a list of words, each the list of
+/// The arguments of a command line, in order. To a contract they are a list of arguments, each the list of
 /// its bytes.
 #[derive(Drop)]
 pub struct Words {
@@ -20,7 +20,7 @@ impl Model for Words {
 impl Words {
     ghost use Rattle.std.specs.Prelude.{◌≡◌, ◌<◌, [], ◌∷◌, ◌++◌, length, Some, slice_get, OnOk, OnErr};
 
-    /// No words.
+    /// No arguments.
     pub fn new(alloc: Global) -> Words
         ensures { result ≡ [] }
     {
@@ -29,11 +29,11 @@ impl Words {
         }
     }
 
-    /// Adds a copy of a word at the end.
+    /// Adds a copy of an argument at the end.
     ///
     /// # Errors
     ///
-    /// There is no memory for it. The words are then as before.
+    /// There is no memory for it. The arguments are then as before.
     pub fn push(&mut self, alloc: Global, word: &str) -> Result<(), AllocError>
         ensures ok { OnOk result (self.new ≡ self.old ++ word.now ∷ []) }
         ensures err { OnErr result (self.new ≡ self.old) }
@@ -43,14 +43,14 @@ impl Words {
         Ok(())
     }
 
-    /// How many words there are.
+    /// How many arguments there are.
     pub fn count(&self) -> usize
         ensures { result ≡ length self.now }
     {
         self.words.len()
     }
 
-    /// The word at a place below the count.
+    /// The argument at a place below the count.
     pub fn word(&self, at: usize) -> &str
         requires { at < length self.now }
         ensures { slice_get self.now at ≡ Some result.now }

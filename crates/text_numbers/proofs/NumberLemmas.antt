@@ -19,7 +19,7 @@ digits_more radix text index within before digit =
     let is : nat_lt (digit_value (get_or text index 0)) radix ≡ true = grind (arith, nat_tests) in
     rw (list_all_more (λ c. is_digit c radix) text index 0 within, before) is
 
--- a number with one more digit, where what stands before it is kept up to a limit
+-- a number with one more digit, where what comes before it is kept up to a limit
 pub capped_more : (v r d n : ℕ) → 1 ≤ r → n ≡ min 65536 v → min (n * r + d) 65536 ≡ min 65536 (v * r + d)
 capped_more v r d n some is = by (nat_le v 65536) refl
   where

@@ -15,7 +15,7 @@ ghost use Rattle.lilo_model.specs.ConfValues as values;
 // Numbers from here on are out of every range.
 const TOO_LARGE: u32 = 65536;
 
-/// The number that a text writes, in decimal or in hexadecimal behind `0x`, where it is one of `low` to `high`.
+/// The number that a text writes, in decimal or in hexadecimal after `0x`, where it is one of `low` to `high`.
 #[tactic(auto, unfolding(lilo_model::specs::ConfValues::number_between))]
 pub fn number_between(low: u16, high: u16, text: &[u8]) -> Option<u16>
     ensures { result ≡ values.number_between low high text.now }

@@ -1,5 +1,5 @@
--- Where a new entry stands in a directory (entries: Minix file system; the rule is this project's own): at the first free
--- place below the directory's size that isn't promised, a place in a hole being free; else at the first one behind it
+-- Where a new entry lies in a directory (entries: Minix file system; the rule is this project's own): at the first free
+-- place below the directory's size that isn't promised, a place in a hole being free; else at the first one after it
 -- that isn't promised, where the directory can have so many.
 use Rattle.std.specs.Prelude.{ℕ, zero, suc, ◌/◌, ◌==◌, nat_lt, Bool, not, ◌&&◌, if◌then◌else◌, List, [], ◌∷◌, ◌++◌, length, bytes_eq, Option, None, Some, Result, Ok}
 use Rattle.std.specs.List.{list_any}
@@ -41,7 +41,7 @@ unfoldable pub is_promised : List Promise → ℕ → ℕ → Bool
 is_promised promises directory place =
     list_any (λ promise. (promise.directory == directory) && (promise.place == place)) promises
 
--- the first free place among some entries, of which the first stands at a place
+-- the first free place among some entries, of which the first is at a place
 abbrev pub first_free : (ℕ → Bool) → ℕ → List Entry → Option ℕ
 first_free promised place [] = None
 first_free promised place (entry ∷ entries) =
@@ -64,7 +64,7 @@ first_from promised place (suc more) = if promised place then first_from promise
 abbrev pub within : ℕ → ℕ → Option ℕ
 within most place = if nat_lt place most then Some place else None
 
--- a place that was found, or else the first behind those that a directory has
+-- a place that was found, or else the first after those that a directory has
 abbrev pub or_behind : Kind → List Promise → ℕ → ℕ → Option ℕ → Option ℕ
 or_behind kind promises directory size (Some place) = Some place
 or_behind kind promises directory size None =

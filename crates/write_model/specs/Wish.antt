@@ -11,7 +11,7 @@ pub record Wish : Type 0 where
   -- the blocks that get no zone, and read as zeros
   pub holes : List ℕ
   pub time : ℕ
-  -- the inode of the directory that it is to stand in
+  -- the inode of the directory that it is to be in
   pub directory : ℕ
   pub name : List ℕ
 

@@ -1,6 +1,6 @@
 use super::*;
 
-// Words that are no options, and options that may not stand where they do.
+// Words that are no options, and options that aren't allowed where they are.
 const MISPLACED: [(&[u8], ConfReason, Opt, u32); 46] = [
     (b"foo", ConfReason::Unknown, Opt::Other, 1),
     (b"boot=/dev/hda\n= x", ConfReason::Unknown, Opt::Other, 2),

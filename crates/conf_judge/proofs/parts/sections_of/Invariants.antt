@@ -4,7 +4,7 @@ use Rattle.conf_settings.specs.View.{settings_view}
 use Rattle.conf_judge.specs.View.{lists_view}
 use Rattle.conf_judge.proofs.parts.sections_of.Given as goal
 
--- what is left begins with a section, and the sections so far stand before its
+-- what is left begins with a section, and the sections so far come before its
 abbrev pub invariant-loop-at : goal.invariant-loop-at
 invariant-loop-at l = record {
   within : l.at ≤ length l.settings;

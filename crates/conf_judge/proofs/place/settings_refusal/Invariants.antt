@@ -3,7 +3,7 @@ use Rattle.lilo_model.specs.ConfJudge.{settings_refusal}
 use Rattle.conf_settings.specs.View.{settings_view}
 use Rattle.conf_judge.proofs.place.settings_refusal.Given as goal
 
--- what is left, behind those of its part, is refused as the whole is
+-- what is left, after those of its part, is refused as the whole is
 abbrev pub invariant-loop-index : goal.invariant-loop-index
 invariant-loop-index l = record {
   start : l.start ≤ l.index;

@@ -1,4 +1,4 @@
--- The line of a place, and what stands there.
+-- The line of a place, and what is there.
 use Rattle.std.proofs.Common.{◌≡◌, ◌+◌, drop, sym, ◌∙◌, ap, arith, false}
 use Rattle.lilo_model.specs.ConfTokens.{line_at, blank_length}
 use Rattle.conf_text.proofs.TokensLemmas.{line_at-later, line_at-small, next_piece-at, take-rest}

@@ -1,4 +1,4 @@
--- Each block goes behind those before it.
+-- Each block goes after those before it.
 use Rattle.std.proofs.Common.{◌≡◌, ◌+◌, ◌≤◌, ℕ, List, Result, Ok, Err, refl, ap, arith, rules}
 use Rattle.disk_trait.specs.Past.{Image}
 use Rattle.lilo_model.specs.MinixParts as model

@@ -1,4 +1,4 @@
--- Each block goes behind those before it.
+-- Each block goes after those before it.
 use Rattle.std.proofs.Common.{◌≡◌, ◌+◌, ◌<◌, ◌∙◌, ℕ, [], Result, Ok, Err, sym, ap, rules}
 use Rattle.disk_trait.specs.declared.disks.Disks.{Ghosts}
 use Rattle.disk_trait.specs.Past.{Image, Told}

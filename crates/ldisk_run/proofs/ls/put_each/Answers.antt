@@ -1,4 +1,4 @@
--- Each entry goes behind those before it.
+-- Each entry goes after those before it.
 use Rattle.std.proofs.Common.{◌≡◌, ◌∷◌, [], map, List, sym, subst, Result, Ok, Err, rules}
 use Rattle.disk_trait.specs.declared.disks.Disks.{Ghosts}
 use Rattle.disk_trait.specs.Past.{Told}

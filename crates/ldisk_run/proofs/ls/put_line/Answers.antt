@@ -1,4 +1,4 @@
--- The three texts of a line go one behind the other.
+-- The three texts of a line go one after the other.
 use Rattle.std.proofs.Common.{◌∷◌, ◌++◌, ◌∙◌}
 use Rattle.std.specs.Prelude.{codes, decimal}
 use Rattle.lilo_model.specs.LdiskVerdict.{entry_line, kind_letter}

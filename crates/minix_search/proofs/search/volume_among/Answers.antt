@@ -1,4 +1,4 @@
--- A partition ends the search, or it goes on behind it.
+-- A partition ends the search, or it goes on after it.
 use Rattle.std.proofs.Common.{rules}
 use Rattle.mbr_table.proofs.ToldLemmas.{same_twice}
 use Rattle.minix_search.proofs.SearchLemmas.{no_partition, partition_found, partition_refused, partition_passed, partitions_passed}

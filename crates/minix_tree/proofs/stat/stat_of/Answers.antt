@@ -1,4 +1,4 @@
--- The inode that was read is the one that stands at its number.
+-- The inode that was read is the one at its number.
 use Rattle.minix_layout.specs.View.{kind_view, super_view, inode_view, layout_fault_view}
 use Rattle.minix_zones.specs.Volume.{volume_view, past_of}
 use Rattle.minix_tree.proofs.StatLemmas.{inode_sector, stat_node, stat_found, stat_refused, sized, blocks_reached}

@@ -1,4 +1,4 @@
--- By what stands next.
+-- By what comes next.
 use Rattle.std.proofs.Common.{◌≡◌, refl, sym, ◌∙◌, ap, false, [], ◌∷◌}
 use Rattle.std.specs.Prelude.{None, Some, Ok, Err}
 use Rattle.std.specs.Option.{option_map}

@@ -1,4 +1,4 @@
--- What is left, by what stands next.
+-- What is left, by what comes next.
 use Rattle.std.proofs.Common.{◌≡◌, refl, sym, ◌∙◌, ap, false, [], ◌∷◌}
 use Rattle.std.specs.Prelude.{None, Some, Ok, Err}
 use Rattle.std.specs.Option.{option_map}

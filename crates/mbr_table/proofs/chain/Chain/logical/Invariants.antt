@@ -9,7 +9,7 @@ use Rattle.mbr_table.proofs.ListedLemmas.{behind}
 use Rattle.mbr_table.proofs.chain.Chain.logical.Given as goal
 
 -- the partitions so far and those of the tables that are left are all of them, and the sector is that of the table
--- behind those that were read
+-- after those that were read
 abbrev pub invariant-loop-tables : goal.invariant-loop-tables
 invariant-loop-tables g l =
     let disks = g.D.Disks in

@@ -153,7 +153,7 @@ fn has_signature(sector: &Sector) -> bool
         && part(sector, 0x1FE, 2) == b"\x55\xAA".as_slice()
 }
 
-// Whether each field behind the version is as the format has it.
+// Whether each field after the version is as the format has it.
 #[tactic(auto, unfolding(lilo_model::specs::BootSector::is_whole))]
 fn is_whole(sector: &Sector) -> bool
     ensures { result ≡ is_whole sector.now }

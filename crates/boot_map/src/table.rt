@@ -68,7 +68,7 @@ fn breaks(sectors: &[Sector], entry: usize) -> bool
     !is_entry(entry_bytes(sectors, entry)) || repeats(sectors, entry)
 }
 
-// Whether the name of an entry stands in an earlier one.
+// Whether the name of an entry is in an earlier one.
 #[tactic(auto, unfolding(lilo_model::specs::Table::repeats))]
 fn repeats(sectors: &[Sector], entry: usize) -> bool
     requires { entry < 8 * length sectors.now }

@@ -51,7 +51,7 @@ one_of_more : (texts more : List (List ℕ)) (a c : SinkState) → ShowsOne a mo
 one_of_more [] more a c one = one
 one_of_more (text ∷ texts) more a c one = inr (one_of_more texts more a c one)
 
--- ---- what comes behind a prompt
+-- ---- what comes after a prompt
 
 -- what was chosen was started, or not
 pub asked_chosen :

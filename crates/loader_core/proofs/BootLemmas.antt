@@ -55,7 +55,7 @@ use Rattle.stream_trait.proofs.ShowsLemmas.{shows_nothing, shows_join, shows_one
 
 -- ---- reports
 
--- a text, and what is reported behind it
+-- a text, and what is reported after it
 pub reports_behind :
     (text : List ℕ) (report : Report) (result : Result Started Halt) (m : Memory) (ram : List ℕ) (a b c : SinkState)
     → Shows a text b → Reports report result m ram b c → Reports (report_behind text report) result m ram a c
@@ -302,7 +302,7 @@ went_unasked report (Ok started) m ram left a c is rest = (is, rest)
 went_unasked report (Err Device) m ram left a c is rest = rest
 went_unasked report (Err (Refused reason)) m ram left a c is rest = (is, rest)
 
--- a text, and what went behind it
+-- a text, and what went after it
 pub went_behind :
     (text : List ℕ) (report : Report) (result : Result Started Stop) (m : Memory) (ram : List ℕ) (left : List Key) (a b c : SinkState)
     → Shows a text b → Went result report m ram left b c → Went result (report_behind text report) m ram left a c

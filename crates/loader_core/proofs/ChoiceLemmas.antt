@@ -87,7 +87,7 @@ good_from sectors good same =
     let (line, table, passwords) = good_by (line_at sectors.line) sectors.table (each (map password_at sectors.extras)) good same in
     record { line = line; table = table; passwords = passwords }
 
--- the line of a good map is the one that stands on the disks
+-- the line of a good map is the one on the disks
 pub line_stands :
     (image : Image) (machine : Machine) (boot : BootSector) (sectors : MapSectors) (good : GoodMap)
     → map_sectors image machine boot ≡ Ok sectors → good_map sectors ≡ Ok good
@@ -107,7 +107,7 @@ pairs_plain image machine [] = refl
 pairs_plain image machine ((entry, password) ∷ pairs) =
     ap (λ others. prompt_entry (entry, password) ∷ others) (pairs_plain image machine pairs)
 
--- as far as the prompt is told of it
+-- as far as the prompt is given it
 pub listed_plain :
     (image : Image) (machine : Machine) (good : GoodMap)
     → map plain_entry (listed_entries image machine good) ≡ map prompt_entry (zip good.entries good.passwords)

@@ -22,7 +22,7 @@ SameResult (Ok value) model = model ≡ Ok value
 SameResult (Err (Because reason)) model = model ≡ Err reason
 SameResult (Err Unbuilt) model = Unit {0}
 
--- so do the checks behind them
+-- so do the checks after them
 then_same :
     {X Y : Type 0} (today : Result X Why) (model : Result X Reason) (next : X → Result Y Why) (follow : X → Result Y Reason)
     → SameResult today model → ((value : X) → today ≡ Ok value → SameResult (next value) (follow value))
@@ -78,7 +78,7 @@ handed_same entry main content agrees =
 
 -- ---- a kernel
 
--- the first items of a front that has them are those of the whole
+-- the first items of a prefix that has them are those of the whole
 front_take :
     (most len : ℕ) (front more : List ℕ) → length (front ++ more) ≤ len → min len most ≤ length front
     → take most (front ++ more) ≡ take most front
@@ -89,7 +89,7 @@ front_take (suc most) zero (byte ∷ front) more fits enough = absurd (omega ari
 front_take (suc most) (suc len) (byte ∷ front) more fits enough =
     ap (λ bytes. byte ∷ bytes) (front_take most len front more (omega arith) (omega arith))
 
--- what was read is a front of what there is
+-- what was read is a prefix of what there is
 goes_on :
     (main : FileRest) (content : Content) (stop : Option Why) → main.stop ≡ stop → FileAgrees main content
     → GoesOn main.bytes content.bytes

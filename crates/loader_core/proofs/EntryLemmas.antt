@@ -110,7 +110,7 @@ table_there :
 table_there true len left size with_table is more long = omega arith
 table_there false len left size with_table is more long = let h : ⊥ = cc in absurd h
 
--- behind both sectors the file has ended
+-- after both sectors the file has ended
 pub left_none :
     (flag : Bool) (len start mid left : ℕ) → len ≡ (if flag then 1024 else 512) → start ≡ len → mid ≡ start - min 512 start → left ≡ mid - min 512 mid → left ≡ 0
 left_none true len start mid left is a b d = omega arith

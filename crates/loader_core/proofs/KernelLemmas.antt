@@ -1,4 +1,4 @@
--- The steps of loading a kernel, one behind the other.
+-- The steps of loading a kernel, one after the other.
 use Rattle.std.proofs.Common.{◌≡◌, ◌≤◌, ◌<◌, ◌+◌, ◌-◌, ◌∙◌, ◌⊎◌, inl, inr, ℕ, zero, suc, Bool, true, false, refl, sym, ap, List, [], ◌∷◌, ◌++◌, length, Option, None, Some, Result, Ok, Err, append_assoc, length-append, arith}
 use Rattle.std.specs.Prelude.{min, nat_le, replicate, is_some}
 use Rattle.std.proofs.lemmas.List.{append-nil}
@@ -42,7 +42,7 @@ two_kind :
 two_kind true left one other is first second = let more : 512 ≤ left = grind arith in inl (omega arith)
 two_kind false left one other is first second = let less : left < 512 = grind arith in inr (omega arith, omega arith)
 
--- two sectors, or what stands in place of the second
+-- two sectors, or what is in place of the second
 pub two_read :
     (left more : ℕ) (result : Result (Unit {0}) Halt) (old mid new : FileRest) (first second : List ℕ)
     → more ≡ left - min 512 left → IsCutSector (min 512 left) old first mid → ReadsCut result (min 512 more) mid second new
@@ -68,7 +68,7 @@ two_read left more (Err (Refused reason)) old mid new first second rest one othe
 
 -- ---- a kernel
 
--- the pieces of a kernel, one behind the other
+-- the pieces of a kernel, one after the other
 pub kernel_placed :
     (layout : Layout) (first second : List ℕ) (result : Result (Unit {0}) Halt) (old mid new : FileRest) (m0 m1 m2 m3 m4 : Memory)
     → length first ≡ 512 → length second ≡ 512 → 1024 ≤ layout.real.length

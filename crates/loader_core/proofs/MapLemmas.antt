@@ -41,11 +41,11 @@ use Rattle.loader_core.specs.Map.{ReadsThere, ReadsExtra, password_sector, promp
 abbrev pub Extras : Type 0
 Extras = Result (List (Option (List ℕ))) slots.AddressFault
 
--- some sectors, and those behind them
+-- some sectors, and those after them
 abbrev pub behind : List (Option (List ℕ)) → Extras → Extras
 behind front rest = rest >>= λ extras. Ok (front ++ extras)
 
--- one sector, and those behind it
+-- one sector, and those after it
 abbrev pub cons : Result (Option (List ℕ)) slots.AddressFault → Extras → Extras
 cons first rest = first >>= λ extra. rest >>= λ extras. Ok (extra ∷ extras)
 

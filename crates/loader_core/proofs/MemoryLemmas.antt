@@ -1,4 +1,4 @@
--- What stands in memory where bytes were placed, and others apart from them behind.
+-- What is in memory where bytes were placed, and others apart from them after that.
 use Rattle.std.proofs.Common.{◌≡◌, ◌≤◌, ◌<◌, ◌+◌, ◌-◌, ◌∙◌, ◌⊎◌, inl, inr, ℕ, refl, ap, List, [], ◌∷◌, ◌++◌, length, arith}
 use Rattle.std.specs.Prelude.{slice_index}
 use Rattle.std.proofs.lemmas.List.{ext_get_or, length-take, length-drop, get_or-take, get_or-drop}
@@ -34,7 +34,7 @@ here_at m one at inside =
     let same : one.address + at - one.address ≡ at = omega arith in
     grind (arith, common_steps, same)
 
--- bytes stand where they were placed
+-- bytes are where they were placed
 pub held :
     (ram : List ℕ) (m : Memory) (one : Written) (others : List Written)
     → memory_of ram ≡ memory_after (with_bytes m one) others → AreApartFrom one others
@@ -53,7 +53,7 @@ held ram m one others is apart inside =
     ∙ after_at (with_bytes m one) one others at apart less
     ∙ here_at m one at less)
 
--- bytes, and others behind those
+-- bytes, and others after those
 pub memory_after-append :
     (m : Memory) (one other : List Written) → memory_after m (one ++ other) ≡ memory_after (memory_after m one) other
 memory_after-append m [] other = refl

@@ -25,7 +25,7 @@ use Rattle.loader_core.proofs.ChoiceLemmas.{line_stands, same_empty, choice_unop
 abbrev Reports : Boot → Report → Option DefaultLine → Type 0
 Reports boot report line = (report.result ≡ Err Unbuilt → ⊥) → IsReported boot report line
 
--- a report behind the texts before the prompt
+-- a report after the texts before the prompt
 abbrev behind : Report → Report
 behind report =
     report_behind (codes "L") (or_device (codes " 80\n") (report_behind (codes "IL") (report_behind (codes "O\n") report)))

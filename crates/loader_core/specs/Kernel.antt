@@ -17,7 +17,7 @@ use Rattle.section_loader.specs.Reading.{Why, Because, FileRest, rest_behind}
 use Rattle.section_loader.specs.Load.{StopsFor, IsShort}
 use Rattle.section_loader.specs.View.{reason_view}
 
--- the first two sectors of a file, with zeros behind so many bytes
+-- the first two sectors of a file, with zeros after so many bytes
 pub record IsTwo (size : ℕ) (old : FileRest) (sectors : List ℕ) (new : FileRest) : Type 0 where
   pub bytes : List ℕ
   pub long : length bytes ≡ size
@@ -47,7 +47,7 @@ GivesLayout (Ok layout) read = read ≡ Ok (layout_view layout)
 GivesLayout (Err Device) read = ⊥
 GivesLayout (Err (Refused reason)) read = IsSetupRefusal reason read
 
--- memory has room for a kernel of which so many bytes are left behind its first two sectors
+-- memory has room for a kernel of which so many bytes are left after its first two sectors
 pub record HoldsKernel (layout : Layout) (left memory : ℕ) : Type 0 where
   pub least : 1024 ≤ layout.real.length
   pub whole : layout.real.length % 512 ≡ 0
@@ -90,7 +90,7 @@ PlacesInitrd (Ok done) region read memory memory' = IsInitrd region read memory 
 PlacesInitrd (Err Device) region read memory memory' = Unit {0}
 PlacesInitrd (Err (Refused reason)) region read memory memory' = read ≡ Err (reason_view reason)
 
--- what stands in memory at a region
+-- what is in memory at a region
 abbrev pub region_in : List ℕ → headers.Region → Written
 region_in ram region = record { address = region.address; bytes = part_of ram region.address region.size }
 
@@ -99,7 +99,7 @@ abbrev pub optional_region : List ℕ → Option headers.Region → List Written
 optional_region ram None = []
 optional_region ram (Some region) = region_in ram region ∷ []
 
--- what stands in memory at the regions of a layout
+-- what is in memory at the regions of a layout
 unfoldable pub regions_in : List ℕ → headers.Layout → List Written
 regions_in ram layout =
     region_in ram layout.real

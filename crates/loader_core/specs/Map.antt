@@ -58,7 +58,7 @@ ReadsExtra (Err (Refused reason)) found = IsErr found × (reason ≡ variants.No
 
 -- ---- what is chosen from
 
--- an entry and its password, as far as the prompt is told of it
+-- an entry and its password, as far as the prompt is given it
 abbrev pub prompt_entry : tables.Descriptor × Option (List ℕ) → ListedEntry
 prompt_entry (entry, password) = record {
   name = entry.name;

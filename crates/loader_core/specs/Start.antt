@@ -1,4 +1,4 @@
--- How a boot's end stands to today's report of it.
+-- How a boot's end relates to today's report of it.
 use Rattle.std.specs.Prelude.{◌≡◌, ℕ, codes, Bool, true, false, List, [], ◌∷◌, length, Option, Result, Ok, Err, IsErrOf}
 use Rattle.disk_trait.specs.declared.disks.Span.{Span}
 use Rattle.disk_trait.specs.declared.disks.Disks.{Ghosts}
@@ -39,7 +39,7 @@ abbrev pub table_written : Bool → List ℕ → List Written
 table_written true sector = record { address = table_address; bytes = part_of sector 446 64 } ∷ []
 table_written false sector = []
 
--- what stands in memory where something was started: at the regions of a kernel, or the boot sector
+-- what is in memory where something was started: at the regions of a kernel, or the boot sector
 abbrev pub started_regions : List ℕ → Started → List Written
 started_regions ram (starts.Loaded layout) = regions_in ram (layout_view layout)
 started_regions ram starts.Handed = region_in ram (record { address = boot_address; size = 512 }) ∷ []
@@ -72,7 +72,7 @@ pub record Reports (report : Report) (result : Result Started Halt) (memory : Me
 abbrev pub ReportsAs : {O : Type 0} → sinks.Ghosts O → Report → Result Started Halt → List ℕ × Shown O → List ℕ × Shown O → Type 0
 ReportsAs o report result old new = Reports report result (memory_of old.0) new.0 (sink_of o old.1) (sink_of o new.1)
 
--- the same of what disks hold, where they tell their past: the report for this image, machine and size of memory
+-- the same of what disks hold, where they report their past: the report for this image, machine and size of memory
 abbrev pub ReportsOn : {D O : Type 0} → Ghosts D → sinks.Ghosts O → D → Result Started Halt → List ℕ × Shown O → List ℕ × Shown O → (disks.Image → disks.Machine → ℕ → Report) → Type 0
 ReportsOn g o disks result old new report =
     OnDisks g disks (λ now machine. ReportsAs o (report now machine (length old.0)) result old new)
@@ -94,7 +94,7 @@ Went (Err (stops.Halt (Refused reason))) report memory ram left old new =
     (report.left ≡ left) × Reports report (Err (Refused reason)) memory ram old new
 
 -- A fact about keys and those left: whichever keys a source leaves, it holds of those that it left before. Where the
--- source tells its keys, these are all that it had, and what it has.
+-- source reports its keys, these are all that it had, and what it has.
 abbrev pub OnKeys : {I : Type 0} → sources.Ghosts I → I × I → (List Key → List Key → Type 0) → Type 0
 OnKeys i keys P = (left : List Key) → MayLeave i keys.1 left → (all : List Key) × MayLeave i keys.0 all × P all left
 
@@ -103,7 +103,8 @@ abbrev pub WentBy : {I O : Type 0} → sources.Ghosts I → sinks.Ghosts O → R
 WentBy i o result report (keys, ram, out) (keys', ram', out') =
     OnKeys i (keys, keys') (λ all left. Went result (report all) (memory_of ram) ram' left (sink_of o out) (sink_of o out'))
 
--- the same of what disks hold, where they tell their past: the report for this image, machine, size of memory and keys
+-- the same of what disks hold, where they report their past: the report for this image, machine, size of memory and
+-- keys
 abbrev pub WentOn : {D I O : Type 0} → Ghosts D → sources.Ghosts I → sinks.Ghosts O → D → Result Started Stop → I × List ℕ × Shown O → I × List ℕ × Shown O → (disks.Image → disks.Machine → ℕ → List Key → Report) → Type 0
 WentOn g i o disks result old new report =
     OnDisks g disks (λ now machine. WentBy i o result (report now machine (length old.1)) old new)
@@ -181,17 +182,17 @@ IsDiskFailure outcome = IsLost (result_of outcome)
 
 -- ---- the texts of failures
 
--- the text behind what ended the loading of an entry
+-- the text after what ended the loading of an entry
 abbrev pub halt_text : Halt → List ℕ
 halt_text Device = codes "Error 80\n"
 halt_text (Refused reason) = why_text (reason_view reason)
 
--- the text behind what ended the asking; none is shown of a source of keys that failed
+-- the text after what ended the asking; none is shown of a source of keys that failed
 abbrev pub stop_text : Stop → List ℕ
 stop_text stops.Keys = []
 stop_text (stops.Halt halt) = halt_text halt
 
--- the text behind what ended the reading of a map
+-- the text after what ended the reading of a map
 abbrev pub map_text : Halt → List ℕ
 map_text Device = codes " 80\n"
 map_text (Refused reason) = codes " 04\n"

@@ -148,7 +148,7 @@ or_device text report = record report { device = text ∷ report.device }
 abbrev pub refused_report : List ℕ → Why → List Key → Report
 refused_report text why left = record { result = Err why; shown = text; device = []; unheard = []; left = left }
 
--- the text behind a refusal while an entry is loaded
+-- the text after a refusal while an entry is loaded
 abbrev pub why_text : Why → List ℕ
 why_text Unbuilt = codes "Error\n"
 why_text (Because reason) = error_text reason
@@ -158,7 +158,7 @@ abbrev pub prefixes : List ℕ → List (List ℕ)
 prefixes [] = [] ∷ []
 prefixes (byte ∷ text) = [] ∷ map (λ front. byte ∷ front) (prefixes text)
 
--- A report of what comes behind a prompt that showed this text and left these keys: where a disk or the source of keys
+-- A report of what comes after a prompt that showed this text and left these keys: where a disk or the source of keys
 -- failed there, a prefix of it.
 abbrev pub asking_report : List ℕ → List Key → Report → Report
 asking_report text left report = record {
@@ -169,7 +169,7 @@ asking_report text left report = record {
   left = left;
 }
 
--- the text behind what is loaded, or behind a refusal
+-- the text after what is loaded, or after a refusal
 abbrev pub end_text : Result Ending Why → List ℕ
 end_text (Ok ending) = []
 end_text (Err why) = why_text why
@@ -223,7 +223,7 @@ prompt_report image machine good memory message decision (Some why) None =
 prompt_report image machine good memory message decision (Some why) (Some opens) =
     asking_report (opens.before ++ message.bytes) opens.left (refused_report (why_text why) why [])
 
--- a prompt that is told these keys
+-- a prompt that is given these keys
 unfoldable pub asked_report : Image → Machine → BootSector → ℕ → GoodMap → List Key → Report
 asked_report image machine boot memory good keys =
     prompt_report
@@ -285,12 +285,12 @@ boot_today image machine span memory keys =
     or_device []
     (report_by image machine (image span.disk span.start) memory (boot_at (image span.disk span.start)) keys)
 
--- the default line that stands on the disks, by what a sector says as a boot sector
+-- the default line on the disks, by what a sector says as a boot sector
 abbrev pub line_behind : Image → Machine → Result BootSector maps.MapFault → Option DefaultLine
 line_behind image machine (Ok boot) = present_line image machine boot
 line_behind image machine (Err fault) = None
 
--- the default line that stands on the disks; today a boot leaves it
+-- the default line on the disks; today a boot leaves it
 unfoldable pub standing_line : Image → Machine → Span → Option DefaultLine
 standing_line image machine span = line_behind image machine (boot_at (image span.disk span.start))
 

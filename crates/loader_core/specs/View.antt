@@ -1,4 +1,4 @@
--- For which plain value of the model each value of this crate stands.
+-- Which plain value of the model each value of this crate stands for.
 use Rattle.std.specs.Prelude.{ℕ, List}
 use Rattle.lilo_model.specs.Boot as boots
 use Rattle.lilo_model.specs.Prompt as prompts

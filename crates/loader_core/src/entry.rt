@@ -67,7 +67,7 @@ pub(crate) fn video_of(entry: &Descriptor, typed: Option<u16>) -> Option<u16>
 }
 
 /// Loads another system's boot sector, and the partition table that goes with it, where there is one. The table's
-/// entries stand at 446 in its sector (IBM PC).
+/// entries are at 446 in its sector (IBM PC).
 fn load_other<D: Disks>(disks: &mut D, ram: &mut Ram, entry: &Descriptor) -> Result<Started, Halt>
     requires sectors { HasSectors entry.now }
     requires flags { FitsFlags entry.now }

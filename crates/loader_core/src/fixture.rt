@@ -46,7 +46,7 @@ pub struct Booted {
 }
 
 impl Booted {
-    // What stands in memory, or nothing where memory ends before.
+    // What is in memory, or nothing where memory ends before.
     pub fn bytes(&self, at: u32, len: u32) -> &[u8] {
         let size = self.ram.size();
         if len <= size && at <= size - len {

@@ -23,7 +23,7 @@ use section_loader::{FileReader, Halt, Reason, load_bytes, place, read_cut};
 use sector_parts::Sector;
 use setup_header::{Header, Layout, Region, patch, plan_memory};
 
-/// Reads the first two sectors of a file, with zeros behind the file's end.
+/// Reads the first two sectors of a file, with zeros after the file's end.
 fn read_two<D: Disks>(
     file: &mut FileReader,
     disks: &mut D,
@@ -87,7 +87,7 @@ fn plan(
 }
 
 /// Places a kernel of which the first two sectors are at hand and the others are read now: the real-mode part, and
-/// the protected-mode part behind it.
+/// the protected-mode part after it.
 fn place_kernel<D: Disks>(
     file: &mut FileReader,
     disks: &mut D,

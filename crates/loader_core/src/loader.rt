@@ -47,7 +47,7 @@ use stream_trait::{Shown, Sink, Source};
 /// A boot sector of this format leads to a map: to the default line, the table of entries and their passwords, and once
 /// an entry is chosen at the prompt to its texts and files, all by the sectors that slots name. No file system is read.
 /// A kernel is loaded with its initrd and command line as the boot protocol has them (Linux/x86, 2.00 to 2.06 and
-/// before); another system's boot sector stands at 0x7C00 then, with the partition table of its disk from 0x7BE on,
+/// before); another system's boot sector lies at 0x7C00 then, with the partition table of its disk from 0x7BE on,
 /// where the entry says so. A boot sector that isn't of this format, and that a BIOS takes for one, is handed over
 /// itself.
 ///
@@ -84,7 +84,7 @@ pub fn boot<D: Disks, I: Source, O: Sink>(
     outcome_of(boot_by(bios, device, ram, out))
 }
 
-/// How a boot's end is told.
+/// How a boot's end is reported.
 fn outcome_of(end: Result<Started, Stop>) -> Outcome
     ensures end { result_of result ≡ end }
     ensures before { (phase : _) → result ≡ Outcome.Device phase → phase ≡ Phase.Before }
@@ -450,7 +450,7 @@ fn start_entry<D: Disks, O: Sink>(
     }
 }
 
-/// The line that tells which entry is loaded.
+/// The line that reports which entry is loaded.
 fn loading_line(name: &[u8]) -> ArrayVec<u8, 32>
     requires { length name.now ≤ 15 }
     ensures { result.items ≡ codes "Loading " ++ (name.now ++ codes "\n") }
@@ -462,7 +462,7 @@ fn loading_line(name: &[u8]) -> ArrayVec<u8, 32>
     line
 }
 
-/// The text behind what ended the loading of an entry.
+/// The text after what ended the loading of an entry.
 fn halt_text(halt: Halt) -> &'static [u8]
     ensures { result.now ≡ halt_text halt }
 {
@@ -473,7 +473,7 @@ fn halt_text(halt: Halt) -> &'static [u8]
     }
 }
 
-/// The text behind what ended the asking.
+/// The text after what ended the asking.
 fn stop_text(stop: Stop) -> &'static [u8]
     ensures { result.now ≡ stop_text stop }
 {
@@ -483,7 +483,7 @@ fn stop_text(stop: Stop) -> &'static [u8]
     }
 }
 
-/// The text behind what ended the reading of a map.
+/// The text after what ended the reading of a map.
 fn map_text(halt: Halt) -> &'static [u8]
     ensures { result.now ≡ map_text halt }
 {

@@ -249,7 +249,7 @@ fn is_set(entry: &Descriptor, flag: u16) -> bool
     entry.flags & flag != 0
 }
 
-/// How a boot tells what is wrong with a map.
+/// How a boot reports what is wrong with a map.
 pub(crate) fn map_reason_of(fault: MapFault) -> Reason
     ensures { reason_view result ≡ Because (map_reason (map_fault_view fault)) }
 {

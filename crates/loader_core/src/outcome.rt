@@ -7,9 +7,9 @@ use setup_header::Layout;
 /// How a boot ends.
 #[derive(Clone, Copy, Debug, PartialEq, Eq)]
 pub enum Outcome {
-    /// A kernel stands in memory by this layout.
+    /// A kernel lies in memory by this layout.
     Loaded(Layout),
-    /// A boot sector stands at 0x7C00.
+    /// A boot sector lies at 0x7C00.
     Handed,
     /// Nothing was started.
     Refused(Reason),

@@ -13,7 +13,7 @@ fn region(address: u32, length: u32) -> Region {
     Region { address, length }
 }
 
-// The layout of the kernel of 1029 bytes, whose protected-mode part stands at an address.
+// The layout of the kernel of 1029 bytes, whose protected-mode part lies at an address.
 fn layout(protected: u32, initrd: Option<Region>) -> Layout {
     Layout {
         real: region(0x9_0000, 1024),
@@ -56,7 +56,7 @@ fn expect_bytes(rt: &impl Abort, booted: &Booted, at: u32, bytes: &[u8]) {
     assert_eq!(rt; booted.bytes(at, bytes.len() as u32), bytes, "at {at}");
 }
 
-// The kernel's parts stand alone in memory, the real-mode part with these bytes from 0x210 on.
+// The kernel's parts are alone in memory, the real-mode part with these bytes from 0x210 on.
 fn expect_kernel(rt: &impl Abort, booted: &Booted, fields: &[u8]) {
     let mut real = [0; 1024];
     put(&mut real, 0x1F1, b"\x01");
@@ -71,7 +71,7 @@ fn expect_kernel(rt: &impl Abort, booted: &Booted, fields: &[u8]) {
     expect_bytes(rt, booted, 0xF_FFFF, b"\xEEHELLO\xEE");
 }
 
-// The command line stands alone in memory, with its zero byte.
+// The command line is alone in memory, with its zero byte.
 fn expect_line(rt: &impl Abort, booted: &Booted) {
     expect_bytes(
         rt,
@@ -144,7 +144,7 @@ fn holes_and_slots_of_all_modes(rt: HostRuntime) -> Result<(), Fail> {
     Ok(())
 }
 
-// An initrd stands as high as it can.
+// An initrd lies as high as it can.
 #[test]
 fn an_initrd(rt: HostRuntime) -> Result<(), Fail> {
     for (memory, highest, address, fields) in [
@@ -198,7 +198,7 @@ fn an_initrd(rt: HostRuntime) -> Result<(), Fail> {
     Ok(())
 }
 
-// A kernel without a version: the protected-mode part stands low, and the line is told by its offset.
+// A kernel without a version: the protected-mode part lies low, and the line is given by its offset.
 #[test]
 fn a_low_kernel(rt: HostRuntime) -> Result<(), Fail> {
     let booted = boot_case(rt.alloc(), &changed(&[(83, 2, &[0; 16])]))?;
@@ -304,7 +304,7 @@ fn links_and_initrds_are_refused(rt: HostRuntime) -> Result<(), Fail> {
     Ok(())
 }
 
-// What a sector that isn't there is told by, and a text past its limit.
+// How a sector that isn't there is reported, and a text past its limit.
 #[test]
 fn sectors_that_are_not_there(rt: HostRuntime) -> Result<(), Fail> {
     for (number, at, bytes, reason, shown) in [
@@ -423,7 +423,7 @@ fn what_is_not_built(rt: HostRuntime) -> Result<(), Fail> {
 
 const PROMPT: (usize, usize, &[u8]) = (0, 0x0C, b"\x01");
 
-// By a line that is typed at the prompt, with a password and behind a message; by no key at all; and by keys that end.
+// By a line that is typed at the prompt, with a password and after a message; by no key at all; and by keys that end.
 #[test]
 fn a_boot_by_keys(rt: HostRuntime) -> Result<(), Fail> {
     let typed = Layout {
@@ -612,7 +612,7 @@ fn each_read_fails(rt: HostRuntime) -> Result<(), Fail> {
     Ok(())
 }
 
-// Behind a text that a sink refuses nothing is shown, and the boot goes on.
+// After a text that a sink refuses nothing is shown, and the boot goes on.
 #[test]
 fn each_text_fails(rt: HostRuntime) -> Result<(), Fail> {
     for (call, shown, has_failed) in [

@@ -68,7 +68,7 @@ told_failed :
 told_failed None new fault left gives may = tt
 told_failed (Some told) new fault left gives may = rw gives at may
 
--- ---- what asking comes to, behind a text
+-- ---- what asking comes to, after a text
 
 prefix_behind : (text tale : List ℕ) (a b c : SinkState) → Shows a text b → ShowsPrefix b tale c → ShowsPrefix a (text ++ tale) c
 prefix_behind text tale a b c first second = record {
@@ -95,7 +95,7 @@ comes_same result tale other state left a b same comes = subst (λ t. Comes resu
 -- ---- what was shown so far
 
 -- Asking went on from a state to another: whichever keys the source leaves now, what it left before comes to the tale of
--- these behind the text that was shown.
+-- these after the text that was shown.
 pub record Goes {I : Type 0} (i : Ghosts I) (message : FileRest) (tale : List Key → Tale) (setup : Setup) (state : State) (old new : I) (a b : SinkState) : Type 0 where
   pub text : List ℕ
   pub shows : Shows a text b
@@ -287,7 +287,7 @@ silent_halted message tale setup state halt a b c far waits says =
 
 -- ---- the start
 
--- what comes of the start, behind what it shows
+-- what comes of the start, after what it shows
 pub started_comes :
     {I : Type 0} (i : Ghosts I) (message : FileRest) (setup : Setup) (state : State) (result : Result (Unit {0}) Stop) (old new : I) (a b c : SinkState)
     → Says (Ok tt) message setup.entries (start_step setup).said a b

@@ -45,7 +45,7 @@ stops_at message why (Opened left ∷ marks) tale bad = rw bad refl
 
 -- ---- the law
 
--- a tale that is told whole
+-- a tale that is whole
 whole_tale :
     (message : FileRest) (run : Run) → tale_of message run ≡ tale_behind (marks_text message.bytes run.shown) (record { end = Ok run.picked; shown = []; left = run.left })
     → tale_of message run ≡ record { end = Ok run.picked; shown = marks_text message.bytes run.shown; left = run.left }

@@ -1,11 +1,11 @@
--- A prompt that is told silence again and again.
+-- A prompt that is given silence again and again.
 use Rattle.std.proofs.Common.{◌≡◌, ◌<◌, refl, ap, ℕ, Bool, true, false, List, [], ◌∷◌, Option, None, Some, arith}
 use Rattle.bios_model.specs.declared.key.Key.TheVariants as keys
 use Rattle.prompt_core.specs.Steps.{Chosen, State, Delaying, Timing, Typing, Asking, Decided, Over, question_step, password_of, default_choice, line_meant, meant_or, key_step}
 use Rattle.lilo_model.specs.Choice.{Setup}
 use Rattle.prompt_core.specs.Run.{is_done, run_behind, said_marks, silenced, driven}
 
--- how often a prompt may be told silence at most
+-- how often a prompt may be given silence at most
 abbrev pub silences : State → ℕ
 silences (Delaying wait) = 3
 silences (Timing wait) = 3

@@ -1,4 +1,4 @@
--- Tales behind what was shown.
+-- Tales after what was shown.
 use Rattle.std.proofs.Common.{◌≡◌, ◌∙◌, refl, sym, ap, ℕ, Bool, true, false, List, [], ◌∷◌, ◌++◌, append_assoc, append-nil, Option, None, Some, Err}
 use Rattle.lilo_model.specs.Prompt.{Key, ListedEntry}
 use Rattle.prompt_core.specs.Steps.{Said}
@@ -28,7 +28,7 @@ pub behind_behind : (one other : List ℕ) (tale : Tale) → tale_behind one (ta
 behind_behind one other tale =
     ap (λ text. record { end = tale.end; shown = text; left = tale.left }) (sym (append_assoc one other tale.shown))
 
--- what is told of a run with more before it
+-- what is reported of a run with more before it
 pub run_tale :
     (message : FileRest) (marks : List Mark) (run : Run)
     → tale_of message (run_behind marks run) ≡ marks_tale message marks (tale_of message run)

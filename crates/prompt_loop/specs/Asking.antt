@@ -32,7 +32,7 @@ abbrev pub ComesInSilence : Result (Unit {0}) Stop → Tale → State → SinkSt
 ComesInSilence result tale state old new = Comes result tale state [] old new
 
 -- The same of a source before and after it: whichever keys it leaves, what it left before came to their tale. Where it
--- tells its keys, these are all that it had, and what it has.
+-- reports its keys, these are all that it had, and what it has.
 abbrev pub ComesBy : {I : Type 0} → sources.Ghosts I → Result (Unit {0}) Stop → (List Key → Tale) → State → I × I → SinkState → SinkState → Type 0
 ComesBy i result tale state keys old new =
     (left : List Key) → MayLeave i keys.1 left

@@ -1,4 +1,4 @@
--- What asking comes to, in the words of the choice by cutting.
+-- What asking comes to, in terms of the choice by cutting.
 use Rattle.std.specs.Prelude.{◌≡◌, List, ◌++◌, Option, None, Some, Ok}
 use Rattle.std.specs.Option.{option_map}
 use Rattle.lilo_model.specs.Choice.{choice, opening}

@@ -34,7 +34,7 @@ marks_tale message [] tale = tale
 marks_tale message (Shown byte ∷ marks) tale = tale_behind (byte ∷ []) (marks_tale message marks tale)
 marks_tale message (Opened left ∷ marks) tale = message_tale message.bytes message.stop left (marks_tale message marks tale)
 
--- the tale of keys that a prompt is told, one by one
+-- the tale of keys that a prompt is given, one by one
 abbrev pub tale_of : FileRest → Run → Tale
 tale_of message run = marks_tale message run.shown (record { end = Ok run.picked; shown = []; left = run.left })
 

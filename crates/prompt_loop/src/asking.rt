@@ -80,7 +80,7 @@ fn hear<D: Disks, I: Source, O: Sink>(
     Ok(())
 }
 
-/// Tells a prompt that no key comes any more, until it is done.
+/// Lets a prompt know that no key comes any more, until it is done.
 fn hear_silence<D: Disks, O: Sink>(
     disks: &mut D,
     prompt: &mut Prompt,

@@ -1,4 +1,4 @@
--- What is read of a file today is the model's content, or a front of it where a slot of more than one sector is met.
+-- What is read of a file today is the model's content, or a prefix of it where a slot of more than one sector is met.
 use Rattle.std.proofs.Common.{◌≡◌, ℕ, zero, suc, ◌+◌, ◌-◌, ◌<◌, ◌≤◌, ◌==◌, min, Bool, true, false, if◌then◌else◌, refl, ◌∙◌, ap, subst, List, [], ◌∷◌, ◌++◌, map, take, length, replicate, Option, None, Some, option_map, Result, Ok, Err, arith, length-take}
 use Rattle.std.specs.List.{concat}
 use Rattle.std.proofs.lemmas.List.{map-append}
@@ -13,11 +13,11 @@ use Rattle.map_section.specs.Run.{listed_place, listed_slot, listed_sector, list
 use Rattle.map_section.proofs.RunLemmas.{section_law}
 use Rattle.section_loader.specs.Reading.{Why, Unbuilt, Because, Reading, ended_reading, reading_place, reading_named, reading_sector, reading_answer, reading_turns, reading_ahead, FileRest, file_today}
 
--- a list goes on behind a front
+-- a list goes on after a prefix
 abbrev pub GoesOn : {X : Type 0} → List X → List X → Type 0
 GoesOn {X} front whole = (more : List X) × (whole ≡ front ++ more)
 
--- what was read until a stop, beside what there is until a refusal: the same, or a front where the stop is this
+-- what was read until a stop, beside what there is until a refusal: the same, or a prefix where the stop is this
 -- loader's own
 abbrev pub Agrees : {X : Type 0} → Option Why → Option SectionFault → List X → List X → Type 0
 Agrees None refusal front whole = (front ≡ whole) × (refusal ≡ None)
@@ -113,7 +113,7 @@ section_reads image machine first sectors chain bytes =
     (section_law image machine first sectors chain (suc (turns_left state)) bytes (enough_turns sectors chain bytes))
     (turns_read image machine first (suc (turns_left state)) sectors state)
 
--- the first of more bytes go on behind those of fewer
+-- the first of more bytes go on after those of fewer
 take_goes_on : (len : ℕ) (front more : List ℕ) → GoesOn (take len front) (take len (front ++ more))
 take_goes_on zero front more = ([], refl)
 take_goes_on (suc len) [] more = (take (suc len) more, refl)

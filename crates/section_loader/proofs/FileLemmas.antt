@@ -29,7 +29,7 @@ fed_turn now machine first wanted old mid new link (Ok (Some slot)) ahead none f
 fed_turn now machine first wanted old mid new link (Err Device) ahead none found = tt
 fed_turn now machine first wanted old mid new link (Err (Refused reason)) ahead none found = ahead ∙ found (reading_ahead now machine first wanted)
 
--- the front of some bytes and others behind them
+-- the first of some bytes and others after them
 take-parts :
     (small : Bool) (left size : ℕ) (bytes rest : List ℕ) → nat_le left 512 ≡ small → length bytes ≡ 512 → size ≡ min 512 left
     → take left (bytes ++ rest) ≡ take size bytes ++ take (left - size) rest
@@ -58,7 +58,7 @@ found_rest now left size behind (Ok place) bytes read long least =
     (ap (λ first. take left (first ++ concat (map (bytes_at now) behind.places))) here ∙ parts)
 found_rest now left size behind (Err fault) bytes read long least = let h : ⊥ = cc in absurd h
 
--- what is left behind a slot of one sector that was read
+-- what is left after a slot of one sector that was read
 pub read_rest :
     (now : Image) (machine : Machine) (slot : slots.Slot) (left size : ℕ) (ahead : Reading) (behind : ℕ → Reading) (bytes : List ℕ)
     → ahead ≡ reading_slot machine slot (sectors_for left) (behind (sectors_for left - slot.count))

@@ -1,4 +1,4 @@
--- Bytes that are placed one behind the other.
+-- Bytes that are placed one after the other.
 use Rattle.std.proofs.Common.{◌≡◌, ◌≤◌, ◌<◌, ◌+◌, ◌-◌, ◌%◌, ◌⊎◌, inl, inr, ◌∙◌, ℕ, sym, ap, List, ◌++◌, length, append_assoc, length-append, arith}
 use Rattle.std.specs.Prelude.{min}
 use Rattle.std.proofs.Math.Path.{fun_ext}
@@ -14,7 +14,7 @@ joined_at :
     ≡ with_bytes memory (record { address = at; bytes = one ++ other }) address
 joined_at memory at address one other = grind (arith, common_steps, get_or_append_left, get_or-append_right, length-append)
 
--- bytes, and others directly behind them
+-- bytes, and others directly after them
 pub with_bytes-join :
     (memory : Memory) (at : ℕ) (one other : List ℕ)
     → with_bytes (with_bytes memory (record { address = at; bytes = one })) (record { address = at + length one; bytes = other })

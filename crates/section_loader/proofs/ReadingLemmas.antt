@@ -1,4 +1,4 @@
--- What is read where a reader stands, by its next answer.
+-- What is read where a reader is, by its next answer.
 use Rattle.std.proofs.Common.{◌≡◌, ◌<◌, ◌+◌, ◌-◌, ℕ, zero, suc, refl, ◌∙◌, ap, List, Result, Ok, Err, add-suc, arith}
 use Rattle.lilo_model.specs.Disks.{Image, Machine, DiskSector, bytes_at}
 use Rattle.lilo_model.specs.Slots as slots
@@ -68,7 +68,7 @@ ahead_turn image machine first wanted state =
     (λ w s fewer. turns_ahead image machine first (turns_left state) w s fewer)
     state (next_of state).state (omega arith) (next_of state).answer (next_takes state)
 
--- the same, where the answer and the reader behind it are known
+-- the same, where the answer and the reader after it are known
 pub ahead_by :
     (image : Image) (machine : Machine) (first : slots.Slot) (wanted : ℕ) (state new : ReaderState) (answer : Result Ask SectionFault)
     → answer ≡ (next_of state).answer → new ≡ (next_of state).state

@@ -16,7 +16,7 @@ take-none (suc n) = refl
 ended_next : (state : ReaderState) → state.needed ≡ 0 → (next_of state).answer ≡ Ok Done
 ended_next state none = let is : (state.needed == 0) ≡ true = grind arith in rw is refl
 
--- behind its last byte a file has ended
+-- after its last byte a file has ended
 pub ended_rest :
     (now : Image) (machine : Machine) (first : slots.Slot) (left : ℕ) (state : ReaderState)
     → left ≡ 0 → state.needed ≡ sectors_for left → rest_ahead now machine first left state ≡ record { bytes = []; stop = None }

@@ -27,11 +27,11 @@ pub record IsCounted (file : FileReader) : Type 0 where
 abbrev pub rest_in : Image → Machine → FileReader → FileRest
 rest_in image machine file = rest_ahead image machine (slot_view file.first) file.left file.section
 
--- a fact about what was left of a file and what is left now, where the disks tell their past
+-- a fact about what was left of a file and what is left now, where the disks report their past
 abbrev pub OnFile : {D : Type 0} → Ghosts D → D → FileReader → FileReader → (FileRest → FileRest → Type 0) → Type 0
 OnFile g disks old new P = OnDisks g disks (λ now machine. P (rest_in now machine old) (rest_in now machine new))
 
--- how many sectors are needed behind a turn, and that fewer turns are left
+-- how many sectors are needed after a turn, and that fewer turns are left
 abbrev pub Counts : Option Slot → ReaderState → ReaderState → Type 0
 Counts (Some slot) old new = (1 ≤ slot.count) × (new.needed ≡ old.needed - slot.count)
 Counts None old new = (new.needed ≡ old.needed) × (turns_left new < turns_left old)

@@ -24,7 +24,7 @@ abbrev pub StopsFor : FileRest → Halt → Type 0
 StopsFor rest Device = ⊥
 StopsFor rest (Refused reason) = rest.stop ≡ Some (reason_view reason)
 
--- fewer bytes of a file are there, and this stands in place of the others
+-- fewer bytes of a file are there, and this is in place of the others
 pub record IsShort (size : ℕ) (old : FileRest) (halt : Halt) : Type 0 where
   pub stops : StopsFor old halt
   pub short : length old.bytes < size
@@ -35,7 +35,7 @@ Loads (Ok done) size at old memory new memory' = IsLoaded size at old memory new
 Loads (Err Device) size at old memory new memory' = Unit {0}
 Loads (Err (Refused reason)) size at old memory new memory' = IsShort size old (Refused reason)
 
--- a sector of a file, with zeros behind so many bytes
+-- a sector of a file, with zeros after so many bytes
 pub record IsCutSector (size : ℕ) (old : FileRest) (sector : List ℕ) (new : FileRest) : Type 0 where
   pub bytes : List ℕ
   pub long : length bytes ≡ size

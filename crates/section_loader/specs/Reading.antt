@@ -17,7 +17,7 @@ pub data Why : Type 0 where
   -- it is refused
   Because : Reason → Why
 
--- sectors, and what stands in place of further ones
+-- sectors, and what is in place of further ones
 pub record Reading : Type 0 where
   pub places : List DiskSector
   pub stop : Option Why
@@ -30,12 +30,12 @@ ended_reading stop = record { places = []; stop = stop }
 abbrev pub lost_reading : Reading
 lost_reading = ended_reading (Some (Because NotFound))
 
--- a sector, and what is read behind it
+-- a sector, and what is read after it
 abbrev pub reading_place : Reading → Result DiskSector slots.AddressFault → Reading
 reading_place behind (Ok place) = record behind { places = place ∷ behind.places }
 reading_place behind (Err fault) = lost_reading
 
--- the first sector of a slot where one is wanted, and what is read behind it
+-- the first sector of a slot where one is wanted, and what is read after it
 abbrev pub reading_named : Machine → slots.Slot → ℕ → Reading → Reading
 reading_named machine slot zero behind = behind
 reading_named machine slot (suc more) behind = reading_place behind (place_at machine slot 0)
@@ -67,11 +67,11 @@ reading_turns image machine first zero wanted state = ended_reading None
 reading_turns image machine first (suc turns) wanted state =
     reading_answer image machine first wanted (reading_turns image machine first turns) (next_of state).state (next_of state).answer
 
--- what is read where a reader stands
+-- what is read where a reader is
 unfoldable pub reading_ahead : Image → Machine → slots.Slot → ℕ → ReaderState → Reading
 reading_ahead image machine first wanted state = reading_turns image machine first (suc (turns_left state)) wanted state
 
--- the bytes that are left of a file, and what stands in place of further ones
+-- the bytes that are left of a file, and what is in place of further ones
 pub record FileRest : Type 0 where
   pub bytes : List ℕ
   pub stop : Option Why
@@ -83,7 +83,7 @@ rest_of image left reading = record {
   stop = reading.stop;
 }
 
--- what is left of a file, where a reader stands and so many bytes are left
+-- what is left of a file, where a reader is and so many bytes are left
 abbrev pub rest_ahead : Image → Machine → slots.Slot → ℕ → ReaderState → FileRest
 rest_ahead image machine first left state =
     rest_of image left (reading_ahead image machine first (sectors_for left) state)
@@ -93,6 +93,6 @@ unfoldable pub file_today : Image → Machine → slots.Slot → ℕ → ℕ →
 file_today image machine first len chain =
     rest_ahead image machine first len (begun (sectors_for len) chain (replicate 512 0))
 
--- some bytes, and what is left behind them
+-- some bytes, and what is left after them
 abbrev pub rest_behind : List ℕ → FileRest → FileRest
 rest_behind bytes rest = record rest { bytes = bytes ++ rest.bytes }

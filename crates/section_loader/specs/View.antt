@@ -1,4 +1,4 @@
--- For which reason of the model each reason stands.
+-- Which reason of the model each reason stands for.
 use Rattle.lilo_model.specs.Reason as reasons
 use Rattle.setup_header.specs.View.{setup_fault_view}
 use Rattle.section_loader.specs.Reading.{Why, Unbuilt, Because}

@@ -50,8 +50,8 @@ impl FileReader {
         }
     }
 
-    /// Reads the next sector of the file, and tells how many of its bytes are the file's: 512, or fewer at the
-    /// file's end, and 0 behind it, where nothing is read.
+    /// Reads the next sector of the file, and reports how many of its bytes are the file's: 512, or fewer at the
+    /// file's end, and 0 after it, where nothing is read.
     pub fn next<D: Disks>(&mut self, disks: &mut D, into: &mut Sector) -> Result<usize, Halt>
         requires { IsCounted self.old }
         ensures counted { OnOk result (IsCounted self.new) }
@@ -71,7 +71,7 @@ impl FileReader {
         Ok(size as usize)
     }
 
-    // The slot of the next sector, behind the section sectors that stand before it.
+    // The slot of the next sector, after the section sectors that come before it.
     fn next_slot<D: Disks>(&mut self, disks: &mut D) -> Result<Slot, Halt>
         requires counted { IsCounted self.old }
         requires some { 0 < self.old.left }
@@ -135,7 +135,7 @@ impl FileReader {
     }
 }
 
-/// How a boot tells why a section is refused.
+/// How a boot reports why a section is refused.
 fn reason_of(fault: SectionFault) -> Reason
     ensures { reason_view result ≡ Because (section_reason (section_fault_view fault)) }
 {

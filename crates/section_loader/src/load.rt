@@ -53,7 +53,7 @@ pub fn place(ram: &mut Ram, at: u32, bytes: &[u8])
     let _ = ram.place(at, bytes);
 }
 
-/// Reads the next sector of a file, with zeros behind the file's end.
+/// Reads the next sector of a file, with zeros after the file's end.
 pub fn read_cut<D: Disks>(
     file: &mut FileReader,
     disks: &mut D,

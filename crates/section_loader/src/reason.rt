@@ -13,7 +13,7 @@ pub enum Reason {
     BadLine,
     /// Eight bytes of a section are no slot; places count from 0, 64 for each section sector.
     BadSlot(u32),
-    /// A section goes on behind this many section sectors, the most allowed.
+    /// A section goes on after this many section sectors, the most allowed.
     ChainTooLong(u16),
     /// A section ends after this many sectors, and more are needed.
     ShortChain(u32),

@@ -1,4 +1,4 @@
--- Each sector goes behind those before it.
+-- Each sector goes after those before it.
 use Rattle.std.proofs.Common.{◌≡◌, take, length, arith, rules}
 use Rattle.std.proofs.lemmas.List.{length-take-le}
 use Rattle.sector_address.specs.Machine.{machine_of}

@@ -1,4 +1,4 @@
--- What was read so far stands in memory.
+-- What was read so far is in memory.
 use Rattle.std.proofs.Common.{◌≡◌, ◌≤◌, ◌-◌, ◌+◌, length}
 use Rattle.disk_trait.specs.Past.{Told, SameDisks}
 use Rattle.sector_address.specs.Machine.{machine_of}

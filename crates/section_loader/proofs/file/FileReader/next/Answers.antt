@@ -1,4 +1,4 @@
--- A sector that was read stands before what is left.
+-- A sector that was read comes before what is left.
 use Rattle.std.proofs.Common.{◌<◌, arith}
 use Rattle.sector_address.specs.Machine.{machine_of}
 use Rattle.sector_address.specs.View.{slot_view}

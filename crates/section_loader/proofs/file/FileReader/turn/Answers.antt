@@ -1,4 +1,4 @@
--- What is read where a reader stands is what its answer says.
+-- What is read from a reader's place on is what its answer says.
 use Rattle.std.proofs.Common.{◌∙◌, ap, sym, Some}
 use Rattle.lilo_model.specs.Section.{sectors_for}
 use Rattle.sector_address.specs.Machine.{machine_of}

@@ -71,7 +71,7 @@ text_refused f same None given status memory old new refuses answer some shown =
 text_refused f same (Some refusal) given status memory old new refuses answer some shown =
     refused_by f same _ given status memory old new refuses answer some shown
 
--- a configuration that can't be used, and what is told of it
+-- a configuration that can't be used, and what is said of it
 pub conf_refused :
     (f : Result Device Refusal → Verdict) → ((refusal : Refusal) → f (Err refusal) ≡ verdict_of (Err refusal))
     → (path : List ℕ) (halt : ConfHalt) (given : Result Device Refusal) (status : ℕ) (memory : Memory) (old new : SinkState)
@@ -94,7 +94,7 @@ conf_refused f same path (File files.Memory) given status memory old new refuses
 conf_refused f same path (Text fault) given status memory old new refuses answer some shown =
     text_refused f same (fault_view fault) given status memory old new refuses answer some shown
 
--- a device that isn't found is told as a halt is
+-- a device that isn't found is reported as a halt is
 pub table_told : (fault : TableFault) (halt : Halt) → IsPlaceHalt fault halt → halt_verdict halt ≡ table_verdict fault
 table_told tables.Device halt is = rw is refl
 table_told (tables.NoSignature sector) halt is = rw is refl

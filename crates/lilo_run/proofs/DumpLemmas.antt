@@ -24,12 +24,12 @@ pub length-hex : (bytes : List ℕ) → length (flat_map hex_byte bytes) ≡ 2 *
 length-hex [] = refl
 length-hex (byte ∷ bytes) = let e = length-hex bytes in omega (arith, e)
 
--- how many lines there are behind the first
+-- how many lines there are after the first
 pub lines_behind :
     (line rest all : ℕ) → all ≡ line + rest → line ≡ min 32 all → 0 < all → (all + 31) / 32 ≡ suc ((rest + 31) / 32)
 lines_behind line rest all sum size some = omega arith
 
--- room for a line leaves room for its end and for the lines behind it
+-- room for a line leaves room for its end and for the lines after it
 pub line_fits :
     (done line rest all : ℕ) → all ≡ line + rest → line ≡ min 32 all → 0 < all → done + 2 * all + (all + 31) / 32 ≤ 4160
     → done + 2 * line < 4160
@@ -40,7 +40,7 @@ pub lines_fit :
     → done + 2 * line + 1 + 2 * rest + (rest + 31) / 32 ≤ 4160
 lines_fit done line rest all sum size some room = omega (arith, lines_behind line rest all sum size some)
 
--- the first line, and what is behind it
+-- the first line, and what is after it
 take_line : (line rest : List ℕ) → length line ≡ min 32 (length (line ++ rest)) → take 32 (line ++ rest) ≡ line
 take_line line rest size =
     let sum = length-append line rest in
@@ -75,7 +75,7 @@ pub hex_text-line :
 hex_text-line all line rest parts size some =
     ap hex_text parts ∙ line_first line rest (size ∙ ap (λ l. min 32 (length l)) parts) (subst (λ l. 0 < length l) parts some)
 
--- whole lines, and what is behind them
+-- whole lines, and what is after them
 whole_lines : (n : ℕ) (lines rest : List ℕ) → length lines ≡ n * 32 → hex_text (lines ++ rest) ≡ hex_text lines ++ hex_text rest
 whole_lines zero lines rest long =
     let none : lines ≡ [] = nil_from_length lines (omega arith) in
@@ -106,7 +106,7 @@ hex_text-piece all piece rest parts size =
       | inr long ↦ ap hex_text parts ∙ whole_lines 64 piece rest (omega arith)
     ]
 
--- a line goes behind those before it
+-- a line goes after those before it
 pub line_joins :
     (before after all line rest : List ℕ) → after ≡ before ++ flat_map hex_byte line ++ codes "\n"
     → all ≡ line ++ rest → length line ≡ min 32 (length all) → 0 < length all
@@ -117,12 +117,12 @@ line_joins before after all line rest put parts size some =
     ∙ append_assoc before (text ++ codes "\n") (hex_text rest)
     ∙ ap (λ l. before ++ l) (sym (hex_text-line all line rest parts size some))
 
--- nothing is left behind the last
+-- nothing is left after the last
 pub all_told : (before rest : List ℕ) → length rest ≡ 0 → before ≡ before ++ hex_text rest
 all_told before rest none =
     sym (append-nil before) ∙ ap (λ l. before ++ l) (sym hex_text-nil ∙ ap hex_text (sym (nil_from_length rest none)))
 
--- regions of memory, shown one behind the other
+-- regions of memory, shown one after the other
 pub regions_join :
     (memory : List ℕ) (one other : List Region) (a b c : SinkState)
     → Shows a (flat_map region_text (map (written_in memory) one)) b

@@ -56,11 +56,11 @@ unfolding regions_in
 regions_same_by ram real protected line None = refl
 regions_same_by ram real protected line (Some initrd) = refl
 
--- the regions that are told are those that the loader speaks of
+-- the regions that are reported are those that the loader speaks of
 pub regions_same : (ram : List ℕ) (layout : Layout) → regions_in ram (layout_view layout) ≡ dumps.regions_of layout ram
 regions_same ram layout = regions_same_by ram layout.real layout.protected layout.line layout.initrd
 
--- something was started, and is told of
+-- something was started, and is reported
 boot_done :
     (dump : Bool) (report : Report) (outcome : boots.Outcome) (written regions : List Written) (memory memory' : Memory) (left : List Key)
     (old mid new : SinkState)

@@ -47,7 +47,7 @@ boot_alone :
 unfolding effects_of command_effect
 boot_alone now machine size words keys device dump (part, is, command) = rw (is, command) refl
 
--- what a boot by itself tells is the model's
+-- what a boot by itself reports is the model's
 pub boot_tells :
     (now : Image) (machine : Machine) (size : ℕ) (words : List (List ℕ)) (device : Device) (dump : Bool) (keys left : List Key)
     (status : ℕ) (m0 m1 : Memory) (old new : Option (List ℕ)) (before after : ℕ)

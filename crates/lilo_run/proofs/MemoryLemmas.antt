@@ -62,7 +62,7 @@ words_same :
 words_same now machine memory other words keys (Ok parts) none = parts_same now machine memory other parts keys none
 words_same now machine memory other words keys (Err wrong) none = refl
 
--- what words do is the same in a memory of any size
+-- what arguments do is the same in a memory of any size
 pub same_in_any_memory :
     (now : Image) (machine : Machine) (memory other : ℕ) (words : List (List ℕ)) (keys : List Key) → run_boots (run_at words) ≡ false
     → effects_of now machine memory words keys ≡ effects_of now machine other words keys

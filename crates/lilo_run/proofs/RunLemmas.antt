@@ -21,7 +21,7 @@ abbrev pub turns_left : Option ℕ → ℕ → ℕ
 turns_left None len = 0
 turns_left (Some from) len = len + 1 - from
 
--- the next part begins within the words
+-- the next part begins within the arguments
 pub place_within :
     (next : Option ℕ) (from len : ℕ) → IfSome next (λ place. (from < place) × (place ≤ len)) → IfSome next (λ place. place ≤ len)
 place_within None from len within = tt
@@ -137,7 +137,7 @@ zero_status size_of (words.SetLine line) is = absurd (omega (arith, is))
 zero_status size_of (words.Restore device) is = absurd (omega (arith, is))
 zero_status size_of (words.Boot device dump) is = zero_at (size_of device.disk == 0) is
 
--- the loop stands at the first part, or nothing is known of it but what it does
+-- the loop is at the first part, or nothing is known of it but what it does
 abbrev pub Begun : (ℕ → ℕ) → List Part → Option ℕ → Type 0
 Begun size_of all next = (next ≡ Some 0) ⊎ (early_parts size_of all ≡ None)
 
@@ -198,13 +198,13 @@ stays_more all rest behind part old mid new k0 k1 k2 stays is quiet kept none =
 
 -- ---- disks that stay the same
 
--- what is told of disks that stayed the same was told of them before
+-- what is reported of disks that stayed the same was reported of them before
 pub told_same :
     {D : Type 0} (g : Ghosts D) (old mid : D) → SameDisks g.past g.size_of g.count_of g.geometry_of old mid
     → (P : Image → Machine → Type 0) → OnDisks g mid P → OnDisks g old P
 told_same g old mid same P told = rw (same.same_past, same.same_size, same.same_geometry) at told
 
--- ---- words that are no run
+-- ---- arguments that are no run
 
 pub usage_is :
     (words : List (List ℕ)) (wrong : Option ℕ) → run_at words ≡ Err wrong

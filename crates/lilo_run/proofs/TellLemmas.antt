@@ -1,4 +1,4 @@
--- What a run told, by what was done.
+-- What a run reported, by what was done.
 use Rattle.std.proofs.Common.{◌≡◌, ◌≤◌, ◌≢◌, ◌∙◌, ◌==◌, ℕ, inl, inr, Bool, true, false, List, [], ◌∷◌, Option, None, Some, refl, sym, ap, subst, arith, append-nil}
 use Rattle.std.proofs.lemmas.Bool.{eqb-true, ne_eqb}
 use Rattle.lilo_model.specs.Place.{Memory, memory_after}
@@ -101,7 +101,7 @@ tells_before part status left old new a b c before (inr (inr (inr (inl (is, prin
 tells_before part status left old new a b c before (inr (inr (inr (inr (is, zero, kept, rose, front))))) =
     inr (inr (inr (inr (is, zero, kept, rose_before a b c before rose, front))))
 
--- ---- what a run told
+-- ---- what a run reported
 
 pub runs_tell :
     (parts : List Effect) (status : ℕ) (m0 m1 : Memory) (keys left : List Key) (old new : SinkState) (before : ℕ)

@@ -16,7 +16,7 @@ use Rattle.lilo_run.specs.Verdict.{Effect, boot_effect, effects_of, run_left, ru
 abbrev pub IsUnbuiltAt : Image → Machine → ℕ → Result Span DeviceFault → List Key → Type 0
 IsUnbuiltAt now machine memory place keys = (span : Span) × (place ≡ Ok span) × IsUnbuilt now machine span memory keys
 
--- words are one part, which boots this device
+-- arguments are one part, which boots this device
 abbrev pub IsBootRun : List (List ℕ) → Device → Bool → Type 0
 IsBootRun words device dump = (part : Part) × (run_at words ≡ Ok (part ∷ [])) × (part.command ≡ Boot device dump)
 
@@ -39,7 +39,7 @@ TellsBoot o now machine memory place dump keys left status old new =
     (IsUnbuiltAt now machine memory place keys → ⊥)
     → Tells (model_effect now machine memory place dump keys) status left (o.taken old) (o.taken new) (o.faults old) (o.faults new)
 
--- where no part boots, what words do is the same in a memory of any size
+-- where no part boots, what arguments do is the same in a memory of any size
 abbrev pub NoMemoryLaw : Type 0
 NoMemoryLaw = (now : Image) (machine : Machine) (memory other : ℕ) (words : List (List ℕ)) (keys : List Key) → run_boots (run_at words) ≡ false
     → effects_of now machine memory words keys ≡ effects_of now machine other words keys

@@ -1,4 +1,4 @@
--- For which of the model's refusals each reason stands why a command ends, and what is answered and printed.
+-- Which of the model's refusals each reason why a command ends represents, and what is answered and printed.
 use Rattle.std.specs.Prelude.{◌≡◌, ℕ, List, Option, None, Some, Result, Ok, Err, codes}
 use Rattle.conf_file.specs.View.{Refuses, HasCause}
 use Rattle.conf_file.specs.declared.file_fault.FileFault.{FileFault}

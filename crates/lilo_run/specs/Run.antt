@@ -1,4 +1,4 @@
--- How what was done stands to what the definitions give.
+-- How what was done relates to what the definitions give.
 use Rattle.std.specs.Prelude.{◌≡◌, ◌≢◌, ◌⊎◌, ℕ, ◌==◌, Bool, false, List, [], ◌∷◌, ◌++◌, length, Option, Result, Ok, Err}
 use Rattle.std.specs.List.{list_any}
 use Rattle.std.specs.Option.{option_map}
@@ -61,14 +61,14 @@ abbrev pub GivesPlace : Result Span Halt → Result disks.Span model.DeviceFault
 GivesPlace (Ok span) place = place ≡ Ok (span_view span)
 GivesPlace (Err halt) place = HaltsAt halt place
 
--- a refusal of partition tables is told so
+-- a refusal of partition tables is reported so
 abbrev pub IsPlaceHalt : TableFault → Halt → Type 0
 IsPlaceHalt faults.Device halt = halt ≡ Device
 IsPlaceHalt (faults.NoDisk disk) halt = halt ≡ NoPlace variants.NoDisk
 IsPlaceHalt (faults.NoPartition number) halt = halt ≡ NoPlace variants.NoPartition
 IsPlaceHalt _ halt = halt ≡ NoPlace variants.BadTable
 
--- a refusal of a map is told so
+-- a refusal of a map is reported so
 abbrev pub IsMapHalt : MapFault → Halt → Type 0
 IsMapHalt maps.NotOurs halt = halt ≡ NotOurs
 IsMapHalt (maps.BadVersion version) halt = halt ≡ NotOurs
@@ -93,7 +93,7 @@ abbrev pub Does : Effect → ℕ → Memory → Memory → SinkState → SinkSta
 Does effect status memory memory' old new =
     IsDone effect status memory memory' old new ⊎ (IsFailed 8 effect.failures status old new ⊎ IsFailed 13 effect.starved status old new)
 
--- the same of what disks hold, where they tell their past: by the memory and the sink before it and after it
+-- the same of what disks hold, where they report their past: by the memory and the sink before it and after it
 abbrev pub DoesOn : {D O : Type 0} → Ghosts D → sinks.Ghosts O → D → ℕ → List ℕ × Shown O → List ℕ × Shown O → (disks.Image → disks.Machine → ℕ → Effect) → Type 0
 DoesOn g o disks status old new effect =
     Told (g.past disks) (λ now. Does (effect now (machine_of g disks) (length old.0)) status (memory_of old.0) (memory_of new.0) (sink_of o old.1) (sink_of o new.1))
@@ -118,7 +118,7 @@ abbrev pub CarriesBy : {I O : Type 0} → sources.Ghosts I → sinks.Ghosts O �
 CarriesBy i o status effect (keys, ram, out) (keys', ram', out') =
     OnKeys i (keys, keys') (λ all left. Carries (effect all) status (memory_of ram) (memory_of ram') left (sink_of o out) (sink_of o out'))
 
--- the same of what disks hold, where they tell their past
+-- the same of what disks hold, where they report their past
 abbrev pub CarriesOn : {D I O : Type 0} → Ghosts D → sources.Ghosts I → sinks.Ghosts O → D → ℕ → I × List ℕ × Shown O → I × List ℕ × Shown O → (disks.Image → disks.Machine → ℕ → List Key → Effect) → Type 0
 CarriesOn g i o disks status old new effect =
     OnDisks g disks (λ now machine. CarriesBy i o status (effect now machine (length old.1)) old new)
@@ -149,8 +149,8 @@ Runs (part ∷ parts) status memory memory' keys left old new =
 abbrev pub RunsAll : {O : Type 0} → sinks.Ghosts O → List Effect → ℕ → List Key → List Key → List ℕ × Shown O → List ℕ × Shown O → Type 0
 RunsAll o parts status keys left old new = Runs parts status (memory_of old.0) (memory_of new.0) keys left (sink_of o old.1) (sink_of o new.1)
 
--- a fact about what the parts of words do by keys over what disks hold, with a memory of so many bytes, where the disks
--- tell their past: whichever keys the source leaves, it holds of those that it left before
+-- a fact about what the parts of arguments do by keys over what disks hold, with a memory of so many bytes, where the
+-- disks report their past: whichever keys the source leaves, it holds of those that it left before
 abbrev pub OnParts : {D I : Type 0} → Ghosts D → sources.Ghosts I → D → I × I → ℕ → List (List ℕ) → (List Effect → List Key → List Key → Type 0) → Type 0
 OnParts g i disks keys memory words P =
     Told (g.past disks) (λ now. OnKeys i keys (λ all left. P (effects_of now (machine_of g disks) memory words all) all left))
@@ -168,9 +168,9 @@ Answers parts status =
     (status ≡ (run_verdict parts).status)
     ⊎ ((status ≡ 8) ⊎ ((status ≡ 11) ⊎ ((status ≡ 13) ⊎ ((status ≡ 12) × BeginsWith0 parts))))
 
--- A part told its text, as far as the sink took it: the verdict's with its status, a text of a failure with 8 or 11, one
--- of want of memory with 13, and with 12 in the place of 0 a prefix of the verdict's. Where it wasn't a failure's, these
--- keys are left.
+-- A part reported its text, as far as the sink took it: the verdict's with its status, a text of a failure with 8 or
+-- 11, one that says out of memory with 13, and with 12 in the place of 0 a prefix of the verdict's. Where it wasn't a
+-- failure's, these keys are left.
 abbrev pub Tells : Effect → ℕ → List Key → Option (List ℕ) → Option (List ℕ) → ℕ → ℕ → Type 0
 Tells part status left old new before now =
     ((status ≡ part.verdict.status) × (part.left ≡ left) × Prints old part.verdict.text new before now)
@@ -179,13 +179,13 @@ Tells part status left old new before now =
     ⊎ (((status ≡ 13) × PrintsOne old part.starved new before now)
     ⊎ ((status ≡ 12) × (part.verdict.status ≡ 0) × (part.left ≡ left) × Rose before now × TakesFront old part.verdict.text new))))
 
--- what a sink has taken behind a text that it took whole
+-- what a sink has taken after a text that it took whole
 abbrev pub taken_behind : Option (List ℕ) → List ℕ → Option (List ℕ)
 taken_behind old text = option_map (λ taken. taken ++ text) old
 
--- Parts in order told their texts: those that answer 0 whole, and then the one that answers otherwise, at which the run
--- ends. Memory has what they put there where the status is 0 or 12, and what the parts before it put there where the
--- part at which the run ended doesn't boot.
+-- Parts in order reported their texts: those that answer 0 whole, and then the one that answers otherwise, at which the
+-- run ends. Memory has what they put there where the status is 0 or 12, and what the parts before it put there where
+-- the part at which the run ended doesn't boot.
 abbrev pub TellsRun : List Effect → ℕ → Memory → Memory → List Key → List Key → Option (List ℕ) → Option (List ℕ) → ℕ → ℕ → Type 0
 TellsRun [] status memory memory' keys left old new before now = (status ≡ 0) × (memory' ≡ memory) × (keys ≡ left) × (new ≡ old)
 TellsRun (part ∷ parts) status memory memory' keys left old new before now =
@@ -219,6 +219,6 @@ is_part_status status = list_any (λ known. known == status) (0 ∷ 2 ∷ 3 ∷ 
 abbrev pub is_run_status : ℕ → Bool
 is_run_status status = list_any (λ known. known == status) (0 ∷ 2 ∷ 3 ∷ 6 ∷ 7 ∷ 8 ∷ 11 ∷ 12 ∷ 13 ∷ 15 ∷ [])
 
--- whether words may
+-- whether arguments may
 abbrev pub is_status : ℕ → Bool
 is_status status = list_any (λ known. known == status) (0 ∷ 1 ∷ 2 ∷ 3 ∷ 6 ∷ 7 ∷ 8 ∷ 11 ∷ 12 ∷ 13 ∷ 15 ∷ [])

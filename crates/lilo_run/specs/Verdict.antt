@@ -1,5 +1,5 @@
 -- What `lilo` answers, prints, and leaves in memory and of its keys, as if nothing failed, and what it may print where
--- something did. The verdicts are the model's, but for words and boots that need a part that isn't built yet. (This
+-- something did. The verdicts are the model's, but for arguments and boots that need a part that isn't built yet. (This
 -- project's own.)
 use Rattle.std.specs.Prelude.{ℕ, ◌==◌, Bool, true, false, if◌then◌else◌, List, [], ◌∷◌, ◌++◌, map, flat_map, Option, None, Some, Result, Ok, Err}
 use Rattle.std.specs.List.{list_any}
@@ -59,11 +59,11 @@ query_effect now machine place = plain_effect (query_verdict now machine place) 
 abbrev pub regions_text : Bool → List Written → List ℕ
 regions_text dump regions = if dump then flat_map region_text regions else []
 
--- what is told of the memory where something was started
+-- what is reported of the memory where something was started
 abbrev pub told_text : Bool → Ending → List ℕ
 told_text dump ending = regions_text dump (told_regions ending.outcome ending.written)
 
--- what is answered at the end of a boot, and printed behind what it showed
+-- what is answered at the end of a boot, and printed after what it showed
 abbrev pub end_verdict : Bool → Result Ending Why → Verdict
 end_verdict dump (Ok ending) = verdict_of (start_check ending.outcome >>= λ a. Ok (told_text dump ending))
 end_verdict dump (Err why) = why_verdict why
@@ -73,11 +73,11 @@ abbrev pub end_written : Result Ending Why → List Written
 end_written (Ok ending) = ending.written
 end_written (Err why) = []
 
--- what is printed where a disk failed, behind what a boot showed
+-- what is printed where a disk failed, after what a boot showed
 abbrev pub failed_behind : List ℕ → List ℕ
 failed_behind shown = shown ++ device_failed.text
 
--- what is printed where the source of keys failed, behind what a boot showed
+-- what is printed where the source of keys failed, after what a boot showed
 abbrev pub unheard_behind : List ℕ → List ℕ
 unheard_behind shown = shown ++ keys_failed.text
 
@@ -99,7 +99,7 @@ boot_effect now machine memory dump (Ok span) keys = report_effect dump (boot_to
 boot_effect now machine memory dump (Err fault) keys =
     record (plain_effect (verdict_of (Err (refusals.Device fault))) (device_failed.text ∷ [])) { left = keys; boots = true }
 
--- what is answered and printed of a configuration whose part isn't built: it is read, and then the part is told so
+-- what is answered and printed of a configuration whose part isn't built: it is read, and then that is reported
 abbrev pub unbuilt_behind : Result Device refusals.Refusal → Verdict
 unbuilt_behind (Ok device) = not_built
 unbuilt_behind (Err refusal) = verdict_of (Err refusal)
@@ -141,16 +141,16 @@ abbrev pub parts_effects : (Part → List Key → Effect) → List Part → List
 parts_effects effect [] keys = []
 parts_effects effect (part ∷ parts) keys = effect part keys ∷ parts_effects effect parts (effect part keys).left
 
--- what the parts of a run do; words that are none are as one part, which tells the usage
+-- what the parts of a run do; arguments that are none are as one part, which reports the usage
 abbrev pub words_effects : (Part → List Key → Effect) → List (List ℕ) → List Key → Result (List Part) (Option ℕ) → List Effect
 words_effects effect words keys (Ok parts) = parts_effects effect parts keys
 words_effects effect words keys (Err wrong) = keeping keys (plain_effect (record { status = 1; text = usage_text words }) []) ∷ []
 
--- what the parts of words do by keys over disks that hold this image, with a memory of so many bytes
+-- what the parts of arguments do by keys over disks that hold this image, with a memory of so many bytes
 unfoldable pub effects_of : Image → Machine → ℕ → List (List ℕ) → List Key → List Effect
 effects_of now machine memory words keys = words_effects (part_effect now machine memory) words keys (run_at words)
 
--- Verdict: the texts of the parts that answer 0, and behind them the first other verdict
+-- Verdict: the texts of the parts that answer 0, and after them the first other verdict
 abbrev pub run_verdict : List Effect → Verdict
 run_verdict [] = verdict_of (Ok [])
 run_verdict (part ∷ parts) =
@@ -165,7 +165,7 @@ run_left keys (part ∷ parts) = run_left part.left parts
 abbrev pub run_written : List Effect → List Written
 run_written parts = flat_map (λ part. part.written) parts
 
--- ---- what is known of words, whatever disks hold
+-- ---- what is known of arguments, whatever disks hold
 
 -- what is answered whatever a disk holds: 15 for `-R` and `-u`, which aren't built, and 3 for a device of a disk
 -- without sectors
@@ -184,7 +184,7 @@ unfoldable pub early_parts : (ℕ → ℕ) → List Part → Option ℕ
 early_parts size_of [] = None
 early_parts size_of (part ∷ parts) = early_status size_of part.command
 
--- the same of words, and 1 for those that are no run
+-- the same of arguments, and 1 for those that are no run
 unfoldable pub early_answer : (ℕ → ℕ) → Result (List Part) (Option ℕ) → Option ℕ
 early_answer size_of (Ok parts) = early_parts size_of parts
 early_answer size_of (Err wrong) = Some 1
@@ -198,7 +198,7 @@ is_boot _ = false
 unfoldable pub has_boot : List Part → Bool
 has_boot parts = list_any (λ part. is_boot part.command) parts
 
--- whether words are a run of which a part boots
+-- whether arguments are a run of which a part boots
 abbrev pub run_boots : Result (List Part) (Option ℕ) → Bool
 run_boots (Ok parts) = has_boot parts
 run_boots (Err wrong) = false

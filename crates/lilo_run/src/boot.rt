@@ -1,4 +1,4 @@
-// A boot from a device, and what is told of the memory behind it.
+// A boot from a device, and what is reported of the memory after it.
 ghost use Rattle.std.specs.Prelude.{◌≡◌, ◌<◌, [], ◌∷◌, length, IfSome, IsTrue};
 ghost use Rattle.mbr_table.specs.View.{device_view, span_view};
 ghost use Rattle.stream_trait.specs.Shows.{Shows, sink_of};
@@ -21,7 +21,7 @@ use mbr_table::Device;
 use setup_header::Layout;
 use stream_trait::{Sink, Source};
 
-/// Boots a device by keys, tells the memory where that is asked for, and answers the status.
+/// Boots a device by keys, reports the memory where that is asked for, and answers the status.
 #[tactic(auto, unfolding(crate::specs::Verdict::boot_effect))]
 pub(crate) fn boot_device<D: Disks, I: Source, O: Sink>(
     bios: &mut Bios<'_, D, I>,
@@ -75,7 +75,7 @@ fn boot_span<D: Disks, I: Source, O: Sink>(
     }
 }
 
-/// Shows the line that tells that the source of keys failed, and gives its status.
+/// Shows the line that reports that the source of keys failed, and gives its status.
 fn say_keys<O: Sink>(out: &mut Shown<'_, O>) -> u8
     ensures status { result ≡ 11 }
     ensures shown { Shows (sink_of O.Sink out.old) keys_failed.text (sink_of O.Sink out.new) }
@@ -85,7 +85,7 @@ fn say_keys<O: Sink>(out: &mut Shown<'_, O>) -> u8
     11
 }
 
-/// Tells what a kernel's loading has put into memory, where that is asked for.
+/// Reports what a kernel's loading has put into memory, where that is asked for.
 fn tell_kernel<O: Sink>(dump: bool, out: &mut Shown<'_, O>, ram: &Ram, layout: &Layout)
     requires { LiesIn (length ram.now) layout.now }
     ensures shown { Shows (sink_of O.Sink out.old)
@@ -97,7 +97,7 @@ fn tell_kernel<O: Sink>(dump: bool, out: &mut Shown<'_, O>, ram: &Ram, layout: &
     }
 }
 
-/// Tells the boot sector that was started, where that is asked for.
+/// Reports the boot sector that was started, where that is asked for.
 fn tell_sector<O: Sink>(dump: bool, out: &mut Shown<'_, O>, ram: &Ram)
     ensures shown { Shows (sink_of O.Sink out.old)
         (regions_text dump (boot_sector_in ram.now ∷ [])) (sink_of O.Sink out.new) }

@@ -1,4 +1,4 @@
-// The configuration of a part: where it stands, what it says, and what is told of one that can't be used.
+// The configuration of a part: where it is, what it says, and what is reported of one that can't be used.
 ghost use Rattle.std.specs.Prelude.{◌≡◌, ◌≤◌, ◌++◌, ℕ, None, option_map, option_copied, is_none, codes, IfErr};
 ghost use Rattle.std.specs.Prelude.{IfSome, IsTrue};
 ghost use Rattle.disk_trait.specs.Past.{SameDisks};
@@ -92,7 +92,7 @@ fn query_conf<D: Disks, O: Sink>(
     }
 }
 
-/// Carries out an installation, or tells what it would do. So far its configuration is read.
+/// Carries out an installation, or reports what it would do. So far its configuration is read.
 #[tactic(auto, unfolding(crate::specs::Verdict::install_effect))]
 pub(crate) fn install<D: Disks, O: Sink>(
     alloc: Global,
@@ -135,7 +135,7 @@ fn boot_device<D: Disks>(
     }
 }
 
-// Shows the line that tells why a configuration can't be used, whose path is this one, and gives its status.
+// Shows the line that reports why a configuration can't be used, whose path is this one, and gives its status.
 fn say_conf<O: Sink>(out: &mut Shown<'_, O>, halt: ConfHalt, path: &[u8]) -> u8
     ensures status { result ≡ (conf_verdict path.now halt).status }
     ensures known { IsTrue (is_conf_status result) }

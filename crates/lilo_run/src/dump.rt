@@ -16,10 +16,10 @@ use loader_core::Shown;
 use setup_header::{Layout, Region};
 use stream_trait::Sink;
 
-/// How many bytes of memory a line tells.
+/// How many bytes of memory a line shows.
 const LINE: usize = 32;
 
-/// How many bytes are told by one text.
+/// How many bytes are shown by one text.
 const PIECE: usize = 64 * LINE;
 
 /// The lines of such a piece, of two digits a byte and a newline.

@@ -31,7 +31,7 @@ pub fn boot_sector() -> Sector {
     sector
 }
 
-// The first sector of a kernel: one setup sector behind it, and the boot flag.
+// The first sector of a kernel: one setup sector after it, and the boot flag.
 pub fn first_sector() -> Sector {
     let mut sector = [0; 512];
     put_part(&mut sector, 0x1F1, b"\x01");

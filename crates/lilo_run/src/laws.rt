@@ -6,7 +6,7 @@ pub fn boots_answer_as_the_model()
     ensures { BootVerdictLaw }
 {}
 
-/// Where no part boots, what words do is the same in a memory of any size.
+/// Where no part boots, what arguments do is the same in a memory of any size.
 pub fn memory_matters_to_boots_alone()
     ensures { NoMemoryLaw }
 {}

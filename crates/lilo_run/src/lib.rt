@@ -1,4 +1,4 @@
-//! What the program `lilo` does with its words, over disks, keys and a sink of text that the caller gives.
+//! What the program `lilo` does with its arguments, over disks, keys and a sink of text that the caller gives.
 //!
 //! [`lilo`] is the top call.
 #![tactic(auto)]

@@ -25,7 +25,7 @@ pub(crate) fn find_device<D: Disks>(disks: &mut D, device: Device) -> Result<Spa
     }
 }
 
-// How a refusal of partition tables is told.
+// How a refusal of partition tables is reported.
 pub(crate) fn place_halt(fault: TableFault) -> Halt
     ensures told { IsPlaceHalt fault result }
 {

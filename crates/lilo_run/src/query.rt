@@ -1,4 +1,4 @@
-// The names behind the boot sector of a device.
+// The names in the map of a device.
 ghost use Rattle.std.specs.Prelude.{◌≡◌, ◌≤◌, ◌<◌, Err, length, map, All, IfOk, IfSome, IsErrOf, IsTrue};
 ghost use Rattle.disk_trait.specs.Past.{Told};
 ghost use Rattle.lilo_model.specs.Checks.{with_fault};
@@ -30,7 +30,7 @@ use stream_trait::Sink;
 /// The names of a map as `-q` prints them, at most 48 lines of 18 bytes.
 type Listing = ArrayVec<u8, 1024>;
 
-/// Prints the names behind the boot sector of a device, a line each, with ` *` after the default's, and answers the
+/// Prints the names in the map of a device, a line each, with ` *` after the default's, and answers the
 /// status.
 #[tactic(auto, unfolding(crate::specs::Verdict::query_effect, lilo_model::specs::Verdict::query_verdict))]
 pub(crate) fn query_device<D: Disks, O: Sink>(
@@ -86,7 +86,7 @@ fn read_boot<D: Disks>(disks: &mut D, span: &Span) -> Result<BootSector, Halt>
     }
 }
 
-/// The names that stand behind a boot sector, a line each.
+/// The names in the map of a boot sector, a line each.
 #[tactic(auto, unfolding(lilo_model::specs::Verdict::names_behind))]
 fn read_names<D: Disks>(disks: &mut D, boot: &BootSector) -> Result<Listing, Halt>
     requires table { length boot.now.table.items ≡ 3 }
@@ -119,7 +119,7 @@ fn read_slots<D: Disks>(disks: &mut D, slots: &[Slot], into: &mut [Sector]) -> R
     }
 }
 
-/// How `-q` tells what is wrong with a map.
+/// How `-q` reports what is wrong with a map.
 fn map_halt(fault: MapFault) -> Halt
     ensures { IsMapHalt fault result }
 {

@@ -31,7 +31,7 @@ pub(crate) enum PlaceFault {
 pub(crate) enum Halt {
     /// A disk failed.
     Device,
-    /// The words need a part that isn't built yet.
+    /// The arguments need a part that isn't built yet.
     NotBuilt,
     /// The device isn't found.
     NoPlace(PlaceFault),
@@ -44,7 +44,7 @@ pub(crate) enum Halt {
 /// A line of text.
 pub(crate) type Line = ArrayVec<u8, 128>;
 
-/// Shows the line that tells why a command ended, and gives its status.
+/// Shows the line that reports why a command ended, and gives its status.
 pub(crate) fn say<O: Sink>(out: &mut Shown<'_, O>, halt: Halt) -> u8
     ensures status { result ≡ (halt_verdict halt).status }
     ensures known { IsTrue (is_plain_status result) }
@@ -74,7 +74,7 @@ impl Halt {
         }
     }
 
-    // The line that tells it, with its newline.
+    // The line that reports it, with its newline.
     #[tactic(auto, unfolding(lilo_model::specs::Refusal::refusal_line))]
     fn line(self) -> Line
         ensures { result.items ≡ (halt_verdict self).text }

@@ -1,4 +1,4 @@
-// The top call: what the program `lilo` does with its words.
+// The top call: what the program `lilo` does with its arguments.
 ghost use Rattle.std.specs.Prelude.{◌≡◌, true, Bool, ◌↔◌, ◌++◌, codes, false, length, IfSome, IfOk, IsOk};
 ghost use Rattle.std.specs.Prelude.{IsErr, IsTrue};
 ghost use Rattle.disk_trait.specs.Past.{SameDisks};
@@ -27,21 +27,21 @@ use loader_core::Shown;
 use std::alloc::Global;
 use stream_trait::{Sink, Source, Words, answer};
 
-/// Carries out words, and answers the exit status. Words are parts with a `--then` between each two, which are carried
-/// out in order until one answers other than 0: that status is the answer. A part that would answer 0, but whose text
-/// can't be shown, answers 12, and so the run ends there.
+/// Carries out arguments, and answers the exit status. Arguments are parts with a `--then` between each two, which are
+/// carried out in order until one answers other than 0: that status is the answer. A part that would answer 0, but
+/// whose text can't be shown, answers 12, and so the run ends there.
 ///
-/// `-q DEVICE` prints the names behind the boot sector of a device, a line each, with ` *` after the default's.
+/// `-q DEVICE` prints the names in the map of a device, a line each, with ` *` after the default's.
 /// Without a device it is that of `boot=` in the configuration, or the volume's: the file `/etc/lilo.conf`, or that
-/// behind `-C`, on the volume of the device behind `--root`, or on the first that is found.
-/// `boot DEVICE` boots it, by [`loader_core::boot`], and with `--dump` tells what was put into memory. The options
+/// after `-C`, on the volume of the device after `--root`, or on the first that is found.
+/// `boot DEVICE` boots it, by [`loader_core::boot`], and with `--dump` reports what was put into memory. The options
 /// `-C`, `--root` and `-v` before these two have no effect. An installation and `-t` read their configuration so far.
 /// What else the grammar has isn't built yet.
 ///
 /// | status | comes | text |
 /// |---|---|---|
 /// | 0 | done | the names; what the boot shows, and the memory |
-/// | 1 | the words aren't in the grammar | `lilo: usage: WORD`, or `(end)` |
+/// | 1 | the arguments aren't in the grammar | `lilo: usage: WORD`, or `(end)` |
 /// | 2 | the configuration's text is refused | `lilo: config: OPTION: REASON at line N` |
 /// | 3 | the device isn't found | `lilo: volume: no disk`, `no partition` or `table` |
 /// | 3 | the volume or the configuration's file isn't | `lilo: volume: no volume`, `layout`, `missing PATH`, `path PATH` |
@@ -64,7 +64,7 @@ pub fn lilo<D: Disks, I: Source, O: Sink>(
     ram: &mut Ram,
     now: u32,
 ) -> u8
-    // Where the disks tell what they hold, the status is the verdict's, but for faults.
+    // Where the disks report what they hold, the status is the verdict's, but for faults.
     ensures status { OnParts D.Disks I.Source disks.old (keys.old, keys.new) (length ram.old) words.now
         (λ parts _ _. Answers parts result) }
     ensures device { result ≡ 8 → Rose (D.faults disks.old) (D.faults disks.new) }
@@ -86,12 +86,12 @@ pub fn lilo<D: Disks, I: Source, O: Sink>(
         → OnDisks D.Disks disks.old (λ now machine. OnKeys I.Source (keys.old, keys.new) (λ all left.
         TellsBoot O.Sink now machine (length ram.old) (place_at now machine device) dump all left result out.old out.new)) }
 
-    // Words that aren't in the grammar, whatever the disks tell.
+    // Arguments that aren't in the grammar, whatever the disks report.
     ensures usage { (result ≡ 1) ↔ IsErr (run_at words.now) }
     ensures usage_line { IsErr (run_at words.now)
         → Prints (O.taken out.old) (usage_text words.now) (O.taken out.new) (O.faults out.old) (O.faults out.new) }
 
-    // Whatever the disks tell, these are the statuses, and what isn't built or is of a disk without sectors is known.
+    // Whatever the disks report, these are the statuses, and what isn't built or is of a disk without sectors is known.
     ensures statuses { IsTrue (is_status result) }
     ensures early { IfSome (early_answer (D.size_of disks.old) (run_at words.now)) (λ status. result ≡ status) }
 
@@ -111,7 +111,7 @@ pub fn lilo<D: Disks, I: Source, O: Sink>(
     run_words(alloc, words, &mut bios, ram, &mut shown)
 }
 
-/// Carries out words, and answers the status.
+/// Carries out arguments, and answers the status.
 #[tactic(auto, unfolding(crate::specs::Verdict::effects_of, crate::specs::Verdict::early_answer))]
 fn run_words<D: Disks, I: Source, O: Sink>(
     alloc: Global,
@@ -145,7 +145,7 @@ fn run_words<D: Disks, I: Source, O: Sink>(
     }
 }
 
-/// Carries out the parts of words in order, until one answers other than 0. One whose text can't be shown does.
+/// Carries out the parts of arguments in order, until one answers other than 0. One whose text can't be shown does.
 fn run_parts<D: Disks, I: Source, O: Sink>(
     alloc: Global,
     words: &Words,
@@ -180,7 +180,7 @@ fn run_parts<D: Disks, I: Source, O: Sink>(
     0
 }
 
-/// Shows the word of a command line that can't stand where it stands.
+/// Shows the argument of a command line that isn't allowed where it is.
 fn say_usage<O: Sink>(out: &mut Shown<'_, O>, word: &str)
     ensures shown { Shows (sink_of O.Sink out.old)
         (codes "lilo: usage: " ++ word.now ++ codes "\n") (sink_of O.Sink out.new) }

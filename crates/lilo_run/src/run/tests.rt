@@ -64,7 +64,7 @@ fn installation(alloc: Global, case: &Case<'_>) -> Result<MemDisks, AllocError> 
 }
 
 // A table with a partition of 20 sectors from its tenth on. Its second entry is a link to this very table, of no
-// sectors as it stands.
+// sectors as it is.
 fn logical_table() -> Sector {
     let mut sector = [0; 512];
     put_part(
@@ -245,7 +245,7 @@ const RUNS: [Case<'static>; 10] = [
         text: b"lilo: usage: (end)\n",
         ..WHOLE
     },
-    // Words that aren't in the grammar keep the part before them from running.
+    // Arguments that aren't in the grammar keep the part before them from running.
     Case {
         words: &["-q", "/dev/hda", "--then", "-q", "x"],
         status: 1,
@@ -378,7 +378,7 @@ const BOOTS: [Case<'static>; 6] = [
         text: b"lilo: boot: not bootable\n",
         ..WHOLE
     },
-    // An entry's lock isn't built, and the part behind the boot doesn't run.
+    // An entry's lock isn't built, and the part after the boot doesn't run.
     Case {
         words: &["boot", "/dev/hda", "--then", "-q", "/dev/hda"],
         sector: 95,
@@ -545,7 +545,7 @@ const FAULTS: [Case<'static>; 9] = [
         text: b"",
         ..WHOLE
     },
-    // A line that can't be shown leaves its status, also in front of other parts.
+    // A line that can't be shown leaves its status, also before other parts.
     Case {
         failing_puts: &[0],
         at: 0,
@@ -561,7 +561,7 @@ const FAULTS: [Case<'static>; 9] = [
         text: b"",
         ..WHOLE
     },
-    // The run ends at a part whose text can't be shown: the disk behind it isn't looked for, and no fifth call is made.
+    // The run ends at a part whose text can't be shown: the disk after it isn't looked for, and no fifth call is made.
     Case {
         failing_puts: &[0],
         words: &["-q", "/dev/hda", "--then", "-q", "/dev/hdb"],

@@ -1,4 +1,4 @@
--- The lines of a piece are shown behind those before them.
+-- The lines of a piece are shown after those before them.
 use Rattle.std.proofs.Common.{[], ◌++◌, sym, ap, ◌∙◌, rules, append_assoc}
 use Rattle.std.specs.Slice.Iter.{chunks_rest}
 use Rattle.stream_trait.proofs.ShowsLemmas.{shows_nothing, shows_join, shows_same}

@@ -1,4 +1,4 @@
--- The regions are shown one behind the other, with the initrd's where there is one.
+-- The regions are shown one after the other, with the initrd's where there is one.
 use Rattle.stream_trait.proofs.ShowsLemmas.{shows_nothing}
 use Rattle.lilo_run.proofs.DumpLemmas.{region_alone, regions_shown}
 use Rattle.lilo_run.proofs.dump.dump_memory.Goals as goal

@@ -1,4 +1,4 @@
--- The first line and the bytes are shown one behind the other.
+-- The first line and the bytes are shown one after the other.
 use Rattle.std.proofs.Common.{◌∙◌}
 use Rattle.stream_trait.proofs.ShowsLemmas.{shows_join, shows_same}
 use Rattle.lilo_run.specs.Dump.{hex_text}

@@ -1,4 +1,4 @@
--- A line goes behind those before it.
+-- A line goes after those before it.
 use Rattle.std.proofs.Common.{◌+◌, ◌∷◌, [], ◌++◌, length, ap, ◌∙◌, arith, rules, length-append}
 use Rattle.std.specs.List.{flat_map}
 use Rattle.std.specs.Slice.Iter.{chunks_rest}

@@ -1,4 +1,4 @@
--- The digits of the bytes so far stand in the text.
+-- The digits of the bytes so far are in the text.
 use Rattle.std.proofs.Common.{◌≡◌, ◌+◌, ◌*◌, ◌++◌, take, length}
 use Rattle.std.specs.List.{flat_map}
 use Rattle.lilo_model.specs.Bytes.{hex_byte}

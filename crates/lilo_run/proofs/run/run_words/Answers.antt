@@ -1,4 +1,4 @@
--- Words that are no run are told.
+-- Arguments that are no run are reported.
 use Rattle.lilo_words.specs.Wrong.{wrong_view}
 use Rattle.disk_trait.proofs.ToldLemmas.{told_all}
 use Rattle.lilo_run.proofs.RunLemmas.{usage_is, usage_runs}

@@ -24,7 +24,7 @@ use sector_parts::Sector;
 /// Why the default line isn't written.
 #[derive(Clone, Copy, Debug, PartialEq, Eq)]
 pub enum ShotFault {
-    /// The line has so many bytes, or more than 32 bits can tell; at most 255 fit.
+    /// The line has so many bytes, or more than 32 bits can hold; at most 255 fit.
     LineTooLong(u32),
     /// The boot sector is of another system, or of another version.
     NotOurs,

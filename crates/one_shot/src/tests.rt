@@ -115,7 +115,7 @@ fn left(alloc: Global, disks: &MemDisks, prefix: u32) -> Result<[Sector; 2], All
 }
 
 // The line is set and cleared, each by a write and a flush. What is left after each event is the line before or the one
-// after, and the sector behind it stays.
+// after, and the sector after it stays.
 #[test]
 fn a_line_is_set_and_cleared(rt: HostRuntime) -> Result<(), Fail> {
     let alloc = rt.alloc();
@@ -141,7 +141,7 @@ fn a_line_is_set_and_cleared(rt: HostRuntime) -> Result<(), Fail> {
     Ok(())
 }
 
-// Each refusal comes before those behind it, and nothing is written.
+// Each refusal comes before those after it, and nothing is written.
 #[test]
 fn refusals_come_in_order(rt: HostRuntime) -> Result<(), Fail> {
     let alloc = rt.alloc();

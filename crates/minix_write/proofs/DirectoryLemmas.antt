@@ -161,7 +161,7 @@ block_refused super parts inode index entries fault below refused before =
     let e : places super.kind inode.size ≡ suc (entries_per_block super.kind * index) + (places super.kind inode.size - suc (entries_per_block super.kind * index)) = omega (arith, at.next, at.some, at.here) in
     ap F e ∙ refuse_more (entry_at super parts inode) fault (suc (entries_per_block super.kind * index)) (places super.kind inode.size - suc (entries_per_block super.kind * index)) first
 
--- ---- where disks tell their past
+-- ---- where disks report their past
 
 abbrev pub SeesNow : Option Past → Volume → Inode → ℕ → List ℕ → List Promise → ℕ → Seen → Type 0
 SeesNow past volume inode directory name promises index seen =

@@ -23,7 +23,7 @@ pieces_same {A} size (suc most) (suc other) (item ∷ items) some few few' =
     let shorter : length (drop size (item ∷ items)) ≤ length items = omega (arith, length-drop size (item ∷ items)) in
     ap C (pieces_same size most other (drop size (item ∷ items)) some (omega (arith, shorter, few)) (omega (arith, shorter, few')))
 
--- the first piece, and those behind it
+-- the first piece, and those after it
 first_piece : {A : Type 0} (size : ℕ) (items : List A) → 0 < size → 0 < length items
     → all_pieces size items ≡ take size items ∷ all_pieces size (drop size items)
 first_piece size [] some there = absurd (omega arith)
@@ -63,7 +63,7 @@ unfolding made_above
 put_alone per zero blocks before after any none is pushed = rw (pushed, is) refl
 put_alone per (suc level) blocks before after any none is pushed = absurd (omega arith)
 
--- all blocks are behind
+-- all blocks are past
 pub put_all : (per level size : ℕ) (rest made whole : List Bool) → length rest ≡ 0
     → made ++ flat_map (made_above per level) (all_pieces size rest) ≡ whole → made ≡ whole
 put_all per level size [] made whole none so_far = sym (append-nil made) ∙ so_far

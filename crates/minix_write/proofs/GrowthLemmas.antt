@@ -47,7 +47,7 @@ pub level_more : {A : Type 0} (f : ℕ → A) (level : ℕ) (zones after : List 
     → after ≡ zones ++ (value ∷ []) → after ≡ map f (range_with_len 0 (level + 1))
 level_more f level zones after value so_far is pushed = rw (pushed, so_far, is) (sym (map_more f level))
 
--- ---- places behind
+-- ---- places after
 
 least_by : (taken : Bool) (place next : ℕ) → place ≤ next → place ≤ (if taken then next else place)
 least_by true place next order = order

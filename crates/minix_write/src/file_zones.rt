@@ -208,7 +208,7 @@ pub(crate) fn indirect_zones(
     )
 }
 
-/// The zones behind those of the file, of some that were found.
+/// The zones after those of the file, of some that were found.
 pub(crate) fn zones_behind<'z>(file: &FileZones, zones: &'z [u32]) -> &'z [u32]
     ensures { result.now ≡ drop file.now.need zones.now }
 {

@@ -284,7 +284,7 @@ impl Taken {
         if place < most { Some(place) } else { None }
     }
 
-    /// The place that was found free, or else the first behind the places that a directory has.
+    /// The place that was found free, or else the first after the places that a directory has.
     pub(crate) fn place_or_behind(
         &self,
         directory: u32,

@@ -9,7 +9,7 @@ pub struct Wish<'a> {
     /// The blocks that get no zone, in rising order: they read as zeros.
     pub holes: &'a [u32],
     pub time: u32,
-    /// The inode of the directory that it is to stand in.
+    /// The inode of the directory that it is to be in.
     pub directory: u32,
     pub name: &'a [u8],
 }

@@ -15,7 +15,7 @@ pub enum WriteFault {
     NameTooLong,
     /// The directory has the name.
     Exists,
-    /// A zone's number or an inode's size is refused: on a sound volume whose disks tell their past none is.
+    /// A zone's number or an inode's size is refused: on a sound volume whose disks report their past none is.
     Tree(TreeFault),
     /// The disk failed.
     Device,

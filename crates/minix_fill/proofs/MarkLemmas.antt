@@ -49,7 +49,7 @@ sector_written volume image sector bytes =
     with_same image volume.span.disk (volume.span.start + sector) bytes volume.span.disk (volume.span.start + sector)
     (here_is volume.span.disk (volume.span.start + sector) volume.span.disk (volume.span.start + sector) refl refl)
 
--- ---- marks join
+-- ---- bitmap bits join
 
 or_assoc : (a b c : Bool) → ((a || b) || c) ≡ (a || (b || c))
 or_assoc true b c = refl

@@ -1,4 +1,4 @@
--- A new file that stands but for its name: its inode and its indirect zones have the numbers that were chosen for it.
+-- A new file, complete but for its name: its inode and its indirect zones have the numbers that were chosen for it.
 use Rattle.std.specs.Prelude.{◌≡◌, ◌≢◌, ◌≤◌, ◌<◌, ℕ, ◌+◌, true, false, slice_index, Result, OnOk}
 use Rattle.disk_trait.specs.declared.disks.Disks.{Ghosts}
 use Rattle.disk_trait.specs.Moments.{IsTold, now, begun, IsQuiet}

@@ -6,7 +6,7 @@ use std::alloc::{AllocError, Global};
 use std::process::Abort;
 use std::test::Fail;
 
-// Disks in memory that don't tell their past: so the conditions of steps hold of any volume.
+// Disks in memory that don't report their past: so the conditions of steps hold of any volume.
 #[derive(Drop)]
 struct Untold {
     disks: MemDisks,
@@ -51,8 +51,8 @@ impl Disks for Untold {
     }
 }
 
-// A volume of 4200 zones of version 2 behind 8 other sectors: 16 inodes, the first data zone 5. The bits of the zones
-// stand in its sectors 6 and 7: zone 4100 has bit 4096, the first of the second one.
+// A volume of 4200 zones of version 2 after 8 other sectors: 16 inodes, the first data zone 5. The bits of the zones
+// are in its sectors 6 and 7: zone 4100 has bit 4096, the first of the second one.
 const SPAN: Span = Span {
     disk: 0,
     start: 8,
@@ -70,7 +70,7 @@ fn superblock() -> Sector {
     sector
 }
 
-// Two bytes, and zeros behind them.
+// Two bytes, and zeros after them.
 fn bytes(first: u8, second: u8) -> Sector {
     let mut sector: Sector = [0; 512];
     sector[0] = first;

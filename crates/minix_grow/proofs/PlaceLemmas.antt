@@ -24,7 +24,7 @@ places_to V1Long place = omega arith
 places_to V2Short place = omega arith
 places_to V2Long place = omega arith
 
--- a place past the size whose block lies where it lay is free once the size is behind it
+-- a place past the size whose block lies where it lay is free once the size is after it
 module _ (volume : Volume) (old new : Image) (directory place : ℕ) (past : IsPast volume.layout (parts_of volume old) directory place) (seen : SeenAsIn volume old new)
     (sized : ((parts_of volume new).node directory).size ≡ size_to volume.layout.kind place) where
   abbrev Was : Parts

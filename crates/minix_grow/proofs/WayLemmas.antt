@@ -13,7 +13,7 @@ step-up per x level =
     let power : per ^ level * per ≡ per ^ suc level = omega (arith, pow-succ' per level) in
     div-div-eq-div-mul x (per ^ level) per ∙ ap (λ m. x / m) power
 
--- a number stands in the zone of the next level
+-- a number is in the zone of the next level
 pub pointer_below : (kind : Kind) (block level : ℕ) → level < depth_of kind block → pointer_above kind block level ≡ below (pointer_above kind block (suc level)) (index_above kind block level)
 unfolding stop_pointer
 pointer_below kind block level low =
@@ -26,7 +26,7 @@ pointer_below kind block level low =
     let U : ℕ → Pointer = λ y. pointer_at top ((x / per ^ level % per) ∷ trail_of per (depth - suc level) y) in
     ap T e ∙ ap U (step-up per x level)
 
--- the highest stands in the inode
+-- the highest is in the inode
 pub pointer_highest : (kind : Kind) (block : ℕ) → pointer_above kind block (depth_of kind block) ≡ pointer_at (branch_of (numbers_in_zone kind) block).top []
 unfolding stop_pointer
 pointer_highest kind block =

@@ -66,7 +66,7 @@ module _ {D : Type 0} {disks : Ghosts D} (mid new : Volume D disks) (zones : Lis
         let inside : level < length zones = omega (arith, low, few) in
         one.zone_marks (slice_index zones level) (those.below level inside) ∙ marked level low
 
--- numbers of zones fit where they stand
+-- numbers of zones fit where they lie
 pub zones_fit : (layout : Super) (sectors : ℕ) (zones : List ℕ) → IsSuper (super_view layout) sectors → AreData layout zones → (level : ℕ) → level < length zones → slice_index zones level < 256 ^ number_size (kind_view layout.kind)
 zones_fit layout sectors zones whole those level low = let a = those.below level low in let b = whole.zones_fit in omega (arith, a, b)
 

@@ -1,4 +1,4 @@
--- The way to a block of a directory, from the block up: at level 0 stands the block's own number, and each level more is
+-- The way to a block of a directory, from the block up: at level 0 is the block's own number, and each level more is
 -- that of the indirect zone above (Minix file system, versions 1 and 2). What zones hold by which a way is completed is
 -- this project's own.
 use Rattle.std.specs.Prelude.{◌≡◌, ◌≢◌, ◌<◌, ℕ, zero, suc, ◌/◌, ◌%◌, ◌^◌, List, [], ◌∷◌, replicate, slice_index}
@@ -21,7 +21,7 @@ depth_of kind block = (branch_of (numbers_in_zone kind) block).depth
 abbrev pub pointer_above : Kind → ℕ → ℕ → Pointer
 pointer_above kind block level = stop_pointer (numbers_in_zone kind) (record { index = block; level = level })
 
--- at which index of the indirect zone above its number stands
+-- at which index of the indirect zone above its number is
 abbrev pub index_above : Kind → ℕ → ℕ → ℕ
 index_above kind block level = place_in_branch (numbers_in_zone kind) block / numbers_in_zone kind ^ level % numbers_in_zone kind
 

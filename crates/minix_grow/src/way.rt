@@ -47,7 +47,7 @@ pub(crate) fn branch_of(kind: FsKind, block: u32) -> Branch
     Branch { top, first, depth }
 }
 
-/// At which index of the indirect zone above it the number of a level stands.
+/// At which index of the indirect zone above it the number of a level is.
 #[tactic(auto, using(minix_zones::proofs::PowerLemmas::power_some, minix_zones::proofs::PowerLemmas::power_few))]
 pub(crate) fn index_above(kind: FsKind, block: u32, level: u32) -> u32
     requires { level ≤ 3 }

@@ -95,7 +95,7 @@ fn write_all<D: Disks>(
 }
 
 /// Marks and writes new zones that no name needs, by which the way to a block is completed, the lowest first, and makes
-/// that durable: the marks before the bytes.
+/// that durable: the bitmap bits before the bytes.
 ///
 /// # Errors
 ///

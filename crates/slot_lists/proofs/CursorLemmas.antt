@@ -177,7 +177,7 @@ module _ (mode : Mode) (geometry : Geometry) where
 module _ (before placed : SlotCursor) (runs : List Run) (zero_place place : DiskSector) (same : SameKind before placed)
     (kept : left_of placed runs zero_place ≡ left_of before runs zero_place)
     (first : Some place ≡ first_place (left_of before runs zero_place)) where
-  -- what the cursor that stands at a sector leaves after it
+  -- what the cursor at a sector leaves after it
   pub left-after : left_of (record placed { offset = placed.offset + 1 }) runs zero_place ≡ drop 1 (left_of before runs zero_place)
   unfolding left_of
   left-after = left-less zero_place runs placed.run placed.offset ∙ ap (drop 1) kept

@@ -71,7 +71,7 @@ module _ (zero_place : DiskSector) where
         ap (λ runs. filled_places zero_place (places_in runs)) (drop-cons runs index other within)
         ∙ map-append _ (run_places run) (places_in (drop (suc index) runs))
 
-    -- the cursor stands at a sector
+    -- the cursor is at a sector
     pub left-at : offset < run_count run → left_from runs index offset ≡ run_place zero_place run offset ∷ drop (suc offset) (filled_places zero_place (places_in (drop index runs)))
     left-at below =
         ap (drop offset) here ∙ run-at run offset behind below

@@ -147,7 +147,7 @@ impl SlotCursor {
         }
     }
 
-    // The next sector, in whose run the cursor then stands.
+    // The next sector, in whose run the cursor then is.
     fn place(&mut self, runs: &[Run], zero: DiskSector) -> Option<DiskSector>
         requires runs { All IsRun runs.now }
         requires zero { zero.disk ≤ 3 }

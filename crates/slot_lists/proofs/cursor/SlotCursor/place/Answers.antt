@@ -1,4 +1,4 @@
--- The cursor stands at a sector, or passes a run.
+-- The cursor is at a sector, or passes a run.
 use Rattle.std.proofs.Common.{◌-◌, ◌+◌, ◌∙◌, Some, sym, ap}
 use Rattle.slot_lists.specs.Made.{place_view}
 use Rattle.slot_lists.specs.Cursor.{left_of, first_place}

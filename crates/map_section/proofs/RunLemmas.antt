@@ -91,7 +91,7 @@ waiting given needed chain number link bytes = record {
 abbrev parts_from : List ℕ → ℕ → ℕ → List (List ℕ)
 parts_from bytes index left = map (λ at. part_of bytes (8 * at) 8) (range_with_len index left)
 
--- the steps behind a section sector's slots
+-- the steps after a section sector's slots
 abbrev steps_behind : Image → Machine → ℕ → ℕ → ℕ → List ℕ → List Step
 steps_behind image machine chain number more bytes =
     link_steps (chain_steps image machine chain (number + 1) more) (link_at number bytes)

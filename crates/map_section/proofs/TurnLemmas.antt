@@ -11,7 +11,7 @@ use Rattle.map_section.specs.Run.{listed_slot, listed_sector, listed_answer, run
 use Rattle.map_section.specs.Laws.{EnoughTurnsLaw, TurnsLaw}
 use Rattle.map_section.proofs.RunLemmas.{counted, reading}
 
--- the answer of a turn takes one, behind this reader
+-- the answer of a turn takes one, after this reader
 abbrev TurnTakesTurn : ReaderState → Turn → Type 0
 TurnTakesTurn old turn = AnswerTakesTurn old turn.state turn.answer
 

@@ -22,7 +22,7 @@ EnoughTurnsLaw =
     → turns_left state < turns
     → run_reader image machine first (more + turns) wanted state ≡ run_reader image machine first turns wanted state
 
--- Each answer of a reader but `Done` takes a turn: behind it fewer are left, once the section sector that is
+-- Each answer of a reader but `Done` takes a turn: after it fewer are left, once the section sector that is
 -- asked for is fed.
 abbrev pub TurnsLaw : Type 0
 TurnsLaw = (state : ReaderState) → AnswerTakesTurn state (next_of state).state (next_of state).answer

@@ -17,7 +17,7 @@ pub data Ask : Type 0 where
   -- the list is complete
   Done : Ask
 
--- where a reader stands
+-- where a reader is
 pub data Stage : Type 0 where
   -- a section sector is wanted: the first, or the one at a link
   Wanted : Option slots.Slot → Stage
@@ -38,7 +38,7 @@ pub record ReaderState : Type 0 where
   -- the bytes of the section sector at hand
   pub bytes : List ℕ
 
--- an answer, and the reader behind it
+-- an answer, and the reader after it
 pub record Turn : Type 0 where
   pub answer : Result Ask SectionFault
   pub state : ReaderState
@@ -65,7 +65,7 @@ begun sectors chain bytes = record {
 abbrev pub refused : ReaderState → SectionFault → Turn
 refused state fault = record { answer = Err fault; state = record state { stage = Refused fault } }
 
--- the reader behind a slot that it named
+-- the reader after a slot that it named
 abbrev pub behind_slot : ReaderState → ℕ → slots.Slot → ReaderState
 behind_slot state index slot = record state {
   given = state.given + min slot.count state.needed;
@@ -101,7 +101,7 @@ slot_turn state index (Ok None) = end_turn state
 slot_turn state index (Ok (Some slot)) =
     record { answer = Ok (Slot slot); state = behind_slot state index slot }
 
--- at a slot of the section sector at hand, or behind the last one
+-- at a slot of the section sector at hand, or after the last one
 abbrev pub slots_turn : ReaderState → ℕ → Turn
 slots_turn state index =
     if nat_lt index 63 then slot_turn state index (slot_at (part_of state.bytes (8 * index) 8)) else end_turn state
@@ -148,7 +148,7 @@ Offers Done state = Unit {0}
 
 -- ---- how long it goes on
 
--- how many answers behind a section sector there are at most until the last one
+-- how many answers after a section sector there are at most until the last one
 abbrev pub sector_turns : ReaderState → ℕ
 sector_turns state = state.needed + (state.chain - state.number)
 

@@ -7,12 +7,12 @@ use Rattle.lilo_model.specs.Slots as slots
 use Rattle.lilo_model.specs.Slots.{place_at}
 use Rattle.map_section.specs.Reader.{Ask, Slot, Sector, First, Done, ReaderState, next_of, fed}
 
--- a place that a slot names, and what is listed behind it
+-- a place that a slot names, and what is listed after it
 abbrev pub listed_place : Listing → Result DiskSector slots.AddressFault → Listing
 listed_place behind (Ok place) = with_place place behind
 listed_place behind (Err fault) = ended_listing (Some NotFound)
 
--- the places of so many sectors of a slot, from an index on, and what is listed behind them
+-- the places of so many sectors of a slot, from an index on, and what is listed after them
 abbrev pub listed_slot : Machine → slots.Slot → ℕ → ℕ → Listing → Listing
 listed_slot machine slot index zero behind = behind
 listed_slot machine slot index (suc more) behind =

@@ -1,4 +1,4 @@
--- For which plain value each value of this crate stands.
+-- Which plain value each value of this crate stands for.
 use Rattle.std.specs.Prelude.{Option, None, Some}
 use Rattle.std.specs.Option.{option_map}
 use Rattle.std.specs.Borrow.{Bor}
@@ -36,7 +36,7 @@ section_fault_view (faults.BadSlot place) = model.BadSlot place
 section_fault_view (faults.ChainTooLong chain) = model.ChainTooLong chain
 section_fault_view (faults.ShortChain sectors) = model.ShortChain sectors
 
--- where a reader stands
+-- where a reader is
 abbrev pub stage_view : Stage → reader.Stage
 stage_view (stages.Wanted link) = reader.Wanted (option_map slot_view link)
 stage_view (stages.Slots index) = reader.Slots index

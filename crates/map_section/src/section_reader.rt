@@ -17,7 +17,7 @@ pub enum SectionFault {
     /// Eight bytes are no slot, or those of a link no slot of one sector. Places count from 0, 64 for each
     /// section sector.
     BadSlot(u32),
-    /// More sectors are needed, and a link stands behind this many section sectors, the most allowed.
+    /// More sectors are needed, and a link comes after this many section sectors, the most allowed.
     ChainTooLong(u16),
     /// More sectors are needed, and the chain ends after this many sectors.
     ShortChain(u32),
@@ -36,7 +36,7 @@ pub enum Ask {
     Done,
 }
 
-// Where a reader stands.
+// Where a reader is.
 #[derive(Clone, Copy)]
 enum Stage {
     // A section sector is wanted: the first, or the one at a link.
@@ -126,7 +126,7 @@ impl SectionReader {
         }
     }
 
-    // The slot of an index, or what stands behind the last one.
+    // The slot of an index, or what comes after the last one.
     fn next_slot(&mut self, index: u8) -> Result<Ask, SectionFault>
         requires { 0 < self.old.needed }
         ensures answer { seen ask_view section_fault_view result ≡ (slots_turn self.old index).answer }

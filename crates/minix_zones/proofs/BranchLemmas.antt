@@ -1,4 +1,4 @@
--- The branch of a block, and those of the blocks behind it.
+-- The branch of a block, and those of the blocks after it.
 use Rattle.std.proofs.Common.{◌≡◌, ◌≤◌, ◌<◌, ◌+◌, ◌*◌, ◌-◌, ◌%◌, ◌^◌, ℕ, zero, suc, Bool, true, false, nat_lt, refl, sym, ap, ◌∙◌, subst, arith}
 use Rattle.std.proofs.lemmas.Bool.Decides.{nat_tests}
 use Rattle.std.proofs.lemmas.Bool.{ltb-true, ltb-false}
@@ -50,7 +50,7 @@ pub begins_itself : (per index : ℕ) → begins per index 0 ≡ true
 unfolding begins
 begins_itself per index = grind (arith, nat_tests, pow-zero per, ap (λ n. place_in_branch per index % n) (pow-zero per) ∙ mod-one (place_in_branch per index))
 
--- a block that is near behind one in a branch is in that branch too
+-- a block that comes soon after one in a branch is in that branch too
 in_range : (per index first depth level next : ℕ) → 0 < per ^ level → level ≤ depth → first ≤ index → (index - first) % per ^ level ≡ 0
     → index < first + per ^ depth → next < index + per ^ level → next < first + per ^ depth
 in_range per index first depth level next some low above whole below near =

@@ -1,4 +1,4 @@
--- Zones that are held, where disks tell their past.
+-- Zones that are held, where disks report their past.
 use Rattle.std.proofs.Common.{◌≡◌, ◌<◌, ℕ, List, length, All, Option, inl, inr, sym, ap, ◌∙◌, arith}
 use Rattle.std.specs.Prelude.{slice_index_or}
 use Rattle.std.proofs.Math.ListN.{set}

@@ -31,7 +31,7 @@ follow_hole super bytes_of zone per above (suc more) place hole =
     (subst (λ n. follow_at super bytes_of zone (trail_of per above n) ≡ Ok 0) (sym (step_quotient per place more)) hole) in
     rw deep (below-hole super bytes_of (place % per) (follow_at super bytes_of zone (trail_of per (above + more) (place / per))) upper)
 
--- what stands at the stops below one that is a hole
+-- what is at the stops below one that is a hole
 pub hole_below : (super : Super) (parts : Parts) (inode : Inode) (per index level next lower : ℕ)
     → per ≡ numbers_in_zone super.kind → 0 < per → begins per index level ≡ true → lower ≤ level → index ≤ next → next < index + per ^ level
     → stop_number super parts inode (record { index = index; level = level }) ≡ Ok 0

@@ -12,7 +12,7 @@ pub same_quotient : (x y m : ℕ) → x % m ≡ 0 → x ≤ y → y < x + m → 
 same_quotient x y m whole above below =
     ap (λ n. n / m) (above_multiple x y m whole above) ∙ div-mul-add (x / m) m (y - x) (omega arith)
 
--- and what is left of them is how far they stand above the lower one
+-- and what is left of them is how far they are above the lower one
 pub left_over : (x y m : ℕ) → x % m ≡ 0 → x ≤ y → y < x + m → y % m ≡ y - x
 left_over x y m whole above below =
     ap (λ n. n % m) (above_multiple x y m whole above) ∙ mod-mul-add (x / m) m (y - x) (omega arith)
@@ -23,7 +23,7 @@ multiple_of_factor y m k whole =
     let e : y ≡ y / (m * k) * k * m = omega (arith, div-add-mod' y (m * k)) in
     ap (λ n. n % m) e ∙ mul-mod_left (y / (m * k) * k) m
 
--- behind a multiple that lies below a product there is room for another
+-- after a multiple that lies below a product there is room for another
 pub room_behind : (x m k : ℕ) → 0 < m → x % m ≡ 0 → x < m * k → x + m ≤ m * k
 room_behind x m k some whole below =
     let q : x / m < k = div_below x m k some (omega arith) in

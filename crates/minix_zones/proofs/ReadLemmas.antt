@@ -1,4 +1,4 @@
--- The bytes of a block, where disks tell their past.
+-- The bytes of a block, where disks report their past.
 use Rattle.std.proofs.Common.{◌≡◌, ℕ, List, Option, None, Some, Result, Ok, sym, ap, ◌∙◌}
 use Rattle.std.specs.Prelude.{replicate}
 use Rattle.disk_trait.specs.Past.{Past, Told, now_of}

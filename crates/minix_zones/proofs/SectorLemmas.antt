@@ -1,4 +1,4 @@
--- Sectors that are held, where disks tell their past.
+-- Sectors that are held, where disks report their past.
 use Rattle.std.proofs.Common.{◌≡◌, ℕ, List, Option, None, Some, refl, subst}
 use Rattle.disk_trait.specs.Past.{Past, Image, now_of, Told}
 use Rattle.minix_zones.specs.declared.held_sectors.HeldSectors.{HeldSectors}

@@ -108,7 +108,7 @@ refused-by super parts old (faults.ZoneOutside zone) before now more begun cause
     refused-rest super parts old (model.ZoneOutside zone) more begun is
 refused-by super parts old faults.Device before now more begun cause is = tt
 
--- ---- the same where the past is told
+-- ---- the same where the past is known
 
 pub turn_lower : (past : Option Past) (volume : Volume) (old new : Walk) → begins (per_of volume.layout) old.index old.level ≡ false
     → HasCome old new old.index (old.level - 1)

@@ -66,7 +66,7 @@ pass-from number per index (suc blocks) (suc count) holes =
     let left : count - blocks ≡ suc count - suc blocks = omega arith in
     here ∙ others ∙ ap (λ n. met_at number (stops_from per n (count - blocks))) at ∙ ap (λ n. met_at number (stops_from per (index + suc blocks) n)) left
 
--- two blocks that are found through one pointer: the pointers of the second stand no higher
+-- two blocks that are found through one pointer: the pointers of the second are no higher
 behind-first : (per index level next lower : ℕ) → 0 < per → begins per index level ≡ true → index < next → next < index + per ^ level
     → begins per next lower ≡ true → level ≤ lower → ⊥
 behind-first per index level next lower some begun after near under above =
@@ -87,7 +87,7 @@ by-order per index level next lower some begun after near under true is = leb-tr
 by-order per index level next lower some begun after near under false is =
     absurd (behind-first per index level next lower some begun after near under (let high = leb-false lower level is in omega arith))
 
--- no pointer that stands higher begins at a later block that is found through one
+-- no pointer that is higher begins at a later block that is found through one
 lower-behind : (per index level next lower : ℕ) → 0 < per → begins per index level ≡ true → index < next → next < index + per ^ level
     → begins per next lower ≡ true → lower ≤ level
 lower-behind per index level next lower some begun after near under =
@@ -125,7 +125,7 @@ lower_level per index (suc level) end none =
     let e : suc level - 1 ≡ level = omega arith in
     (omega arith, rw (none, e) refl)
 
--- the stop that comes next, and those behind it
+-- the stop that comes next, and those after it
 pub next_block : (per index end : ℕ) → index < end
     → stops_left per index 0 end ≡ record { index = index; level = 0 } ∷ stops_left per (index + 1) 3 end
 unfolding stops_left stops_at

@@ -16,7 +16,7 @@ HoldsZone parts held = (held.zone ≡ 0) ⊎ (held.bytes ≡ parts.zone held.zon
 abbrev pub Holds : Parts → HeldZones → Type 0
 Holds parts held = All (HoldsZone parts) held.levels
 
--- a zone that is held has its bytes on a volume still, where its disks tell their past
+-- a zone that is held has its bytes on a volume still, where its disks report their past
 abbrev pub IsHeld : {D : Type 0} {disks : Ghosts D} → Volume D disks → HeldZone → Type 0
 IsHeld volume held = Told (past_of volume) (λ now. HoldsZone (parts_of (volume_view volume) now) held)
 

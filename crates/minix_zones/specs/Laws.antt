@@ -13,7 +13,7 @@ pub record IsStop (kind : Kind) (stop : Stop) : Type 0 where
   pub reached : stop.index < reach kind
   pub begun : begins (numbers_in_zone kind) stop.index stop.level ≡ true
 
--- one stop comes before another: its block is an earlier one, or it stands higher
+-- one stop comes before another: its block is an earlier one, or it is higher
 abbrev pub Before : Stop → Stop → Type 0
 Before one other = (one.index < other.index) ⊎ ((one.index ≡ other.index) × (other.level < one.level))
 

@@ -12,6 +12,6 @@ HasSector disk now held = held.full ≡ true → held.bytes ≡ now disk held.se
 abbrev pub HaveSectors : ℕ → Image → HeldSectors → Type 0
 HaveSectors disk now held = All (HasSector disk now) held.places
 
--- they are those that the disk has now, where its past is told
+-- they are those that the disk has now, where its past is known
 abbrev pub AreNow : Option Past → ℕ → HeldSectors → Type 0
 AreNow told disk held = (past : Past) → told ≡ Some past → HaveSectors disk (now_of past) held

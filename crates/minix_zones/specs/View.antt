@@ -1,4 +1,4 @@
--- For which plain value of the model each value of this crate stands, and when an answer is the model's.
+-- Which plain value of the model each value of this crate stands for, and when an answer is the model's.
 use Rattle.std.specs.Prelude.{◌≡◌, ◌⊎◌, ◌≤◌, ◌<◌, ℕ, Result, Ok, Err}
 use Rattle.lilo_model.specs.Faults.{Rose}
 use Rattle.disk_trait.specs.declared.disks.Span.{Span}
@@ -32,7 +32,7 @@ abbrev pub Gives : {A B : Type 0} → (A → B) → Result A ZoneFault → Resul
 Gives view (Ok value) found = found ≡ Ok (view value)
 Gives view (Err fault) found = Refuses fault found
 
--- what stands at an index as the number of a zone, 0 for a hole
+-- what is at an index as the number of a zone, 0 for a hole
 abbrev pub zone_number : ZoneAt → ℕ
 zone_number Hole = 0
 zone_number (Zone zone) = zone
@@ -47,7 +47,7 @@ pub record IsDataZone (layout : Super) (zone : ℕ) : Type 0 where
 abbrev pub IsInside : Super → ℕ → Type 0
 IsInside layout zone = (zone ≡ 0) ⊎ IsDataZone layout zone
 
--- what stands at an index is a hole or a data zone
+-- what is at an index is a hole or a data zone
 abbrev pub IsZoneAt : Super → ZoneAt → Type 0
 IsZoneAt layout Hole = Unit {0}
 IsZoneAt layout (Zone zone) = IsDataZone layout zone

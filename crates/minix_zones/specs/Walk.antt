@@ -1,4 +1,4 @@
--- What a walk over an inode's zones has left to meet, and how its answers stand to that.
+-- What a walk over an inode's zones has left to meet, and how its answers relate to that.
 use Rattle.std.specs.Prelude.{◌≡◌, ◌≤◌, ℕ, ◌+◌, ◌-◌, ◌*◌, nat_lt, if◌then◌else◌, List, [], ◌∷◌, ◌++◌, Option, None, Some, Result, Ok, Err}
 use Rattle.lilo_model.specs.MinixLayout.{Super, numbers_in_zone}
 use Rattle.lilo_model.specs.MinixParts as model

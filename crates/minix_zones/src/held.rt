@@ -96,7 +96,7 @@ impl HeldZones {
         HeldZones { levels: [none; 3] }
     }
 
-    /// What stands at an index of a file, as `zone_at` answers it.
+    /// What is at an index of a file, as `zone_at` answers it.
     ///
     /// # Errors
     ///
@@ -171,7 +171,7 @@ impl HeldZones {
         }
     }
 
-    /// The number that stands this many levels above a block.
+    /// The number that is this many levels above a block.
     #[tactic(auto, unfolding(lilo_model::specs::MinixWalk::stop_pointer))]
     pub(crate) fn number_above<D: Disks>(
         &mut self,
@@ -203,7 +203,7 @@ impl HeldZones {
         )
     }
 
-    // The number that stands this many levels of indirect zones below another one, on the way to a block that
+    // The number that is this many levels of indirect zones below another one, on the way to a block that
     // is counted from the first one found by it.
     #[tactic(auto, unfolding(lilo_model::specs::MinixParts::follow_at), using(crate::proofs::ZoneLemmas::follow_at_below))]
     fn follow<D: Disks>(

@@ -1,4 +1,4 @@
-//! Zones of a Minix volume, versions 1 and 2: what stands at each index of a file.
+//! Zones of a Minix volume, versions 1 and 2: what is at each index of a file.
 //!
 //! A [`Volume`] is a span of a disk whose superblock was read. The numbers in an inode lead to the zones of
 //! its file: seven by themselves, and three through one, two and three levels of indirect zones. Zone 0 is a

@@ -8,7 +8,7 @@ use std::alloc::{AllocError, Global};
 use std::process::Abort;
 use std::test::Fail;
 
-// A volume of 80 sectors behind 8 others: 16 inodes, 40 zones, the first data zone 5.
+// A volume of 80 sectors after 8 others: 16 inodes, 40 zones, the first data zone 5.
 const SPAN: Span = Span {
     disk: 0,
     start: 8,
@@ -164,7 +164,7 @@ fn numbers_outside(rt: HostRuntime) -> Result<(), Fail> {
     Ok(())
 }
 
-// Version 1 has 512 numbers of two bytes: number 300 stands at byte 600 of its zone.
+// Version 1 has 512 numbers of two bytes: number 300 is at byte 600 of its zone.
 #[test]
 fn numbers_of_version_1(rt: HostRuntime) -> Result<(), Fail> {
     let mut disks = disks_with(rt.alloc(), 0x137F, &[])?;
@@ -320,7 +320,7 @@ fn a_stop_leaves_out_a_write_alone(rt: HostRuntime) -> Result<(), Fail> {
     Ok(())
 }
 
-// What stands at an index of the file, looked up along zones that are held, is what zone_at answers.
+// What is at an index of the file, looked up along zones that are held, is what zone_at answers.
 fn same_at<D: Disks>(rt: &impl Abort, held: &mut HeldZones, volume: &mut Volume<'_, D>, index: u32)
     requires { AreHeld volume.old held.old }
     ensures { AreHeld volume.new held.new }
@@ -354,7 +354,7 @@ fn held_zones_answer_as_the_plain_call(rt: HostRuntime) -> Result<(), Fail> {
 }
 
 // The superblock is read by call 0, and the two indirect zones on the way to the first block by calls 1 to 4. Blocks that
-// stand behind the same ones have no more: call 5 is the first on another way.
+// are reached through the same ones have no more: call 5 is the first on another way.
 #[test]
 fn each_indirect_zone_is_read_once(rt: HostRuntime) -> Result<(), Fail> {
     let failing = Failing {

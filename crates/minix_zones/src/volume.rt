@@ -39,7 +39,7 @@ impl<'d, D: Disks> Volume<'d, D> {
     ghost use Rattle.minix_zones.specs.View.{span_view, Gives};
     ghost use Rattle.minix_zones.specs.Volume.{volume_view, past_of, faults_of, SameVolume, HasDeviceCause, WritesSector, Syncs, attached, disks_in};
 
-    /// Reads the superblock of the volume that stands in a span of a disk, and takes the disks.
+    /// Reads the superblock of the volume in a span of a disk, and takes the disks.
     ///
     /// # Errors
     ///

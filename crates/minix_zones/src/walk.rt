@@ -13,14 +13,14 @@ use minix_layout::{FsKind, Inode};
 const LEVELS: u32 = 3;
 
 /// A walk over the zones of an inode: each once per pointer, an indirect zone before what it names. `next` keeps no
-/// zone's bytes, and so each answer is of the volume as it stands then.
+/// zone's bytes, and so each answer is of the volume as it is then.
 #[derive(Clone, Copy, Debug)]
 pub struct Walk {
     inode: Inode,
-    // The next block, and how many levels above it the pointers may stand that are still to come.
+    // The next block, and how many levels above it the pointers may be that are still to come.
     index: u32,
     level: u32,
-    // The block behind the last one.
+    // The block after the last one.
     end: u32,
     ghost few: { end ≤ 16843015 },
     ghost low: { level ≤ 3 },
@@ -117,7 +117,7 @@ impl Walk {
         Ok(None)
     }
 
-    // One stop: the zone there, or nothing at a hole, behind which all its blocks are passed.
+    // One stop: the zone there, or nothing at a hole, after which all its blocks are passed.
     fn turn<D: Disks>(
         &mut self,
         volume: &mut Volume<'_, D>,
@@ -174,7 +174,7 @@ impl Walk {
         self.level = LEVELS;
     }
 
-    // Goes on behind a stop where there was a zone: to what it names, or to the next block.
+    // Goes on after a stop where there was a zone: to what it names, or to the next block.
     fn step(&mut self)
         requires { self.old.index < self.old.end }
         ensures below { 0 < self.old.level

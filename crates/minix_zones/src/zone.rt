@@ -1,4 +1,4 @@
-// The zone that stands at an index of a file.
+// The zone at an index of a file.
 ghost use Rattle.std.specs.Prelude.{◌≡◌, ◌+◌, ◌*◌, ◌-◌, ◌^◌, ◌<◌, ◌≤◌, replicate, slice_index, IfOk, IfErr, OnErr};
 ghost use Rattle.disk_trait.specs.Past.{Told};
 ghost use Rattle.lilo_model.specs.MinixLayout.{numbers_in_zone, reach};
@@ -15,7 +15,7 @@ use disk_trait::Disks;
 use minix_layout::{FsKind, Inode, Super};
 use sector_parts::FieldRef;
 
-/// What stands at an index of a file.
+/// What is at an index of a file.
 #[derive(Clone, Copy, Debug, PartialEq, Eq)]
 pub enum ZoneAt {
     /// No zone: the bytes are zeros.
@@ -97,7 +97,7 @@ pub fn number_below<D: Disks>(
     inside(volume.layout(), number)
 }
 
-/// The number that stands this many levels of indirect zones below another one, on the way to a block that is
+/// The number that is this many levels of indirect zones below another one, on the way to a block that is
 /// counted from the first one found by it.
 #[tactic(auto, unfolding(lilo_model::specs::MinixParts::follow_at), using(crate::proofs::ZoneLemmas::follow_at_below))]
 fn follow<D: Disks>(
@@ -162,7 +162,7 @@ pub fn way_to(kind: FsKind, index: u32) -> Way
     }
 }
 
-/// What stands at an index of a file, counted in blocks of 1024 bytes from 0.
+/// What is at an index of a file, counted in blocks of 1024 bytes from 0.
 ///
 /// # Errors
 ///

@@ -1,4 +1,4 @@
--- What stands at an index is a hole or a data zone.
+-- What is at an index is a hole or a data zone.
 use Rattle.minix_zones.proofs.held.HeldZones.zone_at.Goals as goal
 
 pub returns-clause-data : goal.returns-clause-data

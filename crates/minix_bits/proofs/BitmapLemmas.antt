@@ -45,7 +45,7 @@ fits super sectors passes =
       below = grind (arith, nat_tests);
     }
 
--- the first data zone stands behind block 1
+-- the first data zone comes after block 1
 pub first_some : (super : Super) (sectors : ℕ) → IsSuper super sectors → 2 ≤ super.first
 first_some super sectors is = let f = fits super sectors is.passes in omega arith
 

@@ -64,7 +64,7 @@ sector_lowest past volume bitmap bytes avoid found at base end from base_is end_
     subst P end_is (same_lowest (is_free_in bytes base avoid) (is_free_on volume now bitmap avoid) at end found (λ m low high. same_in volume now bitmap bytes avoid at from is base end m base_is end_is low high) lowest))
     held
 
--- ---- the marks of a volume
+-- ---- the bitmap bits of a volume
 
 zone_marks : (volume : Volume) (image : Image) (n : ℕ) → 1 ≤ volume.layout.first → marked volume image (zone_bitmap volume.layout) n ≡ (parts_of volume image).has_zone n
 unfolding marked parts_of

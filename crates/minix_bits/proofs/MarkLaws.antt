@@ -1,4 +1,4 @@
--- What a mark changes of the parts of a volume.
+-- What one bitmap bit changes of the parts of a volume.
 use Rattle.std.proofs.Common.{◌≡◌, ◌≢◌, ◌≤◌, ◌<◌, ◌+◌, ◌*◌, ◌/◌, ◌%◌, ◌++◌, ℕ, Bool, false, List, length, refl, ap, ap₂, sym, ◌∙◌, arith, ⊎_elim}
 use Rattle.std.proofs.lemmas.Bool.{cases_eq}
 use Rattle.std.proofs.lemmas.Bool.Decides.{nat_tests}
@@ -42,7 +42,7 @@ module _ (volume : Volume) (image : Image) (sector at : ℕ) (value : Bool) (lon
   unfolding bytes
   beside_bit k apart = ap (λ (held : List ℕ). bit held k) mark_same ∙ bit_elsewhere (sector_of volume image sector) at k value (omega (arith, long, within)) apart
 
-  -- an inode and the bytes of a zone that don't stand in the sector
+  -- an inode and the bytes of a zone that aren't in the sector
   node_same : (inode : ℕ) → (inode_place volume.layout inode).sector ≢ sector → (parts_of volume new).node inode ≡ (parts_of volume image).node inode
   unfolding parts_of
   node_same inode apart =
@@ -72,7 +72,7 @@ module _ (volume : Volume) (image : Image) (sector at : ℕ) (value : Bool) (lon
       ap (λ (s : ℕ). bit (sector_of volume new s) (zone_bit volume.layout zone % 4096)) same ∙ beside_bit (zone_bit volume.layout zone % 4096) apart
       ∙ sym (ap (λ (s : ℕ). bit (sector_of volume image s) (zone_bit volume.layout zone % 4096)) same)
 
--- the table of inodes begins behind the bitmaps
+-- the table of inodes begins after the bitmaps
 table_behind : (super : Super) (inode : ℕ) → 2 * table_start super ≤ (inode_place super inode).sector
 unfolding inode_place
 table_behind super inode = omega arith

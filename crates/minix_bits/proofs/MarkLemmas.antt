@@ -1,4 +1,4 @@
--- The bytes of a sector with a mark, as they were read.
+-- The bytes of a sector with a bitmap bit, as they were read.
 use Rattle.std.proofs.Common.{◌≡◌, ℕ, Bool, List}
 use Rattle.disk_trait.specs.declared.disks.Disks.{Ghosts}
 use Rattle.disk_trait.specs.Past.{Told}
@@ -9,7 +9,7 @@ use Rattle.minix_zones.specs.declared.volume.Volume.{Volume}
 use Rattle.minix_zones.specs.Volume.{volume_view, past_of}
 use Rattle.minix_bits.specs.Mark.{remarked}
 
--- what was read, where it is told
+-- what was read, where it is known
 pub read_bytes : {D : Type 0} {disks : Ghosts D} (old : Volume D disks) (sector at : ℕ) (value : Bool) (read : List ℕ)
     → Told (past_of old) (λ now. read ≡ with_bit (sector_of (volume_view old) now sector) at value) → IsTold (past_of old) → read ≡ remarked old sector at value
 read_bytes old sector at value read holds told =

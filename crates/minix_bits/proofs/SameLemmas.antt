@@ -1,4 +1,4 @@
--- What disks hold is the same behind a call that changed nothing.
+-- What disks hold is the same after a call that changed nothing.
 use Rattle.std.proofs.Common.{◌≡◌, Option, refl, subst}
 use Rattle.disk_trait.specs.declared.disks.Disks.{Ghosts}
 use Rattle.disk_trait.specs.Past.{Past, Image, Told}
@@ -10,7 +10,7 @@ pub same_view : {D : Type 0} {disks : Ghosts D} (old new : Volume D disks) → S
 same_view old new same =
     rw (same.same_span, same.same_layout) refl
 
--- so a fact on the disks behind it is one on those before it
+-- so a fact on the disks after it is one on those before it
 pub told_back : {D : Type 0} {disks : Ghosts D} (old new : Volume D disks) (P : model.Volume → Image → Type 0)
     → SameVolume old new → Told (past_of new) (P (volume_view new)) → Told (past_of old) (P (volume_view old))
 told_back old new P same told =

@@ -1,4 +1,4 @@
--- Where the bits of zones and inodes stand on a volume.
+-- Where the bits of zones and inodes lie on a volume.
 use Rattle.std.specs.Prelude.{◌<◌, ℕ, ◌+◌, ◌-◌, ◌*◌, ◌/◌, ◌%◌, min, Bool}
 use Rattle.lilo_model.specs.Disks.{Image}
 use Rattle.lilo_model.specs.MinixLayout.{Super}
@@ -27,7 +27,7 @@ pub record IsNumberOf (bitmap : Bitmap) (n : ℕ) : Type 0 where
 abbrev pub base_of : Bitmap → ℕ → ℕ
 base_of bitmap at = at - (at - bitmap.origin) % 4096
 
--- the number behind the last one whose bit is in that sector
+-- the number after the last one whose bit is in that sector
 abbrev pub end_of : Bitmap → ℕ → ℕ
 end_of bitmap at = base_of bitmap at + min (bitmap.end - base_of bitmap at) 4096
 

@@ -1,4 +1,4 @@
--- What a mark changes, as laws.
+-- What one bitmap bit changes, as laws.
 use Rattle.std.specs.Prelude.{◌≡◌, ◌≢◌, ◌<◌, ◌≤◌, ◌*◌, ◌%◌, ◌+◌, ℕ, Bool, List, length}
 use Rattle.lilo_model.specs.Disks.{Image}
 use Rattle.lilo_model.specs.MinixLayout.{IsSuper}
@@ -20,7 +20,7 @@ abbrev pub with_mark : Volume → Image → ℕ → ℕ → Bool → Image
 with_mark volume image sector at value =
     with_sector image volume.span.disk (volume.span.start + sector) (with_bit (sector_of volume image sector) at value)
 
--- of the parts of a volume one zone's mark alone is another
+-- of the parts of a volume one zone's bitmap bit alone is another
 pub record OneZoneMark (volume : Volume) (old new : Parts) (zone : ℕ) (value : Bool) : Type 0 where
   pub here : new.has_zone zone ≡ value
   pub other_zones :
@@ -42,7 +42,7 @@ ZoneMarkLaw =
     zone
     value
 
--- of the parts of a volume one inode's mark alone is another
+-- of the parts of a volume one inode's bitmap bit alone is another
 pub record OneInodeMark (volume : Volume) (old new : Parts) (inode : ℕ) (value : Bool) : Type 0 where
   pub here : new.has_inode inode ≡ value
   pub other_inodes :

@@ -1,6 +1,6 @@
 // Refusals.
 
-/// Why no zones or inodes are found, or a mark can't be written.
+/// Why no zones or inodes are found, or a bitmap bit can't be written.
 #[derive(Clone, Copy, Debug, PartialEq, Eq)]
 pub enum BitFault {
     /// So many zones are needed, and fewer are free.

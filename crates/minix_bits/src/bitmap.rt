@@ -1,4 +1,4 @@
-// Where the bits of zones and inodes stand.
+// Where the bits of zones and inodes lie.
 ghost use Rattle.std.specs.Prelude.{◌≡◌, ◌+◌, ◌<◌, ◌≤◌};
 ghost use Rattle.minix_layout.specs.View.{super_view};
 ghost use Rattle.minix_bits.specs.Bitmap.{IsBitmapIn, base_of, end_of, zone_bitmap, inode_bitmap};
@@ -19,7 +19,7 @@ pub(crate) struct Bitmap {
     pub(crate) sector: u64,
     /// The number whose bit would be the first one.
     pub(crate) origin: u32,
-    /// The number behind the last one.
+    /// The number after the last one.
     pub(crate) end: u32,
 }
 
@@ -32,7 +32,7 @@ impl Bitmap {
         at - (at - self.origin) % SECTOR_BITS
     }
 
-    /// The number behind the last one whose bit is in the sector with that of `at`.
+    /// The number after the last one whose bit is in the sector with that of `at`.
     pub(crate) fn end_of(&self, at: u32) -> u32
         requires from { self.now.origin ≤ at }
         requires below { at < self.now.end }

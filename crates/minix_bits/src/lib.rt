@@ -1,4 +1,4 @@
-//! Bitmaps of a Minix volume, versions 1 and 2: which zones and inodes are free, and their marks.
+//! Bitmaps of a Minix volume, versions 1 and 2: which zones and inodes are free, and their bitmap bits.
 //!
 //! Bit n of the inode bitmap is inode n, and bit b of the zone bitmap is zone `first + b - 1`, the lowest bit of
 //! a byte first. Zones and inodes are given by their numbers. No call flushes.

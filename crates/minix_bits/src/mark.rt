@@ -1,4 +1,4 @@
-// The marks of zones and inodes.
+// The bitmap bits of zones and inodes.
 ghost use Rattle.std.specs.Prelude.{◌≡◌, ◌≢◌, ◌≤◌, ◌<◌, true, false, OnOk};
 ghost use Rattle.disk_trait.specs.Past.{Told};
 ghost use Rattle.lilo_model.specs.MinixLayout.{super_sector};
@@ -29,7 +29,7 @@ pub fn mark_zone<D: Disks>(volume: &mut Volume<'_, D>, n: u32) -> Result<(), Bit
     put_zone_mark(volume, n, true)
 }
 
-/// Clears a data zone's mark: one bit of one sector of the zone bitmap. Until the next flush a stop may leave
+/// Clears a data zone's bitmap bit: one bit of one sector of the zone bitmap. Until the next flush a stop may leave
 /// that sector written or not, and a call that failed has written it or hasn't.
 ///
 /// # Errors
@@ -59,7 +59,7 @@ pub fn mark_inode<D: Disks>(volume: &mut Volume<'_, D>, n: u32) -> Result<(), Bi
     put_inode_mark(volume, n, true)
 }
 
-/// Clears an inode's mark: one bit of one sector of the inode bitmap. Until the next flush a stop may leave
+/// Clears an inode's bitmap bit: one bit of one sector of the inode bitmap. Until the next flush a stop may leave
 /// that sector written or not, and a call that failed has written it or hasn't.
 ///
 /// # Errors
@@ -74,7 +74,7 @@ pub fn clear_inode<D: Disks>(volume: &mut Volume<'_, D>, n: u32) -> Result<(), B
     put_inode_mark(volume, n, false)
 }
 
-// Sets or clears a zone's mark.
+// Sets or clears a zone's bitmap bit.
 fn put_zone_mark<D: Disks>(volume: &mut Volume<'_, D>, n: u32, value: bool) -> Result<(), BitFault>
     requires from { volume.old.layout.first ≤ n }
     requires below { n < volume.old.layout.zones }
@@ -87,7 +87,7 @@ fn put_zone_mark<D: Disks>(volume: &mut Volume<'_, D>, n: u32, value: bool) -> R
     put_mark(volume, sector, bit % SECTOR_BITS, value)
 }
 
-// Sets or clears an inode's mark.
+// Sets or clears an inode's bitmap bit.
 fn put_inode_mark<D: Disks>(volume: &mut Volume<'_, D>, n: u32, value: bool) -> Result<(), BitFault>
     requires some { 1 ≤ n }
     requires there { n ≤ volume.old.layout.inodes }

@@ -8,8 +8,8 @@ use std::alloc::{AllocError, Global};
 use std::process::Abort;
 use std::test::Fail;
 
-// A volume behind 8 other sectors: 16 inodes, the first data zone 5, one block for each bitmap. So the inodes'
-// bits stand in sectors 4 and 5 of the volume, and those of the zones in sectors 6 and 7.
+// A volume after 8 other sectors: 16 inodes, the first data zone 5, one block for each bitmap. So the inodes'
+// bits are in sectors 4 and 5 of the volume, and those of the zones in sectors 6 and 7.
 fn disks_with(
     alloc: Global,
     zones: u32,
@@ -70,7 +70,7 @@ fn attach<'d>(
     }
 }
 
-// Five bytes, and zeros behind them.
+// Five bytes, and zeros after them.
 fn bytes(first: [u8; 5]) -> Sector {
     let mut sector: Sector = [0; 512];
     for (i, byte) in first.iter().enumerate() {
@@ -133,7 +133,7 @@ fn lowest_free_zones(rt: HostRuntime) -> Result<(), Fail> {
     Ok(())
 }
 
-// Zones 37 and 39 alone are free; no bit behind that of zone 39 counts.
+// Zones 37 and 39 alone are free; no bit after that of zone 39 counts.
 #[test]
 fn too_few_free_zones(rt: HostRuntime) -> Result<(), Fail> {
     let map = bytes([0xFF, 0xFF, 0xFF, 0xFF, 0b0000_0101]);

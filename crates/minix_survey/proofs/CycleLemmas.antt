@@ -36,7 +36,7 @@ module _ (volume : Surveyable) (fault : Refusal) (visit : model.Spot → List Me
   below-by place what true met bad = bad
   below-by place what false met bad = keeps (spot_below directory what.inode) (Stands directory place what ∷ met) bad
 
-  -- entries that are refused are so with others behind them
+  -- entries that are refused are so with others after them
   bad-others : (at : ℕ → Entry) (start count all : ℕ) (met : List Met) → count ≤ all → judged volume (more_entries visit directory at start count met) ≡ Err fault
       → judged volume (more_entries visit directory at start all met) ≡ Err fault
   bad-others at start count all met few bad =
@@ -156,7 +156,7 @@ module _ {D : Type 0} {disks : Ghosts D} (old : Volume D disks) (spot : Spot) wh
       (next-places (kind_view old.layout.kind) size index count below is)
       first second
 
-  -- entries that are refused, and others behind them
+  -- entries that are refused, and others after them
   pub entries_stop : (new : Volume D disks) (one two : Tables) (fault : SurveyFault) (start count all : ℕ) → count ≤ all
       → Steps old new one two (Err fault) (entries_from spot start count) → Steps old new one two (Err fault) (entries_from spot start all)
   entries_stop new one two fault start count all few steps =

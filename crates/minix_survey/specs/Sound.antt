@@ -1,4 +1,4 @@
--- What a survey's answer says in the words of Sound.
+-- What a survey's answer says in terms of Sound.
 use Rattle.std.specs.Prelude.{◌≡◌, ◌≢◌, ◌↔◌, ℕ, true, None, Some, Result, Ok, Err}
 use Rattle.lilo_model.specs.MinixLayout.{Super}
 use Rattle.lilo_model.specs.MinixParts.{Parts, Pointer}

@@ -112,7 +112,7 @@ abbrev pub done : {A : Type 0} → Result A SurveyFault → Result (Unit {0}) Su
 done (Ok value) = Ok tt
 done (Err fault) = Err fault
 
--- an entry, wherever it stands in its block
+-- an entry, wherever it is in its block
 abbrev pub entry_seen : DirEntry → Entry
 entry_seen entry = entry_with entry.inode entry.name.now
 

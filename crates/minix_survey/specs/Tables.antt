@@ -14,7 +14,7 @@ reached_in tables inode = contains nat_eq tables.reached inode
 abbrev pub is_name : ℕ → List ℕ → ℕ × Vec ℕ → Bool
 is_name directory name key = nat_eq key.0 directory && bytes_eq key.1.items name
 
--- a name stands in a directory
+-- a name is in a directory
 abbrev pub entry_in : Tables → ℕ → List ℕ → Bool
 entry_in tables directory name = contains_by (is_name directory name) tables.entries
 

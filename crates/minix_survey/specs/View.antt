@@ -1,4 +1,4 @@
--- For which plain value of the model each value of this crate stands, and when an answer is the model's.
+-- Which plain value of the model each value of this crate stands for, and when an answer is the model's.
 use Rattle.std.specs.Prelude.{◌≡◌, ℕ, Result, Ok, Err}
 use Rattle.lilo_model.specs.Faults.{Rose}
 use Rattle.lilo_model.specs.MinixFind as finds

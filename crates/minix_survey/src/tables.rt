@@ -12,7 +12,7 @@ use std::collections::{HashMap, HashSet};
 pub(crate) struct Tables {
     found: Findings,
     reached: HashSet<u32>,
-    // The names that stand in each directory.
+    // The names that are in each directory.
     entries: HashSet<(u32, Vec<u8>)>,
 }
 
@@ -93,7 +93,7 @@ impl Tables {
         }
     }
 
-    /// Whether a name stands in a directory.
+    /// Whether a name is in a directory.
     pub(crate) fn has_entry(
         &self,
         alloc: Global,
@@ -106,7 +106,7 @@ impl Tables {
         Ok(self.entries.contains(&key))
     }
 
-    /// A name stands in a directory. The answer is whether it is the first of that name there.
+    /// A name is in a directory. The answer is whether it is the first of that name there.
     pub(crate) fn stand(
         &mut self,
         alloc: Global,

@@ -215,7 +215,7 @@ fn entries_are_judged_in_their_places(rt: HostRuntime) -> Result<(), Fail> {
     assert!(rt; refusal(alloc, &[(18, 32, b"\0\0\0\0")])? == Some(SurveyFault::BadLink(5, 4)));
     // A second `.`.
     assert!(rt; refusal(alloc, &[(18, 96, b"\x05\0.")])? == Some(SurveyFault::BadLink(5, 3)));
-    // `.` stands elsewhere.
+    // `.` is elsewhere.
     assert!(rt; refusal(alloc, &[(18, 0, b"\x07\0y"), (18, 96, b"\x05\0.")])? == None);
     Ok(())
 }
@@ -227,13 +227,13 @@ fn inodes_and_zones_are_judged(rt: HostRuntime) -> Result<(), Fail> {
     assert!(rt; refusal(alloc, &[(18, 96, b"\x06")])? == Some(SurveyFault::FewLinks(6)));
     // Two names and two links.
     assert!(rt; refusal(alloc, &[(8, 173, b"\x02"), (18, 96, b"\x06")])? == None);
-    // An inode without a mark.
+    // An inode whose bitmap bit isn't set.
     assert!(rt; refusal(alloc, &[(4, 0, b"\xbf")])? == Some(SurveyFault::UnmarkedInode(6)));
-    // The root without a mark.
+    // The root whose bitmap bit isn't set.
     assert!(rt;
         refusal(alloc, &[(4, 0, b"\xfd"), (8, 0, b"\0\0")])? == Some(SurveyFault::UnmarkedInode(1))
     );
-    // A zone without a mark.
+    // A zone whose bitmap bit isn't set.
     assert!(rt; refusal(alloc, &[(6, 0, b"\xfb")])? == Some(SurveyFault::Unmarked(6)));
     // The root is a file.
     assert!(rt;

@@ -302,7 +302,7 @@ fn meet_name<D: Disks>(
     Ok(node)
 }
 
-/// The end of a directory of so many places: `.` and `..` stand in it.
+/// The end of a directory of so many places: `.` and `..` are in it.
 fn meet_end(alloc: Global, tables: &Tables, spot: Spot, places: u32) -> Result<(), SurveyFault>
     ensures { StepsAlone tables.now tables.now result (end_alone spot places) }
 {

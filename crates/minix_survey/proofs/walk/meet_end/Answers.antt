@@ -1,4 +1,4 @@
--- A directory ends where `.` and `..` stand in it.
+-- A directory ends where `.` and `..` are in it.
 use Rattle.std.proofs.Common.{◌≡◌, ◌∷◌, Bool, true, false, refl, sym, ◌∙◌, ◌&&◌}
 use Rattle.lilo_model.specs.MinixEntries.{here_name, above_name}
 use Rattle.lilo_model.specs.MinixSurvey.{has_name}

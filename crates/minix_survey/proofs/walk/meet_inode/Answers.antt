@@ -1,4 +1,4 @@
--- An inode that is reached is judged by its mark, and a directory by its level.
+-- An inode that is reached is judged by its bitmap bit, and a directory by its level.
 use Rattle.std.proofs.Common.{◌≡◌, ◌≤◌, ◌∷◌, ◌&&◌, nat_lt, true, Ok, Err, refl, sym, ◌∙◌, subst}
 use Rattle.disk_trait.specs.Past.{Image}
 use Rattle.lilo_model.specs.MinixLayout.{is_size}

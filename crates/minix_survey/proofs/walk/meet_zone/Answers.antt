@@ -1,4 +1,4 @@
--- A zone is judged by its mark, and by what referred to it before.
+-- A zone is judged by its bitmap bit, and by what referred to it before.
 use Rattle.std.proofs.Common.{◌≡◌, ◌∷◌, Ok, Err, Some, None, refl, sym, ◌∙◌}
 use Rattle.lilo_model.specs.MinixParts.{parts_of}
 use Rattle.lilo_model.specs.MinixSurvey.{Refers, owner}

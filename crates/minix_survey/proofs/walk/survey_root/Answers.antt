@@ -1,4 +1,4 @@
--- A survey: the root by its mark, its size and its mode, and then all from it on.
+-- A survey: the root by its bitmap bit, its size and its mode, and then all from it on.
 use Rattle.std.proofs.Common.{◌≡◌, ◌≤◌, [], true, false, Result, Ok, Err, refl, sym, ◌∙◌, subst, arith, rules}
 use Rattle.disk_trait.specs.Past.{Told}
 use Rattle.lilo_model.specs.MinixFind.{readable}

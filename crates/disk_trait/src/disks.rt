@@ -27,7 +27,7 @@ pub enum DiskFault {
     OutOfRange,
 }
 
-/// Where a command stands that changes what boots: before, in, or after the one write that does it.
+/// Where a command is that changes what boots: before, in, or after the one write that does it.
 #[derive(Clone, Copy, Debug, PartialEq, Eq)]
 pub enum Phase {
     /// No such write was begun.
@@ -40,10 +40,10 @@ pub enum Phase {
 
 /// Up to four disks. Their number, sizes and geometries never change.
 pub trait Disks {
-    /// What the disks held at first and what was done since, where they tell it.
+    /// What the disks held at first and what was done since, where they report it.
     ghost past: { Self → Option Past };
 
-    /// How often a device has failed. It never falls, and stands still at its last value.
+    /// How often a device has failed. It never falls, and stays at its last value.
     ghost faults: { Self → ℕ };
 
     /// The sectors of each disk, 0 for one that isn't there.

@@ -11,7 +11,7 @@ use std::io;
 use std::io::{Read, Seek, Write};
 use std::marker::Model;
 
-/// Up to four opened image files, each there or absent. They tell no past, since nothing is known of
+/// Up to four opened image files, each there or absent. They report no past, since nothing is known of
 /// what a file keeps. Each failure of a file is counted.
 #[derive(Drop)]
 pub struct FileDisks<F> {
@@ -49,7 +49,7 @@ impl<F> FileDisks<F> {
 }
 
 impl<F: Drop> FileDisks<F> {
-    /// Adds a disk behind the others, or with `None` one that is absent. An error drops it.
+    /// Adds a disk after the others, or with `None` one that is absent. An error drops it.
     pub fn push(&mut self, disk: Option<FileDisk<F>>) -> Result<(), AllocError>
         requires { length self.old.disks < 4 }
         ensures ok { OnOk result (self.new ≡ record self.old { disks = self.old.disks ++ disk ∷ [] }) }

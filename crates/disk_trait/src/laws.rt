@@ -64,7 +64,7 @@ pub fn whole()
     ensures { WholeLaw }
 {}
 
-/// Where no past is told, nothing is said of how long a sector is.
+/// Where no past is known, nothing is said of how long a sector is.
 pub fn untold()
     ensures { UntoldLaw }
 {}

@@ -1,4 +1,4 @@
-// The calls of disks, in the words of moments.
+// The calls of disks, in terms of moments.
 ghost use Rattle.std.specs.Prelude.{◌≡◌, OnOk, OnErr, IsErrOf};
 ghost use Rattle.disk_trait.specs.Moments.{IsTold, now, begun};
 ghost use Rattle.disk_trait.specs.Calls.{HasCauseOf, HasFlushCauseOf, Reads, Writes, Flushes, EndsWithFlush};

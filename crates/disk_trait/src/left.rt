@@ -20,7 +20,7 @@ pub(crate) fn copy_disks(alloc: Global, disks: &[HeldDisk]) -> Result<Vec<HeldDi
     Ok(made)
 }
 
-/// How many of the first `prefix` events stand after their last flush.
+/// How many of the first `prefix` events come after their last flush.
 pub(crate) fn count_unflushed(events: &VecDeque<Event>, prefix: usize) -> usize
     requires { prefix ≤ length events.now.items }
     ensures count { result ≡ unflushed_count (first_events prefix events.now.items) }

@@ -2,7 +2,7 @@
 //!
 //! A disk is numbered from 0 and has sectors of 512 bytes, numbered from 0 too. The trait says what a
 //! call does to the past: what the disks held at first and each write and flush since. The functions
-//! `read`, `write` and `flush`, and those made of them, say the same in words of moments: what the disks
+//! `read`, `write` and `flush`, and those made of them, say the same in terms of moments: what the disks
 //! hold now, and what a stop may leave. `MemDisks` keeps disks in memory, and `FileDisks` goes to opened
 //! image files.
 #![tactic(auto)]

@@ -17,7 +17,7 @@ use std::alloc::{AllocError, Global};
 use std::collections::VecDeque;
 use std::marker::Model;
 
-/// Up to four disks in memory, which tell their past. Of their calls those that a list names fail.
+/// Up to four disks in memory, which report their past. Of their calls those that a list names fail.
 #[derive(Drop)]
 pub struct MemDisks {
     start: Vec<HeldDisk>,
@@ -55,7 +55,7 @@ impl MemDisks {
         requires { length disks.now ≤ 4 }
         ensures state { IfOk result (λ made. made ≡ zero_state disks.now room failing.now) }
 
-        // In the words of the trait: zero bytes everywhere, and what was asked for.
+        // In terms of the trait: zero bytes everywhere, and what was asked for.
         ensures zeros { IfOk result (λ made. (disk sector : ℕ)
             → image_of made.start disk sector ≡ zero_sector) }
         ensures size { IfOk result (λ made. (disk : ℕ)
@@ -120,7 +120,7 @@ impl MemDisks {
         self.events.len() as u32
     }
 
-    /// How many of the first `prefix` events stand after their last flush.
+    /// How many of the first `prefix` events come after their last flush.
     pub fn unflushed(&self, prefix: u32) -> u32
         requires { prefix ≤ length self.now.events }
         ensures { result ≡ unflushed_count (first_events prefix self.now.events) }
@@ -325,7 +325,7 @@ fn zero_disks(alloc: Global, disks: &[MemDisk]) -> Result<Vec<HeldDisk>, AllocEr
     Ok(made)
 }
 
-// The bytes of the last of some events that writes to a sector. The newest event stands first.
+// The bytes of the last of some events that writes to a sector. The newest event comes first.
 fn last_write(events: &VecDeque<Event>, disk: u8, sector: u64) -> Option<Sector>
     ensures { (start : Image)
         → now_after start events.now.items disk sector ≡ unwrap_or result (start disk sector) }

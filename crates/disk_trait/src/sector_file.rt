@@ -110,7 +110,7 @@ impl<F: Read + Write + Seek + OpenFile> SectorFile<F> {
     }
 }
 
-// Writes a sector where the file stands.
+// Writes a sector at the file's position.
 fn write_sector<F: Write>(file: &mut F, from: &Sector) -> io::Result<()>
     ensures { OnOk result (Appends (F.contents file.old) (F.contents file.new) from.now) }
 {

@@ -135,7 +135,7 @@ fn a_read_that_fails_leaves_its_buffer(rt: HostRuntime) -> Result<(), Fail> {
 
 const IMAGE: &str = "disk_trait_image";
 
-// Opens the image as the second disk, behind one that is absent.
+// Opens the image as the second disk, after one that is absent.
 fn open_image(rt: &HostRuntime) -> io::Result<FileDisks<File>> {
     let file = OpenOptions::new().read(true).write(true).open(rt, IMAGE)?;
     let geometry = Geometry {

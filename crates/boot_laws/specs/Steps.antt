@@ -49,4 +49,5 @@ PlaceLaw =
     → entry.main_length ≡ length kernel
     → initrd_size entry ≡ option_map length initrd
     → loaded_ending entry (whole_content kernel) (option_map whole_content initrd) line video memory
-    ≡ (with_fault reasons.Header (place kernel initrd line video memory) >>= λ loading. Ok (record { outcome = Loaded loading.layout; written = loading.written }))
+    ≡ (with_fault reasons.Header (place kernel initrd line video memory)
+    >>= λ loading. Ok (record { outcome = Loaded loading.layout; written = loading.written }))

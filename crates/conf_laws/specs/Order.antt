@@ -140,7 +140,9 @@ pub data Fails (text : List ℕ) : Place → ConfRefusal → Type 0 where
   -- each section as a whole
   of_section :
       (item test : ℕ) (refusal : ConfRefusal)
-      → ItemFails WholeFails (λ front _. front) (parts_of (text_settings text).settings).front (parts_of (text_settings text).settings).sections item test refusal
+      → ItemFails WholeFails (λ front _. front)
+      (parts_of (text_settings text).settings).front
+      (parts_of (text_settings text).settings).sections item test refusal
       → Fails text (place 2 item test) refusal
   -- each section's names
   of_names :

@@ -20,7 +20,9 @@ MayHoldLaw = (start : Image) (events : List Event) (d s : ℕ) (bytes : List ℕ
 
 -- what a stop may leave is what it may leave after all events, and what it may leave since this moment
 abbrev pub LastMomentLaw : Type 0
-LastMomentLaw = (past : Past) (c : Image) → (MayLeave (Some past) c ↔ Leaves past (length past.events) c) × (LeftSince (Some past) (moment (Some past)) c ↔ MayLeave (Some past) c)
+LastMomentLaw = (past : Past) (c : Image)
+    → (MayLeave (Some past) c ↔ Leaves past (length past.events) c)
+    × (LeftSince (Some past) (moment (Some past)) c ↔ MayLeave (Some past) c)
 
 -- what the disks hold now, and what they held at the last flush, are two of the images that a stop may leave
 abbrev pub NowAndBegunLaw : Type 0

@@ -19,7 +19,8 @@ made_if kept disk sector bytes image = if kept then with_sector image disk secto
 -- from 0, in the order in which they were made
 abbrev pub left_after : Image → List Event → List Bool → Image
 left_after start [] keep = start
-left_after start (Write disk sector bytes ∷ older) keep = made_if (slice_index_or keep (unflushed_count older) false) disk sector bytes (left_after start older keep)
+left_after start (Write disk sector bytes ∷ older) keep =
+    made_if (slice_index_or keep (unflushed_count older) false) disk sector bytes (left_after start older keep)
 left_after start (Flush ∷ older) keep = now_after start older
 
 -- the image that a stop after the first k events leaves, where keep says which of the writes after their last flush

@@ -17,7 +17,9 @@ use Rattle.install_laws.specs.InstallVerdict.{InstallRefusal, Begun, Answer, may
 
 -- each check passed: the volume was surveyed, the configuration is apart, its own names may be replaced and settled, all
 -- that it maps is accepted, there is room, and the map's own places are accepted too
-pub record IsAnswered (image : Image) (machine : Machine) (walk : Inode → List (Result Visit ZoneFault)) (room : OwnNames → Plan → Result (List DiskSector) Refusal) (time : ℕ) (begun : Begun) (answer : Answer) : Type 0 where
+pub record IsAnswered (image : Image) (machine : Machine) (walk : Inode → List (Result Visit ZoneFault))
+    (room : OwnNames → Plan → Result (List DiskSector) Refusal) (time : ℕ) (begun : Begun)
+    (answer : Answer) : Type 0 where
   pub met : List Met
   pub surveyed : survey_of (record { super = begun.volume.layout; parts = parts_of begun.volume image; walk = walk }) ≡ Ok met
   pub apart : Apart image machine begun.volume begun.config begun.boot
@@ -33,13 +35,15 @@ pub record IsAnswered (image : Image) (machine : Machine) (walk : Inode → List
 -- an installation that is answered passed each of its checks
 abbrev pub AnsweredLaw : Type 0
 AnsweredLaw =
-    (image : Image) (machine : Machine) (walk : Inode → List (Result Visit ZoneFault)) (room : OwnNames → Plan → Result (List DiskSector) Refusal) (time : ℕ) (begun : Begun) (answer : Answer)
+    (image : Image) (machine : Machine) (walk : Inode → List (Result Visit ZoneFault))
+    (room : OwnNames → Plan → Result (List DiskSector) Refusal) (time : ℕ) (begun : Begun) (answer : Answer)
     → install_checks image machine walk room time begun ≡ Ok answer
     → IsAnswered image machine walk room time begun answer
 
 -- one that is refused has a status from 2 to 5
 abbrev pub RefusedLaw : Type 0
 RefusedLaw =
-    (image : Image) (machine : Machine) (root : Option Device) (path : List ℕ) (room : Begun → OwnNames → Plan → Result (List DiskSector) Refusal) (time : ℕ) (refusal : InstallRefusal)
+    (image : Image) (machine : Machine) (root : Option Device) (path : List ℕ)
+    (room : Begun → OwnNames → Plan → Result (List DiskSector) Refusal) (time : ℕ) (refusal : InstallRefusal)
     → install_answer image machine root path room time ≡ Err refusal
     → (2 ≤ install_status refusal) × (install_status refusal ≤ 5)

@@ -21,11 +21,14 @@ pub record Means (machine : Machine) (span : Span) (place : DiskSector) (meant :
   pub named : place_at machine boot.line 0 ≡ Ok place
   pub line_is : line_at (bytes_at c place) ≡ Ok Empty
   pub empty : BootsAsMeant machine span (meant Empty) c
-  pub each_line : (bytes : List ℕ) (line : DefaultLine) → line_at bytes ≡ Ok line → BootsAsMeant machine span (meant line) (with_sector c place.disk place.sector bytes)
+  pub each_line : (bytes : List ℕ) (line : DefaultLine) → line_at bytes ≡ Ok line
+      → BootsAsMeant machine span (meant line) (with_sector c place.disk place.sector bytes)
 
 -- What the steps of an installation promise, from its entry on: to begin, which settles; to stage the new map; to commit,
 -- which writes the boot sector; and to tidy. Only the first half rests on a Clear map.
-pub record Installs (machine : Machine) (volume : Volume) (span : Span) (place : DiskSector) (meant : DefaultLine → List Key → ℕ → Boot) (bytes : List ℕ) (entry begun staged committed tidied : Option Past) : Type 0 where
+pub record Installs (machine : Machine) (volume : Volume) (span : Span) (place : DiskSector)
+    (meant : DefaultLine → List Key → ℕ → Boot) (bytes : List ℕ)
+    (entry begun staged committed tidied : Option Past) : Type 0 where
   pub told : IsTold begun × IsTold staged × IsTold committed
   -- what a boot of the old installation may look at is spared until the commit, and so is the boot sector
   pub begin : Clear volume (now entry) machine span → SparesMapped machine span entry begun
@@ -42,7 +45,8 @@ pub record Installs (machine : Machine) (volume : Volume) (span : Span) (place :
   pub tidy : LeavesOnly committed tidied (Means machine span place meant)
 
 -- What follows: the same of the two, before or as is meant, for all keys and any memory.
-pub record Headline (machine : Machine) (volume : Volume) (span : Span) (place : DiskSector) (meant : DefaultLine → List Key → ℕ → Boot) (entry staged committed tidied : Option Past) : Type 0 where
+pub record Headline (machine : Machine) (volume : Volume) (span : Span) (place : DiskSector)
+    (meant : DefaultLine → List Key → ℕ → Boot) (entry staged committed tidied : Option Past) : Type 0 where
   -- where the old map is Clear: at every moment before the commit as before, and at every moment as before or as meant
   pub before_commit : Clear volume (now entry) machine span → LeavesOnly entry staged (BootsAs machine span (now entry))
   pub any_moment : Clear volume (now entry) machine span → LeavesOnly entry tidied (BootsAsBeforeOrMeant machine span (now entry) (meant Empty))
@@ -54,6 +58,7 @@ pub record Headline (machine : Machine) (volume : Volume) (span : Span) (place :
 -- it does
 abbrev pub HeadlineLaw : Type 0
 HeadlineLaw =
-    (machine : Machine) (volume : Volume) (span : Span) (place : DiskSector) (meant : DefaultLine → List Key → ℕ → Boot) (bytes : List ℕ) (entry begun staged committed tidied : Option Past)
+    (machine : Machine) (volume : Volume) (span : Span) (place : DiskSector)
+    (meant : DefaultLine → List Key → ℕ → Boot) (bytes : List ℕ) (entry begun staged committed tidied : Option Past)
     → Installs machine volume span place meant bytes entry begun staged committed tidied
     → Headline machine volume span place meant entry staged committed tidied

@@ -264,7 +264,8 @@ sectors_of_blocks span blocks count =
 unfoldable pub room_on : Volume → Parts → Taken → ℕ → Option (List (List ℕ)) → List (List ℕ) → ℕ → Result (List DiskSector) rooms.Refusal
 room_on volume parts first time backup path sectors = do
   taken ← taken_after volume.layout parts first time backup
-  fits ← require (nat_le (512 * sectors) (most_size volume.layout.kind)) (rooms.NoSpace (blocks_for (512 * sectors)) (length (left_zones volume.layout parts taken.has_zone)))
+  fits ← require (nat_le (512 * sectors) (most_size volume.layout.kind))
+      (rooms.NoSpace (blocks_for (512 * sectors)) (length (left_zones volume.layout parts taken.has_zone)))
   choice ← choose volume.layout parts taken (file_wish volume.layout parts (with_tilde path) (512 * sectors) time)
   Ok (sectors_of_blocks volume.span choice.blocks sectors)
 
@@ -327,7 +328,8 @@ answer_of image machine begun met plan = record {
 }
 
 -- The checks from the survey on, by what a walk over an inode meets, and by the room that there is for what is planned
-unfoldable pub install_checks : Image → Machine → (Inode → List (Result Visit ZoneFault)) → (OwnNames → Plan → Result (List DiskSector) rooms.Refusal) → ℕ → Begun → Result Answer InstallRefusal
+unfoldable pub install_checks : Image → Machine → (Inode → List (Result Visit ZoneFault))
+    → (OwnNames → Plan → Result (List DiskSector) rooms.Refusal) → ℕ → Begun → Result Answer InstallRefusal
 install_checks image machine walk room time begun = do
   met ← with_fault NotSound (survey_of (record { super = begun.volume.layout; parts = parts_of begun.volume image; walk = walk }))
   a ← with_fault NotApart (apart_checks image machine begun.volume begun.config begun.boot)
@@ -339,7 +341,8 @@ install_checks image machine walk room time begun = do
   Ok (answer_of image machine begun met plan)
 
 -- the answer of an installation, or of `-t`, by the room for what is planned
-unfoldable pub install_answer : Image → Machine → Option Device → List ℕ → (Begun → OwnNames → Plan → Result (List DiskSector) rooms.Refusal) → ℕ → Result Answer InstallRefusal
+unfoldable pub install_answer : Image → Machine → Option Device → List ℕ
+    → (Begun → OwnNames → Plan → Result (List DiskSector) rooms.Refusal) → ℕ → Result Answer InstallRefusal
 install_answer image machine root path room time = do
   begun ← with_fault Reading (begun_by image machine root path)
   install_checks image machine (visits begun.volume.layout (parts_of begun.volume image)) (room begun) time begun

@@ -15,7 +15,8 @@ use Rattle.install_laws.specs.Headline.{Means}
 -- an image where it lies, with an empty default line, means what the configuration and its files do
 abbrev pub MeansLaw : Type 0
 MeansLaw =
-    (before c : Image) (machine : Machine) (volume : Volume) (span : Span) (config : Config) (time : ℕ) (devices : Device → List ℕ) (p0 p1 p2 p3 p4 : DiskSector) (rest : List DiskSector) (present : List ℕ)
+    (before c : Image) (machine : Machine) (volume : Volume) (span : Span) (config : Config) (time : ℕ)
+    (devices : Device → List ℕ) (p0 p1 p2 p3 p4 : DiskSector) (rest : List DiskSector) (present : List ℕ)
     → IsSound volume before
     → PlannedLies before c machine volume span config time devices Empty p0 p1 p2 p3 p4 rest present
     → p0 ≢ record { disk = span.disk; sector = span.start }
@@ -24,7 +25,8 @@ MeansLaw =
 -- and so does one where what the checks of a plan accept is written, with an empty default line
 abbrev pub AcceptedMeansLaw : Type 0
 AcceptedMeansLaw =
-    (before c : Image) (machine : Machine) (volume : Volume) (span : Span) (config : Config) (time : ℕ) (p0 p1 p2 p3 p4 : DiskSector) (rest : List DiskSector) (present : List ℕ)
+    (before c : Image) (machine : Machine) (volume : Volume) (span : Span) (config : Config) (time : ℕ)
+    (p0 p1 p2 p3 p4 : DiskSector) (rest : List DiskSector) (present : List ℕ)
     → IsSound volume before
     → IsAccepted before machine volume span config time (p0 ∷ (p1 ∷ (p2 ∷ (p3 ∷ (p4 ∷ rest)))))
     → IsWritten before c machine volume span config time Empty p0 p1 p2 p3 p4 rest present

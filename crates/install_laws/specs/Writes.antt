@@ -40,7 +40,8 @@ WritesOnly volume chosen old new =
 -- none of some sectors is of a chosen zone
 abbrev pub AreAvoided : Volume → (ℕ → Bool) → List DiskSector → Type 0
 AreAvoided volume chosen places =
-    All (λ place. (zone sector : ℕ) → chosen zone ≡ true → IsOfZone zone sector → place ≡ record { disk = volume.span.disk; sector = volume.span.start + sector } → ⊥) places
+    All (λ place. (zone sector : ℕ) → chosen zone ≡ true → IsOfZone zone sector
+    → place ≡ record { disk = volume.span.disk; sector = volume.span.start + sector } → ⊥) places
 
 -- such a run spares the sectors of a Clear map that its chosen zones avoid
 abbrev pub SparesLaw : Type 0

@@ -20,7 +20,8 @@ pub record IsPlain (volume : Volume) (image : Image) (sector : ℕ) : Type 0 whe
   -- it lies before the superblock, or after the inode table
   pub tables : (sector < super_sector) ⊎ (2 * (table_start volume.layout + table_blocks volume.layout) ≤ sector)
   -- it lies in no zone of a directory, and in no indirect one
-  pub zones : (number : ℕ) (at : Pointer) (zone : ℕ) → Refers volume.layout (parts_of volume image) number at zone → IsOfZone zone sector → (is_directory ((parts_of volume image).node number) ≡ false) × (IsIndirect at → ⊥)
+  pub zones : (number : ℕ) (at : Pointer) (zone : ℕ) → Refers volume.layout (parts_of volume image) number at zone
+      → IsOfZone zone sector → (is_directory ((parts_of volume image).node number) ≡ false) × (IsIndirect at → ⊥)
 
 -- a place is on another disk, outside a volume, or plain
 abbrev pub IsClearPlace : Volume → Image → DiskSector → Type 0

@@ -60,7 +60,8 @@ AreAsSaid machine true slots = AreApart machine slots
 AreAsSaid machine false slots = All (λ slot. slot.count ≡ 1) slots
 
 -- a section lists the sectors of a file in order, and the zero sector where it has a hole
-pub record LaysFile (image : Image) (machine : Machine) (config : Config) (zero_place : DiskSector) (file : MappedFile) (first : Slot) (size chain : ℕ) : Type 0 where
+pub record LaysFile (image : Image) (machine : Machine) (config : Config) (zero_place : DiskSector)
+    (file : MappedFile) (first : Slot) (size chain : ℕ) : Type 0 where
   pub size_is : size ≡ file.size
   pub listed : (file_listing image machine first size chain).places ≡ filled_places zero_place file.places
   pub whole : (file_listing image machine first size chain).refusal ≡ None
@@ -74,7 +75,8 @@ LaysOptional image machine config zero_place (Some file) (Some slot) size chain 
     LaysFile image machine config zero_place file slot size chain
 
 -- an entry lays what is mapped for its section
-pub record LaysEntry (image : Image) (machine : Machine) (config : Config) (zero_place : DiskSector) (mapped : MappedSection) (entry : Descriptor) : Type 0 where
+pub record LaysEntry (image : Image) (machine : Machine) (config : Config) (zero_place : DiskSector)
+    (mapped : MappedSection) (entry : Descriptor) : Type 0 where
   pub main : LaysFile image machine config zero_place mapped.main entry.first entry.main_length entry.chain
   pub initrd : LaysOptional image machine config zero_place mapped.initrd entry.initrd entry.initrd_length entry.initrd_chain
 
@@ -123,7 +125,8 @@ pub record Lays (image : Image) (machine : Machine) (volume : Volume) (span : Sp
   pub says : boot_at (image span.disk span.start) ≡ Ok boot
   -- the file that holds the map
   pub holder : ℕ
-  pub leads : (reached volume.layout (parts_of volume image) path ≡ Some holder) ⊎ (reached volume.layout (parts_of volume image) (with_tilde path) ≡ Some holder)
+  pub leads : (reached volume.layout (parts_of volume image) path ≡ Some holder)
+      ⊎ (reached volume.layout (parts_of volume image) (with_tilde path) ≡ Some holder)
   pub regular : is_file ((parts_of volume image).node holder) ≡ true
   -- it has no hole; its sectors but the default line's are those of the plan, in order, and zeros fill its last zone
   pub places : List DiskSector

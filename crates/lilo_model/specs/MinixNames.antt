@@ -143,19 +143,30 @@ pub record Sound (super : Super) (parts : Parts) : Type 0 where
   pub zone_range : (number : ℕ) (at : Pointer) (zone : ℕ) → Refers super parts number at zone → (super.first ≤ zone) × (zone < super.zones)
   pub zone_marked : (number : ℕ) (at : Pointer) (zone : ℕ) → Refers super parts number at zone → parts.has_zone zone ≡ true
   -- a zone is referred to once
-  pub once : (number other : ℕ) (at there : Pointer) (zone : ℕ) → Refers super parts number at zone → Refers super parts other there zone → (number ≡ other) × (at ≡ there)
+  pub once : (number other : ℕ) (at there : Pointer) (zone : ℕ) → Refers super parts number at zone
+      → Refers super parts other there zone → (number ≡ other) × (at ≡ there)
   -- a directory is reached by one path; the root thus has no name
-  pub one_name : (number : ℕ) (path other : List (List ℕ)) → is_directory (parts.node number) ≡ true → reached super parts path ≡ Some number → reached super parts other ≡ Some number → path ≡ other
+  pub one_name : (number : ℕ) (path other : List (List ℕ)) → is_directory (parts.node number) ≡ true
+      → reached super parts path ≡ Some number → reached super parts other ≡ Some number → path ≡ other
   -- no name appears twice in a directory
-  pub no_twice : (directory place other inode inode' : ℕ) (name : List ℕ) → Named super parts directory → is_directory (parts.node directory) ≡ true → inode ≢ 0 → inode' ≢ 0 → HasEntry super parts directory place (entry_with inode name) → HasEntry super parts directory other (entry_with inode' name) → place ≡ other
+  pub no_twice : (directory place other inode inode' : ℕ) (name : List ℕ) → Named super parts directory
+      → is_directory (parts.node directory) ≡ true → inode ≢ 0 → inode' ≢ 0
+      → HasEntry super parts directory place (entry_with inode name)
+      → HasEntry super parts directory other (entry_with inode' name) → place ≡ other
   -- `.` is there and right
-  pub here : (directory : ℕ) → Named super parts directory → is_directory (parts.node directory) ≡ true → HasSomeEntry super parts directory (entry_with directory here_name)
+  pub here : (directory : ℕ) → Named super parts directory → is_directory (parts.node directory) ≡ true
+      → HasSomeEntry super parts directory (entry_with directory here_name)
   -- and `..`, in the root and in each other directory
   pub root_above : HasSomeEntry super parts 1 (entry_with 1 above_name)
-  pub above : (directory outer : ℕ) (name : List ℕ) (path : List (List ℕ)) → reached super parts (name ∷ path) ≡ Some directory → reached super parts path ≡ Some outer → is_directory (parts.node directory) ≡ true → HasSomeEntry super parts directory (entry_with outer above_name)
-  pub depth : (directory : ℕ) (path : List (List ℕ)) → reached super parts path ≡ Some directory → is_directory (parts.node directory) ≡ true → length path ≤ depth_limit
+  pub above : (directory outer : ℕ) (name : List ℕ) (path : List (List ℕ))
+      → reached super parts (name ∷ path) ≡ Some directory → reached super parts path ≡ Some outer
+      → is_directory (parts.node directory) ≡ true
+      → HasSomeEntry super parts directory (entry_with outer above_name)
+  pub depth : (directory : ℕ) (path : List (List ℕ)) → reached super parts path ≡ Some directory
+      → is_directory (parts.node directory) ≡ true → length path ≤ depth_limit
   -- at least as many links as names; the root has no name
-  pub links : (number : ℕ) (paths : List (List (List ℕ))) → number ≢ 1 → AreDistinct paths → AllLead super parts number paths → (length paths ≤ (parts.node number).links)
+  pub links : (number : ℕ) (paths : List (List (List ℕ))) → number ≢ 1 → AreDistinct paths
+      → AllLead super parts number paths → (length paths ≤ (parts.node number).links)
 
 -- an image has a sound volume
 pub record HasSound (volume : Volume) (image : Image) : Type 0 where

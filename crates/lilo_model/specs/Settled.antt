@@ -134,7 +134,8 @@ settled finishes path stale names =
     (without_name (with_tilde path) (if finishes then with_name path (names (with_tilde path)) names else names))
 
 -- Settled: Names once settling is done, by the image at the entry, the path of `map` and that of a forced backup
-pub record IsSettled (image : Image) (machine : Machine) (volume : Volume) (span : Span) (path : List (List ℕ)) (forced : Option (List (List ℕ))) (old new : Names) : Type 0 where
+pub record IsSettled (image : Image) (machine : Machine) (volume : Volume) (span : Span) (path : List (List ℕ))
+    (forced : Option (List (List ℕ))) (old new : Names) : Type 0 where
   pub finishes : Bool
   pub holder : Finishes image machine volume span path finishes
   pub is : (name : List (List ℕ)) → new name ≡ settled finishes path (stale_backup (is_foreign (image span.disk span.start)) forced) old name

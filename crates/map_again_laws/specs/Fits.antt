@@ -59,7 +59,9 @@ pub record FitsFlags (entry : Descriptor) : Type 0 where
   pub table : (not (has_flag entry.flags table_flag) || has_flag entry.flags other_flag) ≡ true
   pub system : (has_flag entry.flags other_flag && (has_flag entry.flags video_flag || has_flag entry.flags initrd_flag)) ≡ false
   pub video : (has_flag entry.flags video_flag || (entry.vga == 0)) ≡ true
-  pub size : (if not (has_flag entry.flags other_flag) then not (entry.main_length == 0) else if has_flag entry.flags table_flag then entry.main_length == 1024 else entry.main_length == 512) ≡ true
+  pub size : (if not (has_flag entry.flags other_flag) then not (entry.main_length == 0)
+      else if has_flag entry.flags table_flag then entry.main_length == 1024 else entry.main_length == 512)
+      ≡ true
   pub initrd : has_flag entry.flags initrd_flag ≡ is_some entry.initrd
   pub extra : (has_flag entry.flags password_flag || has_flag entry.flags fallback_flag) ≡ is_some entry.extra
   -- an initrd has section sectors, and without one there is no length

@@ -64,7 +64,8 @@ AcceptedFileLaw =
     → 1 ≤ ((parts_of volume before).node number).size → ((parts_of volume before).node number).size < 2 ^ 32
     → mapped_file_check config machine option (mapped_inode volume (parts_of volume before) number) ≡ Ok tt
     → IsLeft before image line_place (mapped_inode volume (parts_of volume before) number)
-    → FileLies image machine config line_place zero_place (mapped_inode volume (parts_of volume before) number) (content volume.layout (parts_of volume before) number)
+    → FileLies image machine config line_place zero_place (mapped_inode volume (parts_of volume before) number)
+    (content volume.layout (parts_of volume before) number)
 
 -- so does one that may be absent or empty
 abbrev pub AcceptedOptionalLaw : Type 0
@@ -97,10 +98,12 @@ IsSectionLeft before image line_place mapped None =
 IsSectionLeft before image line_place mapped (Some device) = IsSystemLeft before image line_place mapped.main.places
 
 -- what was accepted by one image: a lawful configuration, its plan, and places for the map's sectors
-pub record IsAccepted (before : Image) (machine : Machine) (volume : Volume) (span : Span) (config : Config) (time : ℕ) (places : List DiskSector) : Type 0 where
+pub record IsAccepted (before : Image) (machine : Machine) (volume : Volume) (span : Span) (config : Config)
+    (time : ℕ) (places : List DiskSector) : Type 0 where
   pub lawful : IsLawful config
   pub has : HasVolume machine volume
-  pub devices : (device : Device) (found : Span) → IsDevice device → span_of before machine device ≡ Ok found → IsInside machine (record { disk = found.disk; sector = found.start })
+  pub devices : (device : Device) (found : Span) → IsDevice device → span_of before machine device ≡ Ok found
+      → IsInside machine (record { disk = found.disk; sector = found.start })
   pub sizes : (number : ℕ) → ((parts_of volume before).node number).size < 2 ^ 32
   pub time_fits : time < 2 ^ 32
   pub plan : plan_at before machine volume span config time ≡ Ok (planned before machine volume config time)
@@ -108,12 +111,16 @@ pub record IsAccepted (before : Image) (machine : Machine) (volume : Volume) (sp
   pub own : own_places_check config machine places ≡ Ok tt
 
 -- what is in another: the boot sector, the map at its places, and all that is mapped as it was
-pub record IsWritten (before image : Image) (machine : Machine) (volume : Volume) (span : Span) (config : Config) (time : ℕ) (line : DefaultLine) (p0 p1 p2 p3 p4 : DiskSector) (rest : List DiskSector) (present : List ℕ) : Type 0 where
+pub record IsWritten (before image : Image) (machine : Machine) (volume : Volume) (span : Span) (config : Config)
+    (time : ℕ) (line : DefaultLine) (p0 p1 p2 p3 p4 : DiskSector) (rest : List DiskSector)
+    (present : List ℕ) : Type 0 where
   pub whole : (place : DiskSector) → IsInside machine place → length (bytes_at image place) ≡ 512
   pub present_long : length present ≡ 512
   pub boot : image span.disk span.start ≡ plan_boot_sector (planned before machine volume config time) machine (p0 ∷ (p1 ∷ (p2 ∷ (p3 ∷ (p4 ∷ rest))))) present
   pub line_is : line_at (bytes_at image p0) ≡ Ok line
-  pub lies : AreAt image (p1 ∷ (p2 ∷ (p3 ∷ (p4 ∷ rest)))) (drop 1 (plan_sectors (planned before machine volume config time) machine (p0 ∷ (p1 ∷ (p2 ∷ (p3 ∷ (p4 ∷ rest)))))))
+  pub lies : AreAt image (p1 ∷ (p2 ∷ (p3 ∷ (p4 ∷ rest))))
+      (drop 1 (plan_sectors (planned before machine volume config time) machine
+      (p0 ∷ (p1 ∷ (p2 ∷ (p3 ∷ (p4 ∷ rest)))))))
   pub apart : IsNone p0 (p1 ∷ (p2 ∷ (p3 ∷ (p4 ∷ rest))))
   pub message : IsOptionalLeft before image p0 (planned before machine volume config time).message
   pub sections : AllByRecursion (λ mapped. IsSectionLeft before image p0 mapped mapped.section.other) (planned before machine volume config time).sections
@@ -121,7 +128,8 @@ pub record IsWritten (before image : Image) (machine : Machine) (volume : Volume
 -- what is accepted by one image on a sound volume and written in another lies there as planned
 abbrev pub AcceptedLiesLaw : Type 0
 AcceptedLiesLaw =
-    (before image : Image) (machine : Machine) (volume : Volume) (span : Span) (config : Config) (time : ℕ) (line : DefaultLine) (p0 p1 p2 p3 p4 : DiskSector) (rest : List DiskSector) (present : List ℕ)
+    (before image : Image) (machine : Machine) (volume : Volume) (span : Span) (config : Config) (time : ℕ)
+    (line : DefaultLine) (p0 p1 p2 p3 p4 : DiskSector) (rest : List DiskSector) (present : List ℕ)
     → IsSound volume before
     → IsAccepted before machine volume span config time (p0 ∷ (p1 ∷ (p2 ∷ (p3 ∷ (p4 ∷ rest)))))
     → IsWritten before image machine volume span config time line p0 p1 p2 p3 p4 rest present
@@ -130,7 +138,9 @@ AcceptedLiesLaw =
 -- and so it boots as the configuration and its files mean
 abbrev pub AcceptedLaw : Type 0
 AcceptedLaw =
-    (before image : Image) (machine : Machine) (volume : Volume) (span : Span) (config : Config) (time : ℕ) (line : DefaultLine) (p0 p1 p2 p3 p4 : DiskSector) (rest : List DiskSector) (present : List ℕ) (keys : List Key) (memory : ℕ)
+    (before image : Image) (machine : Machine) (volume : Volume) (span : Span) (config : Config) (time : ℕ)
+    (line : DefaultLine) (p0 p1 p2 p3 p4 : DiskSector) (rest : List DiskSector) (present : List ℕ) (keys : List Key)
+    (memory : ℕ)
     → IsSound volume before
     → IsAccepted before machine volume span config time (p0 ∷ (p1 ∷ (p2 ∷ (p3 ∷ (p4 ∷ rest)))))
     → IsWritten before image machine volume span config time line p0 p1 p2 p3 p4 rest present

@@ -20,7 +20,8 @@ abbrev pub AreKept : Image → Image → List (Option DiskSector) → Type 0
 AreKept before image places = AllByRecursion (IsKept before image) places
 
 -- what an image needs so that the file of an inode lies where it is mapped from
-pub record FileKept (before image : Image) (machine : Machine) (volume : Volume) (config : Config) (line_place zero_place : DiskSector) (number : ℕ) : Type 0 where
+pub record FileKept (before image : Image) (machine : Machine) (volume : Volume) (config : Config)
+    (line_place zero_place : DiskSector) (number : ℕ) : Type 0 where
   pub named : Named volume.layout (parts_of volume before) number
   pub regular : is_file ((parts_of volume before).node number) ≡ true
   pub some : 1 ≤ ((parts_of volume before).node number).size
@@ -37,7 +38,8 @@ FileLaw =
     (before image : Image) (machine : Machine) (volume : Volume) (config : Config) (line_place zero_place : DiskSector) (number : ℕ)
     → IsSound volume before
     → FileKept before image machine volume config line_place zero_place number
-    → FileLies image machine config line_place zero_place (mapped_inode volume (parts_of volume before) number) (content volume.layout (parts_of volume before) number)
+    → FileLies image machine config line_place zero_place (mapped_inode volume (parts_of volume before) number)
+    (content volume.layout (parts_of volume before) number)
 
 -- a file is mapped where it counts for what is meant, and has as many bytes
 abbrev pub OptionalFileLaw : Type 0

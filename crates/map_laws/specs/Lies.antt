@@ -31,7 +31,8 @@ IsNone place [] = Unit {0}
 IsNone place (other ∷ others) = (place ≢ other) × IsNone place others
 
 -- a file of some bytes lies where it is mapped from, and not where the default line lies
-pub record FileLies (image : Image) (machine : Machine) (config : Config) (line_place zero_place : DiskSector) (file : MappedFile) (bytes : List ℕ) : Type 0 where
+pub record FileLies (image : Image) (machine : Machine) (config : Config) (line_place zero_place : DiskSector)
+    (file : MappedFile) (bytes : List ℕ) : Type 0 where
   pub size : file.size ≡ length bytes
   pub some : 1 ≤ length bytes
   pub few : length bytes < 2 ^ 32
@@ -59,7 +60,8 @@ pub record IsFitSection (section : ConfSection) : Type 0 where
   pub system : (is_some section.other && is_some section.vga) ≡ false
 
 -- the sectors of another system lie: its own, and of the table's the table
-pub record SystemLies (image : Image) (machine : Machine) (config : Config) (line_place zero_place : DiskSector) (file : MappedFile) (sector : List ℕ) (table : Option (List ℕ)) : Type 0 where
+pub record SystemLies (image : Image) (machine : Machine) (config : Config) (line_place zero_place : DiskSector)
+    (file : MappedFile) (sector : List ℕ) (table : Option (List ℕ)) : Type 0 where
   pub bytes : List ℕ
   pub lies : FileLies image machine config line_place zero_place file bytes
   pub long : length bytes ≡ (if is_some table then 1024 else 512)
@@ -101,7 +103,9 @@ AreNames [] = Unit {0}
 AreNames (name ∷ names) = IsName name × IsOtherName name names × AreNames names
 
 -- a planned map lies at its places, with its boot sector, and the files where they are mapped from
-pub record MapLies (image : Image) (machine : Machine) (span : Span) (plan : Plan) (menu : Menu) (targets : List Target) (line : DefaultLine) (p0 p1 p2 p3 p4 : DiskSector) (rest : List DiskSector) (present : List ℕ) : Type 0 where
+pub record MapLies (image : Image) (machine : Machine) (span : Span) (plan : Plan) (menu : Menu)
+    (targets : List Target) (line : DefaultLine) (p0 p1 p2 p3 p4 : DiskSector) (rest : List DiskSector)
+    (present : List ℕ) : Type 0 where
   pub boot : image span.disk span.start ≡ plan_boot_sector plan machine (p0 ∷ (p1 ∷ (p2 ∷ (p3 ∷ (p4 ∷ rest))))) present
   pub present_long : length (part_of present 440 70) ≡ 70
   pub code_long : length plan.code ≤ 512
@@ -120,11 +124,20 @@ pub record MapLies (image : Image) (machine : Machine) (span : Span) (plan : Pla
   pub message : OptionalLies image machine plan.config p0 p4 plan.message menu.message
   pub targets_lie : TargetsLie image machine plan.config p0 p4 plan.sections targets
   pub entries : menu.entries ≡ entries_for plan.sections targets
-  pub prompt_is : menu.settings ≡ record { prompt = plan.config.prompt; delay = plan.config.delay; timeout = plan.config.timeout; default_entry = default_place plan.config.default_name (plan_names plan); capacity = line_capacity }
+  pub prompt_is : menu.settings
+      ≡ record {
+        prompt = plan.config.prompt;
+        delay = plan.config.delay;
+        timeout = plan.config.timeout;
+        default_entry = default_place plan.config.default_name (plan_names plan);
+        capacity = line_capacity;
+      }
 
 -- it boots as the menu says
 abbrev pub MapLaw : Type 0
 MapLaw =
-    (image : Image) (machine : Machine) (span : Span) (plan : Plan) (menu : Menu) (targets : List Target) (line : DefaultLine) (p0 p1 p2 p3 p4 : DiskSector) (rest : List DiskSector) (present : List ℕ) (keys : List Key) (memory : ℕ)
+    (image : Image) (machine : Machine) (span : Span) (plan : Plan) (menu : Menu) (targets : List Target)
+    (line : DefaultLine) (p0 p1 p2 p3 p4 : DiskSector) (rest : List DiskSector) (present : List ℕ) (keys : List Key)
+    (memory : ℕ)
     → MapLies image machine span plan menu targets line p0 p1 p2 p3 p4 rest present
     → whole_boot image machine span keys memory ≡ menu_boot menu line keys memory

@@ -22,13 +22,18 @@ pub record NamesLine (image : Image) (machine : Machine) (span : Span) (place : 
 
 -- What a configuration plans boots as it means with whatever bytes are put into the default line's sector that say a line;
 -- and it is the first place that the boot sector names for it. That place isn't the boot sector's own.
-pub record BootsWithLines (before image : Image) (machine : Machine) (volume : Volume) (span : Span) (config : Config) (devices : Device → List ℕ) (place : DiskSector) : Type 0 where
+pub record BootsWithLines (before image : Image) (machine : Machine) (volume : Volume) (span : Span) (config : Config)
+    (devices : Device → List ℕ) (place : DiskSector) : Type 0 where
   pub names : NamesLine image machine span place
-  pub boots : (bytes : List ℕ) (line : DefaultLine) (keys : List Key) (memory : ℕ) → line_at bytes ≡ Ok line → whole_boot (with_sector image place bytes) machine span keys memory ≡ meant config (names_in volume before) devices line keys memory
+  pub boots : (bytes : List ℕ) (line : DefaultLine) (keys : List Key) (memory : ℕ) → line_at bytes ≡ Ok line
+      → whole_boot (with_sector image place bytes) machine span keys memory
+      ≡ meant config (names_in volume before) devices line keys memory
 
 abbrev pub LinesLaw : Type 0
 LinesLaw =
-    (before image : Image) (machine : Machine) (volume : Volume) (span : Span) (config : Config) (time : ℕ) (devices : Device → List ℕ) (line : DefaultLine) (p0 p1 p2 p3 p4 : DiskSector) (rest : List DiskSector) (present : List ℕ)
+    (before image : Image) (machine : Machine) (volume : Volume) (span : Span) (config : Config) (time : ℕ)
+    (devices : Device → List ℕ) (line : DefaultLine) (p0 p1 p2 p3 p4 : DiskSector) (rest : List DiskSector)
+    (present : List ℕ)
     → IsSound volume before
     → PlannedLies before image machine volume span config time devices line p0 p1 p2 p3 p4 rest present
     → p0 ≢ record { disk = span.disk; sector = span.start }

@@ -23,7 +23,8 @@ use Rattle.map_laws.specs.MapStays.{fixed_places}
 -- many sectors as the plan has, with zeros in the rest of its last zone.
 pub record HoldsMap (image : Image) (machine : Machine) (volume : Volume) (plan : Plan) (path : List (List ℕ)) (places : List DiskSector) : Type 0 where
   pub holder : ℕ
-  pub leads : (reached volume.layout (parts_of volume image) path ≡ Some holder) ⊎ (reached volume.layout (parts_of volume image) (with_tilde path) ≡ Some holder)
+  pub leads : (reached volume.layout (parts_of volume image) path ≡ Some holder)
+      ⊎ (reached volume.layout (parts_of volume image) (with_tilde path) ≡ Some holder)
   pub regular : is_file ((parts_of volume image).node holder) ≡ true
   pub solid : inode_places volume (parts_of volume image) holder ≡ map Some places
   pub size_is : ((parts_of volume image).node holder).size ≡ 512 * map_size plan machine
@@ -32,7 +33,9 @@ pub record HoldsMap (image : Image) (machine : Machine) (volume : Volume) (plan 
 -- where a planned map lies at such places, the image has Lays
 abbrev pub LaysLaw : Type 0
 LaysLaw =
-    (image : Image) (machine : Machine) (volume : Volume) (span : Span) (plan : Plan) (menu : Menu) (targets : List Target) (line : DefaultLine) (p0 p1 p2 p3 p4 : DiskSector) (rest : List DiskSector) (present : List ℕ) (path : List (List ℕ))
+    (image : Image) (machine : Machine) (volume : Volume) (span : Span) (plan : Plan) (menu : Menu)
+    (targets : List Target) (line : DefaultLine) (p0 p1 p2 p3 p4 : DiskSector) (rest : List DiskSector)
+    (present : List ℕ) (path : List (List ℕ))
     → MapLies image machine span plan menu targets line p0 p1 p2 p3 p4 rest present
     → HoldsMap image machine volume plan path (p0 ∷ (p1 ∷ (p2 ∷ (p3 ∷ (p4 ∷ rest)))))
     → Lays image machine volume span plan path present
@@ -40,7 +43,9 @@ LaysLaw =
 -- so it does where what a configuration plans on a volume, as another image has it, lies
 abbrev pub PlannedLaysLaw : Type 0
 PlannedLaysLaw =
-    (before image : Image) (machine : Machine) (volume : Volume) (span : Span) (config : Config) (time : ℕ) (devices : Device → List ℕ) (line : DefaultLine) (p0 p1 p2 p3 p4 : DiskSector) (rest : List DiskSector) (present : List ℕ) (path : List (List ℕ))
+    (before image : Image) (machine : Machine) (volume : Volume) (span : Span) (config : Config) (time : ℕ)
+    (devices : Device → List ℕ) (line : DefaultLine) (p0 p1 p2 p3 p4 : DiskSector) (rest : List DiskSector)
+    (present : List ℕ) (path : List (List ℕ))
     → IsSound volume before
     → PlannedLies before image machine volume span config time devices line p0 p1 p2 p3 p4 rest present
     → HoldsMap image machine volume (planned before machine volume config time) path (p0 ∷ (p1 ∷ (p2 ∷ (p3 ∷ (p4 ∷ rest)))))
@@ -49,7 +54,9 @@ PlannedLaysLaw =
 -- and where what a plan's checks accept is written
 abbrev pub AcceptedLaysLaw : Type 0
 AcceptedLaysLaw =
-    (before image : Image) (machine : Machine) (volume : Volume) (span : Span) (config : Config) (time : ℕ) (line : DefaultLine) (p0 p1 p2 p3 p4 : DiskSector) (rest : List DiskSector) (present : List ℕ) (path : List (List ℕ))
+    (before image : Image) (machine : Machine) (volume : Volume) (span : Span) (config : Config) (time : ℕ)
+    (line : DefaultLine) (p0 p1 p2 p3 p4 : DiskSector) (rest : List DiskSector) (present : List ℕ)
+    (path : List (List ℕ))
     → IsSound volume before
     → IsAccepted before machine volume span config time (p0 ∷ (p1 ∷ (p2 ∷ (p3 ∷ (p4 ∷ rest)))))
     → IsWritten before image machine volume span config time line p0 p1 p2 p3 p4 rest present
@@ -60,7 +67,9 @@ AcceptedLaysLaw =
 -- its first sector says some line, and its places are still those of its file, under either name.
 abbrev pub LaysStaysLaw : Type 0
 LaysStaysLaw =
-    (image c : Image) (machine : Machine) (volume : Volume) (span : Span) (plan : Plan) (menu : Menu) (targets : List Target) (line other : DefaultLine) (p0 p1 p2 p3 p4 : DiskSector) (rest : List DiskSector) (present : List ℕ) (path : List (List ℕ))
+    (image c : Image) (machine : Machine) (volume : Volume) (span : Span) (plan : Plan) (menu : Menu)
+    (targets : List Target) (line other : DefaultLine) (p0 p1 p2 p3 p4 : DiskSector) (rest : List DiskSector)
+    (present : List ℕ) (path : List (List ℕ))
     → MapLies image machine span plan menu targets line p0 p1 p2 p3 p4 rest present
     → SameOn (fixed_places span plan p4 (p1 ∷ (p2 ∷ (p3 ∷ (p4 ∷ rest))))) image c
     → line_at (bytes_at c p0) ≡ Ok other

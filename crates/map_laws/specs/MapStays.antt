@@ -24,7 +24,8 @@ fixed_places span plan zero_place after =
 -- where these sectors stay, and the line's sector has a line, the map lies
 abbrev pub MapStaysLaw : Type 0
 MapStaysLaw =
-    (image c : Image) (machine : Machine) (span : Span) (plan : Plan) (menu : Menu) (targets : List Target) (line other : DefaultLine) (p0 p1 p2 p3 p4 : DiskSector) (rest : List DiskSector) (present : List ℕ)
+    (image c : Image) (machine : Machine) (span : Span) (plan : Plan) (menu : Menu) (targets : List Target)
+    (line other : DefaultLine) (p0 p1 p2 p3 p4 : DiskSector) (rest : List DiskSector) (present : List ℕ)
     → MapLies image machine span plan menu targets line p0 p1 p2 p3 p4 rest present
     → SameOn (fixed_places span plan p4 (p1 ∷ (p2 ∷ (p3 ∷ (p4 ∷ rest))))) image c
     → line_at (bytes_at c p0) ≡ Ok other

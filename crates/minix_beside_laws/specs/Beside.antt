@@ -25,12 +25,15 @@ pub record Harmless (volume : Volume) (old : Image) (sector : ℕ) (bytes : List
   -- the superblock stays
   pub super : super_sector ≡ sector → bytes ≡ sector_of volume old sector
   -- the bytes of a named inode stay, whatever its neighbours become
-  pub nodes : (number : ℕ) → NamedIn volume old number → (inode_place volume.layout number).sector ≡ sector → part_of bytes (inode_place volume.layout number).at (inode_size volume.layout.kind) ≡ inode_part volume old (inode_place volume.layout number)
+  pub nodes : (number : ℕ) → NamedIn volume old number → (inode_place volume.layout number).sector ≡ sector
+      → part_of bytes (inode_place volume.layout number).at (inode_size volume.layout.kind)
+      ≡ inode_part volume old (inode_place volume.layout number)
   -- a zone that is referred to stays
   pub zones : (number : ℕ) (at : Pointer) (zone : ℕ) → RefersIn volume old number at zone → IsOfZone zone sector → bytes ≡ sector_of volume old sector
   -- the bitmap bits of these inodes and zones stay set, whatever the others become
   pub marks : (number : ℕ) → NamedIn volume old number → inode_mark_sector number ≡ sector → bit bytes (number % 4096) ≡ true
-  pub zone_marks : (number : ℕ) (at : Pointer) (zone : ℕ) → RefersIn volume old number at zone → zone_mark_sector volume.layout zone ≡ sector → bit bytes (zone_bit volume.layout zone % 4096) ≡ true
+  pub zone_marks : (number : ℕ) (at : Pointer) (zone : ℕ) → RefersIn volume old number at zone
+      → zone_mark_sector volume.layout zone ≡ sector → bit bytes (zone_bit volume.layout zone % 4096) ≡ true
 
 -- an inode is neither the root nor has a name
 abbrev pub IsUnnamed : Volume → Image → ℕ → Type 0

@@ -12,14 +12,19 @@ pub record ChangesEntry (super : Super) (old new : Parts) (directory place : ℕ
   pub is : is_directory (old.node directory) ≡ true
   pub below : place < places super.kind (old.node directory).size
   pub node : new.node directory ≡ old.node directory
-  pub others : (other : ℕ) → other < places super.kind (old.node directory).size → other ≢ place → entry super new directory other ≡ entry super old directory other
+  pub others : (other : ℕ) → other < places super.kind (old.node directory).size → other ≢ place
+      → entry super new directory other ≡ entry super old directory other
 
 -- what it finds then
 pub record FindsBy (super : Super) (old new : Parts) (directory place : ℕ) : Type 0 where
   -- what it found, by each name of which the entry says what it said
-  pub kept : (name : List ℕ) → named_inode name (entry super new directory place) ≡ named_inode name (entry super old directory place) → lookup super new name directory ≡ lookup super old name directory
+  pub kept : (name : List ℕ)
+      → named_inode name (entry super new directory place) ≡ named_inode name (entry super old directory place)
+      → lookup super new name directory ≡ lookup super old name directory
   -- what the entry says, by a name that no other entry had
-  pub changed : (name : List ℕ) → is_dots name ≡ false → (lookup super old name directory ≡ None) ⊎ (named_inode name (entry super old directory place) ≢ None) → lookup super new name directory ≡ named_inode name (entry super new directory place)
+  pub changed : (name : List ℕ) → is_dots name ≡ false
+      → (lookup super old name directory ≡ None) ⊎ (named_inode name (entry super old directory place) ≢ None)
+      → lookup super new name directory ≡ named_inode name (entry super new directory place)
 
 -- nothing is found below an inode
 abbrev pub IsLeaf : Super → Parts → ℕ → Type 0
@@ -35,7 +40,9 @@ pub record ChangesIn (super : Super) (old new : Parts) (outer : List (List ℕ))
   pub leads : reached super old outer ≡ Some directory
   pub is : is_directory (old.node directory) ≡ true
   pub elsewhere : (number : ℕ) (name : List ℕ) → Named super old number → number ≢ directory → lookup super new name number ≡ lookup super old name number
-  pub here : (name : List ℕ) → (lookup super new name directory ≡ lookup super old name directory) ⊎ (FindsLeaf super old directory name × FindsLeaf super new directory name)
+  pub here : (name : List ℕ)
+      → (lookup super new name directory ≡ lookup super old name directory)
+      ⊎ (FindsLeaf super old directory name × FindsLeaf super new directory name)
 
 -- the paths of the directory's names lead to what it finds now, and each other path to where it led
 pub record PathsFrom (super : Super) (old new : Parts) (outer : List (List ℕ)) (directory : ℕ) : Type 0 where

@@ -11,7 +11,8 @@ use Rattle.minix_entry_bytes_laws.specs.Written.{IsPlaced, HasEntryBytes}
 
 -- the bytes of one name's entry become those of another name's inode, which has a link left, and then those of the other
 -- name's entry say that it is free
-pub record ReplacesBytes (volume : Volume) (old mid new : Image) (outer : List (List ℕ)) (directory to_place from_place former number : ℕ) (to from bytes free : List ℕ) : Type 0 where
+pub record ReplacesBytes (volume : Volume) (old mid new : Image) (outer : List (List ℕ))
+    (directory to_place from_place former number : ℕ) (to from bytes free : List ℕ) : Type 0 where
   pub to_placed : IsPlaced volume old directory to_place
   pub from_placed : IsPlaced volume old directory from_place
   pub goes : MayRemove volume.layout (parts_of volume old) outer directory to_place former to
@@ -32,4 +33,6 @@ pub record ReplacedIn (volume : Volume) (old mid new : Image) (outer : List (Lis
   pub lower : HasLinkMore volume.layout (parts_of volume old) (parts_of volume new) number
   pub former_lower : HasLinkMore volume.layout (parts_of volume old) (parts_of volume new) former
   pub unnamed : IsOnlyName volume.layout (parts_of volume old) (to ∷ outer) former → Named volume.layout (parts_of volume new) former → ⊥
-  pub unused : IsOnlyName volume.layout (parts_of volume old) (to ∷ outer) former → (at : Pointer) (zone : ℕ) → PointsTo volume.layout (parts_of volume old) former at zone → (other : ℕ) (there : Pointer) → Refers volume.layout (parts_of volume new) other there zone → ⊥
+  pub unused : IsOnlyName volume.layout (parts_of volume old) (to ∷ outer) former → (at : Pointer) (zone : ℕ)
+      → PointsTo volume.layout (parts_of volume old) former at zone → (other : ℕ) (there : Pointer)
+      → Refers volume.layout (parts_of volume new) other there zone → ⊥

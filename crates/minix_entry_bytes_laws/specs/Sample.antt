@@ -66,4 +66,5 @@ pub record CanEnter (kind : Kind) : Type 0 where
   pub stands : MayStand (root_layout kind) (parts_of (root_volume kind) (room_image kind)) 2
   pub directory_stands : DirectoryMayStand (root_layout kind) (parts_of (root_volume kind) (room_image kind)) [] 1 3
   pub entered : (image : Image) → HasSampleEntry kind 2 image → IsEntered kind image
-  pub directory_entered : (image : Image) → HasSampleEntry kind 3 image → HasTreeWith (root_volume kind) (room_image kind) image (sample_name ∷ []) (Some 3) (Some Directory)
+  pub directory_entered : (image : Image) → HasSampleEntry kind 3 image
+      → HasTreeWith (root_volume kind) (room_image kind) image (sample_name ∷ []) (Some 3) (Some Directory)

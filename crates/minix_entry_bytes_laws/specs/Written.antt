@@ -47,13 +47,17 @@ pub record IsPlaced (volume : Volume) (image : Image) (directory place : ℕ) : 
 -- an image has other bytes where an entry lies, and all others of the volume as another image has them
 pub record HasEntryBytes (volume : Volume) (old image : Image) (directory place : ℕ) (bytes : List ℕ) : Type 0 where
   pub long : length bytes ≡ entry_size volume.layout.kind
-  pub here : sector_of volume image (place_in volume old directory place).sector ≡ with_part (sector_of volume old (place_in volume old directory place).sector) (place_in volume old directory place).at bytes
-  pub others : (sector : ℕ) → sector < 2 * volume.layout.zones → sector ≢ (place_in volume old directory place).sector → sector_of volume image sector ≡ sector_of volume old sector
+  pub here : sector_of volume image (place_in volume old directory place).sector
+      ≡ with_part (sector_of volume old (place_in volume old directory place).sector)
+      (place_in volume old directory place).at bytes
+  pub others : (sector : ℕ) → sector < 2 * volume.layout.zones → sector ≢ (place_in volume old directory place).sector
+      → sector_of volume image sector ≡ sector_of volume old sector
 
 -- one entry changes there, to what the bytes say; an inode that is fit for a name stays, and the volume is sound
 -- where its parts are
 pub record EntryIsWritten (volume : Volume) (old image : Image) (directory place : ℕ) (bytes : List ℕ) : Type 0 where
   pub only : ChangesOnlyEntry volume.layout (parts_of volume old) (parts_of volume image) directory place
   pub says : entry volume.layout (parts_of volume image) directory place ≡ entry_of volume.layout.kind bytes
-  pub kept : (number : ℕ) → IsFit volume.layout (parts_of volume old) number → number ≢ directory → KeepsInode volume.layout (parts_of volume old) (parts_of volume image) number
+  pub kept : (number : ℕ) → IsFit volume.layout (parts_of volume old) number → number ≢ directory
+      → KeepsInode volume.layout (parts_of volume old) (parts_of volume image) number
   pub sound : Sound volume.layout (parts_of volume image) → IsSound volume image

@@ -25,7 +25,9 @@ pub record IsFit (super : Super) (parts : Parts) (number : ℕ) : Type 0 where
 pub record IsNewDirectory (super : Super) (parts : Parts) (outer : List (List ℕ)) (directory number : ℕ) : Type 0 where
   pub unnamed : Named super parts number → ⊥
   pub empty : IsLeaf super parts number
-  pub no_twice : (place other inode inode' : ℕ) (name : List ℕ) → inode ≢ 0 → inode' ≢ 0 → HasEntry super parts number place (entry_with inode name) → HasEntry super parts number other (entry_with inode' name) → place ≡ other
+  pub no_twice : (place other inode inode' : ℕ) (name : List ℕ) → inode ≢ 0 → inode' ≢ 0
+      → HasEntry super parts number place (entry_with inode name)
+      → HasEntry super parts number other (entry_with inode' name) → place ≡ other
   pub here : HasSomeEntry super parts number (entry_with number here_name)
   pub above : HasSomeEntry super parts number (entry_with directory above_name)
   pub depth : length outer < depth_limit
@@ -50,7 +52,9 @@ pub record MayCome (super : Super) (old new : Parts) (outer : List (List ℕ)) (
   pub fit : IsFit super old what.inode
   pub kept : KeepsInode super old new what.inode
   -- one more than its names, that of the entry that goes not counted
-  pub links : (paths : List (List (List ℕ))) → AreDistinct paths → AllLead super old what.inode paths → ((entry super old directory place).inode ≢ 0 → IsNew ((entry super old directory place).name ∷ outer) paths) → length paths < (old.node what.inode).links
+  pub links : (paths : List (List (List ℕ))) → AreDistinct paths → AllLead super old what.inode paths
+      → ((entry super old directory place).inode ≢ 0 → IsNew ((entry super old directory place).name ∷ outer) paths)
+      → length paths < (old.node what.inode).links
   pub fresh : is_directory (old.node what.inode) ≡ true → IsNewDirectory super old outer directory what.inode
 
 -- one entry of the directory that a path leads to changes, and nothing else that has a name; an entry that isn't

@@ -17,7 +17,8 @@ pub record ChangesOnlyEntry (super : Super) (old new : Parts) (directory place :
   pub change : ChangesEntry super old new directory place
   pub nodes : (number : ℕ) → Named super old number → new.node number ≡ old.node number
   pub marks : (number : ℕ) → Named super old number → new.has_inode number ≡ old.has_inode number
-  pub zones : (number : ℕ) (at : Pointer) (zone : ℕ) → Refers super old number at zone → zone ≢ zone_of_entry super old directory place → new.zone zone ≡ old.zone zone
+  pub zones : (number : ℕ) (at : Pointer) (zone : ℕ) → Refers super old number at zone
+      → zone ≢ zone_of_entry super old directory place → new.zone zone ≡ old.zone zone
   pub zone_marks : (number : ℕ) (at : Pointer) (zone : ℕ) → Refers super old number at zone → new.has_zone zone ≡ old.has_zone zone
 
 -- an inode, whether it has a name or not, its zones and their bitmap bits are in the new parts as in the old ones

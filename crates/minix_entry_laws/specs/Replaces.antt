@@ -10,7 +10,8 @@ use Rattle.minix_entry_laws.specs.Enter.{MayStand, MayRemove, Becomes, BecomesFr
 
 -- the entry of one name becomes that of another name's inode, which has a link left, and then the other name's entry
 -- becomes free
-pub record Replaces (super : Super) (old mid new : Parts) (outer : List (List ℕ)) (directory to_place from_place former number : ℕ) (to from : List ℕ) : Type 0 where
+pub record Replaces (super : Super) (old mid new : Parts) (outer : List (List ℕ))
+    (directory to_place from_place former number : ℕ) (to from : List ℕ) : Type 0 where
   pub goes : MayRemove super old outer directory to_place former to
   pub moves : MayRemove super old outer directory from_place number from
   pub names : from ≢ to
@@ -27,4 +28,5 @@ pub record Replaced (super : Super) (old mid new : Parts) (outer : List (List �
   pub former_lower : HasLinkMore super old new former
   -- where that had no other name it has none now, and no named inode refers to the zones that it had
   pub unnamed : IsOnlyName super old (to ∷ outer) former → Named super new former → ⊥
-  pub unused : IsOnlyName super old (to ∷ outer) former → (at : Pointer) (zone : ℕ) → PointsTo super old former at zone → (other : ℕ) (there : Pointer) → Refers super new other there zone → ⊥
+  pub unused : IsOnlyName super old (to ∷ outer) former → (at : Pointer) (zone : ℕ)
+      → PointsTo super old former at zone → (other : ℕ) (there : Pointer) → Refers super new other there zone → ⊥

@@ -13,14 +13,17 @@ pub record MayBeFile (kind : Kind) (zones : FileZones) : Type 0 where
   pub few_indirect : length zones.indirect ≤ reach kind
   pub two_levels : is_v1 kind ≡ true → length zones.indirect ≤ 2 + numbers_in_zone kind
   -- below an indirect zone that isn't made all is a hole
-  pub holes : (place index : ℕ) → index < numbers_in_zone kind → slice_index zones.indirect place ≡ 0 → zone_from zones (below_source (numbers_in_zone kind) place index) ≡ 0
+  pub holes : (place index : ℕ) → index < numbers_in_zone kind → slice_index zones.indirect place ≡ 0
+      → zone_from zones (below_source (numbers_in_zone kind) place index) ≡ 0
   -- none appears twice
   pub once : (one other : Source) → zone_from zones one ≡ zone_from zones other → zone_from zones one ≢ 0 → one ≡ other
 
 -- an inode and its indirect zones have the numbers of these
 pub record HasZones (super : Super) (parts : Parts) (number : ℕ) (zones : FileZones) : Type 0 where
   pub tops : (top : ℕ) → top < 10 → slice_index (parts.node number).zones top ≡ zone_from zones (top_source (numbers_in_zone super.kind) top)
-  pub rows : (place index : ℕ) → slice_index zones.indirect place ≢ 0 → index < numbers_in_zone super.kind → number_in super.kind (parts.zone (slice_index zones.indirect place)) index ≡ zone_from zones (below_source (numbers_in_zone super.kind) place index)
+  pub rows : (place index : ℕ) → slice_index zones.indirect place ≢ 0 → index < numbers_in_zone super.kind
+      → number_in super.kind (parts.zone (slice_index zones.indirect place)) index
+      ≡ zone_from zones (below_source (numbers_in_zone super.kind) place index)
 
 -- then each pointer leads to the zone that was chosen for it
 abbrev pub PointersLaw : Type 0

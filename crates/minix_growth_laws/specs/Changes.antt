@@ -42,7 +42,8 @@ pub record MaySize (super : Super) (parts : Parts) (directory size : ℕ) : Type
   pub sized : is_size super.kind size ≡ true
   pub room : places super.kind (parts.node directory).size ≤ places super.kind size
   pub reaches : blocks_for (parts.node directory).size ≤ reach super.kind → blocks_for size ≤ reach super.kind
-  pub free : (place : ℕ) → places super.kind (parts.node directory).size ≤ place → place < places super.kind size → (entry super parts directory place).inode ≡ 0
+  pub free : (place : ℕ) → places super.kind (parts.node directory).size ≤ place → place < places super.kind size
+      → (entry super parts directory place).inode ≡ 0
 
 -- other bytes in the zone with a place of a directory say the same of each place below its size
 pub record MayFill (super : Super) (parts : Parts) (directory place : ℕ) (bytes : List ℕ) : Type 0 where

@@ -17,8 +17,11 @@ pub record Extends (super : Super) (old new : Parts) (directory : ℕ) : Type 0 
   pub room : places super.kind (old.node directory).size ≤ places super.kind (new.node directory).size
   pub reaches : blocks_for (old.node directory).size ≤ reach super.kind → blocks_for (new.node directory).size ≤ reach super.kind
   pub entries : (place : ℕ) → place < places super.kind (old.node directory).size → entry super new directory place ≡ entry super old directory place
-  pub free : (place : ℕ) → places super.kind (old.node directory).size ≤ place → place < places super.kind (new.node directory).size → (entry super new directory place).inode ≡ 0
-  pub above : (top index : ℕ) (trail : List ℕ) (zone : ℕ) → IsPointer super.kind (record { top = top; trail = index ∷ trail }) → PointsTo super old directory (record { top = top; trail = trail }) zone → new.zone zone ≡ old.zone zone
+  pub free : (place : ℕ) → places super.kind (old.node directory).size ≤ place
+      → place < places super.kind (new.node directory).size → (entry super new directory place).inode ≡ 0
+  pub above : (top index : ℕ) (trail : List ℕ) (zone : ℕ)
+      → IsPointer super.kind (record { top = top; trail = index ∷ trail })
+      → PointsTo super old directory (record { top = top; trail = trail }) zone → new.zone zone ≡ old.zone zone
   -- all else
   pub nodes : (other : ℕ) → Named super old other → other ≢ directory → new.node other ≡ old.node other
   pub marks : (other : ℕ) → Named super old other → new.has_inode other ≡ old.has_inode other

@@ -36,15 +36,19 @@ pub record Hooks (super : Super) (old new : Parts) (directory : ℕ) (at : Point
   pub top : at.trail ≡ [] → slice_index (new.node directory).zones at.top ≡ zone
   pub tops : (top : ℕ) → pointer_at top [] ≢ at → slice_index (new.node directory).zones top ≡ slice_index (old.node directory).zones top
   -- numbers in its indirect zones
-  pub number : (index : ℕ) (before : List ℕ) → at.trail ≡ (index ∷ before) → number_in super.kind (new.zone (pointer super old directory (pointer_at at.top before))) index ≡ zone
-  pub numbers : (outer : Pointer) (y index : ℕ) → PointsTo super old directory outer y → IsPointer super.kind (below outer index) → below outer index ≢ at → number_in super.kind (new.zone y) index ≡ number_in super.kind (old.zone y) index
+  pub number : (index : ℕ) (before : List ℕ) → at.trail ≡ (index ∷ before)
+      → number_in super.kind (new.zone (pointer super old directory (pointer_at at.top before))) index ≡ zone
+  pub numbers : (outer : Pointer) (y index : ℕ) → PointsTo super old directory outer y
+      → IsPointer super.kind (below outer index) → below outer index ≢ at
+      → number_in super.kind (new.zone y) index ≡ number_in super.kind (old.zone y) index
   -- all else
   pub nodes : (number : ℕ) → Named super old number → number ≢ directory → new.node number ≡ old.node number
   pub marks : (number : ℕ) → Named super old number → new.has_inode number ≡ old.has_inode number
   pub zones : (number : ℕ) (there : Pointer) (y : ℕ) → Refers super old number there y → ((number ≡ directory) → IsBelow at there → ⊥) → new.zone y ≡ old.zone y
   pub zone_marks : (number : ℕ) (there : Pointer) (y : ℕ) → Refers super old number there y → new.has_zone y ≡ old.has_zone y
   -- past its entries are only free ones
-  pub free : (place : ℕ) → places super.kind (old.node directory).size ≤ place → place < places super.kind (new.node directory).size → (entry super old directory place).inode ≡ 0
+  pub free : (place : ℕ) → places super.kind (old.node directory).size ≤ place
+      → place < places super.kind (new.node directory).size → (entry super old directory place).inode ≡ 0
 
 -- a zone further down, and the index at which its number is in the zone above
 pub record Deeper : Type 0 where

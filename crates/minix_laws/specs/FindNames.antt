@@ -10,4 +10,6 @@ use Rattle.lilo_model.specs.MinixFindNames.{path_of, AgreesOn}
 abbrev pub FindLaw : Type 0
 FindLaw =
     (volume : Volume) (image : Image) → IsSound volume image → (follows_last : Bool) (text : List ℕ)
-    → AgreesOn volume.layout (parts_of volume image) (find_path volume.layout (parts_of volume image) follows_last text) (path_of (names_in volume image) follows_last text)
+    → AgreesOn volume.layout (parts_of volume image)
+    (find_path volume.layout (parts_of volume image) follows_last text)
+    (path_of (names_in volume image) follows_last text)

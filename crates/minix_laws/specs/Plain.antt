@@ -12,7 +12,8 @@ pub record GivesPlain (super : Super) (parts : Parts) (number : ℕ) : Type 0 wh
   pub bytes : (index : ℕ) (bytes : List ℕ) → block_at super parts (parts.node number) index ≡ Ok bytes → block super parts number index ≡ bytes
   pub whole : (bytes : List ℕ) → content_at super parts (parts.node number) ≡ Ok bytes → content super parts number ≡ bytes
   pub at : (place : ℕ) (what : Entry) → entry_at super parts (parts.node number) place ≡ Ok what → entry super parts number place ≡ what
-  pub found : (name : List ℕ) (inode : Option ℕ) → find_entry super parts (parts.node number) name ≡ Ok inode → first_named (entry super parts number) name (places super.kind (parts.node number).size) ≡ inode
+  pub found : (name : List ℕ) (inode : Option ℕ) → find_entry super parts (parts.node number) name ≡ Ok inode
+      → first_named (entry super parts number) name (places super.kind (parts.node number).size) ≡ inode
 
 -- on any volume
 abbrev pub GivenLaw : Type 0
@@ -24,7 +25,9 @@ pub record IsGiven (super : Super) (parts : Parts) (number : ℕ) : Type 0 where
   pub bytes : (index : ℕ) → block_at super parts (parts.node number) index ≡ Ok (block super parts number index)
   pub whole : content_at super parts (parts.node number) ≡ Ok (content super parts number)
   pub at : (place : ℕ) → entry_at super parts (parts.node number) place ≡ Ok (entry super parts number place)
-  pub found : (name : List ℕ) → find_entry super parts (parts.node number) name ≡ Ok (first_named (entry super parts number) name (places super.kind (parts.node number).size))
+  pub found : (name : List ℕ)
+      → find_entry super parts (parts.node number) name
+      ≡ Ok (first_named (entry super parts number) name (places super.kind (parts.node number).size))
 
 -- on a sound volume, for each file, directory and link that has a name
 abbrev pub SoundLaw : Type 0

@@ -17,10 +17,13 @@ IsSpare super old new zone = (number : ℕ) (at : Pointer) → Refers super old 
 -- its zones; a pointer stays, and one that comes is to a zone that was spare
 pub record KeepsNamed (super : Super) (old new : Parts) : Type 0 where
   pub modes : (number : ℕ) → Named super old number → Named super new number → (new.node number).mode ≡ (old.node number).mode
-  pub files : (number : ℕ) → Named super old number → Named super new number → is_directory (old.node number) ≡ false → SameButLinks (old.node number) (new.node number)
-  pub bytes : (number : ℕ) (at : Pointer) (zone : ℕ) → Refers super old number at zone → Named super new number → is_directory (old.node number) ≡ false → new.zone zone ≡ old.zone zone
+  pub files : (number : ℕ) → Named super old number → Named super new number → is_directory (old.node number) ≡ false
+      → SameButLinks (old.node number) (new.node number)
+  pub bytes : (number : ℕ) (at : Pointer) (zone : ℕ) → Refers super old number at zone → Named super new number
+      → is_directory (old.node number) ≡ false → new.zone zone ≡ old.zone zone
   pub stays : (number : ℕ) (at : Pointer) (zone : ℕ) → Refers super old number at zone → Named super new number → PointsTo super new number at zone
-  pub refers : (number : ℕ) (at : Pointer) (zone : ℕ) → Named super old number → Refers super new number at zone → PointsTo super old number at zone ⊎ IsSpare super old new zone
+  pub refers : (number : ℕ) (at : Pointer) (zone : ℕ) → Named super old number → Refers super new number at zone
+      → PointsTo super old number at zone ⊎ IsSpare super old new zone
 
 -- ---- trees: which inode each path leads to
 

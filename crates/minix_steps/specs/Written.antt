@@ -24,8 +24,10 @@ with_zone volume image zone bytes =
 -- an image has the bytes of a zone in each of its two sectors, or what that sector had in another image, and all else
 -- as that one
 pub record IsPartOfZone (volume : model.Volume) (old new : Image) (zone : ℕ) (bytes : List ℕ) : Type 0 where
-  pub front : (sector_of volume new (zone_sector zone) ≡ part_of bytes 0 512) ⊎ (sector_of volume new (zone_sector zone) ≡ sector_of volume old (zone_sector zone))
-  pub back : (sector_of volume new (zone_sector zone + 1) ≡ part_of bytes 512 512) ⊎ (sector_of volume new (zone_sector zone + 1) ≡ sector_of volume old (zone_sector zone + 1))
+  pub front : (sector_of volume new (zone_sector zone) ≡ part_of bytes 0 512)
+      ⊎ (sector_of volume new (zone_sector zone) ≡ sector_of volume old (zone_sector zone))
+  pub back : (sector_of volume new (zone_sector zone + 1) ≡ part_of bytes 512 512)
+      ⊎ (sector_of volume new (zone_sector zone + 1) ≡ sector_of volume old (zone_sector zone + 1))
   pub others : SameOutside volume.span.disk (volume.span.start + zone_sector zone) 2 old new
 
 -- the bytes of the sector with an inode, with other bytes in place of that inode

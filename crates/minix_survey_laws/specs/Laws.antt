@@ -48,7 +48,8 @@ FactsLaw = (super : Super) (parts : Parts) (seen : ℕ → Bool) → Sound super
 -- and where it has seen all that has a name it is done
 abbrev pub SurveyedLaw : Type 0
 SurveyedLaw =
-    (super : Super) (parts : Parts) (seen : ℕ → Bool) → Sound super parts → AreNamed super parts seen → ((number : ℕ) → Named super parts number → seen number ≡ true)
+    (super : Super) (parts : Parts) (seen : ℕ → Bool) → Sound super parts → AreNamed super parts seen
+    → ((number : ℕ) → Named super parts number → seen number ≡ true)
     → (level : ℕ → ℕ) × Surveyed super parts seen level × AreFound super parts seen
 
 -- ---- counts of names
@@ -61,7 +62,8 @@ pub record CountsNext (super : Super) (parts : Parts) (judged next : ℕ → ℕ
 -- a count begins at 0 and goes on place by place
 pub record AreCounts (super : Super) (parts : Parts) : Type 0 where
   pub none : (judged : ℕ → ℕ) (inode : ℕ) → ((directory : ℕ) → judged directory ≡ 0) → IsCount super parts judged inode 0
-  pub next : (judged next : ℕ → ℕ) (directory inode count : ℕ) → IsCount super parts judged inode count → JudgesNext judged next directory → CountsNext super parts judged next directory inode count
+  pub next : (judged next : ℕ → ℕ) (directory inode count : ℕ) → IsCount super parts judged inode count
+      → JudgesNext judged next directory → CountsNext super parts judged next directory inode count
 
 -- on any volume
 abbrev pub CountLaw : Type 0

@@ -80,21 +80,30 @@ pub record SurveyFacts (super : Super) (parts : Parts) (seen : ℕ → Bool) (le
   -- so is each zone that it refers to
   pub zones : (number : ℕ) (at : Pointer) (zone : ℕ) → seen number ≡ true → PointsTo super parts number at zone → IsGoodZone super parts zone
   -- and no other pointer refers to that
-  pub once : (number other : ℕ) (at there : Pointer) (zone : ℕ) → seen number ≡ true → seen other ≡ true → PointsTo super parts number at zone → PointsTo super parts other there zone → (number ≡ other) × (at ≡ there)
+  pub once : (number other : ℕ) (at there : Pointer) (zone : ℕ) → seen number ≡ true → seen other ≡ true
+      → PointsTo super parts number at zone → PointsTo super parts other there zone
+      → (number ≡ other) × (at ≡ there)
   -- no name appears twice in a directory
-  pub no_twice : (directory place other : ℕ) → IsSeenDirectory parts seen directory → IsTaken super parts directory place → IsTaken super parts directory other → (entry super parts directory place).name ≡ (entry super parts directory other).name → place ≡ other
+  pub no_twice : (directory place other : ℕ) → IsSeenDirectory parts seen directory
+      → IsTaken super parts directory place → IsTaken super parts directory other
+      → (entry super parts directory place).name ≡ (entry super parts directory other).name → place ≡ other
   -- no entry names the root
   pub not_root : (directory place inode : ℕ) → NamesAt super parts seen directory place inode → inode ≢ 1
   -- a directory is named by one entry
-  pub one_entry : (directory other place there inode : ℕ) → IsSeenDirectory parts seen inode → NamesAt super parts seen directory place inode → NamesAt super parts seen other there inode → (directory ≡ other) × (place ≡ there)
+  pub one_entry : (directory other place there inode : ℕ) → IsSeenDirectory parts seen inode
+      → NamesAt super parts seen directory place inode → NamesAt super parts seen other there inode
+      → (directory ≡ other) × (place ≡ there)
   -- `.` is there and right
   pub here : (directory : ℕ) → IsSeenDirectory parts seen directory → HasSomeEntry super parts directory (entry_with directory here_name)
   -- and `..`, in the root and in each directory that an entry names
   pub root_above : IsSeenDirectory parts seen 1 → HasSomeEntry super parts 1 (entry_with 1 above_name)
-  pub above : (outer place directory : ℕ) → IsSeenDirectory parts seen directory → NamesAt super parts seen outer place directory → HasSomeEntry super parts directory (entry_with outer above_name)
+  pub above : (outer place directory : ℕ) → IsSeenDirectory parts seen directory
+      → NamesAt super parts seen outer place directory
+      → HasSomeEntry super parts directory (entry_with outer above_name)
   -- a directory's level is one more than that of the directory whose entry names it, and 0 at the root
   pub root_level : IsSeenDirectory parts seen 1 → level 1 ≡ 0
-  pub next_level : (outer place directory : ℕ) → IsSeenDirectory parts seen directory → NamesAt super parts seen outer place directory → level directory ≡ suc (level outer)
+  pub next_level : (outer place directory : ℕ) → IsSeenDirectory parts seen directory
+      → NamesAt super parts seen outer place directory → level directory ≡ suc (level outer)
   pub depth : (directory : ℕ) → IsSeenDirectory parts seen directory → level directory ≤ depth_limit
   -- at least as many links as entries that name an inode
   pub links : (number : ℕ) (all : List EntryPlace) → AreApart all → AllName super parts seen number all → length all ≤ (parts.node number).links

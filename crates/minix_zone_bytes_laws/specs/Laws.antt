@@ -28,7 +28,11 @@ WritePartLaw =
     → HasZonePart
     volume
     old
-    (with_sector old (record { disk = volume.span.disk; sector = volume.span.start + (zone_sector zone + offset / 512) }) (with_part (sector_of volume old (zone_sector zone + offset / 512)) (offset % 512) bytes))
+    (with_sector old (record {
+      disk = volume.span.disk;
+      sector = volume.span.start + (zone_sector zone + offset / 512);
+    })
+    (with_part (sector_of volume old (zone_sector zone + offset / 512)) (offset % 512) bytes))
     zone
     offset
     bytes
@@ -47,7 +51,8 @@ SeenNumberLaw =
     → IsSound volume old → MayHook volume.layout (parts_of volume old) directory (below outer index) zone more
     → pointer volume.layout (parts_of volume old) directory outer ≢ 0
     → zone < 256 ^ number_size volume.layout.kind
-    → HasZonePart volume old image (pointer volume.layout (parts_of volume old) directory outer) (offset_of_number volume.layout.kind index) (number_bytes volume.layout.kind zone)
+    → HasZonePart volume old image (pointer volume.layout (parts_of volume old) directory outer)
+    (offset_of_number volume.layout.kind index) (number_bytes volume.layout.kind zone)
     → SeenAsIn volume old image
 
 -- nor any bytes of an entry at a place past a directory's size

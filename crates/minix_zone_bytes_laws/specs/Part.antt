@@ -16,7 +16,8 @@ pub record HasZonePart (volume : Volume) (old image : Image) (zone offset : ℕ)
   pub below : offset < 1024
   pub inside : offset % 512 + length bytes ≤ 512
   pub here : sector_of volume image (zone_sector zone + offset / 512) ≡ with_part (sector_of volume old (zone_sector zone + offset / 512)) (offset % 512) bytes
-  pub others : (sector : ℕ) → sector < 2 * volume.layout.zones → sector ≢ zone_sector zone + offset / 512 → sector_of volume image sector ≡ sector_of volume old sector
+  pub others : (sector : ℕ) → sector < 2 * volume.layout.zones → sector ≢ zone_sector zone + offset / 512
+      → sector_of volume image sector ≡ sector_of volume old sector
 
 -- the bytes of a zone with others in a part
 abbrev pub with_zone_part : Parts → ℕ → ℕ → List ℕ → List ℕ

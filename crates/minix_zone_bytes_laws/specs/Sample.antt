@@ -41,7 +41,10 @@ deeper zone = record { index = 0; zone = zone }
 
 -- the parts once the root has zone 9 as an indirect one, with zone 10
 abbrev pub grown_with : Kind → (ℕ → Bool) → Parts
-grown_with kind marks = record (parts_with kind marks) { node = λ number. if number == 1 then with_top (root_inode kind) 7 9 (2 * entry_size kind) else root_inode kind }
+grown_with kind marks = record (parts_with kind marks) {
+  node = λ number. if number == 1 then with_top (root_inode kind) 7 9 (2 * entry_size kind)
+      else root_inode kind;
+}
 
 abbrev pub grown_parts : Kind → Parts
 grown_parts kind = grown_with kind (λ zone. true)

@@ -41,8 +41,8 @@ use section_loader::{Halt, Reason};
 use sector_parts::{Sector, part};
 use stream_trait::{Shown, Sink, Source};
 
-/// Boots from the first sector of a device, a disk or one of its partitions, into a memory, by keys, and shows the texts
-/// that go with it.
+/// Boots from the first sector of a device, a disk or one of its partitions, into a memory, by keys, and shows the
+/// texts that go with it.
 ///
 /// A boot sector of this format leads to a map: to the default line, the table of entries and their passwords, and once
 /// an entry is chosen at the prompt to its texts and files, all by the sectors that slots name. No file system is read.
@@ -53,7 +53,8 @@ use stream_trait::{Shown, Sink, Source};
 ///
 /// Each sector is read once, one at a time. Keys are taken by the prompt alone, as many as it needs for its choice.
 /// `Reason::Unbuilt` is for what isn't followed yet: a default line, a choice that changes it, and a slot of more than
-/// one sector. No disk is written, and nothing is allocated. After a refusal or a failure nothing is said of the memory.
+/// one sector. No disk is written, and nothing is allocated. After a refusal or a failure nothing is said of the
+/// memory.
 pub fn boot<D: Disks, I: Source, O: Sink>(
     bios: &mut Bios<'_, D, I>,
     device: Span,
@@ -62,7 +63,8 @@ pub fn boot<D: Disks, I: Source, O: Sink>(
 ) -> Outcome
     requires { device.start < D.size_of bios.old.disks.now device.disk }
 
-    // It is today's boot, and outside what isn't built yet the model's, by the keys that it took; the default line stays.
+    // It is today's boot, and outside what isn't built yet the model's, by the keys that it took; the default line
+    // stays.
     ensures today { WentOn D.Disks I.Source O.Sink bios.old.disks.now (result_of result)
         (bios.old.keys.now, ram.old, out.old) (bios.new.keys.now, ram.new, out.new)
         (λ now machine memory keys. boot_today now machine (span_view device) memory keys) }

@@ -112,8 +112,8 @@ fn a_plain_boot(rt: HostRuntime) -> Result<(), Fail> {
     Ok(())
 }
 
-// A file's hole is the zero sector of the map: at a kernel's start there is no header then, in its middle and at its end
-// there are zeros. The slots of a section may be of different modes.
+// A file's hole is the zero sector of the map: at a kernel's start there is no header then, in its middle and at its
+// end there are zeros. The slots of a section may be of different modes.
 #[test]
 fn holes_and_slots_of_all_modes(rt: HostRuntime) -> Result<(), Fail> {
     for (section, outcome, shown, protected) in [

@@ -8,8 +8,8 @@ use sector_parts::{FieldRef, Sector, put_part};
 use std::alloc::{AllocError, Global};
 use std::test::Fail;
 
-// A disk of 32 sectors, of which each of the first 24 is full of its number, but for sector 10: that is a section sector
-// with these slots.
+// A disk of 32 sectors, of which each of the first 24 is full of its number, but for sector 10: that is a section
+// sector with these slots.
 fn disk_of(alloc: Global, slots: &[u8; 16], failing: &[Failing]) -> Result<MemDisks, AllocError> {
     let Ok(geometry) = Geometry::new(16, 63) else {
         return Err(AllocError);

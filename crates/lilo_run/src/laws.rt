@@ -1,7 +1,8 @@
 // What is known of runs, as laws, which no code needs to call.
 ghost use Rattle.lilo_run.specs.Laws.{BootVerdictLaw, NoKeysLaw, NoMemoryLaw};
 
-/// Outside what isn't built yet, the verdict of a boot is the model's, for all keys, and so are the keys that it leaves.
+/// Outside what isn't built yet, the verdict of a boot is the model's, for all keys, and so are the keys that it
+/// leaves.
 pub fn boots_answer_as_the_model()
     ensures { BootVerdictLaw }
 {}

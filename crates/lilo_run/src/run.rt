@@ -53,8 +53,8 @@ use stream_trait::{Sink, Source, Words, answer};
 /// | 13 | there is no memory for a configuration | `lilo: memory` |
 /// | 15 | the part isn't built yet, or the boot isn't | `lilo: not built` |
 ///
-/// After the sink failed nothing is put, and the part that runs is the last. No disk is written, and only boots take keys.
-/// Memory is allocated for a configuration alone.
+/// After the sink failed nothing is put, and the part that runs is the last. No disk is written, and only boots take
+/// keys. Memory is allocated for a configuration alone.
 pub fn lilo<D: Disks, I: Source, O: Sink>(
     alloc: Global,
     words: &Words,
@@ -72,8 +72,8 @@ pub fn lilo<D: Disks, I: Source, O: Sink>(
     ensures sink { result ≡ 12 → Rose (O.faults out.old) (O.faults out.new) }
     ensures starved { result ≡ 13 → IfOk (run_at words.now) (λ parts. has_conf parts ≡ true) }
 
-    // The text and the keys left go with the status. Only a failed sink may have cut the text short, in the part at which
-    // the run ended.
+    // The text and the keys left go with the status. Only a failed sink may have cut the text short, in the part at
+    // which the run ended.
     ensures text { OnParts D.Disks I.Source disks.old (keys.old, keys.new) (length ram.old) words.now
         (λ parts all left. TellsAll O.Sink parts result all left (ram.old, out.old) (ram.new, out.new)) }
     ensures whole { result ≡ 0 → OnParts D.Disks I.Source disks.old (keys.old, keys.new) (length ram.old) words.now
@@ -81,7 +81,8 @@ pub fn lilo<D: Disks, I: Source, O: Sink>(
     ensures left { result ≡ 0 → OnParts D.Disks I.Source disks.old (keys.old, keys.new) (length ram.old) words.now
         (λ parts all left. run_left all parts ≡ left) }
 
-    // Outside what isn't built yet, a boot by itself has the model's verdict, and leaves the keys that the model's leaves.
+    // Outside what isn't built yet, a boot by itself has the model's verdict, and leaves the keys that the model's
+    // leaves.
     ensures boot { (device : Device) (dump : Bool) → IsBootRun words.now device dump
         → OnDisks D.Disks disks.old (λ now machine. OnKeys I.Source (keys.old, keys.new) (λ all left.
         TellsBoot O.Sink now machine (length ram.old) (place_at now machine device) dump all left result out.old out.new)) }

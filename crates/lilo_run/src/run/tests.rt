@@ -414,8 +414,8 @@ fn boots_are_refused(rt: HostRuntime) -> Result<(), Fail> {
     Ok(())
 }
 
-// What is shown where a read of the boot fails: that of the boot sector, of the default line, of the three sectors of the
-// table, of the options, of the section, and of the three sectors of the kernel.
+// What is shown where a read of the boot fails: that of the boot sector, of the default line, of the three sectors of
+// the table, of the options, of the section, and of the three sectors of the kernel.
 const BROKEN: [&[u8]; 10] = [
     b"lilo: device\n",
     b"L 80\nlilo: device\n",

@@ -40,9 +40,9 @@ pub enum ShotFault {
 ///
 /// # Errors
 ///
-/// In this order: `NotOurs`, `LineTooLong`, `BadTable`, `NotFound`; nothing is written then. `Device` is for a disk that
-/// failed: `Before` in the read of the boot sector, and nothing is written; `Commit` in the write or flush of the line's
-/// sector, which was written then or wasn't.
+/// In this order: `NotOurs`, `LineTooLong`, `BadTable`, `NotFound`; nothing is written then. `Device` is for a disk
+/// that failed: `Before` in the read of the boot sector, and nothing is written; `Commit` in the write or flush of the
+/// line's sector, which was written then or wasn't.
 pub fn set_line<D: Disks>(disks: &mut D, device: Span, words: &[u8]) -> Result<(), ShotFault>
     requires some { 1 ≤ length words.now }
     requires inside { device.start < D.size_of disks.old device.disk }

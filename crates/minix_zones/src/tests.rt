@@ -353,8 +353,8 @@ fn held_zones_answer_as_the_plain_call(rt: HostRuntime) -> Result<(), Fail> {
     Ok(())
 }
 
-// The superblock is read by call 0, and the two indirect zones on the way to the first block by calls 1 to 4. Blocks that
-// are reached through the same ones have no more: call 5 is the first on another way.
+// The superblock is read by call 0, and the two indirect zones on the way to the first block by calls 1 to 4. Blocks
+// that are reached through the same ones have no more: call 5 is the first on another way.
 #[test]
 fn each_indirect_zone_is_read_once(rt: HostRuntime) -> Result<(), Fail> {
     let failing = Failing {

@@ -98,8 +98,8 @@ impl<'d, D: Disks, I: Source> Bios<'d, D, I> {
         write_sector(self.disks, slot, from)
     }
 
-    /// Takes the next key. The byte 0x16 is a tick, a tenth of a second without a key; the end of the source is silence,
-    /// from then on for good. `KeysFault` is for a source that failed: then no key is taken.
+    /// Takes the next key. The byte 0x16 is a tick, a tenth of a second without a key; the end of the source is
+    /// silence, from then on for good. `KeysFault` is for a source that failed: then no key is taken.
     pub fn key(&mut self) -> Result<Key, BiosFault>
         // What is heard.
         ensures key { GivesKey (keys_in I.Source self.old.keys.now) result (keys_in I.Source self.new.keys.now) }

@@ -147,7 +147,8 @@ fn sound_token(
 fn word_at(line: u32, value: bool, start: usize, bytes: &[u8]) -> Result<Token<'_>, TextFault>
     requires some { 1 ≤ length bytes.now }
     requires fits { start + length bytes.now < 2 ^ 32 }
-    ensures value { (first : ℕ) (behind : List ℕ) → bytes.now ≡ first ∷ behind → piece_view result ≡ word_at line value start first behind }
+    ensures value { (first : ℕ) (behind : List ℕ) → bytes.now ≡ first ∷ behind
+        → piece_view result ≡ word_at line value start first behind }
     ensures within { IfOk result (λ token. token_end (token_view token) ≤ start + length bytes.now) }
     ensures behind { IfOk result (λ token. start ≤ token_end (token_view token)) }
 {
@@ -199,7 +200,8 @@ fn piece_at(
 ) -> Option<Result<Token<'_>, TextFault>>
     requires { start + length bytes.now < 2 ^ 32 }
     ensures value { option_map piece_view result ≡ piece_at line value start bytes.now }
-    ensures within { IfSome result (λ piece. IfOk piece (λ token. token_end (token_view token) ≤ start + length bytes.now)) }
+    ensures within { IfSome result (λ piece.
+        IfOk piece (λ token. token_end (token_view token) ≤ start + length bytes.now)) }
     ensures behind { IfSome result (λ piece. IfOk piece (λ token. start ≤ token_end (token_view token))) }
 {
     match bytes.first()? {
@@ -230,7 +232,8 @@ pub(crate) fn next_piece(
     requires counted { counted ≤ place }
     requires line { line ≡ line_at text.now counted }
     ensures piece { option_map piece_view result.piece ≡ next_piece text.now value place }
-    ensures within { IfSome result.piece (λ piece. IfOk piece (λ token. token_end (token_view token) ≤ length text.now)) }
+    ensures within { IfSome result.piece (λ piece.
+        IfOk piece (λ token. token_end (token_view token) ≤ length text.now)) }
     ensures start { result.start ≤ length text.now }
     ensures behind { IfSome result.piece (λ piece. IfOk piece (λ token. result.start ≤ token_end (token_view token))) }
     ensures line { result.line ≡ line_at text.now result.start }

@@ -26,7 +26,8 @@ impl<'a> Model for Tokens<'a> {
 
     ghost view = { λ tokens. pieces_left tokens.refused tokens.text.now tokens.value tokens.place };
 
-    ghost invariant = { λ tokens. (length tokens.text.now ≤ 65536) × (tokens.place ≤ length tokens.text.now) × (tokens.counted ≤ tokens.place) × (tokens.line ≡ line_at tokens.text.now tokens.counted) };
+    ghost invariant = { λ tokens. (length tokens.text.now ≤ 65536) × (tokens.place ≤ length tokens.text.now)
+        × (tokens.counted ≤ tokens.place) × (tokens.line ≡ line_at tokens.text.now tokens.counted) };
 }
 
 impl<'a> Tokens<'a> {

@@ -11,8 +11,8 @@ pub fn stop_leaves_what_boots_as_before_or_as_meant()
     ensures { HeadlineLaw }
 {}
 
-/// Where what a configuration plans lies, and its default line is empty, an image means the configuration and its files:
-/// it boots so, and with each other default line too.
+/// Where what a configuration plans lies, and its default line is empty, an image means the configuration and its
+/// files: it boots so, and with each other default line too.
 pub fn planned_map_means_its_configuration()
     ensures { MeansLaw }
 {}
@@ -32,8 +32,8 @@ pub fn write_outside_keeps_a_volume()
     ensures { OutsideLaw }
 {}
 
-/// An installation that is answered passed each of its checks: it is sound and apart, its names may be replaced, what it
-/// maps and the map's own places are accepted, and there is room.
+/// An installation that is answered passed each of its checks: it is sound and apart, its names may be replaced, what
+/// it maps and the map's own places are accepted, and there is room.
 pub fn answered_installation_passed_its_checks()
     ensures { AnsweredLaw }
 {}

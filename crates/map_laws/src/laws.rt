@@ -20,8 +20,8 @@ pub fn shown_menu_is_booted()
     ensures { ShowsLaw }
 {}
 
-/// Where a planned map lies at its places, with its boot sector, and the files where they are mapped from, a boot does what
-/// its menu says, for all keys, any memory and each default line.
+/// Where a planned map lies at its places, with its boot sector, and the files where they are mapped from, a boot does
+/// what its menu says, for all keys, any memory and each default line.
 pub fn planned_map_boots_as_its_menu()
     ensures { MapLaw }
 {}
@@ -46,8 +46,8 @@ pub fn compact_slots_are_apart()
     ensures { CompactLaw }
 {}
 
-/// A named file whose sectors have slots lies where it is mapped from, with its content, in each image where they are as
-/// they were.
+/// A named file whose sectors have slots lies where it is mapped from, with its content, in each image where they are
+/// as they were.
 pub fn kept_file_lies()
     ensures { FileLaw }
 {}
@@ -57,7 +57,8 @@ pub fn optional_file_is_mapped_where_it_counts()
     ensures { OptionalFileLaw }
 {}
 
-/// What the checks of a plan accept on a sound volume, once it is written, boots as the configuration and its files mean.
+/// What the checks of a plan accept on a sound volume, once it is written, boots as the configuration and its files
+/// mean.
 pub fn accepted_plan_boots_as_meant()
     ensures { AcceptedLaw }
 {}

@@ -121,7 +121,8 @@ impl Super {
 #[tactic(auto, unfolding(lilo_model::specs::MinixLayout::super_of))]
 fn super_of(sector: &Sector, kind: FsKind) -> Super
     ensures view { super_view result ≡ super_of (kind_view kind) sector.now }
-    ensures small { (result.inodes < 2 ^ 16) × (result.imap < 2 ^ 16) × (result.zmap < 2 ^ 16) × (result.first < 2 ^ 16) }
+    ensures small { (result.inodes < 2 ^ 16) × (result.imap < 2 ^ 16)
+        × (result.zmap < 2 ^ 16) × (result.first < 2 ^ 16) }
     ensures zones { result.zones < 256 ^ number_size (kind_view result.kind) }
 {
     Super {

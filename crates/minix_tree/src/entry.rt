@@ -39,9 +39,11 @@ impl<'b> Model for Entries<'b> {
 
     ghost Value = { List PlacedEntry };
 
-    ghost view = { λ entries. placed_from (kind_view entries.kind) entries.block.now entries.place (entries.end - entries.place) };
+    ghost view = { λ entries. placed_from (kind_view entries.kind) entries.block.now entries.place
+        (entries.end - entries.place) };
 
-    ghost invariant = { λ entries. (entries.place ≤ entries.end) × (entries.end ≤ entries_per_block (kind_view entries.kind)) };
+    ghost invariant = { λ entries. (entries.place ≤ entries.end)
+        × (entries.end ≤ entries_per_block (kind_view entries.kind)) };
 }
 
 /// The bytes of a name at most.

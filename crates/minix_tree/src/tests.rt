@@ -371,8 +371,8 @@ fn each_sector_is_read_once(rt: HostRuntime) -> Result<(), Fail> {
     Ok(())
 }
 
-// A volume of 500 zones, the first data zone 6, with the root in zone 6. The file 2 has 300,000 bytes: its block with an
-// index is in the zone 20 + index, which begins with that index. Numbers of zones from 400 on are indirect ones.
+// A volume of 500 zones, the first data zone 6, with the root in zone 6. The file 2 has 300,000 bytes: its block with
+// an index is in the zone 20 + index, which begins with that index. Numbers of zones from 400 on are indirect ones.
 const LARGE: Span = Span {
     disk: 0,
     start: 8,
@@ -474,8 +474,8 @@ fn large(alloc: Global, magic: u16, failing: &[Failing]) -> Result<MemDisks, All
 }
 
 // The superblock is read by call 0; on the way to the file are the root's inode, the two halves of its zone and the
-// file's inode. Then each block has two reads, and each indirect zone two: one in version 1, three in version 2. The call
-// after these fails, which is the first of another reading.
+// file's inode. Then each block has two reads, and each indirect zone two: one in version 1, three in version 2. The
+// call after these fails, which is the first of another reading.
 #[test]
 fn a_file_behind_indirect_zones(rt: HostRuntime) -> Result<(), Fail> {
     for (magic, indirect) in [(0x137F, 1), (0x2468, 3)] {

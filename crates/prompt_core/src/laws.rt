@@ -25,7 +25,8 @@ pub fn more_is_wanted()
     ensures { MoreLaw }
 {}
 
-/// No typed line, and no line that a lock keeps, is longer than the longest of a name, the default line and a typed line.
+/// No typed line, and no line that a lock keeps, is longer than the longest of a name, the default line and a typed
+/// line.
 pub fn lines_are_short()
     ensures { ShortLaw }
 {}

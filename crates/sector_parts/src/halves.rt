@@ -39,7 +39,8 @@ fn first_sector(bytes: &[u8]) -> &Sector
 pub fn half_mut<'a, const N: usize>(block: &'a mut [u8; N], second: bool) -> &'a mut Sector
     requires block { N ≡ 1024 }
     ensures bytes { result.now ≡ part_of block.old (half_at second) 512 }
-    ensures* writes_back { sem 𝓛 (Lends (Array byte 0) (Array byte 512) block.entry result (with_part block.old (half_at second))) }
+    ensures* writes_back { sem 𝓛 (Lends (Array byte 0) (Array byte 512) block.entry result
+        (with_part block.old (half_at second))) }
 {
     let at = second as usize * 512;
     unsafe { &mut *((block as *mut [u8; N] as *mut u8).add(at) as *mut Sector) }

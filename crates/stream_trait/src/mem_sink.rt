@@ -42,7 +42,8 @@ impl MemSink {
     ///
     /// There is no memory for the room, or for the copy of `failing`.
     pub fn new(alloc: Global, room: u32, failing: &[u64]) -> Result<MemSink, AllocError>
-        ensures { IfOk result (λ s. s ≡ record { taken = []; room = room; calls = 0; failing = failing.now; faults = 0 }) }
+        ensures { IfOk result (λ s.
+            s ≡ record { taken = []; room = room; calls = 0; failing = failing.now; faults = 0 }) }
     {
         Ok(MemSink {
             bytes: Vec::with_capacity(alloc, room as usize)?,

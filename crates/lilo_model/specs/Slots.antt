@@ -1,7 +1,7 @@
 -- A slot names up to 127 neighbouring sectors of a disk in eight bytes: the mode, the BIOS device, the
 -- count, a zero byte and four address bytes. The eight bytes are this project's own; the address in mode 1,
 -- and what a cylinder, head and sector are, come from INT 13h.
-use Rattle.std.specs.Prelude.{◌≡◌, ◌≤◌, ℕ, ◌+◌, ◌-◌, ◌*◌, ◌/◌, ◌%◌, ◌==◌, nat_le, nat_lt, Bool, true, false, not, ◌&&◌, ◌||◌, if◌then◌else◌, List, [], ◌∷◌, ◌++◌, map, slice_index, Option, Some, None, Result, Ok, Err}
+use Rattle.std.specs.Prelude.{ℕ, ◌+◌, ◌-◌, ◌*◌, ◌/◌, ◌%◌, ◌==◌, nat_le, nat_lt, Bool, true, false, not, ◌&&◌, ◌||◌, if◌then◌else◌, List, [], ◌∷◌, ◌++◌, map, slice_index, Option, Some, None, Result, Ok, Err}
 use Rattle.std.specs.List.{range_with_len}
 use Rattle.lilo_model.specs.Bytes.{number32, bytes32, is_zero, is_between}
 use Rattle.lilo_model.specs.Disks.{Geometry, Machine, DiskSector}
@@ -95,10 +95,6 @@ slot_at bytes =
     if is_zero bytes then Ok None else
     if is_slot bytes then Ok (Some (slot_of bytes)) else
     Err BadSlot
-
--- a slot is one sector, on one of the disks 0 to 3
-abbrev pub IsOneSector : Slot → Type 0
-IsOneSector slot = (slot.count ≡ 1) × (slot.disk ≤ 3)
 
 -- the number of a mode
 abbrev pub mode_number : Address → ℕ

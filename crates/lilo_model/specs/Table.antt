@@ -1,9 +1,9 @@
 -- The table of a map: descriptors of 64 bytes, eight in each sector. The layout of a descriptor is this
 -- project's own. An entry is counted from 0.
-use Rattle.std.specs.Prelude.{◌≤◌, IfSome, ℕ, zero, suc, ◌-◌, ◌*◌, ◌/◌, ◌%◌, ◌==◌, nat_lt, Bool, not, ◌&&◌, ◌||◌, if◌then◌else◌, bit_and, List, [], ◌∷◌, ◌++◌, length, bytes_eq, slice_index_or, Option, Some, None, is_some, Result, Ok, Err}
+use Rattle.std.specs.Prelude.{ℕ, zero, suc, ◌-◌, ◌*◌, ◌/◌, ◌%◌, ◌==◌, nat_lt, Bool, not, ◌&&◌, ◌||◌, if◌then◌else◌, bit_and, List, [], ◌∷◌, ◌++◌, length, bytes_eq, slice_index_or, Option, Some, None, is_some, Result, Ok, Err}
 use Rattle.std.specs.List.{list_all}
 use Rattle.lilo_model.specs.Bytes.{part_of, number16, number32, bytes16, bytes32, filled_bytes, is_zero, is_between, name_in}
-use Rattle.lilo_model.specs.Slots.{Slot, IsOneSector, is_one_slot, slot_of, some_slot, slot_bytes, optional_bytes}
+use Rattle.lilo_model.specs.Slots.{Slot, is_one_slot, slot_of, some_slot, slot_bytes, optional_bytes}
 use Rattle.lilo_model.specs.BootSector.{MapFault, BadTable}
 
 -- what an entry says
@@ -190,17 +190,6 @@ table_or_fault None names sectors = Ok (descriptors_of sectors names)
 -- what sectors say as a table of some names: the first entry that breaks the format, or the descriptors
 unfoldable pub table_at : ℕ → List (List ℕ) → Result (List Descriptor) MapFault
 table_at names sectors = table_or_fault (first_below (breaks sectors) names) names sectors
-
--- the name of a descriptor has 1 to 15 bytes
-abbrev pub IsNamed : Descriptor → Type 0
-IsNamed entry = (1 ≤ length entry.name) × (length entry.name ≤ 15)
-
--- each slot of a descriptor is one sector
-pub record HasSectors (entry : Descriptor) : Type 0 where
-  pub options : IsOneSector entry.options
-  pub first : IsOneSector entry.first
-  pub initrd : IfSome entry.initrd IsOneSector
-  pub extra : IfSome entry.extra IsOneSector
 
 -- the 64 bytes of a descriptor
 unfoldable pub descriptor_bytes : Descriptor → List ℕ

@@ -238,10 +238,11 @@ pub not_short_told : (past : Option Past) (volume : Volume) (avoid : List ℕ) (
 not_short_told past volume avoid need before after fault cause =
     told_all past (λ now. Gives (Err fault) (lowest_zones volume.layout (parts_of volume now) avoid need)) (λ now. not_short volume.layout (parts_of volume now) avoid need before after fault cause)
 
-pub cause_by : (need first before after : ℕ) (fault : BitFault) → first ≤ before → HasSectorCause before after fault → HasBitCause need first after fault
-cause_by need first before after (faults.NoSpace n f) later cause = absurd cause
-cause_by need first before after faults.Device later cause = λ room. let rose : before < after = cause room in omega arith
-cause_by need first before after faults.Memory later cause = tt
+pub cause_by : (need first before after : ℕ) (fault : BitFault) → first ≤ before → 0 < need
+    → HasSectorCause before after fault → HasBitCause need first after fault
+cause_by need first before after (faults.NoSpace n f) later some cause = absurd cause
+cause_by need first before after faults.Device later some cause = λ room. let rose : before < after = cause room in omega arith
+cause_by need first before after faults.Memory later some cause = some
 
 -- the numbers of a sector are below the bitmap's end
 pub end_within : (bitmap : Bitmap) (at : ℕ) → at < bitmap.end → end_of bitmap at ≤ bitmap.end

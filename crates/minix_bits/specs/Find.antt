@@ -18,8 +18,9 @@ HasSectorCause before now (faults.NoSpace need found) = ⊥
 HasSectorCause before now faults.Device = Rose before now
 HasSectorCause before now faults.Memory = Unit {0}
 
--- The cause of a refusal: where the disk failed, the count of faults rose; too few are fewer than needed.
+-- The cause of a refusal: where the disk failed, the count of faults rose; too few are fewer than needed; and there was
+-- no memory only where some are needed.
 abbrev pub HasBitCause : ℕ → ℕ → ℕ → BitFault → Type 0
 HasBitCause needed before now (faults.NoSpace need found) = (need ≡ needed) × (found < needed)
 HasBitCause needed before now faults.Device = Rose before now
-HasBitCause needed before now faults.Memory = Unit {0}
+HasBitCause needed before now faults.Memory = 0 < needed

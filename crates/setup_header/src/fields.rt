@@ -18,7 +18,7 @@ const CAN_USE_HEAP: u8 = 0x80;
 /// The end of the heap, as an offset from the real-mode part, less 0x200.
 const HEAP_END: u16 = 0x9600;
 
-/// The mark of a command line at an offset.
+/// The magic number of a command line at an offset.
 const LINE_MAGIC: u16 = 0xA33F;
 
 /// The command line's offset from the real-mode part.
@@ -101,7 +101,7 @@ fn put_line_address(second: &mut Sector)
     put_u32(second, 0x28, LINE_ADDRESS);
 }
 
-// Writes the mark of a line, and its offset.
+// Writes the magic number of a line, and its offset.
 fn put_line_offset(first: &mut Sector)
     ensures { first.new ≡ with_fields first.old (line_fields false) }
 {

@@ -232,7 +232,7 @@ fn names_are_listed_or_refused(rt: HostRuntime) -> Result<(), Fail> {
     Ok(())
 }
 
-const RUNS: [Case<'static>; 10] = [
+const RUNS: [Case<'static>; 12] = [
     Case {
         words: &["-x"],
         status: 1,
@@ -273,6 +273,22 @@ const RUNS: [Case<'static>; 10] = [
         words: &["-q", "/dev/hdb", "--then", "-q", "/dev/hda"],
         status: 3,
         text: b"lilo: volume: no disk\n",
+        ..WHOLE
+    },
+    // A part that answers 0 had no fault, so the fault is of the part that answers: the last of the first part's four
+    // reads, and the first of the second's.
+    Case {
+        words: &["-q", "/dev/hda", "--then", "-q", "/dev/hda"],
+        failing_calls: &[3],
+        status: 8,
+        text: b"lilo: device\n",
+        ..WHOLE
+    },
+    Case {
+        words: &["-q", "/dev/hda", "--then", "-q", "/dev/hda"],
+        failing_calls: &[4],
+        status: 8,
+        text: b"linux *\nlilo: device\n",
         ..WHOLE
     },
     Case {

@@ -4,6 +4,5 @@ pub mod FindLemmas
 pub mod MarkLaws
 pub mod MarkLemmas
 pub mod RangeLemmas
-pub mod SameLemmas
 pub mod ScanLemmas
 pub mod SetLemmas

@@ -11,9 +11,9 @@ pub(crate) fn has_bit(bytes: &[u8], at: usize) -> bool
     (bytes[at / 8] >> (at % 8)) & 1 == 1
 }
 
-/// Sets or clears a bit.
+/// Sets or clears a bit of some bytes, the lowest of a byte first.
 #[tactic(auto, unfolding(lilo_model::specs::MinixParts::with_bit))]
-pub(crate) fn put_bit(bytes: &mut [u8], at: usize, value: bool)
+pub fn put_bit(bytes: &mut [u8], at: usize, value: bool)
     requires { at < 8 * length bytes.old }
     ensures { bytes.new ≡ with_bit bytes.old at value }
 {

@@ -16,11 +16,14 @@ mod number_set;
 mod scan;
 #[cfg(test)]
 mod tests;
+mod zone_bits;
 
 pub use bit_fault::BitFault;
+pub use bits::put_bit;
 pub use find::{find_free, find_inode};
 pub use laws::{inode_mark_is_one_bit, mark_is_one_bit, zone_mark_is_one_bit};
 pub use mark::{clear_inode, clear_zone, mark_inode, mark_zone};
 pub use marked::{inode_is_marked, zone_is_marked};
 pub use number_list::NumberList;
 pub use number_set::NumberSet;
+pub use zone_bits::{zone_bit, zone_bit_sector};

@@ -5,7 +5,7 @@ use Rattle.minix_zones.specs.Volume.{volume_view, past_of, faults_of}
 use Rattle.minix_bits.specs.Bitmap.{end_of}
 use Rattle.minix_bits.specs.Free.{is_free_on, free_from}
 use Rattle.minix_bits.proofs.FindLemmas.{zones_found, zones_short, zones_more, not_short_told}
-use Rattle.minix_bits.proofs.SameLemmas.{told_back}
+use Rattle.minix_zones.proofs.SameLemmas.{told_back}
 use Rattle.minix_bits.proofs.find.find_free.Goals as goal
 use Rattle.minix_bits.proofs.find.find_free.Goals.{then-loop-at-test+else-len-need, else-loop-at-test}
 

@@ -6,7 +6,7 @@ use Rattle.minix_zones.specs.Volume.{volume_view, past_of}
 use Rattle.minix_bits.specs.Bitmap.{end_of}
 use Rattle.minix_bits.specs.Free.{is_free_on, IsLowest}
 use Rattle.minix_bits.proofs.FindLemmas.{inode_found, no_inode, end_within}
-use Rattle.minix_bits.proofs.SameLemmas.{told_back}
+use Rattle.minix_zones.proofs.SameLemmas.{told_back}
 use Rattle.minix_bits.proofs.find.find_inode.Goals as goal
 
 pub returns-then-is_some-clause-inode : goal.returns-then-is_some-clause-inode

@@ -78,6 +78,13 @@ impl<F: Read + Write + Seek + OpenFile> FileDisk<F> {
         self.file.write(sector, from)
     }
 
+    /// Forgets what was read ahead, so that the next read is of the file as it is then.
+    pub(crate) fn forget(&mut self)
+        ensures { self.new ≡ self.old }
+    {
+        self.file.forget();
+    }
+
     /// Makes the writes so far durable.
     pub(crate) fn sync(&self) -> io::Result<()> {
         self.file.sync()

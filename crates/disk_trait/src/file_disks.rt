@@ -71,13 +71,34 @@ impl<F: Read + Write + Seek + OpenFile> FileDisks<F> {
         }
     }
 
+    // Two disks may be over the same file, so that a write leaves nothing that any of them has read ahead.
     fn write_sector(&mut self, disk: u8, sector: u64, from: &Sector) -> io::Result<()>
         requires { sector < file_sizes_of self.old disk }
         ensures { self.new ≡ self.old }
     {
+        self.forget_all();
         match &mut self.disks[usize::from(disk)] {
             Some(file) => file.write(sector, from),
             None => unreachable!(),
+        }
+    }
+
+    // Forgets what each file has read ahead.
+    fn forget_all(&mut self)
+        ensures { self.new ≡ self.old }
+    {
+        for disk in 0..self.disks.len() {
+            self.forget(disk);
+        }
+    }
+
+    // Forgets what one file has read ahead.
+    fn forget(&mut self, disk: usize)
+        requires { disk < length self.old.disks }
+        ensures { self.new ≡ self.old }
+    {
+        if let Some(file) = &mut self.disks[disk] {
+            file.forget();
         }
     }
 

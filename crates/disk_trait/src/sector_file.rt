@@ -88,6 +88,15 @@ impl<F: Read + Write + Seek + OpenFile> SectorFile<F> {
         Ok(())
     }
 
+    /// Forgets what was read ahead.
+    pub(crate) fn forget(&mut self)
+        ensures ahead { self.new.ahead.count ≡ 0 }
+        ensures file { self.new.file ≡ self.old.file }
+        ensures at { self.new.at ≡ self.old.at }
+    {
+        self.ahead.clear();
+    }
+
     /// Makes the writes so far durable.
     pub(crate) fn sync(&self) -> io::Result<()> {
         self.file.sync_all()

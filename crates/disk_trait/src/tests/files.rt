@@ -6,9 +6,12 @@ use std::cell::Cell;
 use std::fs::{Metadata, OpenFile};
 use std::io::{ErrorKind, Read, Seek, SeekFrom, Write};
 
-// The calls of a file so far, and what becomes of the next ones.
+const LENGTH: usize = 2048;
+
+// A file of four sectors, its calls so far, and what becomes of the next ones.
 #[derive(Drop)]
 struct Calls {
+    bytes: Cell<[u8; LENGTH]>,
     seeks: Cell<u32>,
     reads: Cell<u32>,
     writes: Cell<u32>,
@@ -24,8 +27,14 @@ struct Calls {
 }
 
 impl Calls {
+    // Its sectors hold 1, 2, 3 and 4.
     fn new() -> Calls {
+        let mut bytes = [0; LENGTH];
+        for (i, sector) in (1..).zip(bytes.chunks_exact_mut(512)) {
+            sector.fill(i);
+        }
         Calls {
+            bytes: Cell::new(bytes),
             seeks: Cell::new(0),
             reads: Cell::new(0),
             writes: Cell::new(0),
@@ -55,12 +64,9 @@ impl Calls {
     }
 }
 
-const LENGTH: usize = 2048;
-
-// A file of four sectors.
+// A file that is opened.
 #[derive(Drop)]
 struct CountedFile<'c> {
-    bytes: [u8; LENGTH],
     at: usize,
     calls: &'c Calls,
 }
@@ -87,7 +93,7 @@ impl Read for CountedFile<'_> {
             return Err(io::Error::from(ErrorKind::Other));
         }
         let (start, end) = self.part(buf.len());
-        buf[..end - start].copy_from_slice(&self.bytes[start..end]);
+        buf[..end - start].copy_from_slice(&self.calls.bytes.get()[start..end]);
         self.at = end;
         Ok(end - start)
     }
@@ -97,7 +103,9 @@ impl Write for CountedFile<'_> {
     fn write(&mut self, buf: &[u8]) -> io::Result<usize> {
         self.calls.count(&self.calls.writes)?;
         let (start, end) = self.part(buf.len());
-        self.bytes[start..end].copy_from_slice(&buf[..end - start]);
+        let mut bytes = self.calls.bytes.get();
+        bytes[start..end].copy_from_slice(&buf[..end - start]);
+        self.calls.bytes.set(bytes);
         self.at = end;
         Ok(end - start)
     }
@@ -143,7 +151,7 @@ impl OpenFile for CountedFile<'_> {
     }
 }
 
-// A disk for each of these files, whose sectors hold 1, 2, 3 and 4.
+// A disk for each of these files.
 fn counted_disks<'c>(
     alloc: Global,
     files: [&'c Calls; 2],
@@ -154,16 +162,7 @@ fn counted_disks<'c>(
     };
     let mut disks = FileDisks::new(alloc);
     for calls in files {
-        let mut bytes = [0; LENGTH];
-        for (i, sector) in (1..).zip(bytes.chunks_exact_mut(512)) {
-            sector.fill(i);
-        }
-        let file = CountedFile {
-            bytes,
-            at: 0,
-            calls,
-        };
-        let disk = FileDisk::new(file, geometry)?;
+        let disk = FileDisk::new(CountedFile { at: 0, calls }, geometry)?;
         if disks.count() < 4 {
             disks.push(Some(disk))?;
         }
@@ -218,6 +217,25 @@ fn neighbouring_sectors_need_no_seek(rt: HostRuntime) -> Result<(), Fail> {
         assert_eq!(rt; first.taken(), [1, granted + 2, 0], "{granted}");
         assert_eq!(rt; make(&mut disks, Call::Read(0, 1)), Ok(8), "{granted}");
         assert_eq!(rt; first.taken(), [0, 0, 0], "{granted}");
+    }
+    Ok(())
+}
+
+#[test]
+fn an_image_that_is_named_twice(rt: HostRuntime) -> Result<(), Fail> {
+    let file = Calls::new();
+    file.most.set(LENGTH);
+    let mut disks = counted_disks(rt.alloc(), [&file, &file])?;
+    // Sectors 1 to 3 are read at once, and one of them is written by the other name.
+    for (disk, other) in [(0, 1), (1, 0)] {
+        let _ = make(&mut disks, Call::Write(other, 2, 3));
+        expect_byte(&rt, &mut disks, disk, 0, 1);
+        expect_byte(&rt, &mut disks, disk, 1, 2);
+        let _ = file.taken();
+        expect_byte(&rt, &mut disks, disk, 2, 3);
+        assert_eq!(rt; file.taken(), [0, 0, 0]);
+        assert_eq!(rt; make(&mut disks, Call::Write(other, 2, 9)), Ok(0));
+        expect_byte(&rt, &mut disks, disk, 2, 9);
     }
     Ok(())
 }

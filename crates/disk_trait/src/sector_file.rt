@@ -81,7 +81,7 @@ impl<F: Read + Write + Seek + OpenFile> SectorFile<F> {
         ensures err { OnErr result (self.new.at ≡ None) }
         ensures ahead { self.new.ahead.count ≡ 0 }
     {
-        self.ahead.clear();
+        self.forget();
         self.go_to(sector)?;
         write_sector(&mut self.file, from)?;
         self.at = Some(sector + 1);

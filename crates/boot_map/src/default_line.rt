@@ -1,6 +1,7 @@
-ghost use Rattle.std.specs.Prelude.{◌≡◌, ◌≤◌, true, length, Ok, IfOk};
+ghost use Rattle.std.specs.Prelude.{◌≡◌, ◌≤◌, true, length, Ok, IfOk, IfSome};
+ghost use Rattle.std.specs.Option.{option_copied};
 ghost use Rattle.lilo_model.specs.Checks.{seen};
-ghost use Rattle.lilo_model.specs.DefaultLine.{line_text};
+ghost use Rattle.lilo_model.specs.DefaultLine.{line_text, line_after, line_after_use};
 ghost use Rattle.lilo_model.specs.LineSector.{is_line, line_of, line_at, line_bytes, state_number};
 ghost use Rattle.boot_map.specs.View.{line_view, map_fault_view};
 ghost use Rattle.boot_map.specs.Ranges.{IsLine};
@@ -46,6 +47,30 @@ impl DefaultLine {
         put_u16(sector, 4, self.state());
         put_u16(sector, 6, text.len() as u16);
         put_name(sector, 8, 504, text);
+    }
+
+    /// The line after a boot: the line to lock on is kept, or else the fallback is, or else a line for one boot has
+    /// served and is gone.
+    pub fn after(&self, lock: Option<&[u8]>, fallback: Option<&[u8]>) -> DefaultLine
+        requires lock { IfSome (option_copied lock) (λ text. length text ≤ 470) }
+        requires fallback { IfSome (option_copied fallback) (λ text. length text ≤ 470) }
+        ensures { line_view result
+            ≡ line_after (line_view self.now) (option_copied lock.entry) (option_copied fallback.entry) }
+    {
+        match (lock, fallback) {
+            (Some(text), _) | (None, Some(text)) => DefaultLine::Kept(copy_of(text)),
+            (None, None) => self.after_use(),
+        }
+    }
+
+    // The line once it has served a boot.
+    fn after_use(&self) -> DefaultLine
+        ensures { line_view result ≡ line_after_use (line_view self.now) }
+    {
+        match self {
+            DefaultLine::Empty | DefaultLine::Once(_) => DefaultLine::Empty,
+            DefaultLine::Kept(text) => DefaultLine::Kept(copy_of(text)),
+        }
     }
 
     // The number of the state.

@@ -7,6 +7,7 @@ use crate::{BootSector, DefaultLine, Descriptor, Extra, MapFault, Options, Table
 use arrayvec::ArrayVec;
 use sector_address::{Address, Slot};
 use sector_parts::{put_part, put_u16};
+use std::process::Abort;
 use std::test::Fail;
 
 // The slot of one sector of the first disk, by its number.
@@ -233,6 +234,34 @@ fn default_lines_are_read(rt: HostRuntime) {
     let mut foreign = line_sector(1, 12);
     foreign[3] = b'X';
     assert_eq!(rt; DefaultLine::read(&foreign), Err(MapFault::BadLine));
+}
+
+// A line serves a boot without a lock and a fallback, and with either or both.
+fn expect_after(rt: &impl Abort, line: &DefaultLine, served: &DefaultLine) {
+    let lock = b"dos ro".as_slice();
+    let fallback = b"old".as_slice();
+    assert_eq!(rt; &line.after(None, None), served);
+    assert_eq!(rt;
+        line.after(Some(lock), None),
+        DefaultLine::Kept(copy_of(lock))
+    );
+    assert_eq!(rt;
+        line.after(None, Some(fallback)),
+        DefaultLine::Kept(copy_of(fallback))
+    );
+    assert_eq!(rt;
+        line.after(Some(lock), Some(fallback)),
+        DefaultLine::Kept(copy_of(lock))
+    );
+}
+
+#[test]
+fn lines_serve_a_boot(rt: HostRuntime) {
+    expect_after(&rt, &DefaultLine::Empty, &DefaultLine::Empty);
+    let once = DefaultLine::Once(copy_of(b"linux single"));
+    expect_after(&rt, &once, &DefaultLine::Empty);
+    let kept = DefaultLine::Kept(copy_of(b"linux"));
+    expect_after(&rt, &kept, &kept);
 }
 
 #[test]

@@ -132,7 +132,8 @@ impl Prompt {
 
     /// The entry's name and the words but `lock`, joined by single spaces, once it is chosen.
     pub fn lock_line(&self) -> &[u8]
-        ensures { result.now ≡ lock_line_in self.now.state }
+        ensures line { result.now ≡ lock_line_in self.now.state }
+        ensures limit { length result.now ≤ 470 }
     {
         match &self.state {
             State::Decided(chosen) => chosen.lock_line.as_slice(),

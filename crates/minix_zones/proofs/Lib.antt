@@ -8,6 +8,7 @@ mod StopCases
 pub mod StopLemmas
 pub mod TurnLemmas
 pub mod ReadLemmas
+pub mod RunLemmas
 pub mod SameLemmas
 pub mod SectorLemmas
 pub mod WalkLemmas

@@ -1,30 +1,24 @@
 -- One turn of a walk.
-use Rattle.std.proofs.Common.{◌≡◌, ◌⊎◌, ◌≤◌, ◌<◌, ◌+◌, ◌-◌, ◌^◌, ℕ, zero, suc, Bool, true, false, nat_lt, ◌==◌, List, [], ◌∷◌, Option, None, Some, Result, Ok, Err, refl, sym, ap, ◌∙◌, subst, inl, inr, lit<, arith}
+use Rattle.std.proofs.Common.{◌≡◌, ◌⊎◌, ◌≤◌, ◌<◌, ◌+◌, ◌-◌, ◌^◌, max, ℕ, zero, suc, Bool, true, false, nat_lt, ◌==◌, List, [], ◌∷◌, Option, None, Some, Result, Ok, Err, refl, sym, ap, ◌∙◌, subst, inl, inr, lit<, arith}
 use Rattle.std.proofs.lemmas.Bool.{ne_eqb}
 use Rattle.disk_trait.specs.Past.{Past, Told, now_of}
-use Rattle.lilo_model.specs.MinixLayout.{Kind, V1Short, V1Long, V2Short, V2Long, Super, numbers_in_zone}
+use Rattle.lilo_model.specs.MinixLayout.{Kind, V1Short, V1Long, V2Short, V2Long, Super, Inode, numbers_in_zone}
 use Rattle.lilo_model.specs.MinixParts.{Volume, Parts, ZoneFault, parts_of}
 use Rattle.lilo_model.specs.MinixParts as model
 use Rattle.lilo_model.specs.MinixWalk.{Stop, Visit, begins, met_then, met_at, stop_number}
 use Rattle.minix_layout.specs.declared.superblock.Super.{Super as SuperOf}
 use Rattle.minix_layout.specs.View.{inode_view, kind_view}
 use Rattle.minix_zones.specs.View.{HasZoneCause, Refuses}
-use Rattle.minix_zones.specs.Walk.{stops_left, rest_of, HasCome, Refused}
+use Rattle.minix_zones.specs.Held.{AreHoles}
+use Rattle.minix_zones.specs.Walk.{stops_left, rest_of, number_of, HasCome, Refused}
 use Rattle.minix_zones.specs.declared.walk.Walk.{Walk}
 use Rattle.minix_zones.specs.declared.zone_fault.ZoneFault.{ZoneFault as Fault}
 use Rattle.minix_zones.specs.declared.zone_fault.ZoneFault.TheVariants as faults
-use Rattle.minix_zones.proofs.WalkLemmas.{skip_hole, lower_level, next_block, next_below, none_left}
-
-abbrev per_of : Super → ℕ
-per_of super = numbers_in_zone super.kind
+use Rattle.minix_zones.proofs.WalkLemmas.{per_of, skip_hole, skip_holes, lower_level, next_block, next_below, none_left}
 
 -- the stop that a walk has come to
 abbrev pub stop_of : Walk → Stop
 stop_of walk = record { index = walk.index; level = walk.level }
-
--- the number there
-abbrev pub number_of : Super → Parts → Walk → Result ℕ ZoneFault
-number_of super parts walk = stop_number super parts (inode_view walk.inode) (stop_of walk)
 
 -- what is left of a walk that has come to a level of a block
 come-rest : (super : Super) (parts : Parts) (old new : Walk) (index level : ℕ) → HasCome old new index level
@@ -51,6 +45,30 @@ skip-rest super parts old new blocks some more begun are hole come =
     let skipped = skip_hole super parts (inode_view old.inode) (per_of super) old.index old.level old.end refl some more begun hole in
     skipped ∙ ap (λ n. met_at (stop_number super parts (inode_view old.inode)) (stops_left (per_of super) (old.index + n) 3 old.end)) (sym are)
     ∙ sym (come-rest super parts old new (old.index + blocks) 3 come)
+
+-- at least one block is passed, which is a hole
+at-least-one : (super : Super) (parts : Parts) (inode : Inode) (index count : ℕ) → stop_number super parts inode (record { index = index; level = 0 }) ≡ Ok 0
+    → AreHoles super parts inode index count → AreHoles super parts inode index (max count 1)
+at-least-one super parts inode index zero hole holes = record {
+  hole = λ next from near. let e : index ≡ next = omega arith in subst (λ n. stop_number super parts inode (record { index = n; level = 0 }) ≡ Ok 0) e hole;
+  alone = λ next level after near begun. absurd (omega arith);
+}
+at-least-one super parts inode index (suc count) hole holes =
+    let e : suc count ≡ max (suc count) 1 = omega arith in subst (AreHoles super parts inode index) e holes
+
+holes-rest : (super : Super) (parts : Parts) (old new : Walk) (count : ℕ) → old.index < old.end → old.level ≡ 0 → number_of super parts old ≡ Ok 0
+    → AreHoles super parts (inode_view old.inode) old.index count → HasCome old new (old.index + max count 1) 3
+    → rest_of super parts old ≡ rest_of super parts new
+unfolding rest_of
+holes-rest super parts old new count more low hole holes come =
+    let inode = inode_view old.inode in
+    let here : stop_number super parts inode (record { index = old.index; level = 0 }) ≡ Ok 0 =
+    subst (λ n. stop_number super parts inode (record { index = old.index; level = n }) ≡ Ok 0) low hole in
+    let all = at-least-one super parts inode old.index count here holes in
+    let some : 0 < max count 1 = omega arith in
+    ap (λ n. met_at (stop_number super parts inode) (stops_left (per_of super) old.index n old.end)) low
+    ∙ skip_holes super parts inode old.index (max count 1) old.end some more all
+    ∙ sym (come-rest super parts old new (old.index + max count 1) 3 come)
 
 -- a zone is met
 met-zone : (stop : Stop) (number : Result ℕ ZoneFault) (zone : ℕ) (others : List (Result Visit ZoneFault)) → number ≡ Ok zone → 0 < zone
@@ -125,6 +143,15 @@ turn_hole (Some past) volume old new blocks zone some more begun are found hole 
     let none : Result ℕ ZoneFault = Ok 0 in
     let is : number_of volume.layout (parts_of volume (now_of past)) old ≡ none = found ∙ ap (λ n. Ok n) hole in
     skip-rest volume.layout (parts_of volume (now_of past)) old new blocks some more begun are is come
+
+pub turn_holes : (past : Option Past) (volume : Volume) (old new : Walk) (count : ℕ) → old.index < old.end → old.level ≡ 0
+    → Told past (λ now. number_of volume.layout (parts_of volume now) old ≡ Ok 0)
+    → Told past (λ now. AreHoles volume.layout (parts_of volume now) (inode_view old.inode) old.index count)
+    → HasCome old new (old.index + max count 1) 3
+    → Told past (λ now. rest_of volume.layout (parts_of volume now) old ≡ rest_of volume.layout (parts_of volume now) new)
+turn_holes None volume old new count more low hole holes come = tt
+turn_holes (Some past) volume old new count more low hole holes come =
+    holes-rest volume.layout (parts_of volume (now_of past)) old new count more low hole holes come
 
 pub turn_zone : (past : Option Past) (volume : Volume) (old new : Walk) (zone : ℕ) → old.index < old.end
     → begins (per_of volume.layout) old.index old.level ≡ true

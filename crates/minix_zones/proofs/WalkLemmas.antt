@@ -9,6 +9,7 @@ use Rattle.lilo_model.specs.MinixWalk.{stop_number}
 use Rattle.minix_zones.proofs.BranchLemmas.{begins_itself, begins_whole, same_branch}
 use Rattle.minix_zones.proofs.HoleLemmas.{hole_below}
 use Rattle.minix_zones.proofs.QuotientLemmas.{left_over, multiple_of_factor, power_above}
+use Rattle.minix_zones.specs.Held.{AreHoles}
 use Rattle.minix_zones.specs.Walk.{stops_left}
 use Rattle.std.proofs.lemmas.Bool.{leb-true, leb-false}
 use Rattle.std.proofs.Math.Nat.{one-le-pow}
@@ -66,8 +67,12 @@ pass-from number per index (suc blocks) (suc count) holes =
     let left : count - blocks ≡ suc count - suc blocks = omega arith in
     here ∙ others ∙ ap (λ n. met_at number (stops_from per n (count - blocks))) at ∙ ap (λ n. met_at number (stops_from per (index + suc blocks) n)) left
 
+-- the numbers of an indirect zone
+abbrev pub per_of : Super → ℕ
+per_of super = numbers_in_zone super.kind
+
 -- two blocks that are found through one pointer: the pointers of the second are no higher
-behind-first : (per index level next lower : ℕ) → 0 < per → begins per index level ≡ true → index < next → next < index + per ^ level
+pub behind-first : (per index level next lower : ℕ) → 0 < per → begins per index level ≡ true → index < next → next < index + per ^ level
     → begins per next lower ≡ true → level ≤ lower → ⊥
 behind-first per index level next lower some begun after near under above =
     let branch = same_branch per index level next some begun (omega arith) near in
@@ -93,28 +98,49 @@ lower-behind : (per index level next lower : ℕ) → 0 < per → begins per ind
 lower-behind per index level next lower some begun after near under =
     by-order per index level next lower some begun after near under (nat_le lower level) refl
 
+-- nothing is met at the stops of blocks that are all holes, from a level of the first on
+pass-blocks : (number : Stop → Result ℕ ZoneFault) (per index level blocks end : ℕ) → 0 < blocks → index < end
+    → ((lower : ℕ) → lower ≤ level → begins per index lower ≡ true → number (record { index = index; level = lower }) ≡ Ok 0)
+    → ((next lower : ℕ) → index < next → next < index + blocks → begins per next lower ≡ true → number (record { index = next; level = lower }) ≡ Ok 0)
+    → met_at number (stops_left per index level end) ≡ met_at number (stops_left per (index + blocks) 3 end)
+unfolding stops_left
+pass-blocks number per index level blocks end some more first behind =
+    let t : nat_lt index end ≡ true = grind (arith, nat_tests) in
+    let here = pass-at number per index level (stops_from per (index + 1) (end - (index + 1))) first in
+    let others = pass-from number per (index + 1) (blocks - 1) (end - (index + 1)) (λ next lower after near lies. behind next lower (omega arith) (omega arith) lies) in
+    let at : index + 1 + (blocks - 1) ≡ index + blocks = omega arith in
+    let left : end - (index + 1) - (blocks - 1) ≡ end - (index + blocks) = omega arith in
+    let all = stops_left_by per (index + blocks) end (end - (index + blocks)) refl in
+    let joined = here ∙ others ∙ ap (λ n. met_at number (stops_from per n (end - (index + 1) - (blocks - 1)))) at ∙ ap (λ n. met_at number (stops_from per (index + blocks) n)) left ∙ ap (met_at number) (sym all) in
+    rw t joined
+
 -- Nothing is met at the stops of the blocks that are found through a hole.
 pub skip_hole : (super : Super) (parts : Parts) (inode : Inode) (per index level end : ℕ)
     → per ≡ numbers_in_zone super.kind → 0 < per → index < end → begins per index level ≡ true
     → stop_number super parts inode (record { index = index; level = level }) ≡ Ok 0
     → met_at (stop_number super parts inode) (stops_left per index level end)
     ≡ met_at (stop_number super parts inode) (stops_left per (index + per ^ level) 3 end)
-unfolding stops_left
 skip_hole super parts inode per index level end is some more begun hole =
-    let number = stop_number super parts inode in
     let blocks = per ^ level in
     let one : 1 ≤ blocks = one-le-pow level per some in
-    let t : nat_lt index end ≡ true = grind (arith, nat_tests) in
-    let here = pass-at number per index level (stops_from per (index + 1) (end - (index + 1)))
-    (λ lower low lies. hole_below super parts inode per index level index lower is some begun low (omega arith) (omega arith) hole) in
-    let others = pass-from number per (index + 1) (blocks - 1) (end - (index + 1))
+    pass-blocks (stop_number super parts inode) per index level blocks end one more
+    (λ lower low lies. hole_below super parts inode per index level index lower is some begun low (omega arith) (omega arith) hole)
     (λ next lower after near lies. hole_below super parts inode per index level next lower is some begun
-    (lower-behind per index level next lower some begun (omega arith) (omega arith) lies) (omega arith) (omega arith) hole) in
-    let at : index + 1 + (blocks - 1) ≡ index + blocks = omega arith in
-    let left : end - (index + 1) - (blocks - 1) ≡ end - (index + blocks) = omega arith in
-    let all = stops_left_by per (index + blocks) end (end - (index + blocks)) refl in
-    let joined = here ∙ others ∙ ap (λ n. met_at number (stops_from per n (end - (index + 1) - (blocks - 1)))) at ∙ ap (λ n. met_at number (stops_from per (index + blocks) n)) left ∙ ap (met_at number) (sym all) in
-    rw t joined
+    (lower-behind per index level next lower some begun (omega arith) (omega arith) lies) (omega arith) (omega arith) hole)
+
+lowest : (number : Stop → Result ℕ ZoneFault) (index level : ℕ) → level ≡ 0 → number (record { index = index; level = 0 }) ≡ Ok 0 → number (record { index = index; level = level }) ≡ Ok 0
+lowest number index level is hole = subst (λ n. number (record { index = index; level = n }) ≡ Ok 0) (sym is) hole
+
+-- Nothing is met at blocks that are holes in a row.
+pub skip_holes : (super : Super) (parts : Parts) (inode : Inode) (index count end : ℕ) → 0 < count → index < end
+    → AreHoles super parts inode index count
+    → met_at (stop_number super parts inode) (stops_left (numbers_in_zone super.kind) index 0 end)
+    ≡ met_at (stop_number super parts inode) (stops_left (numbers_in_zone super.kind) (index + count) 3 end)
+skip_holes super parts inode index count end some more holes =
+    let number = stop_number super parts inode in
+    pass-blocks number (numbers_in_zone super.kind) index 0 count end some more
+    (λ lower low lies. lowest number index lower (omega arith) (holes.hole index (omega arith) (omega arith)))
+    (λ next lower after near lies. lowest number next lower (holes.alone next lower after near lies) (holes.hole next (omega arith) near))
 
 -- where nothing begins on a level, the stops are those from the next lower one on
 pub lower_level : (per index level end : ℕ) → begins per index level ≡ false

@@ -27,6 +27,11 @@ rest_of super parts walk =
     (walks.stop_number super parts (inode_view walk.inode))
     (stops_left (numbers_in_zone super.kind) walk.index walk.level walk.end)
 
+-- the number at the stop that a walk has come to
+abbrev pub number_of : Super → model.Parts → Walk → Result ℕ model.ZoneFault
+number_of super parts walk =
+    walks.stop_number super parts (inode_view walk.inode) (record { index = walk.index; level = walk.level })
+
 -- a walk over the same inode that has come to a level of a block
 pub record HasCome (old new : Walk) (index level : ℕ) : Type 0 where
   pub same_inode : new.inode ≡ old.inode
@@ -59,3 +64,8 @@ abbrev pub Turns : Result (Option Visit) ZoneFault → List (Result walks.Visit 
 Turns (Ok None) before after = before ≡ after
 Turns (Ok (Some visit)) before after = before ≡ (Ok (visit_view visit) ∷ after)
 Turns (Err fault) before after = Refused fault before
+
+-- stops were passed where nothing is met, or the first of what was left to meet is the refusal
+abbrev pub Passes : Result (Unit {0}) ZoneFault → List (Result walks.Visit model.ZoneFault) → List (Result walks.Visit model.ZoneFault) → Type 0
+Passes (Ok done) before after = before ≡ after
+Passes (Err fault) before after = Refused fault before

@@ -1,5 +1,5 @@
 // The indirect zones on the way to a block.
-ghost use Rattle.std.specs.Prelude.{◌≡◌, ◌<◌, ◌≤◌, slice_index, OnOk, OnErr, IfOk, IfErr};
+ghost use Rattle.std.specs.Prelude.{◌≡◌, ◌+◌, ◌<◌, ◌≤◌, slice_index, OnOk, OnErr, IfOk, IfErr};
 ghost use Rattle.lilo_model.specs.Faults.{Rose};
 ghost use Rattle.disk_trait.specs.Past.{Told};
 ghost use Rattle.lilo_model.specs.MinixLayout.{numbers_in_zone, reach};
@@ -8,11 +8,12 @@ ghost use Rattle.lilo_model.specs.MinixWalk.{stop_pointer};
 ghost use Rattle.minix_layout.specs.View.{kind_view, super_view, inode_view};
 ghost use Rattle.minix_zones.specs.View.{Gives, HasZoneCause, zone_number, IsZoneAt, IsInside};
 ghost use Rattle.minix_zones.specs.Volume.{volume_view, past_of, faults_of, SameVolume};
-ghost use Rattle.minix_zones.specs.Held.{AreHeld, IsHeld};
+ghost use Rattle.minix_zones.specs.Held.{AreHeld, IsHeld, AreZeros, FindsHoles};
 
 use crate::volume::Volume;
 use crate::zone::{
-    ZoneAt, blocks_under, inside, number_in, numbers_in_zone, put_hole, way_to, zone_or_hole,
+    ZoneAt, blocks_under, inside, number_in, numbers_in_zone, put_hole, way_to, zeros_from,
+    zone_or_hole,
 };
 use crate::zone_fault::ZoneFault;
 use disk_trait::Disks;
@@ -81,6 +82,33 @@ impl HeldZone {
         self.hold(volume, zone)?;
         let number = number_in(volume.layout().kind, &self.bytes, index);
         inside(volume.layout(), number)
+    }
+
+    /// How many numbers are 0 in a row, from an index of an indirect zone on: all of them where that zone is a hole.
+    fn zeros_below<D: Disks>(
+        &mut self,
+        volume: &mut Volume<'_, D>,
+        zone: u32,
+        index: u32,
+    ) -> Result<u32, ZoneFault>
+        requires zone { IsInside volume.old.layout zone }
+        requires index { index < numbers_in_zone (kind_view volume.old.layout.kind) }
+        requires held { IsHeld volume.old self.old }
+        ensures zeros { IfOk result (λ count. Told (past_of volume.old) (λ now. AreZeros
+            (kind_view volume.old.layout.kind) (parts_of (volume_view volume.old) now).zone zone index count)) }
+        ensures within { IfOk result (λ count. index + count ≤ numbers_in_zone (kind_view volume.old.layout.kind)) }
+        ensures held { IsHeld volume.new self.new }
+        ensures device { IfErr result (λ fault. (fault ≡ ZoneFault.Device)
+            × Rose (faults_of volume.old) (faults_of volume.new)) }
+        ensures later { faults_of volume.old ≤ faults_of volume.new }
+        ensures same { SameVolume volume.old volume.new }
+    {
+        let kind = volume.layout().kind;
+        if zone == 0 {
+            return Ok(numbers_in_zone(kind) - index);
+        }
+        self.hold(volume, zone)?;
+        Ok(zeros_from(kind, &self.bytes, index))
     }
 }
 
@@ -201,6 +229,38 @@ impl HeldZones {
             way.depth.saturating_sub(level),
             index,
         )
+    }
+
+    /// How many blocks are holes in a row, from one on, as far as the zone with their numbers says; at least 1 where
+    /// its own number is 0. An inode's own numbers say nothing of the next.
+    pub(crate) fn holes_from<D: Disks>(
+        &mut self,
+        volume: &mut Volume<'_, D>,
+        inode: &Inode,
+        index: u32,
+    ) -> Result<u32, ZoneFault>
+        requires held { AreHeld volume.old self.old }
+        ensures holes { Told (past_of volume.old) (λ now. FindsHoles result (super_view volume.old.layout)
+            (parts_of (volume_view volume.old) now) (inode_view inode.now) index) }
+        ensures few { IfOk result (λ count. count ≤ 512) }
+        ensures held { AreHeld volume.new self.new }
+        ensures cause { IfErr result (HasZoneCause (faults_of volume.old) (faults_of volume.new)) }
+        ensures later { faults_of volume.old ≤ faults_of volume.new }
+        ensures same { SameVolume volume.old volume.new }
+    {
+        let kind = volume.layout().kind;
+        let way = way_to(kind, index);
+        if way.depth == 0 {
+            return Ok(0);
+        }
+        let per = numbers_in_zone(kind);
+        match self.follow(volume, inode.zones[way.top], way.depth - 1, way.index / per) {
+            Ok(above) => {
+                let held = &mut self.levels[(way.depth - 1) as usize];
+                held.zeros_below(volume, above, way.index % per)
+            }
+            Err(fault) => Err(fault),
+        }
     }
 
     // The number that is this many levels of indirect zones below another one, on the way to a block that

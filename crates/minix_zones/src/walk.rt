@@ -27,16 +27,16 @@ pub struct Walk {
 }
 
 impl Walk {
-    ghost use Rattle.std.specs.Prelude.{◌≡◌, ◌+◌, ◌-◌, ◌<◌, ◌≤◌, None, Ok, IfOk, IfErr, IfSome, IfNone, OnOk, OnErr, OnSome};
+    ghost use Rattle.std.specs.Prelude.{◌≡◌, ◌+◌, ◌-◌, ◌<◌, ◌≤◌, true, None, Ok, IfOk, IfErr, IfSome, IfNone, OnOk, OnErr, OnSome};
     ghost use Rattle.disk_trait.specs.Past.{Told};
-    ghost use Rattle.lilo_model.specs.MinixLayout.{Super as SuperOf};
+    ghost use Rattle.lilo_model.specs.MinixLayout.{Super as SuperOf, numbers_in_zone};
     ghost use Rattle.lilo_model.specs.MinixParts.{Parts, parts_of};
-    ghost use Rattle.lilo_model.specs.MinixWalk.{visits};
+    ghost use Rattle.lilo_model.specs.MinixWalk.{visits, begins};
     ghost use Rattle.minix_layout.specs.View.{kind_view, super_view, inode_view};
     ghost use Rattle.minix_zones.specs.View.{HasZoneCause, IsDataZone};
     ghost use Rattle.minix_zones.specs.Volume.{volume_view, past_of, faults_of, SameVolume};
     ghost use Rattle.minix_zones.specs.Held.{AreHeld};
-    ghost use Rattle.minix_zones.specs.Walk.{rest_of, IsEnded, turns_left, HasCome, Meets, Turns};
+    ghost use Rattle.minix_zones.specs.Walk.{number_of, rest_of, IsEnded, turns_left, HasCome, Meets, Turns, Passes};
 
     /// A walk over the zones of an inode of a volume of this kind.
     pub fn new(inode: &Inode, kind: FsKind) -> Walk
@@ -144,7 +144,7 @@ impl Walk {
         }
         match held.number_above(volume, &self.inode, self.index, self.level) {
             Ok(0) => {
-                self.pass(blocks_under(kind, self.level));
+                self.pass_holes(volume, held)?;
                 Ok(None)
             }
             Ok(zone) => {
@@ -155,6 +155,45 @@ impl Walk {
                 };
                 self.step();
                 Ok(Some(visit))
+            }
+            Err(fault) => {
+                self.stop();
+                Err(fault)
+            }
+        }
+    }
+
+    // Passes the blocks that are found through a hole, and where that is a block itself also those after it that are
+    // holes in a row, as far as the zone with their numbers says.
+    fn pass_holes<D: Disks>(
+        &mut self,
+        volume: &mut Volume<'_, D>,
+        held: &mut HeldZones,
+    ) -> Result<(), ZoneFault>
+        requires more { self.old.index < self.old.end }
+        requires begun { begins (numbers_in_zone (kind_view volume.old.layout.kind)) self.old.index self.old.level ≡ true }
+        requires hole { Told (past_of volume.old) (λ now. number_of (super_view volume.old.layout)
+            (parts_of (volume_view volume.old) now) self.old ≡ Ok 0) }
+        requires held { AreHeld volume.old held.old }
+        ensures passed { Told (past_of volume.old) (λ now. Passes result
+            (rest_of (super_view volume.old.layout) (parts_of (volume_view volume.old) now) self.old)
+            (rest_of (super_view volume.old.layout) (parts_of (volume_view volume.old) now) self.new)) }
+        ensures fewer { OnOk result (turns_left self.new < turns_left self.old) }
+        ensures refused { OnErr result (IsEnded self.new) }
+        ensures come { HasCome self.old self.new self.new.index self.new.level }
+        ensures held { AreHeld volume.new held.new }
+        ensures cause { IfErr result (HasZoneCause (faults_of volume.old) (faults_of volume.new)) }
+        ensures later { faults_of volume.old ≤ faults_of volume.new }
+        ensures same { SameVolume volume.old volume.new }
+    {
+        if self.level > 0 {
+            self.pass(blocks_under(volume.layout().kind, self.level));
+            return Ok(());
+        }
+        match held.holes_from(volume, &self.inode, self.index) {
+            Ok(holes) => {
+                self.pass(holes.max(1));
+                Ok(())
             }
             Err(fault) => {
                 self.stop();

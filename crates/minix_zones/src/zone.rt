@@ -1,5 +1,5 @@
 // The zone at an index of a file.
-ghost use Rattle.std.specs.Prelude.{◌≡◌, ◌+◌, ◌*◌, ◌-◌, ◌^◌, ◌<◌, ◌≤◌, replicate, slice_index, IfOk, IfErr, OnErr};
+ghost use Rattle.std.specs.Prelude.{◌≡◌, ◌+◌, ◌*◌, ◌-◌, ◌^◌, ◌<◌, ◌≤◌, ℕ, replicate, slice_index, IfOk, IfErr, OnErr};
 ghost use Rattle.disk_trait.specs.Past.{Told};
 ghost use Rattle.lilo_model.specs.MinixLayout.{numbers_in_zone, reach};
 ghost use Rattle.lilo_model.specs.MinixParts.{parts_of, number_in, number_below, follow_at, trail_of, inside, pointer_with, block_pointer, zone_at, block_at};
@@ -55,6 +55,21 @@ pub fn number_in(kind: FsKind, bytes: &[u8; 1024], index: u32) -> u32
     } else {
         numbers.u32_at(4 * index)
     }
+}
+
+/// How many numbers are 0 in a row, from an index of an indirect zone's bytes on.
+#[tactic(auto, using(crate::proofs::ZoneLemmas::zeros_more))]
+pub(crate) fn zeros_from(kind: FsKind, bytes: &[u8; 1024], index: u32) -> u32
+    requires { index < numbers_in_zone (kind_view kind) }
+    ensures zeros { (k : ℕ) → k < result → number_in (kind_view kind) bytes.now (index + k) ≡ 0 }
+    ensures within { index + result ≤ numbers_in_zone (kind_view kind) }
+{
+    let end = numbers_in_zone(kind);
+    let mut at = index;
+    while at < end && number_in(kind, bytes, at) == 0 {
+        at += 1;
+    }
+    at - index
 }
 
 /// A number that may be followed: 0, or that of a data zone.

@@ -1,8 +1,12 @@
-use Rattle.std.proofs.Common.{◌≡◌, refl, arith}
-use Rattle.minix_layout.specs.View.{kind_view}
+use Rattle.std.proofs.Common.{◌≡◌, ◌∙◌, Ok, refl, sym, subst, arith}
+use Rattle.disk_trait.specs.Past.{Told}
+use Rattle.lilo_model.specs.MinixParts.{parts_of}
+use Rattle.minix_layout.specs.View.{kind_view, super_view}
+use Rattle.minix_zones.specs.Walk.{number_of}
 use Rattle.minix_zones.specs.Volume.{volume_view, past_of, faults_of}
 use Rattle.minix_zones.proofs.WalkLemmas.{lower_level}
-use Rattle.minix_zones.proofs.TurnLemmas.{turn_lower, turn_hole, turn_zone, turn_refused, per_some, begins_of, blocks_of, come_from}
+use Rattle.minix_zones.proofs.SameLemmas.{told_forth}
+use Rattle.minix_zones.proofs.TurnLemmas.{turn_lower, turn_zone, turn_refused, begins_of, come_from}
 use Rattle.lilo_model.specs.MinixLayout.{numbers_in_zone}
 use Rattle.minix_zones.proofs.walk.Walk.turn.Goals as goal
 
@@ -25,15 +29,19 @@ returns-then-not-begins-clause-fewer g c =
     let some = (lower_level (numbers_in_zone (kind_view c.args.volume.now.layout.kind)) walk.index walk.level walk.end none).0 in
     omega arith
 
-pub returns-in-Ok-eq0-clause-turns : goal.returns-in-Ok-eq0-clause-turns
-returns-in-Ok-eq0-clause-turns g c =
+pub pass_holes-requires-clause-begun : goal.pass_holes-requires-clause-begun
+pass_holes-requires-clause-begun g c =
     let walk = c.args.self.now in
-    let layout = c.args.volume.now.layout in
-    let begun = begins_of _ layout walk.index walk.level _ _ c.layout.ensures.value c.begins.ensures c.if-not-begins.false in
-    let blocks = blocks_of _ layout walk.level c.blocks_under.result c.layout.ensures.value c.blocks_under.ensures.power in
+    let same = c.in-Ok-eq0.ensures.same in
+    begins_of _ c.number_above.new.volume.layout walk.index walk.level _ _ (c.layout.ensures.value ∙ sym same.same_layout) c.begins.ensures c.if-not-begins.false
+
+pub pass_holes-requires-clause-hole : goal.pass_holes-requires-clause-hole
+pass_holes-requires-clause-hole g c =
+    let walk = c.args.self.now in
+    let old = c.args.volume.now in
     let hole : c.in-Ok-eq0.field-0 ≡ 0 = omega arith in
-    turn_hole (past_of c.args.volume.now) (volume_view c.args.volume.now) walk c.pass.new.self c.blocks_under.result c.in-Ok-eq0.field-0 (per_some (kind_view layout.kind)) c.requires.more begun blocks c.in-Ok-eq0.ensures.number hole
-    (come_from walk _ _ _ _ refl refl c.pass.ensures)
+    told_forth old c.number_above.new.volume (λ view now. number_of view.layout (parts_of view now) walk ≡ Ok 0) c.in-Ok-eq0.ensures.same
+    (subst (λ n. Told (past_of old) (λ now. number_of (super_view old.layout) (parts_of (volume_view old) now) walk ≡ Ok n)) hole c.in-Ok-eq0.ensures.number)
 
 pub returns-in-Ok-clause-turns : goal.returns-in-Ok-clause-turns
 returns-in-Ok-clause-turns g c =

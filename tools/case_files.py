@@ -39,6 +39,32 @@ def theorem(name, shows, pairs, unfolding):
     return ['', '-- ' + shows, 'pub %s : %s' % (name, statement), 'unfolding ' + unfolding, '%s = %s' % (name, proof)]
 
 
+def unfoldable(path):
+    """The names of a file of definitions that a proof has to unfold."""
+    return re.findall(r'^unfoldable pub (\w+)', path.read_text(), re.M)
+
+
+def use(module, names):
+    """The line that takes these names of a module, or no line."""
+    return ['use Rattle.%s.{%s}' % (module, ', '.join(dict.fromkeys(names)))] if names else []
+
+
+def opened(unfolded, variants, words):
+    """The lines that take what is unfolded, by module, and the variants that are among these words."""
+    taken = {module: list(names) for module, names in unfolded.items()}
+    for module, names in variants.items():
+        taken.setdefault(module, []).extend(name for name in names if name in words)
+    return [line for module in sorted(taken) for line in use(module, taken[module])]
+
+
+def cases_text(title, uses, named_cases, pairs, unfolding):
+    """The text of a file of cases: what it takes, and the theorem of each case."""
+    lines = ['-- ' + title] + uses
+    for (name, case), pair in zip(named_cases, pairs):
+        lines += theorem(name, case['shows'], [pair], unfolding)
+    return '\n'.join(lines) + '\n'
+
+
 def in_files(folder, stem, cases, most, text):
     """The text of each file of a folder, that has so many of the cases at most."""
     return {folder / ('%s%d.antt' % (stem, part)): text(cases[at:at + most])
@@ -72,3 +98,8 @@ def write_or_check(tool, stems, files, arguments):
     for path, text in files.items():
         path.write_text(text)
     return 0
+
+
+def write_cases(tool, folder, stem, named_cases, most, text, arguments):
+    """The same for a tool whose cases are all of one kind."""
+    return write_or_check(tool, {folder: [stem]}, in_files(folder, stem, named_cases, most, text), arguments)

@@ -11,12 +11,11 @@ the first refusal, or what is chosen.
 
 import json
 import pathlib
-import re
 import sys
 
-from case_files import in_files, listed, numbers, theorem, theorem_names, write_or_check
+from case_files import cases_text, listed, numbers, opened, theorem_names, unfoldable, use, write_cases
 from model_cases import CRATE, TOP, text, words_in
-from survey_cases import fault, volume
+from survey_cases import MODEL, fault, helpers, volume
 
 DATA = pathlib.Path(__file__).resolve().parent / 'choose_cases.json'
 PROOFS = CRATE / 'proofs'
@@ -25,9 +24,9 @@ LOW = {'Bytes': None, 'MinixLayout': ['kind_of', 'inode_of'], 'MinixParts': None
 FILES = ['Wish', 'FileZones', 'Places', 'Growth', 'Choice']
 CLOSED = {'with_bit', 'parts_of', 'volume_at', 'entries_in', 'entries_at', 'is_dots', 'bit', 'content_at', 'is_zero'}
 VARIANTS = {
-    'lilo_model.specs.MinixLayout': ['BadSize', 'FileSize', 'V1Short', 'V1Long', 'V2Short', 'V2Long'],
-    'lilo_model.specs.MinixParts': ['Layout', 'ZoneOutside'],
-    'lilo_model.specs.MinixFind': ['Zone'],
+    MODEL + 'MinixLayout': ['BadSize', 'FileSize', 'V1Short', 'V1Long', 'V2Short', 'V2Long'],
+    MODEL + 'MinixParts': ['Layout', 'ZoneOutside'],
+    MODEL + 'MinixFind': ['Zone'],
     'write_model.specs.Wish': ['NameTooLong', 'Exists', 'NoInode', 'NoSpace', 'Tree'],
 }
 PLAIN = ['Ok', 'Err', 'true', 'false', 'codes', 'replicate', '◌++◌']
@@ -55,7 +54,7 @@ def runs(items):
     return joined if joined.startswith('(') and len(terms) == 1 else '(%s)' % joined
 
 
-def taken(item):
+def taken_by(item):
     promises = ['promise %d %d %s' % (directory, place, numbers(growth)) for directory, place, growth in item['promises']]
     names = ['overlook %d %s' % (directory, text(name)) for directory, name in item['overlooked']]
     return 'taken_by %s %s %s %s' % (runs(item['zones']), numbers(item['inodes']), listed(promises), listed(names))
@@ -79,46 +78,35 @@ def answer(gives):
 
 
 def unfolded():
-    """The definitions that a case unfolds, by their file."""
+    """The definitions that a case unfolds, by their module."""
     found = {}
     for crate, names in (('lilo_model', list(LOW)), ('write_model', FILES)):
         for name in names:
-            source = (TOP / 'crates' / crate / 'specs' / (name + '.antt')).read_text()
-            words = re.findall(r'^unfoldable pub (\w+)', source, re.M)
-            found['%s.specs.%s' % (crate, name)] = [word for word in (LOW.get(name) or words) if word not in CLOSED]
-    found['lilo_model.specs.MinixWalk'] = ['branch_of']
-    del found['lilo_model.specs.MinixLayout']
+            words = LOW.get(name) or unfoldable(TOP / 'crates' / crate / 'specs' / (name + '.antt'))
+            found['%s.specs.%s' % (crate, name)] = [word for word in words if word not in CLOSED]
+    found[MODEL + 'MinixWalk'] = ['branch_of']
+    del found[MODEL + 'MinixLayout']
     return found
 
 
-def cases_text(named_cases):
-    words_of = unfolded()
-    unfolding = ' '.join(word for words in words_of.values() for word in words)
+def text_of(named_cases):
+    taken = unfolded()
     pairs = []
     for _, case in named_cases:
         word, rest = asked(case)
-        pairs.append(('%s (%s) (%s) %s' % (word, volume(case), taken(case['taken']), rest), answer(case['gives'])))
+        pairs.append(('%s (%s) (%s) %s' % (word, volume(case), taken_by(case['taken']), rest), answer(case['gives'])))
     words = words_in([side for pair in pairs for side in pair]) | {'◌++◌'}
-    lines = ['-- Cases of what is chosen for a new file of a Minix volume, written by tools/choose_cases.py.']
-    lines.append('use Rattle.std.proofs.Common.{%s}' % ', '.join(['◌≡◌', '[]', '◌∷◌'] + [word for word in PLAIN if word in words] + ['refl']))
-    for name, names in VARIANTS.items():
-        words_of.setdefault(name, []).extend(word for word in names if word in words)
-    for name in sorted(words_of):
-        if words_of[name]:
-            lines.append('use Rattle.%s.{%s}' % (name, ', '.join(dict.fromkeys(words_of[name]))))
-    lines.append('use Rattle.model_cases.specs.Sparse.{%s}' % ', '.join(word for word in ('file', 'piece', 'hex') if word in words))
-    lines.append('use Rattle.model_cases.specs.Surveys.{super_with, volume_by, node, zone_with}')
-    lines.append('use Rattle.model_cases.specs.Choices.{%s}' % ', '.join(word for word in WORDS if word in words))
-    for (name, case), pair in zip(named_cases, pairs):
-        lines += theorem(name, case['shows'], [pair], unfolding)
-    return '\n'.join(lines) + '\n'
+    uses = use('std.proofs.Common', ['◌≡◌', '[]', '◌∷◌'] + [word for word in PLAIN if word in words] + ['refl'])
+    uses += opened(taken, VARIANTS, words) + helpers(words)
+    uses += use('model_cases.specs.Choices', [word for word in WORDS if word in words])
+    return cases_text('Cases of what is chosen for a new file of a Minix volume, written by tools/choose_cases.py.', uses,
+                      named_cases, pairs, ' '.join(word for names in taken.values() for word in names))
 
 
 def main(arguments):
     cases = json.loads(DATA.read_text())['cases']
     named_cases = list(zip(theorem_names('minix_choose', [case['shows'].replace(',', '') for case in cases]), cases))
-    files = in_files(PROOFS, 'ChooseCases', named_cases, A_FILE, cases_text)
-    return write_or_check('choose_cases.py', {PROOFS: ['ChooseCases']}, files, arguments)
+    return write_cases('choose_cases.py', PROOFS, 'ChooseCases', named_cases, A_FILE, text_of, arguments)
 
 
 if __name__ == '__main__':

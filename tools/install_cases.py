@@ -17,7 +17,7 @@ import sys
 import conf_cases
 import model_cases
 import plan_cases
-from case_files import in_files, theorem, write_or_check
+from case_files import theorem, unfoldable, write_cases
 from model_cases import option, sectors
 
 HERE = pathlib.Path(__file__).resolve().parent
@@ -29,7 +29,7 @@ A_FILE = 8              # theorems a file
 plan_cases.FILES['Install'] = list(dict.fromkeys(
     plan_cases.FILES['Lies'] + plan_cases.FILES['Refused'] + plan_cases.FILES['Names']
     + ['MinixSurvey', 'Mapped', 'Refusal', 'ConfRefusal', 'VolumeSearch', 'ConfVerdict', 'Verdict']))
-OWN = {path.parent.parent.name + '.specs.' + path.stem: re.findall(r'^unfoldable pub (\w+)', path.read_text(), re.M)
+OWN = {path.parent.parent.name + '.specs.' + path.stem: unfoldable(path)
        for path in [VERDICT] + sorted((CRATES / 'write_model' / 'specs').glob('*.antt'))}
 
 TAKEN = {'install_laws.specs.InstallVerdict': ['verdict_by', 'NoRoom'],
@@ -102,8 +102,8 @@ def main(arguments):
     cases = json.loads(DATA.read_text())
     fixed = set(re.findall(r'^abbrev pub (\w+)', plan_cases.fixtures(json.loads(plan_cases.DATA.read_text())), re.M))
     theorems = plan_cases.named('Install', [(case['shows'], equations(case)) for case in cases])
-    files = in_files(PROOFS, 'InstallCases', theorems, A_FILE, lambda some: file_text(some, fixed))
-    return write_or_check('install_cases.py', {PROOFS: ['InstallCases']}, files, arguments)
+    return write_cases('install_cases.py', PROOFS, 'InstallCases', theorems, A_FILE,
+                       lambda some: file_text(some, fixed), arguments)
 
 
 if __name__ == '__main__':

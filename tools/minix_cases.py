@@ -13,7 +13,7 @@ import pathlib
 import re
 import sys
 
-from case_files import in_files, listed, numbers, theorem, theorem_names, write_or_check
+from case_files import cases_text, in_files, listed, numbers, theorem_names, unfoldable, write_or_check
 from model_cases import CRATE, SPECS, option, patches, raw, words_in
 
 DATA = pathlib.Path(__file__).resolve().parent / 'minix_cases.json'
@@ -132,7 +132,7 @@ def unfolded(what):
     """The definitions that a proof of this kind unfolds, by their file."""
     found = {}
     for name in FILES.get(what, TREES):
-        words = re.findall(r'^unfoldable pub (\w+)', (SPECS / (name + '.antt')).read_text(), re.M)
+        words = unfoldable(SPECS / (name + '.antt'))
         found[name] = [word for word in words if word not in CLOSED]
     return found
 
@@ -157,14 +157,11 @@ def imports(what, terms, fixtures):
     return lines
 
 
-def cases_text(what, named_cases, fixtures):
+def text_of(what, named_cases, fixtures):
     pairs = [KINDS[what](case) for _, case in named_cases]
     unfolding = ' '.join(word for words in unfolded(what).values() for word in words)
-    lines = ['-- Cases of Minix volumes, written by tools/minix_cases.py: %s.' % TITLES[what]]
-    lines += imports(what, [side for pair in pairs for side in pair], fixtures)
-    for (name, case), pair in zip(named_cases, pairs):
-        lines += theorem(name, case['shows'], [pair], unfolding)
-    return '\n'.join(lines) + '\n'
+    return cases_text('Cases of Minix volumes, written by tools/minix_cases.py: %s.' % TITLES[what],
+                      imports(what, [side for pair in pairs for side in pair], fixtures), named_cases, pairs, unfolding)
 
 
 def fixtures_text(data):
@@ -193,7 +190,7 @@ def main(arguments):
         cases = [case for case in data['cases'] if case['what'] == what]
         named_cases = list(zip(theorem_names('minix_' + what, [case['shows'] for case in cases]), cases))
         files |= in_files(PROOFS, stem_of(what), named_cases, A_FILE,
-                          lambda some: cases_text(what, some, data['fixtures']))
+                          lambda some: text_of(what, some, data['fixtures']))
     files[CRATE / 'specs' / 'MinixFixtures.antt'] = fixtures_text(data['fixtures'])
     return write_or_check('minix_cases.py', {PROOFS: [stem_of(what) for what in KINDS]}, files, arguments)
 

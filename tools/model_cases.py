@@ -12,7 +12,7 @@ import re
 import sys
 from pathlib import Path
 
-from case_files import in_files, listed, theorem, theorem_names, write_or_check
+from case_files import cases_text, in_files, listed, theorem_names, unfoldable, write_or_check
 
 TOP = Path(__file__).resolve().parent.parent
 DATA = TOP / 'tools' / 'model_cases'
@@ -306,7 +306,7 @@ def unfolded(kind, files):
     """The definitions of these files that a proof of this kind has to unfold."""
     found = {}
     for name in files:
-        names = re.findall(r'^unfoldable pub (\w+)', (SPECS / (name + '.antt')).read_text(), re.M)
+        names = unfoldable(SPECS / (name + '.antt'))
         found[name] = [each for each in names if kind == 'writers' or each not in WRITERS]
     return found
 
@@ -368,15 +368,12 @@ def imports(kind, files, terms, fixtures):
     return lines
 
 
-def cases_text(title, kind, named_cases, fixtures):
+def text_of(title, kind, named_cases, fixtures):
     term, files = KINDS[kind]
     pairs = [term(case) for _, case in named_cases]
     unfolding = ' '.join([name for names in unfolded(kind, files).values() for name in names] + text_words(files))
-    lines = ['-- Cases of the model, written by tools/model_cases.py: %s.' % title]
-    lines += imports(kind, files, [side for pair in pairs for side in pair], fixtures)
-    for (name, case), pair in zip(named_cases, pairs):
-        lines += theorem(name, case['shows'], [pair], unfolding)
-    return '\n'.join(lines) + '\n'
+    return cases_text('Cases of the model, written by tools/model_cases.py: %s.' % title,
+                      imports(kind, files, [side for pair in pairs for side in pair], fixtures), named_cases, pairs, unfolding)
 
 
 def fixtures_text(data):
@@ -404,7 +401,7 @@ def main(arguments):
         named_cases = list(zip(theorem_names(kind, [case['shows'].replace("'", '') for case in cases]), cases))
         stems.append(stem_of(path))
         files |= in_files(PROOFS, stems[-1], named_cases, A_FILE,
-                          lambda some: cases_text(data['title'], kind, some, fixtures))
+                          lambda some: text_of(data['title'], kind, some, fixtures))
     return write_or_check('model_cases.py', {PROOFS: stems}, files, arguments)
 
 

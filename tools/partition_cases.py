@@ -8,11 +8,10 @@ In the data a table is a sector, its entries by status, type, start and count, a
 
 import json
 import pathlib
-import re
 import struct
 import sys
 
-from case_files import listed, write_or_check
+from case_files import listed, unfoldable, write_or_check
 
 HERE = pathlib.Path(__file__).resolve().parent
 PROOFS = HERE.parent / 'crates' / 'model_cases' / 'proofs'
@@ -29,11 +28,6 @@ use Rattle.lilo_model.specs.Devices.{{{devices}}}
 use Rattle.lilo_model.specs.Partitions.{{{partitions}}}
 use Rattle.model_cases.specs.Sparse.{{hex, patch_at, disks_of, disk_with, machine_of}}
 '''
-
-
-def unfoldable(name):
-    """The definitions of a file that a proof has to unfold."""
-    return re.findall(r'^unfoldable pub (\w+)', (SPECS / (name + '.antt')).read_text(), re.M)
 
 
 def image(tables):
@@ -89,7 +83,7 @@ def cases_text():
     data = json.loads((HERE / 'partition_cases.json').read_text())
     cases = [(case['about'], *disk_case(case)) for case in data['disks']]
     cases += [each for case in data['names'] for each in name_cases(case)]
-    names = {'Devices': unfoldable('Devices'), 'Partitions': unfoldable('Partitions')}
+    names = {name: unfoldable(SPECS / (name + '.antt')) for name in ('Devices', 'Partitions')}
     unfolding = ' '.join(names['Devices'] + names['Partitions'] + ['is_bootable', 'number32', 'digits'])
     text = HEAD.format(devices=', '.join(names['Devices']), partitions=', '.join(FAULTS + names['Partitions']))
     for number, (about, term, wanted) in enumerate(cases, 1):

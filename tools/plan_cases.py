@@ -16,7 +16,7 @@ import sys
 
 import conf_cases
 import model_cases
-from case_files import in_files, listed, theorem, theorem_names, write_or_check
+from case_files import in_files, listed, theorem, theorem_names, unfoldable, write_or_check
 from model_cases import CRATE, PROOFS, SETUP, SPECS, sectors, words_in
 
 DATA = pathlib.Path(__file__).resolve().parent / 'plan_cases.json'
@@ -373,7 +373,7 @@ def unfolded(kind):
     """The definitions that a proof of this kind has to unfold, by file; one whose name is taken gets another."""
     found, seen = {}, {word for words in HELPERS.values() for word in words}
     for name in dict.fromkeys(FILES[kind]):
-        words = re.findall(r'^unfoldable pub (\w+)', (SPECS / (name + '.antt')).read_text(), re.M)
+        words = unfoldable(SPECS / (name + '.antt'))
         found[name] = [(word, word if word not in seen else '%s_%s' % (name.lower(), word)) for word in words]
         seen |= set(words)
     return found

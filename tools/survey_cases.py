@@ -11,10 +11,9 @@ is in the data; those that say "checked" are written.
 
 import json
 import pathlib
-import re
 import sys
 
-from case_files import in_files, listed, numbers, theorem, theorem_names, write_or_check
+from case_files import cases_text, listed, numbers, opened, theorem_names, unfoldable, use, write_cases
 from model_cases import CRATE, SPECS, text, words_in
 
 DATA = pathlib.Path(__file__).resolve().parent / 'survey_cases.json'
@@ -23,11 +22,12 @@ A_FILE = 40             # cases a file
 FILES = ['Bytes', 'MinixLayout', 'MinixParts', 'MinixEntries', 'MinixNames', 'MinixSurvey']
 CLOSED = {'with_counts', 'super_bytes', 'v1_inode_bytes', 'v2_inode_bytes', 'inode_bytes', 'kept_inode', 'volume_at',
           'IsSound', 'entries_in', 'survey'}
+MODEL = 'lilo_model.specs.'
 FAULTS = {
-    'MinixSurvey': ['Crossed', 'Unmarked', 'UnmarkedInode', 'BadLink', 'FewLinks', 'TooDeep', 'Tree'],
-    'MinixFind': ['NotDirectory', 'Zone'],
-    'MinixParts': ['Layout', 'ZoneOutside'],
-    'MinixLayout': ['BadSize', 'FileSize', 'V1Short', 'V1Long', 'V2Short', 'V2Long'],
+    MODEL + 'MinixSurvey': ['Crossed', 'Unmarked', 'UnmarkedInode', 'BadLink', 'FewLinks', 'TooDeep', 'Tree'],
+    MODEL + 'MinixFind': ['NotDirectory', 'Zone'],
+    MODEL + 'MinixParts': ['Layout', 'ZoneOutside'],
+    MODEL + 'MinixLayout': ['BadSize', 'FileSize', 'V1Short', 'V1Long', 'V2Short', 'V2Long'],
 }
 
 
@@ -66,41 +66,32 @@ def answer(gives):
 
 
 def unfolded():
-    """The definitions that a case unfolds, by their file."""
-    found = {}
-    for name in FILES:
-        words = re.findall(r'^unfoldable pub (\w+)', (SPECS / (name + '.antt')).read_text(), re.M)
-        found[name] = [word for word in words if word not in CLOSED]
-    return found
+    """The definitions that a case unfolds, by their module."""
+    return {MODEL + name: [word for word in unfoldable(SPECS / (name + '.antt')) if word not in CLOSED] for name in FILES}
 
 
-def cases_text(named_cases):
+def helpers(words):
+    """The lines that take what volumes are written with."""
+    volumes = ['super_with', 'volume_by', 'node', 'zone_with', 'survey_found', 'found', 'owned']
+    return (use('model_cases.specs.Sparse', [word for word in ('file', 'piece', 'hex') if word in words])
+            + use('model_cases.specs.Surveys', [word for word in volumes if word in words]))
+
+
+def text_of(named_cases):
     taken = unfolded()
-    unfolding = ' '.join(word for words in taken.values() for word in words)
     pairs = [('survey_found (%s)' % volume(case), answer(case['gives'])) for _, case in named_cases]
     words = words_in([side for pair in pairs for side in pair])
-    lines = ['-- Cases of surveys of Minix volumes, written by tools/survey_cases.py.']
     plain = [word for word in ('Ok', 'Err', 'true', 'false', 'codes', 'replicate') if word in words]
-    lines.append('use Rattle.std.proofs.Common.{%s}' % ', '.join(['◌≡◌', '[]', '◌∷◌'] + plain + ['refl']))
-    for name, names in FAULTS.items():
-        taken.setdefault(name, []).extend(word for word in names if word in words)
-    for name in sorted(taken):
-        if taken[name]:
-            lines.append('use Rattle.lilo_model.specs.%s.{%s}' % (name, ', '.join(dict.fromkeys(taken[name]))))
-    lines.append('use Rattle.model_cases.specs.Sparse.{%s}' % ', '.join(word for word in ('file', 'piece', 'hex') if word in words))
-    used = [word for word in ('super_with', 'volume_by', 'node', 'zone_with', 'survey_found', 'found', 'owned') if word in words]
-    lines.append('use Rattle.model_cases.specs.Surveys.{%s}' % ', '.join(used))
-    for (name, case), pair in zip(named_cases, pairs):
-        lines += theorem(name, case['shows'], [pair], unfolding)
-    return '\n'.join(lines) + '\n'
+    uses = use('std.proofs.Common', ['◌≡◌', '[]', '◌∷◌'] + plain + ['refl']) + opened(taken, FAULTS, words) + helpers(words)
+    return cases_text('Cases of surveys of Minix volumes, written by tools/survey_cases.py.', uses, named_cases, pairs,
+                      ' '.join(word for names in taken.values() for word in names))
 
 
 def main(arguments):
     cases = [case for case in json.loads(DATA.read_text())['cases'] if case['checked']]
     shown = [case['shows'].lower().replace('..', 'dotdot').replace('. ', 'dot ') for case in cases]
     named_cases = list(zip(theorem_names('minix_survey', shown), cases))
-    files = in_files(PROOFS, 'SurveyCases', named_cases, A_FILE, cases_text)
-    return write_or_check('survey_cases.py', {PROOFS: ['SurveyCases']}, files, arguments)
+    return write_cases('survey_cases.py', PROOFS, 'SurveyCases', named_cases, A_FILE, text_of, arguments)
 
 
 if __name__ == '__main__':

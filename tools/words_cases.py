@@ -12,7 +12,7 @@ import pathlib
 import re
 import sys
 
-from case_files import flag, in_files, listed, theorem_names, write_or_check
+from case_files import flag, listed, theorem_names, unfoldable, write_cases
 from model_cases import PROOFS, SPECS, option, raw
 
 DATA = pathlib.Path(__file__).resolve().parent / 'words_cases.json'
@@ -52,7 +52,7 @@ def part(value):
 
 def unfolded():
     """The definitions of each file that a proof unfolds."""
-    found = {name: re.findall(r'^unfoldable pub (\w+)', (SPECS / (name + '.antt')).read_text(), re.M) for name in FILES}
+    found = {name: unfoldable(SPECS / (name + '.antt')) for name in FILES}
     found['Devices'] = [name for name in found['Devices'] if name not in ('disk_number', 'device_number')]
     return found
 
@@ -90,8 +90,7 @@ def cases_text(named_cases):
 def main(arguments):
     cases = json.loads(DATA.read_text())
     named_cases = list(zip(theorem_names('words', [case['shows'].replace("'", '') for case in cases]), cases))
-    files = in_files(PROOFS, 'WordsCases', named_cases, A_FILE, cases_text)
-    return write_or_check('words_cases.py', {PROOFS: ['WordsCases']}, files, arguments)
+    return write_cases('words_cases.py', PROOFS, 'WordsCases', named_cases, A_FILE, cases_text, arguments)
 
 
 if __name__ == '__main__':

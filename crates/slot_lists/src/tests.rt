@@ -1,4 +1,5 @@
 ghost use Rattle.std.specs.Prelude.{◌≤◌, All, IfOk};
+ghost use Rattle.slot_lists.specs.Runs.{IsRun};
 
 use super::*;
 use disk_trait::Geometry;
@@ -117,5 +118,119 @@ fn the_first_sector_that_no_slot_names(rt: HostRuntime) -> Result<(), Fail> {
     let chs = plain_slots(rt.alloc(), &places, Mode::Chs, first_disk());
     let fault = CompactFault::Address(AddressFault::Cylinder(1024));
     assert_eq!(rt; chs.err(), Some(fault));
+    Ok(())
+}
+
+// The last sector of cylinder 1,023, the next one, and the last and first numbers that 32 bits have and lack.
+#[test]
+fn places_are_checked_in_order(rt: HostRuntime) -> Result<(), Fail> {
+    let places = places_of(rt.alloc(), &[1_032_191, 4_294_967_295])?;
+    let lba32 = check_places(&places, Mode::Lba32, first_disk());
+    assert_eq!(rt; lba32, Ok(()));
+    let linear = check_places(&places, Mode::Linear, first_disk());
+    assert_eq!(rt; linear, Err(AddressFault::Cylinder(4_260_880)));
+    let places = places_of(rt.alloc(), &[1_032_191, 1_032_192, 4_294_967_296])?;
+    let chs = check_places(&places, Mode::Chs, first_disk());
+    assert_eq!(rt; chs, Err(AddressFault::Cylinder(1024)));
+    let lba32 = check_places(&places, Mode::Lba32, first_disk());
+    assert_eq!(rt; lba32, Err(AddressFault::TooFar(4_294_967_296)));
+    let none = check_places(&[], Mode::Chs, first_disk());
+    assert_eq!(rt; none, Ok(()));
+    Ok(())
+}
+
+// All slots of a cursor, which is asked once for each; sector 98 is that of holes.
+fn all_of(
+    alloc: Global,
+    mode: Mode,
+    compact: bool,
+    runs: &RunList,
+) -> Result<Vec<Slot>, CompactFault>
+    requires { All IsRun runs.now }
+{
+    let mut cursor = SlotCursor::new(mode, first_disk(), compact);
+    let mut slots = Vec::new(alloc);
+    for _ in 0..9 {
+        match cursor.next(runs, 0, 98) {
+            Ok(Some(slot)) => match slots.push(slot) {
+                Ok(()) => {}
+                Err(_) => return Err(CompactFault::Memory),
+            },
+            Ok(None) => return Ok(slots),
+            Err(fault) => return Err(CompactFault::Address(fault)),
+        }
+    }
+    Ok(slots)
+}
+
+// Sectors 82 to 84, two in a hole, none, and two after the zero sector.
+#[test]
+fn a_cursor_goes_along_runs(rt: HostRuntime) -> Result<(), Fail> {
+    let runs = RunList::new(vec![in rt.alloc();
+        Run::Stretch {
+            disk: 0,
+            start: 82,
+            count: 3
+        },
+        Run::Hole { count: 2 },
+        Run::Stretch {
+            disk: 0,
+            start: 7,
+            count: 0
+        },
+        Run::Stretch {
+            disk: 0,
+            start: 99,
+            count: 2
+        },
+    ]?);
+    let plain = all_of(rt.alloc(), Mode::Lba32, false, &runs)?;
+    let expected = [
+        by_number(1, 82),
+        by_number(1, 83),
+        by_number(1, 84),
+        by_number(1, 98),
+        by_number(1, 98),
+        by_number(1, 99),
+        by_number(1, 100),
+    ];
+    assert_eq!(rt; plain.as_slice(), expected.as_slice());
+    let joined = all_of(rt.alloc(), Mode::Lba32, true, &runs)?;
+    let expected = [by_number(3, 82), by_number(1, 98), by_number(3, 98)];
+    assert_eq!(rt; joined.as_slice(), expected.as_slice());
+    Ok(())
+}
+
+// The last sector of the last cylinder and the next one, on either side of the end of a run.
+#[test]
+fn a_cursor_refuses_once(rt: HostRuntime) -> Result<(), Fail> {
+    let runs = RunList::new(vec![in rt.alloc();
+        Run::Stretch {
+            disk: 0,
+            start: 1_032_191,
+            count: 1
+        },
+        Run::Stretch {
+            disk: 0,
+            start: 1_032_192,
+            count: 5
+        },
+    ]?);
+    let mut cursor = SlotCursor::new(Mode::Chs, first_disk(), true);
+    let last = Slot {
+        disk: 0,
+        count: 1,
+        address: Address::Chs(Chs {
+            cylinder: 1023,
+            head: 15,
+            sector: 63,
+        }),
+    };
+    assert_eq!(rt; cursor.next(&runs, 0, 98), Ok(Some(last)));
+    assert_eq!(rt;
+        cursor.next(&runs, 0, 98),
+        Err(AddressFault::Cylinder(1024))
+    );
+    assert_eq!(rt; cursor.next(&runs, 0, 98), Ok(None));
     Ok(())
 }

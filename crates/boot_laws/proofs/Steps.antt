@@ -1,5 +1,5 @@
 -- The steps of a boot, each by itself.
-use Rattle.std.proofs.Common.{◌≡◌, ℕ, List, Option, Result, Ok, Err, option_map, refl, ◌∙◌}
+use Rattle.std.proofs.Common.{◌≡◌, Result, Ok, Err, refl, ◌∙◌}
 use Rattle.lilo_model.specs.Checks.{◌>>=◌, with_fault}
 use Rattle.lilo_model.specs.Header.{SetupFault}
 use Rattle.lilo_model.specs.Place.{Loading, place}

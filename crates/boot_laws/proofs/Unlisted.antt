@@ -1,16 +1,13 @@
 -- A write of one sector leaves the others as they were.
 use Rattle.std.proofs.Common.{◌≡◌, ◌≢◌, ℕ, ◌==◌, Bool, true, false, ◌&&◌, if◌then◌else◌, List, get_or, refl, sym, ap, ◌∙◌, eqb-true}
+use Rattle.std.proofs.lemmas.Bool.{and_parts}
 use Rattle.lilo_model.specs.Disks.{Image, DiskSector, bytes_at, with_sector}
 use Rattle.boot_laws.specs.SameOn.{UnlistedLaw}
-
-both-true : (one other : Bool) → (one && other) ≡ true → (one ≡ true) × (other ≡ true)
-both-true true other both = (refl, both)
-both-true false other both = cc
 
 -- two sectors with one disk and one number are one
 same-sector : (place at : DiskSector) → (place.disk == at.disk && place.sector == at.sector) ≡ true → at ≡ place
 same-sector place at test =
-    let both : ((place.disk == at.disk) ≡ true) × ((place.sector == at.sector) ≡ true) = both-true (place.disk == at.disk) (place.sector == at.sector) test in
+    let both : ((place.disk == at.disk) ≡ true) × ((place.sector == at.sector) ≡ true) = and_parts (place.disk == at.disk) (place.sector == at.sector) test in
     let disk : at.disk ≡ place.disk = sym (eqb-true place.disk at.disk both.0) in
     let sector : at.sector ≡ place.sector = sym (eqb-true place.sector at.sector both.1) in
     let made : ℕ → ℕ → DiskSector = λ disk sector. record { disk = disk; sector = sector } in

@@ -22,7 +22,7 @@ use Rattle.lilo_model.specs.Refusal.{Refusal, refusal_status}
 use Rattle.lilo_model.specs.VolumeSearch as search
 use Rattle.lilo_model.specs.VolumeSearch.{Located, VolumeFault, volume_place}
 use Rattle.lilo_model.specs.ConfVerdict.{volume_refusal, path_refusal, file_on, place_at}
-use Rattle.map_laws.proofs.Accepted.{not-ok, both-pass, required}
+use Rattle.map_laws.proofs.Accepted.{both-pass, required, told-ok}
 use Rattle.write_model.specs.Wish as rooms
 use Rattle.install_laws.specs.InstallVerdict.{InstallRefusal, Reading, NotSound, NotApart, BadName, NoPlan, NoLink, NoRoom, Begun, Answer, boot_device, begun_by, may_settle, answer_of, install_checks, install_answer, install_status}
 use Rattle.install_laws.specs.Answered.{IsAnswered, AnsweredLaw, RefusedLaw}
@@ -36,11 +36,6 @@ refused fault = Err fault
 -- the value of a check that passes
 value-is : {A F : Type 0} → (found value : A) → said {A = A} {F = F} found ≡ said value → found ≡ value
 value-is found value is = cc
-
--- a check that passes as another fault passes
-passes : {A F G : Type 0} → (told : F → G) (check : Result A F) (value : A) → with_fault told check ≡ Ok value → check ≡ Ok value
-passes told (Ok found) value is = ap Ok (value-is found value is)
-passes told (Err fault) value is = absurd (not-ok (told fault) value is)
 
 -- what a plan's checks accept is what is planned
 plan-is : (image : Image) (machine : Machine) (volume : Volume) (span : Span) (config : Config) (time : ℕ) (plan : plans.Plan) → plan_at image machine volume span config time ≡ Ok plan → planned image machine volume config time ≡ plan
@@ -70,18 +65,18 @@ module _ (image : Image) (machine : Machine) (walk : Inode → List (Result Visi
       let five = both-pass (with_fault NoPlan plan) _ answer four.2 in
       let six = both-pass (with_fault NoRoom (room three.0 five.0)) _ answer five.2 in
       let seven = both-pass (with_fault NoPlan (own_places_check begun.config machine six.0)) _ answer six.2 in
-      let planned_is : all ≡ five.0 = plan-is image machine begun.volume begun.span begun.config time five.0 (passes NoPlan plan five.0 five.1) in
+      let planned_is : all ≡ five.0 = plan-is image machine begun.volume begun.span begun.config time five.0 (told-ok NoPlan plan five.0 five.1) in
       record {
         met = one.0;
-        surveyed = passes NotSound survey one.0 one.1;
-        apart = passes NotApart apart two.0 two.1;
+        surveyed = told-ok NotSound survey one.0 one.1;
+        apart = told-ok NotApart apart two.0 two.1;
         names = three.0;
-        named = passes BadName own three.0 three.1;
+        named = told-ok BadName own three.0 three.1;
         settles = required (may_settle image machine begun.volume walk begun.span three.0.map) NoLink four.1;
-        plan = passes NoPlan plan five.0 five.1 ∙ ap Ok (sym planned_is);
+        plan = told-ok NoPlan plan five.0 five.1 ∙ ap Ok (sym planned_is);
         places = six.0;
-        chosen = ap (room three.0) planned_is ∙ passes NoRoom (room three.0 five.0) six.0 six.1;
-        own = passes NoPlan (own_places_check begun.config machine six.0) seven.0 seven.1;
+        chosen = ap (room three.0) planned_is ∙ told-ok NoRoom (room three.0 five.0) six.0 six.1;
+        own = told-ok NoPlan (own_places_check begun.config machine six.0) seven.0 seven.1;
         is = sym (value-is (answer_of image machine begun one.0 five.0) answer seven.2) ∙ ap (answer_of image machine begun one.0) (sym planned_is);
       }
 

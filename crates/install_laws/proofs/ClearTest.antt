@@ -3,7 +3,8 @@ use Rattle.std.proofs.Common.{◌≡◌, ◌≢◌, ◌≤◌, ◌<◌, ℕ, ◌
 use Rattle.std.specs.Prelude.{nat_le, nat_lt}
 use Rattle.std.proofs.lemmas.Bool.Decides.{nat_tests}
 use Rattle.std.proofs.lemmas.List.Sums.{AllPass-from_list_all, list_all-from_AllPass}
-use Rattle.lilo_model.specs.Disks.{Image, Machine, Span, DiskSector}
+use Rattle.std.proofs.lemmas.Bool.{and_parts, not-true}
+use Rattle.lilo_model.specs.Disks.{Image, DiskSector}
 use Rattle.lilo_model.specs.MinixLayout.{table_start, table_blocks, super_sector}
 use Rattle.lilo_model.specs.MinixParts.{Volume, Parts, Pointer, parts_of, is_directory}
 use Rattle.lilo_model.specs.MinixNames.{Refers, Sound}
@@ -17,14 +18,6 @@ use Rattle.install_laws.specs.InstallVerdict.{is_of_volume, is_plain_owner, is_p
 use Rattle.install_laws.specs.ClearTest.{ClearTestLaw}
 
 -- ---- tests
-
-both-true : (one other : Bool) → (one && other) ≡ true → (one ≡ true) × (other ≡ true)
-both-true true other is = (refl, is)
-both-true false other is = cc
-
-not-true : (test : Bool) → not test ≡ true → test ≡ false
-not-true false is = refl
-not-true true is = cc
 
 or-false : (one other : Bool) → one ≡ false → (one || other) ≡ true → other ≡ true
 or-false one other none is = subst (λ test. (test || other) ≡ true) none is
@@ -69,7 +62,7 @@ module _ (volume : Volume) (image : Image) (met : List Met) (sound : Sound volum
 
   to-plain : (sector : ℕ) → is_plain_sector volume parts met sector ≡ true → IsPlain volume image sector
   to-plain sector is =
-      let tests = both-true (nat_lt sector super_sector || nat_le (2 * (table_start volume.layout + table_blocks volume.layout)) sector) (is_plain_owner parts (owner met (sector / 2)) (is_indirect met (sector / 2))) is in
+      let tests = and_parts (nat_lt sector super_sector || nat_le (2 * (table_start volume.layout + table_blocks volume.layout)) sector) (is_plain_owner parts (owner met (sector / 2)) (is_indirect met (sector / 2))) is in
       record {
         tables = apart sector super_sector (2 * (table_start volume.layout + table_blocks volume.layout)) tests.0;
         zones = λ number at zone refers of. by number at zone refers (zone-of zone sector of) (owner met (sector / 2)) refl tests.1;
@@ -81,7 +74,7 @@ module _ (volume : Volume) (image : Image) (met : List Met) (sound : Sound volum
       by number at zone refers half (Some inode) found plain =
           let there = says.owned zone inode (subst (λ zone. owner met zone ≡ Some inode) half found) in
           let same = sound.once number inode at there.0 zone refers there.1 in
-          let tests = both-true (not (is_directory (parts.node inode))) (not (is_indirect met (sector / 2))) plain in (
+          let tests = and_parts (not (is_directory (parts.node inode))) (not (is_indirect met (sector / 2))) plain in (
             subst (λ number. is_directory (parts.node number) ≡ false) (sym same.0) (not-true (is_directory (parts.node inode)) tests.0),
             λ indirect. both (is_indirect met zone) (subst (λ zone. is_indirect met zone ≡ false) half (not-true (is_indirect met (sector / 2)) tests.1)) ((says.indirect zone).1 (record { number = number; at = at; refers = refers; short = indirect })),
           )
@@ -129,8 +122,8 @@ module _ (volume : Volume) (image : Image) (met : List Met) (sound : Sound volum
       by : (of : Bool) → is_of_volume volume place ≡ of → (not of || is_plain_sector volume parts met (place.sector - volume.span.start)) ≡ true
       by false is = refl
       by true is =
-          let first = both-true (place.disk == volume.span.disk && nat_le volume.span.start place.sector) (nat_lt place.sector (volume.span.start + 2 * volume.layout.zones)) is in
-          let second = both-true (place.disk == volume.span.disk) (nat_le volume.span.start place.sector) first.0 in
+          let first = and_parts (place.disk == volume.span.disk && nat_le volume.span.start place.sector) (nat_lt place.sector (volume.span.start + 2 * volume.layout.zones)) is in
+          let second = and_parts (place.disk == volume.span.disk) (nat_le volume.span.start place.sector) first.0 in
           let disk_test = second.0 in
           let from_test = second.1 in
           let below_test = first.1 in

@@ -1,5 +1,5 @@
 -- A boot sector that is written is read again.
-use Rattle.std.proofs.Common.{◌≡◌, ◌≤◌, ◌<◌, ℕ, ◌^◌, ◌==◌, Bool, true, false, ◌&&◌, not, if◌then◌else◌, List, [], ◌∷◌, ◌++◌, length, replicate, Option, None, Some, Result, Ok, refl, sym, ap, ◌∙◌, arith, append_assoc}
+use Rattle.std.proofs.Common.{◌≡◌, ◌<◌, ℕ, ◌^◌, ◌==◌, Bool, true, false, ◌&&◌, not, if◌then◌else◌, List, [], ◌∷◌, ◌++◌, length, replicate, Option, None, Some, Result, Ok, refl, sym, ap, ◌∙◌, arith, append_assoc}
 use Rattle.std.specs.Prelude.{nat_le, nat_lt, IfSome}
 use Rattle.std.proofs.lemmas.Nat.{from_le_bytes-to_le_bytes_2, from_le_bytes-to_le_bytes_4}
 use Rattle.std.proofs.lemmas.Bool.Decides.{nat_tests}
@@ -7,7 +7,7 @@ use Rattle.lilo_model.specs.Bytes.{is_zero, is_between, part_of, number16, numbe
 use Rattle.lilo_model.specs.Slots.{Slot, is_one_slot, some_slot, slot_bytes, optional_bytes}
 use Rattle.lilo_model.specs.BootSector.{BootSector, MapFault, first_bytes, last_bytes, is_bootable, has_signature, has_options, has_names, has_slots, has_no_message, has_whole_message, has_message, has_zeros, is_whole, timeout_of, table_slots, boot_of, boot_at, flag_number, timeout_number, field_bytes, merged_sector}
 use Rattle.map_again_laws.proofs.Parts.{part-after}
-use Rattle.map_again_laws.specs.Fits.{IsOneSlot, FitsMessage, FitsBoot}
+use Rattle.map_again_laws.specs.Fits.{FitsMessage, FitsBoot}
 use Rattle.map_again_laws.proofs.SlotAgain.{length-slot, length-optional, read-as, one-slot, some-slot}
 
 -- the 128 bytes, with six parts of eight bytes among them

@@ -1,5 +1,5 @@
 -- An entry of the table that is written is read again.
-use Rattle.std.proofs.Common.{◌≡◌, ◌≤◌, ◌<◌, ℕ, zero, suc, ◌+◌, ◌-◌, ◌^◌, ◌==◌, Bool, true, false, ◌&&◌, ◌||◌, not, if◌then◌else◌, List, [], ◌∷◌, ◌++◌, length, take, replicate, Option, None, Some, refl, sym, ap, subst, ◌∙◌, arith, append_assoc, length-append}
+use Rattle.std.proofs.Common.{◌≡◌, ◌≤◌, ◌<◌, ℕ, zero, suc, ◌+◌, ◌-◌, ◌^◌, ◌==◌, Bool, true, false, ◌&&◌, not, if◌then◌else◌, List, [], ◌∷◌, ◌++◌, length, take, replicate, Option, None, Some, refl, sym, ap, subst, ◌∙◌, arith, append_assoc, length-append}
 use Rattle.std.specs.Prelude.{nat_lt, is_some}
 use Rattle.std.specs.Int.{w16, w32, from_le_bytes}
 use Rattle.std.specs.List.{before_first, prefix_len, list_all}
@@ -9,9 +9,9 @@ use Rattle.std.proofs.lemmas.Bool.Decides.{nat_tests}
 use Rattle.std.proofs.lemmas.List.{length-replicate}
 use Rattle.lilo_model.specs.Bytes.{is_zero, is_between, part_of, filled_bytes, number16, number32, bytes16, bytes32}
 use Rattle.lilo_model.specs.Slots.{Slot, is_one_slot, some_slot, slot_bytes, optional_bytes}
-use Rattle.lilo_model.specs.Table.{Descriptor, other_flag, password_flag, restricted_flag, lock_flag, fallback_flag, video_flag, initrd_flag, table_flag, has_flag, is_set, entry_name, is_printable, is_name, has_flags, has_video, has_length, has_main, has_initrd, has_extra, is_entry, descriptor_of, descriptor_bytes}
+use Rattle.lilo_model.specs.Table.{Descriptor, is_set, entry_name, is_printable, is_name, has_flags, has_video, has_length, has_main, has_initrd, has_extra, is_entry, descriptor_of, descriptor_bytes}
 use Rattle.map_again_laws.proofs.Parts.{part-after, part-prefix, part-between, length-filled}
-use Rattle.map_again_laws.specs.Fits.{IsOneSlot, IsName, FitsOptional, FitsFlags, FitsEntry}
+use Rattle.map_again_laws.specs.Fits.{IsName, FitsOptional, FitsEntry}
 use Rattle.map_again_laws.proofs.SlotAgain.{length-slot, length-optional, read-as, one-slot, some-slot}
 
 -- the 48 bytes after the name

@@ -1,14 +1,13 @@
 -- The slots and the link of a section sector that is written are read again.
 use Rattle.std.proofs.Common.{◌≡◌, ◌≤◌, ℕ, zero, suc, ◌+◌, ◌-◌, ◌*◌, List, [], ◌∷◌, ◌++◌, map, length, take, drop, replicate, Option, None, Some, Ok, refl, sym, ap, subst, ◌∙◌, arith, append_assoc, append-nil, length-append}
-use Rattle.std.specs.Prelude.{All, IfSome}
+use Rattle.std.specs.Prelude.{IfSome}
 use Rattle.std.specs.List.{concat, range_with_len, AllByRecursion}
 use Rattle.std.proofs.Math.Seq.{drop-append_seam}
 use Rattle.std.proofs.lemmas.List.{drop-drop, replicate-append-replicate}
 use Rattle.std.proofs.lemmas.List.Elements.{recursion_from_All}
-use Rattle.std.proofs.lemmas.Bool.Decides.{nat_tests}
 use Rattle.lilo_model.specs.Bytes.{is_zero, part_of, with_part, filled_bytes}
 use Rattle.lilo_model.specs.Slots.{Slot, slot_at, slot_bytes, optional_bytes}
-use Rattle.lilo_model.specs.Section.{slot_parts, link_of, link_at, section_bytes}
+use Rattle.lilo_model.specs.Section.{link_of, link_at, section_bytes}
 use Rattle.lilo_model.specs.Lays.{slots_of}
 use Rattle.sector_address.specs.Whole.{IsSlot}
 use Rattle.sector_address.proofs.BytesLemmas.{encode_law}
@@ -46,7 +45,7 @@ length-slots (slot ∷ slots) =
 
 -- ---- the slots
 
-zeros-again : (count zeros : ℕ) (tail : List ℕ) → 8 * count ≤ zeros → slots_of (eights count (replicate zeros 0 ++ tail)) ≡ []
+pub zeros-again : (count zeros : ℕ) (tail : List ℕ) → 8 * count ≤ zeros → slots_of (eights count (replicate zeros 0 ++ tail)) ≡ []
 unfolding slot_at is_zero
 zeros-again zero zeros tail fits = refl
 zeros-again (suc count) (suc (suc (suc (suc (suc (suc (suc (suc zeros)))))))) tail fits = refl

@@ -1,21 +1,20 @@
 -- An image that has Lays is Held.
-use Rattle.std.proofs.Common.{◌≡◌, ◌≢◌, ◌<◌, ℕ, zero, suc, ◌+◌, ◌*◌, ◌/◌, ◌%◌, ◌==◌, Bool, true, false, not, if◌then◌else◌, List, [], ◌∷◌, map, length, Option, None, Some, Result, Ok, Err, refl, sym, ap, subst, ◌∙◌, arith, ◌⊎◌, inl, inr}
+use Rattle.std.proofs.Common.{◌≡◌, ◌<◌, ℕ, zero, suc, ◌+◌, ◌*◌, ◌/◌, ◌%◌, ◌==◌, Bool, true, false, not, if◌then◌else◌, List, [], ◌∷◌, map, length, Option, None, Some, Result, Ok, Err, refl, sym, ap, subst, ◌∙◌, arith, ◌⊎◌, inl, inr}
 use Rattle.std.specs.Prelude.{slice_index_or}
 use Rattle.std.specs.List.{range_with_len}
 use Rattle.std.proofs.lemmas.Bool.Decides.{nat_tests}
 use Rattle.lilo_model.specs.Bytes.{number16}
-use Rattle.lilo_model.specs.Disks.{Image, Machine, Span, DiskSector}
+use Rattle.lilo_model.specs.Disks.{Image, Machine, DiskSector}
 use Rattle.lilo_model.specs.Slots.{AddressFault, place_at}
-use Rattle.lilo_model.specs.BootSector.{BootSector, MapFault, NotOurs, BadVersion, BadTable, has_signature, is_whole, table_slots, boot_of, boot_at}
+use Rattle.lilo_model.specs.BootSector.{BootSector, NotOurs, BadVersion, BadTable, has_signature, is_whole, table_slots, boot_of, boot_at}
 use Rattle.lilo_model.specs.MinixParts.{Volume, parts_of, block_pointer, is_file, is_link, is_directory}
 use Rattle.lilo_model.specs.MinixNames.{zone_number, reached}
 use Rattle.lilo_model.specs.NamePlaces.{with_tilde}
 use Rattle.lilo_model.specs.Section.{sectors_for}
 use Rattle.lilo_model.specs.Clear.{IsOfZone}
 use Rattle.lilo_model.specs.Settled.{IsInFile, NamesInFile, Holds, Held}
-use Rattle.lilo_model.specs.Plan.{Plan}
 use Rattle.lilo_model.specs.Planned.{sector_in_zone, inode_places}
-use Rattle.lilo_model.specs.Lays.{IsPlaceAt, Lays}
+use Rattle.lilo_model.specs.Lays.{IsPlaceAt}
 use Rattle.minix_laws.proofs.Inside.{is_pointer-block}
 use Rattle.map_laws.specs.MapLays.{LaysHeldLaw}
 use Rattle.map_laws.proofs.MeantFiles.{zones-of}

@@ -1,5 +1,5 @@
 -- Of a boot sector that is written: its code, and what stays of the sector that was there.
-use Rattle.std.proofs.Common.{◌≡◌, ℕ, ◌+◌, List, [], ◌++◌, length, replicate, ap, ◌∙◌, arith, append_assoc, length-append}
+use Rattle.std.proofs.Common.{◌≡◌, ℕ, List, [], ◌++◌, length, replicate, ap, ◌∙◌, arith, append_assoc, length-append}
 use Rattle.lilo_model.specs.Bytes.{part_of, bytes16}
 use Rattle.lilo_model.specs.Slots.{slot_bytes, optional_bytes}
 use Rattle.lilo_model.specs.BootSector.{BootSector, last_bytes, field_bytes, merged_sector}

@@ -1,8 +1,7 @@
 -- A section that is written is read as the sectors that its slots name.
 use Rattle.std.proofs.Common.{◌≡◌, ◌≤◌, ℕ, zero, suc, ◌+◌, ◌-◌, ◌*◌, List, [], ◌∷◌, ◌++◌, map, length, take, drop, replicate, Option, None, Some, Result, Ok, refl, sym, ap, subst, ◌∙◌, arith, append_assoc, append-nil, length-append}
-use Rattle.std.specs.List.{concat, range_with_len}
-use Rattle.std.proofs.Math.Seq.{drop-append_seam}
-use Rattle.std.proofs.lemmas.List.{map-append, drop-drop, length-map}
+use Rattle.std.specs.List.{concat}
+use Rattle.std.proofs.lemmas.List.{map-append, length-map}
 use Rattle.lilo_model.specs.Bytes.{is_zero, part_of, filled_bytes}
 use Rattle.lilo_model.specs.Disks.{Image, Machine, DiskSector, bytes_at}
 use Rattle.lilo_model.specs.Slots.{Slot, slot_at, slot_bytes, optional_bytes, place_at}
@@ -10,10 +9,11 @@ use Rattle.lilo_model.specs.Section.{SectionFault, Step, Reads, Names, Listing, 
 use Rattle.sector_address.specs.Whole.{IsSlot}
 use Rattle.sector_address.proofs.BytesLemmas.{encode_law}
 use Rattle.lilo_model.specs.Plan.{chain_sectors}
-use Rattle.map_again_laws.proofs.Parts.{part-prefix, part-between, length-filled}
+use Rattle.map_again_laws.proofs.Parts.{part-between, length-filled}
 use Rattle.map_laws.specs.Lies.{IsOneSlot, IsNamed, AreNamed}
 use Rattle.lilo_model.specs.Lays.{slots_of, slots_at_link, slots_from, chain_slots, AreAt}
 use Rattle.map_again_laws.proofs.SlotAgain.{length-slot}
+use Rattle.map_again_laws.proofs.SectionAgain.{eights, parts-eights, slot-prefix, slot-after, zeros-again}
 
 -- a slot, and the sectors that it names
 pub record Group : Type 0 where
@@ -36,26 +36,6 @@ AreGroups machine [] = Unit {0}
 AreGroups machine (group ∷ groups) = IsGroup machine group × AreGroups machine groups
 
 -- ---- the parts of a section sector
-
--- so many parts of eight bytes
-abbrev pub eights : ℕ → List ℕ → List (List ℕ)
-eights zero bytes = []
-eights (suc more) bytes = take 8 bytes ∷ eights more (drop 8 bytes)
-
-drop-eight : (bytes : List ℕ) (at : ℕ) → drop 8 (drop (8 * at) bytes) ≡ drop (8 * (at + 1)) bytes
-drop-eight bytes at = drop-drop 8 (8 * at) bytes ∙ ap (λ n. drop n bytes) (omega arith)
-
-pub parts-eights : (bytes : List ℕ) (at count : ℕ) → map (λ index. part_of bytes (8 * index) 8) (range_with_len at count) ≡ eights count (drop (8 * at) bytes)
-parts-eights bytes at zero = refl
-parts-eights bytes at (suc count) =
-    ap (λ parts. part_of bytes (8 * at) 8 ∷ parts) (parts-eights bytes (at + 1) count ∙ ap (eights count) (sym (drop-eight bytes at)))
-
--- the bytes of a slot before others
-slot-prefix : (slot : Slot) (others : List ℕ) → take 8 (slot_bytes slot ++ others) ≡ slot_bytes slot
-slot-prefix slot others = part-prefix (slot_bytes slot) others 8 (length-slot slot)
-
-slot-after : (slot : Slot) (others : List ℕ) → drop 8 (slot_bytes slot ++ others) ≡ others
-slot-after slot others = subst (λ n. drop n (slot_bytes slot ++ others) ≡ others) (length-slot slot) (drop-append_seam (slot_bytes slot) others)
 
 -- the parts of slots that lie one after the other, and of what lies after them
 parts-slots : (slots : List Slot) (count : ℕ) (tail : List ℕ) → length slots ≤ count → eights count (concat (map slot_bytes slots) ++ tail) ≡ map slot_bytes slots ++ eights (count - length slots) tail
@@ -89,12 +69,6 @@ slots-read machine (group ∷ groups) place others are none =
     ∙ sym (map-append Names group.places (places_in groups))
 
 -- the slots themselves, up to the zeros after them
-zeros-none : (count zeros : ℕ) (tail : List ℕ) → 8 * count ≤ zeros → slots_of (eights count (replicate zeros 0 ++ tail)) ≡ []
-unfolding slot_at is_zero
-zeros-none zero zeros tail fits = refl
-zeros-none (suc count) (suc (suc (suc (suc (suc (suc (suc (suc zeros)))))))) tail fits = refl
-zeros-none (suc count) _ tail fits = absurd (omega (arith, fits))
-
 slots-again : (machine : Machine) (groups : List Group) (others : List (List ℕ)) → AreGroups machine groups → slots_of others ≡ [] → slots_of (map slot_bytes (slots_in groups) ++ others) ≡ slots_in groups
 slots-again machine [] others are none = none
 slots-again machine (group ∷ groups) others are none = rw (encode_law group.slot are.0.whole, slots-again machine groups others are.1 none) refl
@@ -140,7 +114,7 @@ sector-slots machine groups link are few =
     let bytes = concat (map slot_bytes (slots_in groups)) in
     ap slots_of (parts-sector groups link few)
     ∙ slots-again machine groups (eights (63 - length (slots_in groups)) (replicate (504 - length bytes) 0 ++ optional_bytes link)) are
-    (zeros-none (63 - length (slots_in groups)) (504 - length bytes) (optional_bytes link) (zeros-enough groups few))
+    (zeros-again (63 - length (slots_in groups)) (504 - length bytes) (optional_bytes link) (zeros-enough groups few))
 
 -- and at its link
 pub link-read : (number : ℕ) (groups : List Group) (link : Option Slot) → length groups ≤ 63 → link_at number (section_bytes (slots_in groups) link) ≡ link_of number (slot_at (optional_bytes link))

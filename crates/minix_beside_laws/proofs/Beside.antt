@@ -1,6 +1,6 @@
 -- Images beside a sound one.
 use Rattle.std.proofs.Common.{◌≡◌, ℕ, ◌+◌, ◌*◌, ◌%◌, ◌<◌, ◌==◌, ◌&&◌, Bool, true, false, List, ◌++◌, refl, sym, ◌∙◌, ap, subst, arith, eq-eqb, inl, inr}
-use Rattle.std.proofs.lemmas.Bool.{eqb-true, ne_eqb}
+use Rattle.std.proofs.lemmas.Bool.{eqb-true, ne_eqb, and_right}
 use Rattle.lilo_model.specs.Bytes.{part_of}
 use Rattle.lilo_model.specs.Disks.{Image, with_sector}
 use Rattle.lilo_model.specs.MinixLayout.{inode_size, super_at, inode_of, inode_place, zone_sector, super_sector}
@@ -121,10 +121,6 @@ module _ (volume : Volume) (old : Image) (sound : HasSound volume old) where
 
 -- ---- one write
 
-and-false : (one other : Bool) → other ≡ false → (one && other) ≡ false
-and-false true other is = is
-and-false false other is = refl
-
 module _ (volume : Volume) (old image : Image) (beside : Beside volume old image) (sector : ℕ) (bytes : List ℕ) (harmless : Harmless volume old sector bytes) where
   abbrev Written : Image
   Written = with_sector image (record { disk = volume.span.disk; sector = volume.span.start + sector }) bytes
@@ -134,12 +130,12 @@ module _ (volume : Volume) (old image : Image) (beside : Beside volume old image
       let same : sector ≡ other = let e = eqb-true (volume.span.start + sector) (volume.span.start + other) is in omega (arith, e) in
       let P : ℕ → Type 0 = λ n. Harmless volume old n bytes in
       rw (eq-eqb volume.span.disk volume.span.disk refl, is) (subst P same harmless)
-  written-by other below false is = rw (and-false (volume.span.disk == volume.span.disk) (volume.span.start + sector == volume.span.start + other) is) (beside.inside other below)
+  written-by other below false is = rw (and_right (volume.span.disk == volume.span.disk) (volume.span.start + sector == volume.span.start + other) is) (beside.inside other below)
 
   other-sector : (inside : sector < 2 * volume.layout.zones) (disk other : ℕ) → IsOutside volume disk other → (volume.span.disk == disk && volume.span.start + sector == other) ≡ false
   other-sector inside disk other (inl apart) = rw (ne_eqb volume.span.disk disk (λ e. apart (sym e))) refl
-  other-sector inside disk other (inr (inl low)) = and-false (volume.span.disk == disk) (volume.span.start + sector == other) (ne_eqb (volume.span.start + sector) other (λ e. absurd (omega (arith, e, low))))
-  other-sector inside disk other (inr (inr high)) = and-false (volume.span.disk == disk) (volume.span.start + sector == other) (ne_eqb (volume.span.start + sector) other (λ e. absurd (omega (arith, e, high))))
+  other-sector inside disk other (inr (inl low)) = and_right (volume.span.disk == disk) (volume.span.start + sector == other) (ne_eqb (volume.span.start + sector) other (λ e. absurd (omega (arith, e, low))))
+  other-sector inside disk other (inr (inr high)) = and_right (volume.span.disk == disk) (volume.span.start + sector == other) (ne_eqb (volume.span.start + sector) other (λ e. absurd (omega (arith, e, high))))
 
   written-beside : sector < 2 * volume.layout.zones → Beside volume old Written
   written-beside inside = record {

@@ -1,28 +1,14 @@
 -- What a change of one entry does to what a directory finds.
-use Rattle.std.proofs.Common.{◌≡◌, ◌≢◌, ℕ, zero, suc, ◌<◌, ◌==◌, ◌&&◌, ◌⊎◌, Bool, true, false, not, if◌then◌else◌, List, bytes_eq, Option, Some, None, refl, sym, ◌∙◌, ap, subst, arith, eq-eqb, inl, inr}
+use Rattle.std.proofs.Common.{◌≡◌, ◌≢◌, ℕ, zero, suc, ◌<◌, ◌==◌, ◌⊎◌, Bool, true, false, List, Option, Some, None, refl, sym, ◌∙◌, ap, subst, arith, eq-eqb, inl, inr}
 use Rattle.std.specs.Option.{option_or}
 use Rattle.std.proofs.lemmas.Bool.{eqb-true}
-use Rattle.std.proofs.lemmas.Slice.Eq.{bytes_eq-Decides}
 use Rattle.lilo_model.specs.MinixLayout.{Super}
 use Rattle.lilo_model.specs.MinixParts.{Parts}
 use Rattle.lilo_model.specs.MinixEntries.{Entry, entry_with, named_inode, places, is_dots}
 use Rattle.lilo_model.specs.MinixNames.{entry, first_named, lookup, Sound}
 use Rattle.minix_beside_laws.specs.Change.{ChangesEntry, FindsBy}
 use Rattle.minix_beside_laws.specs.Laws.{EntryLaw}
-
--- ---- an entry of a name
-
-some-by : (name : List ℕ) (what : Entry) (inode : ℕ) (is_free same : Bool) → (what.inode == 0) ≡ is_free → bytes_eq what.name name ≡ same
-    → (if not is_free && same then Some what.inode else None) ≡ Some inode → (inode ≢ 0) × (what ≡ entry_with inode name)
-some-by name what inode true same free is given = cc
-some-by name what inode false false free is given = cc
-some-by name what inode false true free is given =
-    let one : what.inode ≡ inode = cc in
-    let named : what.name ≡ name = (bytes_eq-Decides what.name name).0 is in
-    ((λ e. let t = eq-eqb what.inode 0 (one ∙ e) in cc), ap (λ n. entry_with n what.name) one ∙ ap (entry_with inode) named)
-
-named_inode-some : (name : List ℕ) (what : Entry) (inode : ℕ) → named_inode name what ≡ Some inode → (inode ≢ 0) × (what ≡ entry_with inode name)
-named_inode-some name what inode given = some-by name what inode _ _ refl refl given
+use Rattle.minix_laws.proofs.FirstNamed.{named_inode-some}
 
 -- ---- the first entry of a name
 
@@ -54,7 +40,7 @@ first-absent at name (suc count) none place below =
     let parts = both-none (first_named at name count) (named_inode name (at count)) none in
     absent-by at name count place below parts.1 (first-absent at name count parts.0 place) _ refl
 
-first-none : (at : ℕ → Entry) (name : List ℕ) (count : ℕ) → ((place : ℕ) → place < count → named_inode name (at place) ≡ None) → first_named at name count ≡ None
+pub first-none : (at : ℕ → Entry) (name : List ℕ) (count : ℕ) → ((place : ℕ) → place < count → named_inode name (at place) ≡ None) → first_named at name count ≡ None
 unfolding first_named
 first-none at name zero none = refl
 first-none at name (suc count) none = rw (first-none at name count (λ place below. none place (omega (arith, below))), none count (omega arith)) refl

@@ -1,6 +1,7 @@
 -- Parts that keep what has a name stay sound, with the same Names.
 use Rattle.std.proofs.Common.{◌≡◌, ◌≢◌, ℕ, zero, suc, ◌/◌, ◌%◌, ◌<◌, ◌≤◌, ◌==◌, ◌||◌, Bool, true, false, List, [], ◌∷◌, length, take, option_map, Option, Some, None, refl, sym, ◌∙◌, ap, subst, arith, eq-eqb}
 use Rattle.std.specs.Prelude.{slice_index}
+use Rattle.std.proofs.lemmas.Bool.{or_left, or_right}
 use Rattle.lilo_model.specs.MinixLayout.{Super, Inode, is_size}
 use Rattle.lilo_model.specs.MinixParts.{Parts, Pointer, IsPointer, is_directory, is_file, is_link, has_zones, number_in, number_below, follow, block_pointer, zone_bytes, blocks_for}
 use Rattle.lilo_model.specs.MinixEntries.{Entry, entry_with, entry_in, entries_per_block, places, here_name, above_name}
@@ -8,18 +9,6 @@ use Rattle.lilo_model.specs.MinixNames.{pointer, zone_number, block, blocks, con
 use Rattle.minix_laws.proofs.Inside.{is_pointer-block}
 use Rattle.minix_beside_laws.specs.Keeps.{Keeps}
 use Rattle.minix_beside_laws.specs.Laws.{KeepsLaw}
-
--- ---- kinds of files that have zones
-
-file-zones : (directory file link : Bool) → file ≡ true → ((directory || file) || link) ≡ true
-file-zones true file link is = refl
-file-zones false true link is = refl
-file-zones false false link is = cc
-
-link-zones : (directory file link : Bool) → link ≡ true → ((directory || file) || link) ≡ true
-link-zones true file link is = refl
-link-zones false true link is = refl
-link-zones false false link is = is
 
 module _ (super : Super) (old new : Parts) (keeps : Keeps super old new) where
   -- ---- what is in an inode that has a name
@@ -110,8 +99,8 @@ module _ (super : Super) (old new : Parts) (keeps : Keeps super old new) where
 
     thing-by : (file link : Bool) → is_file (old.node number) ≡ file → is_link (old.node number) ≡ link → thing super new number ≡ thing super old number
     unfolding thing
-    thing-by true link f l = rw (keeps.nodes number named, f) (ap File (content-same (file-zones (is_directory (old.node number)) (is_file (old.node number)) (is_link (old.node number)) f)))
-    thing-by false true f l = rw (keeps.nodes number named, f, l) (ap Link (content-same (link-zones (is_directory (old.node number)) (is_file (old.node number)) (is_link (old.node number)) l)))
+    thing-by true link f l = rw (keeps.nodes number named, f) (ap File (content-same (or_left (is_directory (old.node number) || is_file (old.node number)) (is_link (old.node number)) (or_right (is_directory (old.node number)) (is_file (old.node number)) f))))
+    thing-by false true f l = rw (keeps.nodes number named, f, l) (ap Link (content-same (or_right (is_directory (old.node number) || is_file (old.node number)) (is_link (old.node number)) l)))
     thing-by false false f l = rw (keeps.nodes number named, f, l) refl
 
     thing-same : thing super new number ≡ thing super old number

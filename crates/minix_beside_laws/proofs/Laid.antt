@@ -1,7 +1,7 @@
 -- How the regions of a Minix volume lie whose superblock passed the checks: the superblock, the bitmaps of
 -- inodes and of zones, the table of inodes, and the data zones, one after the other.
 use Rattle.std.proofs.Common.{◌≡◌, ℕ, ◌+◌, ◌-◌, ◌*◌, ◌/◌, ◌<◌, ◌≤◌, ◌==◌, ◌&&◌, Bool, true, false, nat_le, nat_lt, List, Option, Some, None, Result, Ok, Err, refl, subst, arith}
-use Rattle.std.proofs.lemmas.Bool.{leb-true, ltb-true}
+use Rattle.std.proofs.lemmas.Bool.{leb-true, ltb-true, and_parts}
 use Rattle.std.proofs.lemmas.Bool.Decides.{nat_tests}
 use Rattle.lilo_model.specs.Bytes.{number16}
 use Rattle.lilo_model.specs.Checks.{◌>>=◌, require}
@@ -14,10 +14,6 @@ pub record Laid (super : Super) : Type 0 where
   pub zmap : super.zones - super.first < 8192 * super.zmap
   pub table : table_start super + table_blocks super ≤ super.first
   pub first : super.first < super.zones
-
-both-true : (one other : Bool) → (one && other) ≡ true → (one ≡ true) × (other ≡ true)
-both-true true other h = (refl, h)
-both-true false other h = cc
 
 -- a chain of five checks that refuses nothing
 five-true : {F : Type 0} (a b c d e : Bool) (fa fb fc fd fe : F)
@@ -41,7 +37,7 @@ laid-checks super sectors passes =
     (nat_le 1 super.inodes) (nat_le 1 super.zones && nat_le (2 * super.zones) sectors) (nat_lt super.inodes (8192 * super.imap))
     (zone_map_holds super) (nat_le (table_start super + table_blocks super) super.first && nat_lt super.first super.zones)
     (BadSize Inodes) (BadSize Zones) (BadSize InodeMap) (BadSize ZoneMap) (BadSize FirstZone) passes in
-    let last = both-true (nat_le (table_start super + table_blocks super) super.first) (nat_lt super.first super.zones) all.2 in
+    let last = and_parts (nat_le (table_start super + table_blocks super) super.first) (nat_lt super.first super.zones) all.2 in
     let first = ltb-true super.first super.zones last.1 in
     record {
       imap = ltb-true super.inodes (8192 * super.imap) all.0;

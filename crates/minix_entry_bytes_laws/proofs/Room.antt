@@ -1,7 +1,8 @@
 -- Parts with a root directory that has room for an entry, and with an empty file and a new directory that have no
 -- names, are sound.
-use Rattle.std.proofs.Common.{◌≡◌, ◌≢◌, ℕ, zero, suc, ◌-◌, ◌<◌, ◌≤◌, Bool, true, false, ◌||◌, List, [], ◌∷◌, length, replicate, bytes_eq, Some, None, refl, sym, ◌∙◌, ap, subst, arith}
+use Rattle.std.proofs.Common.{◌≡◌, ◌≢◌, ℕ, zero, suc, ◌-◌, ◌<◌, ◌≤◌, Bool, true, false, List, [], ◌∷◌, length, replicate, bytes_eq, Some, None, refl, sym, ◌∙◌, ap, subst, arith}
 use Rattle.std.specs.Prelude.{slice_index}
+use Rattle.std.proofs.lemmas.Bool.{or_parts}
 use Rattle.lilo_model.specs.MinixLayout.{Kind, Super, is_size}
 use Rattle.lilo_model.specs.MinixParts.{Parts, Pointer, is_directory, follow}
 use Rattle.lilo_model.specs.MinixEntries.{Entry, entry_with, places, here_name, above_name, is_dots}
@@ -48,16 +49,11 @@ pub record RootRoom (super : Super) (parts : Parts) (zone other : ℕ) : Type 0 
 
 -- ---- paths
 
-both-false : (one other : Bool) → (one || other) ≡ false → (one ≡ false) × (other ≡ false)
-both-false true other h = cc
-both-false false true h = cc
-both-false false false h = (refl, refl)
-
 -- two entries that are no names and a free one have no other name
 first_named-dots : (at : ℕ → Entry) (name : List ℕ) → at 0 ≡ entry_with 1 here_name → at 1 ≡ entry_with 1 above_name → (at 2).inode ≡ 0 → is_dots name ≡ false → first_named at name 3 ≡ None
 unfolding first_named is_dots
 first_named-dots at name here above free other =
-    let no : (bytes_eq here_name name ≡ false) × (bytes_eq above_name name ≡ false) = both-false _ _ other in
+    let no : (bytes_eq here_name name ≡ false) × (bytes_eq above_name name ≡ false) = or_parts _ _ other in
     rw (here, above, free, no.0, no.1) refl
 
 module _ (super : Super) (parts : Parts) (zone other : ℕ) (h : RootRoom super parts zone other) where

@@ -1,10 +1,10 @@
 -- On a volume with room in its root a name may be made.
-use Rattle.std.proofs.Common.{◌≡◌, ◌≢◌, ◌<◌, ◌≤◌, ℕ, zero, suc, ◌+◌, ◌^◌, get_or, ◌==◌, Bool, true, false, if◌then◌else◌, List, [], ◌∷◌, length, Some, None, Ok, refl, sym, ◌∙◌, ap, subst, arith}
+use Rattle.std.proofs.Common.{◌≡◌, ◌≢◌, ◌<◌, ◌≤◌, ℕ, zero, suc, ◌+◌, ◌^◌, get_or, ◌==◌, Bool, true, false, List, [], ◌∷◌, length, Some, None, Ok, refl, sym, ◌∙◌, ap, subst, arith, replicate}
 use Rattle.lilo_model.specs.Bytes.{number16, number32}
 use Rattle.lilo_model.specs.Disks.{Image}
-use Rattle.lilo_model.specs.MinixLayout.{Kind, V1Short, V1Long, V2Short, V2Long, kind_of, super_of, super_checks, super_in, super_at, with_counts, super_bytes, v1_inode, v2_inode, inode_of, v1_inode_bytes, v2_inode_bytes, inode_bytes, inode_place, name_size, reach}
-use Rattle.lilo_model.specs.MinixParts.{bit, is_directory, blocks_for, parts_of, number_in, follow, pointer_by}
-use Rattle.lilo_model.specs.MinixEntries.{entry_of, entry_with, named_inode, is_dots}
+use Rattle.lilo_model.specs.MinixLayout.{Kind, V1Short, V1Long, V2Short, V2Long, kind_of, super_of, super_checks, super_in, super_at, with_counts, super_bytes, v1_inode, v2_inode, inode_of, v1_inode_bytes, v2_inode_bytes, inode_bytes, inode_place, name_size, reach, Super, is_size}
+use Rattle.lilo_model.specs.MinixParts.{bit, is_directory, blocks_for, parts_of, number_in, follow, pointer_by, Parts}
+use Rattle.lilo_model.specs.MinixEntries.{entry_of, entry_with, named_inode, is_dots, Entry, places, here_name, above_name}
 use Rattle.lilo_model.specs.MinixNames.{zone_number, block, content, entry, lookup, reached, thing, Sound, IsSound, File, Directory}
 use Rattle.minix_laws.specs.RootVolume.{root_layout, root_volume}
 use Rattle.minix_beside_laws.proofs.Entries.{entry_law}
@@ -14,165 +14,123 @@ use Rattle.minix_entry_laws.specs.Enter.{MayStand, MayEnter, MayRemove}
 use Rattle.minix_entry_bytes_laws.specs.Written.{entry_bytes, IsPlaced, HasEntryBytes, EntryIsWritten}
 use Rattle.minix_entry_bytes_laws.specs.Sample.{room_sector, room_image, sample_name, other_name, HasSampleEntry, IsEntered}
 use Rattle.minix_entry_bytes_laws.specs.Laws.{SampleLaw}
-use Rattle.minix_entry_laws.proofs.Finds.{named-free}
 use Rattle.minix_entry_bytes_laws.proofs.Written.{written_law}
 use Rattle.minix_entry_bytes_laws.proofs.EntryBytes.{entry_bytes_law}
 use Rattle.minix_entry_bytes_laws.proofs.Images.{enter_bytes_law, enter_directory_bytes_law}
 use Rattle.minix_entry_bytes_laws.proofs.Room.{RootRoom, root_room-sound, room-stands, room-directory, room-enter, room-named}
+use Rattle.minix_sees_laws.proofs.Sees.{named-free}
+use Rattle.minix_laws.proofs.RootBytes.{length-choice}
 
-room-V1Short : RootRoom (root_layout V1Short) (parts_of (root_volume V1Short) (room_image V1Short)) 5 6
+-- what is read of the root, of the file and of the new directory in parts
+abbrev ReadRoot : Type 0
+ReadRoot = Bool × ℕ × Bool × ℕ × List ℕ × Entry × Entry × ℕ × Bool × Bool
+
+abbrev read_root : Super → Parts → ReadRoot
+read_root super parts = (
+  is_directory (parts.node 1),
+  (parts.node 1).mode,
+  is_size super.kind (parts.node 1).size,
+  places super.kind (parts.node 1).size,
+  (parts.node 1).zones,
+  entry super parts 1 0,
+  entry super parts 1 1,
+  (entry super parts 1 2).inode,
+  parts.has_inode 1,
+  parts.has_zone 5,
+)
+
+abbrev ReadFile : Type 0
+ReadFile = Bool × ℕ × Bool × Bool × List ℕ × ℕ
+
+abbrev read_file : Super → Parts → ReadFile
+read_file super parts = (
+  is_directory (parts.node 2),
+  (parts.node 2).mode,
+  is_size super.kind (parts.node 2).size,
+  parts.has_inode 2,
+  (parts.node 2).zones,
+  (parts.node 2).links,
+)
+
+abbrev ReadDirectory : Type 0
+ReadDirectory = Bool × ℕ × Bool × ℕ × List ℕ × ℕ × Entry × Entry × Bool × Bool
+
+abbrev read_directory : Super → Parts → ReadDirectory
+read_directory super parts = (
+  is_directory (parts.node 3),
+  (parts.node 3).mode,
+  is_size super.kind (parts.node 3).size,
+  places super.kind (parts.node 3).size,
+  (parts.node 3).zones,
+  (parts.node 3).links,
+  entry super parts 3 0,
+  entry super parts 3 1,
+  parts.has_inode 3,
+  parts.has_zone 6,
+)
+
+abbrev sample : Kind → Parts
+sample kind = parts_of (root_volume kind) (room_image kind)
+
+root-read : (kind : Kind) → read_root (root_layout kind) (sample kind)
+    ≡ (true, 0x41ED, true, 3, 5 ∷ replicate 9 0, entry_with 1 here_name, entry_with 1 above_name, 0, true, true)
 unfolding super_bytes with_counts inode_bytes v1_inode_bytes v2_inode_bytes parts_of inode_of v1_inode v2_inode inode_place number16 number32 bit number_in follow pointer_by entry_of zone_number block entry
-room-V1Short = record {
-  directory = refl;
-  some_mode = λ e. absurd (omega (arith, e));
-  small = refl;
-  three = refl;
-  zones = refl;
-  first_entry = refl;
-  second_entry = refl;
-  third_free = refl;
+root-read V1Short = refl
+root-read V1Long = refl
+root-read V2Short = refl
+root-read V2Long = refl
+
+file-read : (kind : Kind) → read_file (root_layout kind) (sample kind)
+    ≡ (false, 0x81A4, true, true, replicate 10 0, 1)
+unfolding super_bytes with_counts inode_bytes v1_inode_bytes v2_inode_bytes parts_of inode_of v1_inode v2_inode inode_place number16 number32 bit number_in follow pointer_by entry_of zone_number block entry
+file-read V1Short = refl
+file-read V1Long = refl
+file-read V2Short = refl
+file-read V2Long = refl
+
+directory-read : (kind : Kind) → read_directory (root_layout kind) (sample kind)
+    ≡ (true, 0x41ED, true, 2, 6 ∷ replicate 9 0, 2, entry_with 3 here_name, entry_with 1 above_name, true, true)
+unfolding super_bytes with_counts inode_bytes v1_inode_bytes v2_inode_bytes parts_of inode_of v1_inode v2_inode inode_place number16 number32 bit number_in follow pointer_by entry_of zone_number block entry
+directory-read V1Short = refl
+directory-read V1Long = refl
+directory-read V2Short = refl
+directory-read V2Long = refl
+
+room : (kind : Kind) → RootRoom (root_layout kind) (sample kind) 5 6
+room kind = record {
+  directory = ap (λ (all : ReadRoot). all.0) (root-read kind);
+  some_mode = λ none. let mode = ap (λ (all : ReadRoot). all.1) (root-read kind) in absurd (omega (arith, none, mode));
+  small = ap (λ (all : ReadRoot). all.2) (root-read kind);
+  three = ap (λ (all : ReadRoot). all.3) (root-read kind);
+  zones = ap (λ (all : ReadRoot). all.4) (root-read kind);
+  first_entry = ap (λ (all : ReadRoot). all.5) (root-read kind);
+  second_entry = ap (λ (all : ReadRoot). all.6) (root-read kind);
+  third_free = ap (λ (all : ReadRoot). all.7) (root-read kind);
   some_inode = omega arith;
-  inode_mark = refl;
-  zone_mark = refl;
+  inode_mark = ap (λ (all : ReadRoot). all.8) (root-read kind);
+  zone_mark = ap (λ (all : ReadRoot). all.9) (root-read kind);
   from = omega arith;
   below = omega arith;
-  file = refl;
-  file_mode = λ e. absurd (omega (arith, e));
-  file_small = refl;
-  file_mark = refl;
-  file_zones = refl;
-  file_links = refl;
-  new_directory = refl;
-  new_mode = λ e. absurd (omega (arith, e));
-  new_small = refl;
-  new_two = refl;
-  new_zones = refl;
-  new_links = refl;
-  new_first = refl;
-  new_second = refl;
-  new_inode_mark = refl;
-  new_zone_mark = refl;
+  file = ap (λ (all : ReadFile). all.0) (file-read kind);
+  file_mode = λ none. let mode = ap (λ (all : ReadFile). all.1) (file-read kind) in absurd (omega (arith, none, mode));
+  file_small = ap (λ (all : ReadFile). all.2) (file-read kind);
+  file_mark = ap (λ (all : ReadFile). all.3) (file-read kind);
+  file_zones = ap (λ (all : ReadFile). all.4) (file-read kind);
+  file_links = ap (λ (all : ReadFile). all.5) (file-read kind);
+  new_directory = ap (λ (all : ReadDirectory). all.0) (directory-read kind);
+  new_mode = λ none. let mode = ap (λ (all : ReadDirectory). all.1) (directory-read kind) in absurd (omega (arith, none, mode));
+  new_small = ap (λ (all : ReadDirectory). all.2) (directory-read kind);
+  new_two = ap (λ (all : ReadDirectory). all.3) (directory-read kind);
+  new_zones = ap (λ (all : ReadDirectory). all.4) (directory-read kind);
+  new_links = ap (λ (all : ReadDirectory). all.5) (directory-read kind);
+  new_first = ap (λ (all : ReadDirectory). all.6) (directory-read kind);
+  new_second = ap (λ (all : ReadDirectory). all.7) (directory-read kind);
+  new_inode_mark = ap (λ (all : ReadDirectory). all.8) (directory-read kind);
+  new_zone_mark = ap (λ (all : ReadDirectory). all.9) (directory-read kind);
   new_from = omega arith;
   new_below = omega arith;
   apart = λ e. absurd (omega (arith, e));
 }
-
-room-V1Long : RootRoom (root_layout V1Long) (parts_of (root_volume V1Long) (room_image V1Long)) 5 6
-unfolding super_bytes with_counts inode_bytes v1_inode_bytes v2_inode_bytes parts_of inode_of v1_inode v2_inode inode_place number16 number32 bit number_in follow pointer_by entry_of zone_number block entry
-room-V1Long = record {
-  directory = refl;
-  some_mode = λ e. absurd (omega (arith, e));
-  small = refl;
-  three = refl;
-  zones = refl;
-  first_entry = refl;
-  second_entry = refl;
-  third_free = refl;
-  some_inode = omega arith;
-  inode_mark = refl;
-  zone_mark = refl;
-  from = omega arith;
-  below = omega arith;
-  file = refl;
-  file_mode = λ e. absurd (omega (arith, e));
-  file_small = refl;
-  file_mark = refl;
-  file_zones = refl;
-  file_links = refl;
-  new_directory = refl;
-  new_mode = λ e. absurd (omega (arith, e));
-  new_small = refl;
-  new_two = refl;
-  new_zones = refl;
-  new_links = refl;
-  new_first = refl;
-  new_second = refl;
-  new_inode_mark = refl;
-  new_zone_mark = refl;
-  new_from = omega arith;
-  new_below = omega arith;
-  apart = λ e. absurd (omega (arith, e));
-}
-
-room-V2Short : RootRoom (root_layout V2Short) (parts_of (root_volume V2Short) (room_image V2Short)) 5 6
-unfolding super_bytes with_counts inode_bytes v1_inode_bytes v2_inode_bytes parts_of inode_of v1_inode v2_inode inode_place number16 number32 bit number_in follow pointer_by entry_of zone_number block entry
-room-V2Short = record {
-  directory = refl;
-  some_mode = λ e. absurd (omega (arith, e));
-  small = refl;
-  three = refl;
-  zones = refl;
-  first_entry = refl;
-  second_entry = refl;
-  third_free = refl;
-  some_inode = omega arith;
-  inode_mark = refl;
-  zone_mark = refl;
-  from = omega arith;
-  below = omega arith;
-  file = refl;
-  file_mode = λ e. absurd (omega (arith, e));
-  file_small = refl;
-  file_mark = refl;
-  file_zones = refl;
-  file_links = refl;
-  new_directory = refl;
-  new_mode = λ e. absurd (omega (arith, e));
-  new_small = refl;
-  new_two = refl;
-  new_zones = refl;
-  new_links = refl;
-  new_first = refl;
-  new_second = refl;
-  new_inode_mark = refl;
-  new_zone_mark = refl;
-  new_from = omega arith;
-  new_below = omega arith;
-  apart = λ e. absurd (omega (arith, e));
-}
-
-room-V2Long : RootRoom (root_layout V2Long) (parts_of (root_volume V2Long) (room_image V2Long)) 5 6
-unfolding super_bytes with_counts inode_bytes v1_inode_bytes v2_inode_bytes parts_of inode_of v1_inode v2_inode inode_place number16 number32 bit number_in follow pointer_by entry_of zone_number block entry
-room-V2Long = record {
-  directory = refl;
-  some_mode = λ e. absurd (omega (arith, e));
-  small = refl;
-  three = refl;
-  zones = refl;
-  first_entry = refl;
-  second_entry = refl;
-  third_free = refl;
-  some_inode = omega arith;
-  inode_mark = refl;
-  zone_mark = refl;
-  from = omega arith;
-  below = omega arith;
-  file = refl;
-  file_mode = λ e. absurd (omega (arith, e));
-  file_small = refl;
-  file_mark = refl;
-  file_zones = refl;
-  file_links = refl;
-  new_directory = refl;
-  new_mode = λ e. absurd (omega (arith, e));
-  new_small = refl;
-  new_two = refl;
-  new_zones = refl;
-  new_links = refl;
-  new_first = refl;
-  new_second = refl;
-  new_inode_mark = refl;
-  new_zone_mark = refl;
-  new_from = omega arith;
-  new_below = omega arith;
-  apart = λ e. absurd (omega (arith, e));
-}
-
-room : (kind : Kind) → RootRoom (root_layout kind) (parts_of (root_volume kind) (room_image kind)) 5 6
-room V1Short = room-V1Short
-room V1Long = room-V1Long
-room V2Short = room-V2Short
-room V2Long = room-V2Long
 
 -- its superblock is read
 room_super : (kind : Kind) → super_at (room_sector kind 2) 16 ≡ Ok (root_layout kind)
@@ -181,10 +139,6 @@ room_super V1Short = refl
 room_super V1Long = refl
 room_super V2Short = refl
 room_super V2Long = refl
-
-length-choice : (test : Bool) (one other : List ℕ) → length one ≡ 512 → length other ≡ 512 → length (if test then one else other) ≡ 512
-length-choice true one other is is' = is
-length-choice false one other is is' = is'
 
 -- each sector has 512 bytes
 room_whole : (kind : Kind) (sector : ℕ) → length (room_sector kind sector) ≡ 512

@@ -1,6 +1,6 @@
 -- Other bytes of an entry are a change of that entry alone.
-use Rattle.std.proofs.Common.{◌≡◌, ◌≢◌, ℕ, ◌+◌, ◌*◌, ◌/◌, ◌%◌, ◌<◌, ◌≤◌, ◌==◌, ◌&&◌, ◌⊎◌, Bool, true, false, List, length, refl, sym, ◌∙◌, ap, subst, arith, eq-eqb, inl, inr}
-use Rattle.std.proofs.lemmas.Bool.{eqb-true, ne_eqb}
+use Rattle.std.proofs.Common.{◌≡◌, ◌≢◌, ℕ, ◌+◌, ◌*◌, ◌/◌, ◌%◌, ◌<◌, ◌≤◌, ◌==◌, ◌⊎◌, Bool, true, false, List, length, refl, sym, ◌∙◌, ap, subst, arith, eq-eqb, inl, inr}
+use Rattle.std.proofs.lemmas.Bool.{eqb-true, ne_eqb, and_right}
 use Rattle.lilo_model.specs.Bytes.{part_of, with_part}
 use Rattle.lilo_model.specs.Disks.{Image}
 use Rattle.lilo_model.specs.MinixLayout.{entry_size, reach, super_at}
@@ -221,15 +221,11 @@ written_law volume old image directory place bytes sound placed written = entry-
 
 -- ---- one write
 
-and-false : (one other : Bool) → other ≡ false → (one && other) ≡ false
-and-false true other is = is
-and-false false other is = refl
-
 pub write_entry_law : WriteEntryLaw
 write_entry_law volume old directory place bytes long = record {
   long = long;
   here = rw (eq-eqb volume.span.disk volume.span.disk refl, eq-eqb (volume.span.start + (place_in volume old directory place).sector) (volume.span.start + (place_in volume old directory place).sector) refl) refl;
   others = λ sector below apart.
       let far : (volume.span.start + (place_in volume old directory place).sector == volume.span.start + sector) ≡ false = ne_eqb (volume.span.start + (place_in volume old directory place).sector) (volume.span.start + sector) (λ e. apart (omega (arith, e))) in
-      rw (and-false (volume.span.disk == volume.span.disk) (volume.span.start + (place_in volume old directory place).sector == volume.span.start + sector) far) refl;
+      rw (and_right (volume.span.disk == volume.span.disk) (volume.span.start + (place_in volume old directory place).sector == volume.span.start + sector) far) refl;
 }

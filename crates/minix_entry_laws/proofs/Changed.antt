@@ -12,7 +12,8 @@ use Rattle.minix_entry_laws.specs.Laws.{ChangedLaw}
 use Rattle.minix_sees_laws.proofs.Inode.{directory-zones, points-old, keeps-above, has_entry-same, has_entry-kept}
 use Rattle.minix_entry_laws.proofs.Lists.{without, new-without, distinct-without, absent-without, length-without, lead-without, lead-new}
 use Rattle.minix_entry_laws.proofs.Only.{node-kept, named-node, named-above, other-kept, thing-kept, keeps-named}
-use Rattle.minix_entry_laws.proofs.Finds.{LeadsAnew, named-some, named-is, finds, found, comes-kept-leaf, paths-from, leads-by, outer-leads}
+use Rattle.minix_entry_laws.proofs.Finds.{LeadsAnew, named-is, finds, found, comes-kept-leaf, paths-from, leads-by, outer-leads}
+use Rattle.minix_laws.proofs.FirstNamed.{named_inode-some}
 
 -- an inode with a name had it, or is the one that comes
 record IsAnew (super : Super) (new : Parts) (directory place number : ℕ) : Type 0 where
@@ -135,7 +136,7 @@ module _ (super : Super) (old new : Parts) (outer : List (List ℕ)) (directory 
       by_was : (was : Option ℕ) → named_inode name Was ≡ was → named_inode name Was ≢ None → ⊥
       by_was None none had = had none
       by_was (Some first) was had =
-          let one = named-some name Was first was in
+          let one = named_inode-some name Was first was in
           apart (sound.no_twice directory other place inode' first name may.only.change.named may.only.change.is some' one.0 (record { below = below; is = is }) (record { below = may.only.change.below; is = one.1 }))
 
       by_alone : is_dots name ≡ false → (lookup super old name directory ≡ None) ⊎ (named_inode name Was ≢ None) → ⊥
@@ -299,7 +300,7 @@ module _ (super : Super) (old new : Parts) (outer : List (List ℕ)) (directory 
     where
       by_now : (now : Option ℕ) → named_inode Was.name Now ≡ now → IsNew (Was.name ∷ outer) (without (Now.name ∷ outer) paths)
       by_now (Some inode) is =
-          let one = named-some Was.name Now inode is in
+          let one = named_inode-some Was.name Now inode is in
           let called : Now.name ≡ Was.name = ap (λ (e : Entry). e.name) one.1 in
           subst (λ n. IsNew (n ∷ outer) (without (Now.name ∷ outer) paths)) called (absent-without (Now.name ∷ outer) paths)
       by_now None is =
@@ -395,7 +396,7 @@ module _ (super : Super) (old new : Parts) (outer : List (List ℕ)) (directory 
             let here : lookup super new Was.name directory ≡ named_inode Was.name Now =
             (finds super old new outer directory place sound may).changed Was.name (may.goes some-went).plain (inr (λ e. let t = sym was ∙ e in cc)) in
             let says : named_inode Was.name Now ≡ Some number = sym here ∙ (sym ((paths-from super old new outer directory place sound may).here Was.name) ∙ leads) in
-            apart (ap (λ (e : Entry). e.inode) (named-some Was.name Now number says).1)
+            apart (ap (λ (e : Entry). e.inode) (named_inode-some Was.name Now number says).1)
 
     left-by : (path : List (List ℕ)) → reached super new path ≡ Some number → Leads path number → ⊥
     left-by path leads (inl was) = elsewhere (ap (reached super new) (sym (last.only path was)) ∙ leads)

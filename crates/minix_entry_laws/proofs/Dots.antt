@@ -1,31 +1,23 @@
 -- A directory with nothing in it but `.` and `..`.
-use Rattle.std.proofs.Common.{◌≡◌, ◌≢◌, ℕ, zero, suc, ◌<◌, ◌≤◌, ◌||◌, Bool, true, false, List, length, bytes_eq, None, refl, sym, ◌∙◌, ap, arith}
+use Rattle.std.proofs.Common.{◌≡◌, ◌≢◌, ℕ, zero, suc, ◌<◌, ◌≤◌, Bool, true, false, List, length, bytes_eq, None, refl, sym, ◌∙◌, ap, arith}
 use Rattle.std.proofs.lemmas.Slice.Eq.{bytes_eq-Decides}
+use Rattle.std.proofs.lemmas.Bool.{or_parts}
 use Rattle.lilo_model.specs.MinixLayout.{Super}
 use Rattle.lilo_model.specs.MinixParts.{Parts, is_directory}
 use Rattle.lilo_model.specs.MinixEntries.{Entry, entry_with, named_inode, places, is_dots, here_name, above_name}
-use Rattle.lilo_model.specs.MinixNames.{entry, first_named, lookup, HasEntry}
+use Rattle.lilo_model.specs.MinixNames.{entry, lookup, HasEntry}
 use Rattle.minix_entry_laws.specs.Comes.{HasOnlyDots}
 use Rattle.minix_entry_laws.specs.Laws.{NewDirectoryLaw}
-use Rattle.minix_entry_laws.proofs.Finds.{named-free}
 use Rattle.minix_entry_laws.proofs.Names.{named-other}
+use Rattle.minix_sees_laws.proofs.Sees.{named-free}
+use Rattle.minix_beside_laws.proofs.Entries.{first-none}
 
 -- ---- nothing but `.` and `..`
-
-first-none : (at : ℕ → Entry) (name : List ℕ) (count : ℕ) → ((place : ℕ) → place < count → named_inode name (at place) ≡ None) → first_named at name count ≡ None
-unfolding first_named
-first-none at name zero none = refl
-first-none at name (suc count) none = rw (first-none at name count (λ place below. none place (omega (arith, below))), none count (omega arith)) refl
-
-both-false : (one other : Bool) → (one || other) ≡ false → (one ≡ false) × (other ≡ false)
-both-false true other h = cc
-both-false false true h = cc
-both-false false false h = (refl, refl)
 
 dots-other : (name : List ℕ) → is_dots name ≡ false → (here_name ≢ name) × (above_name ≢ name)
 unfolding is_dots
 dots-other name plain =
-    let no : (bytes_eq here_name name ≡ false) × (bytes_eq above_name name ≡ false) = both-false _ _ plain in
+    let no : (bytes_eq here_name name ≡ false) × (bytes_eq above_name name ≡ false) = or_parts _ _ plain in
     ((λ same. let t = (bytes_eq-Decides here_name name).1 same in let f = no.0 in cc), (λ same. let t = (bytes_eq-Decides above_name name).1 same in let f = no.1 in cc))
 
 module _ (super : Super) (parts : Parts) (directory number : ℕ) (only : HasOnlyDots super parts directory number) where

@@ -1,5 +1,5 @@
 -- What a directory finds after a change of one entry, and what paths lead to.
-use Rattle.std.proofs.Common.{◌≡◌, ◌≢◌, ℕ, ◌==◌, ◌&&◌, ◌⊎◌, Bool, true, false, not, if◌then◌else◌, List, [], ◌∷◌, length, bytes_eq, Option, Some, None, refl, sym, ◌∙◌, ap, subst, arith, eq-eqb, inl, inr}
+use Rattle.std.proofs.Common.{◌≡◌, ◌≢◌, ℕ, ◌⊎◌, Bool, true, false, List, [], ◌∷◌, length, Option, Some, None, refl, sym, ◌∙◌, ap, subst, arith, inl, inr}
 use Rattle.std.proofs.lemmas.Bool.{ne_eqb}
 use Rattle.std.proofs.lemmas.Slice.Eq.{bytes_eq-Decides}
 use Rattle.lilo_model.specs.MinixLayout.{Super}
@@ -12,26 +12,12 @@ use Rattle.minix_beside_laws.proofs.Entries.{entry_law}
 use Rattle.minix_entry_laws.specs.Comes.{MayCome, MayChange}
 use Rattle.minix_sees_laws.proofs.Inode.{lookup-same}
 use Rattle.minix_entry_laws.proofs.Only.{node-kept, other-kept}
+use Rattle.minix_laws.proofs.FirstNamed.{named_inode-some}
 
 -- ---- an entry of a name
 
-some-by : (name : List ℕ) (what : Entry) (inode : ℕ) (is_free same : Bool) → (what.inode == 0) ≡ is_free → bytes_eq what.name name ≡ same
-    → (if not is_free && same then Some what.inode else None) ≡ Some inode → (inode ≢ 0) × (what ≡ entry_with inode name)
-some-by name what inode true same free is given = cc
-some-by name what inode false false free is given = cc
-some-by name what inode false true free is given =
-    let one : what.inode ≡ inode = cc in
-    let named : what.name ≡ name = (bytes_eq-Decides what.name name).0 is in
-    ((λ e. let t = eq-eqb what.inode 0 (one ∙ e) in cc), ap (λ n. entry_with n what.name) one ∙ ap (entry_with inode) named)
-
-pub named-some : (name : List ℕ) (what : Entry) (inode : ℕ) → named_inode name what ≡ Some inode → (inode ≢ 0) × (what ≡ entry_with inode name)
-named-some name what inode given = some-by name what inode _ _ refl refl given
-
 pub named-is : (name : List ℕ) (inode : ℕ) → inode ≢ 0 → named_inode name (entry_with inode name) ≡ Some inode
 named-is name inode some = rw (ne_eqb inode 0 some, (bytes_eq-Decides name name).1 refl) refl
-
-pub named-free : (name : List ℕ) (what : Entry) → what.inode ≡ 0 → named_inode name what ≡ None
-named-free name what free = rw free refl
 
 -- ---- nothing is found below what is no directory
 
@@ -81,7 +67,7 @@ module _ (super : Super) (old new : Parts) (outer : List (List ℕ)) (directory 
 
   was-leaf : (name : List ℕ) (inode : ℕ) → named_inode name Was ≡ Some inode → FindsLeaf super old directory name
   was-leaf name inode was number leads =
-      let one = named-some name Was inode was in
+      let one = named_inode-some name Was inode was in
       let which : Was.inode ≡ inode = ap (λ (e : Entry). e.inode) one.1 in
       let called : Was.name ≡ name = ap (λ (e : Entry). e.name) one.1 in
       let goes = may.goes (λ e. one.0 (sym which ∙ e)) in
@@ -112,7 +98,7 @@ module _ (super : Super) (old new : Parts) (outer : List (List ℕ)) (directory 
   cases-by : (name : List ℕ) (now was : Option ℕ) → named_inode name Now ≡ now → named_inode name Was ≡ was
       → (lookup super new name directory ≡ lookup super old name directory) ⊎ (Goes super old new directory name ⊎ Comes super old new directory place name)
   cases-by name (Some inode) was now_is was_is =
-      let one = named-some name Now inode now_is in
+      let one = named_inode-some name Now inode now_is in
       let which : Now.inode ≡ inode = ap (λ (e : Entry). e.inode) one.1 in
       let called : Now.name ≡ name = ap (λ (e : Entry). e.name) one.1 in
       let some : Now.inode ≢ 0 = λ e. one.0 (sym which ∙ e) in
@@ -127,7 +113,7 @@ module _ (super : Super) (old new : Parts) (outer : List (List ℕ)) (directory 
       }))
   cases-by name None None now_is was_is = inl (finds.kept name (now_is ∙ sym was_is))
   cases-by name None (Some inode) now_is was_is =
-      let one = named-some name Was inode was_is in
+      let one = named_inode-some name Was inode was_is in
       let which : Was.inode ≡ inode = ap (λ (e : Entry). e.inode) one.1 in
       let called : Was.name ≡ name = ap (λ (e : Entry). e.name) one.1 in
       let goes = may.goes (λ e. one.0 (sym which ∙ e)) in

@@ -15,8 +15,9 @@ use Rattle.minix_entry_laws.specs.Laws.{NewFileLaw, EnterLaw, EnterDirectoryLaw,
 use Rattle.minix_sees_laws.specs.Tree.{TreeWith, TreeMoved}
 use Rattle.minix_sees_laws.proofs.Inode.{thing-directory, thing-same}
 use Rattle.minix_entry_laws.proofs.Only.{node-kept, fit_law, file-kept}
-use Rattle.minix_entry_laws.proofs.Finds.{named-is, named-free}
+use Rattle.minix_entry_laws.proofs.Finds.{named-is}
 use Rattle.minix_entry_laws.proofs.Changed.{changed_law, is-left}
+use Rattle.minix_sees_laws.proofs.Sees.{named-free}
 
 -- an entry of another name
 other-by : (name other : List ℕ) (inode : ℕ) (is_free same : Bool) → (inode == 0) ≡ is_free → bytes_eq other name ≡ same → other ≢ name → named_inode name (entry_with inode other) ≡ None

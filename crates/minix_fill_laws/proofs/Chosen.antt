@@ -8,9 +8,9 @@ use Rattle.write_model.specs.FileZones.{count_made, given, made_indirect}
 use Rattle.write_model.specs.Choice.{file_need}
 use Rattle.minix_fill_laws.specs.Chosen.{AreRising, chosen_zones, ChosenLaw}
 use Rattle.minix_fill_laws.specs.Sources.{Source, Block, Indirect, zone_from, below_source}
-use Rattle.minix_fill_laws.proofs.Filled.{some_numbers}
 use Rattle.minix_fill_laws.proofs.Given.{given_length, given_hole, given_at, count_before, given_once}
 use Rattle.minix_fill_laws.proofs.Places.{IsHole, below_hole, made_few, two_levels_made}
+use Rattle.minix_laws.proofs.Inside.{some_numbers}
 
 few_by : (kind : Kind) (blocks : List Bool) → length blocks ≤ reach kind → length (made_indirect (numbers_in_zone kind) blocks) ≤ reach kind
 few_by V1Short blocks few = omega (arith, two_levels_made 512 (lit< tt) blocks (omega (arith, few)))

@@ -1,20 +1,14 @@
 -- A file whose inode and indirect zones have the numbers that were chosen for it.
-use Rattle.std.proofs.Common.{◌≡◌, ◌≢◌, ◌≤◌, ◌<◌, ℕ, zero, suc, Bool, true, false, List, [], ◌∷◌, take, refl, sym, ap, ◌∙◌, subst, lit<, arith, eq-eqb}
+use Rattle.std.proofs.Common.{◌≡◌, ◌≢◌, ◌≤◌, ◌<◌, ℕ, zero, suc, Bool, true, false, List, [], ◌∷◌, take, refl, sym, ap, ◌∙◌, subst, arith, eq-eqb}
 use Rattle.std.specs.Prelude.{◌==◌, slice_index}
 use Rattle.std.proofs.lemmas.Bool.{eqb-true}
-use Rattle.lilo_model.specs.MinixLayout.{Kind, V1Short, V1Long, V2Short, V2Long, Super, numbers_in_zone, reach}
+use Rattle.lilo_model.specs.MinixLayout.{Super, numbers_in_zone, reach}
 use Rattle.lilo_model.specs.MinixParts.{Parts, Pointer, IsPointer, number_below, follow, block_pointer, zone_bytes, blocks_for}
 use Rattle.lilo_model.specs.MinixNames.{pointer, zone_number, block, blocks, content, PointsTo}
-use Rattle.minix_laws.proofs.Inside.{is_pointer-block}
+use Rattle.minix_laws.proofs.Inside.{is_pointer-block, some_numbers}
 use Rattle.minix_fill_laws.specs.Sources.{FileZones, zone_from, below_source, source_below, source_by, source_of}
 use Rattle.minix_fill_laws.specs.Laws.{MayBeFile, HasZones, PointersLaw, ContentLaw, AreNewZones, FilledLaw}
 use Rattle.minix_fill_laws.proofs.Pointers.{outer_place, pointers_once, block_leads}
-
-pub some_numbers : (kind : Kind) → 0 < numbers_in_zone kind
-some_numbers V1Short = lit< tt
-some_numbers V1Long = lit< tt
-some_numbers V2Short = lit< tt
-some_numbers V2Long = lit< tt
 
 module _ (super : Super) (parts : Parts) (number : ℕ) (zones : FileZones) (may : MayBeFile super.kind zones) (has : HasZones super parts number zones) where
   abbrev per : ℕ

@@ -1,10 +1,23 @@
 -- The first entry of a name, where the name appears once.
-use Rattle.std.proofs.Common.{◌≡◌, ◌≢◌, ℕ, zero, suc, ◌<◌, ◌==◌, Bool, true, false, List, Some, None, bytes_eq, refl, sym, ◌∙◌, ap, arith}
+use Rattle.std.proofs.Common.{◌≡◌, ◌≢◌, ℕ, zero, suc, ◌<◌, ◌==◌, ◌&&◌, Bool, true, false, not, if◌then◌else◌, List, Some, None, bytes_eq, refl, sym, ◌∙◌, ap, arith}
 use Rattle.std.specs.Option.{option_or}
 use Rattle.std.proofs.lemmas.Bool.{eqb-true, eq-eqb, ne_eqb}
 use Rattle.std.proofs.lemmas.Slice.Eq.{bytes_eq-Decides}
 use Rattle.lilo_model.specs.MinixEntries.{Entry, entry_with, named_inode}
 use Rattle.lilo_model.specs.MinixNames.{first_named}
+
+-- an entry of a name
+some-by : (name : List ℕ) (what : Entry) (inode : ℕ) (is_free same : Bool) → (what.inode == 0) ≡ is_free → bytes_eq what.name name ≡ same
+    → (if not is_free && same then Some what.inode else None) ≡ Some inode → (inode ≢ 0) × (what ≡ entry_with inode name)
+some-by name what inode true same free is given = cc
+some-by name what inode false false free is given = cc
+some-by name what inode false true free is given =
+    let one : what.inode ≡ inode = cc in
+    let named : what.name ≡ name = (bytes_eq-Decides what.name name).0 is in
+    ((λ e. let t = eq-eqb what.inode 0 (one ∙ e) in cc), ap (λ n. entry_with n what.name) one ∙ ap (entry_with inode) named)
+
+pub named_inode-some : (name : List ℕ) (what : Entry) (inode : ℕ) → named_inode name what ≡ Some inode → (inode ≢ 0) × (what ≡ entry_with inode name)
+named_inode-some name what inode given = some-by name what inode _ _ refl refl given
 
 -- an entry of another name
 named_inode-by : (name : List ℕ) (what : Entry) (is_free same : Bool) → (what.inode == 0) ≡ is_free → bytes_eq what.name name ≡ same

@@ -22,7 +22,7 @@ within-trail_of per zero index some k d below = absurd (omega (arith, below))
 within-trail_of per (suc depth) index some zero d below = mod_below index per some
 within-trail_of per (suc depth) index some (suc k) d below = within-trail_of per depth (index / per) some k d (omega (arith, below))
 
-some_numbers : (kind : Kind) → 0 < numbers_in_zone kind
+pub some_numbers : (kind : Kind) → 0 < numbers_in_zone kind
 some_numbers V1Short = omega arith
 some_numbers V1Long = omega arith
 some_numbers V2Short = omega arith
@@ -53,11 +53,11 @@ is_pointer-block kind index = by_first _ refl
 
 -- ---- no number is refused
 
-inside-hole : (super : Super) → inside super 0 ≡ Ok 0
+pub inside-hole : (super : Super) → inside super 0 ≡ Ok 0
 unfolding inside
 inside-hole super = refl
 
-inside-zone : (super : Super) (zone : ℕ) → zone ≢ 0 → super.first ≤ zone → zone < super.zones → inside super zone ≡ Ok zone
+pub inside-zone : (super : Super) (zone : ℕ) → zone ≢ 0 → super.first ≤ zone → zone < super.zones → inside super zone ≡ Ok zone
 unfolding inside
 inside-zone super zone some from below = rw (ne_eqb zone 0 some, le-leb super.first zone from, lt-ltb zone super.zones below) refl
 

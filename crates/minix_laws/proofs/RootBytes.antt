@@ -1,86 +1,53 @@
 -- The bytes of a volume with a root directory alone are sound parts.
-use Rattle.std.proofs.Common.{◌≡◌, ℕ, ◌+◌, ◌==◌, Bool, true, false, if◌then◌else◌, List, length, Ok, refl, arith}
+use Rattle.std.proofs.Common.{◌≡◌, ℕ, ◌+◌, ◌==◌, Bool, true, false, if◌then◌else◌, List, ◌∷◌, length, replicate, Ok, refl, ap, arith}
 use Rattle.lilo_model.specs.Bytes.{number16, number32}
-use Rattle.lilo_model.specs.MinixLayout.{Kind, V1Short, V1Long, V2Short, V2Long, kind_of, super_of, super_checks, super_in, super_at, with_counts, super_bytes, v1_inode, v2_inode, inode_of, v1_inode_bytes, v2_inode_bytes, inode_bytes, inode_place}
-use Rattle.lilo_model.specs.MinixParts.{bit, parts_of, number_in, follow, pointer_by}
-use Rattle.lilo_model.specs.MinixEntries.{entry_of}
+use Rattle.lilo_model.specs.MinixLayout.{Kind, V1Short, V1Long, V2Short, V2Long, Super, is_size, kind_of, super_of, super_checks, super_in, super_at, with_counts, super_bytes, v1_inode, v2_inode, inode_of, v1_inode_bytes, v2_inode_bytes, inode_bytes, inode_place}
+use Rattle.lilo_model.specs.MinixParts.{Parts, is_directory, bit, parts_of, number_in, follow, pointer_by}
+use Rattle.lilo_model.specs.MinixEntries.{Entry, entry_of, entry_with, places, here_name, above_name}
 use Rattle.lilo_model.specs.MinixNames.{zone_number, block, entry, IsSound}
 use Rattle.minix_laws.specs.RootVolume.{root_layout, root_volume, root_sector, root_image, RootLaw}
 use Rattle.minix_laws.proofs.RootOnly.{RootOnly, root_only-sound}
 
-root_only-V1Short : RootOnly (root_layout V1Short) (parts_of (root_volume V1Short) (root_image V1Short)) 5
-unfolding super_bytes with_counts inode_bytes v1_inode_bytes v2_inode_bytes parts_of inode_of v1_inode v2_inode inode_place number16 number32 bit number_in follow pointer_by entry_of zone_number block entry
-root_only-V1Short = record {
-  directory = refl;
-  some_mode = λ e. absurd (omega (arith, e));
-  small = refl;
-  two = refl;
-  zones = refl;
-  first_entry = refl;
-  second_entry = refl;
-  some_inode = omega arith;
-  inode_mark = refl;
-  zone_mark = refl;
-  from = omega arith;
-  below = omega arith;
-}
+-- what is read of the root in parts, whose zone has this number
+abbrev Read : Type 0
+Read = Bool × ℕ × Bool × ℕ × List ℕ × Entry × Entry × Bool × Bool
 
-root_only-V1Long : RootOnly (root_layout V1Long) (parts_of (root_volume V1Long) (root_image V1Long)) 5
-unfolding super_bytes with_counts inode_bytes v1_inode_bytes v2_inode_bytes parts_of inode_of v1_inode v2_inode inode_place number16 number32 bit number_in follow pointer_by entry_of zone_number block entry
-root_only-V1Long = record {
-  directory = refl;
-  some_mode = λ e. absurd (omega (arith, e));
-  small = refl;
-  two = refl;
-  zones = refl;
-  first_entry = refl;
-  second_entry = refl;
-  some_inode = omega arith;
-  inode_mark = refl;
-  zone_mark = refl;
-  from = omega arith;
-  below = omega arith;
-}
+abbrev read : Super → Parts → ℕ → Read
+read super parts zone = (
+  is_directory (parts.node 1),
+  (parts.node 1).mode,
+  is_size super.kind (parts.node 1).size,
+  places super.kind (parts.node 1).size,
+  (parts.node 1).zones,
+  entry super parts 1 0,
+  entry super parts 1 1,
+  parts.has_inode 1,
+  parts.has_zone zone,
+)
 
-root_only-V2Short : RootOnly (root_layout V2Short) (parts_of (root_volume V2Short) (root_image V2Short)) 5
+root-read : (kind : Kind) → read (root_layout kind) (parts_of (root_volume kind) (root_image kind)) 5
+    ≡ (true, 0x41ED, true, 2, 5 ∷ replicate 9 0, entry_with 1 here_name, entry_with 1 above_name, true, true)
 unfolding super_bytes with_counts inode_bytes v1_inode_bytes v2_inode_bytes parts_of inode_of v1_inode v2_inode inode_place number16 number32 bit number_in follow pointer_by entry_of zone_number block entry
-root_only-V2Short = record {
-  directory = refl;
-  some_mode = λ e. absurd (omega (arith, e));
-  small = refl;
-  two = refl;
-  zones = refl;
-  first_entry = refl;
-  second_entry = refl;
-  some_inode = omega arith;
-  inode_mark = refl;
-  zone_mark = refl;
-  from = omega arith;
-  below = omega arith;
-}
-
-root_only-V2Long : RootOnly (root_layout V2Long) (parts_of (root_volume V2Long) (root_image V2Long)) 5
-unfolding super_bytes with_counts inode_bytes v1_inode_bytes v2_inode_bytes parts_of inode_of v1_inode v2_inode inode_place number16 number32 bit number_in follow pointer_by entry_of zone_number block entry
-root_only-V2Long = record {
-  directory = refl;
-  some_mode = λ e. absurd (omega (arith, e));
-  small = refl;
-  two = refl;
-  zones = refl;
-  first_entry = refl;
-  second_entry = refl;
-  some_inode = omega arith;
-  inode_mark = refl;
-  zone_mark = refl;
-  from = omega arith;
-  below = omega arith;
-}
+root-read V1Short = refl
+root-read V1Long = refl
+root-read V2Short = refl
+root-read V2Long = refl
 
 root_only : (kind : Kind) → RootOnly (root_layout kind) (parts_of (root_volume kind) (root_image kind)) 5
-root_only V1Short = root_only-V1Short
-root_only V1Long = root_only-V1Long
-root_only V2Short = root_only-V2Short
-root_only V2Long = root_only-V2Long
+root_only kind = record {
+  directory = ap (λ (all : Read). all.0) (root-read kind);
+  some_mode = λ none. let mode = ap (λ (all : Read). all.1) (root-read kind) in absurd (omega (arith, none, mode));
+  small = ap (λ (all : Read). all.2) (root-read kind);
+  two = ap (λ (all : Read). all.3) (root-read kind);
+  zones = ap (λ (all : Read). all.4) (root-read kind);
+  first_entry = ap (λ (all : Read). all.5) (root-read kind);
+  second_entry = ap (λ (all : Read). all.6) (root-read kind);
+  some_inode = omega arith;
+  inode_mark = ap (λ (all : Read). all.7) (root-read kind);
+  zone_mark = ap (λ (all : Read). all.8) (root-read kind);
+  from = omega arith;
+  below = omega arith;
+}
 
 -- its superblock is read
 root_super : (kind : Kind) → super_at (root_sector kind 2) 16 ≡ Ok (root_layout kind)
@@ -90,7 +57,7 @@ root_super V1Long = refl
 root_super V2Short = refl
 root_super V2Long = refl
 
-length-choice : (test : Bool) (one other : List ℕ) → length one ≡ 512 → length other ≡ 512 → length (if test then one else other) ≡ 512
+pub length-choice : (test : Bool) (one other : List ℕ) → length one ≡ 512 → length other ≡ 512 → length (if test then one else other) ≡ 512
 length-choice true one other is is' = is
 length-choice false one other is is' = is'
 

@@ -1,7 +1,7 @@
 -- An inode of which the kind, the size and the zones stay.
 use Rattle.std.proofs.Common.{◌≡◌, ◌≢◌, ℕ, zero, suc, ◌/◌, ◌%◌, ◌<◌, ◌==◌, ◌||◌, Bool, true, false, List, [], ◌∷◌, take, refl, sym, ◌∙◌, ap, subst, arith, eq-eqb}
 use Rattle.std.specs.Prelude.{slice_index}
-use Rattle.std.proofs.lemmas.Bool.{eqb-true}
+use Rattle.std.proofs.lemmas.Bool.{eqb-true, or_left, or_right}
 use Rattle.lilo_model.specs.MinixLayout.{Super, Inode}
 use Rattle.lilo_model.specs.MinixParts.{Parts, Pointer, IsPointer, is_directory, is_file, is_link, has_zones, number_in, number_below, follow, block_pointer, zone_bytes, blocks_for}
 use Rattle.lilo_model.specs.MinixEntries.{Entry, entry_in, entries_per_block, places}
@@ -33,21 +33,12 @@ same-but-links old new same = record {
 
 -- ---- kinds of files that have zones
 
-file-by : (directory file link : Bool) → file ≡ true → ((directory || file) || link) ≡ true
-file-by true file link is = refl
-file-by false true link is = refl
-file-by false false link is = cc
-
-link-by : (directory file link : Bool) → link ≡ true → ((directory || file) || link) ≡ true
-link-by true file link is = refl
-link-by false true link is = refl
-link-by false false link is = is
-
 pub file-zones : (parts : Parts) (number : ℕ) → is_file (parts.node number) ≡ true → has_zones (parts.node number) ≡ true
-file-zones parts number is = file-by (is_directory (parts.node number)) (is_file (parts.node number)) (is_link (parts.node number)) is
+file-zones parts number is =
+    or_left (is_directory (parts.node number) || is_file (parts.node number)) (is_link (parts.node number)) (or_right (is_directory (parts.node number)) (is_file (parts.node number)) is)
 
 pub link-zones : (parts : Parts) (number : ℕ) → is_link (parts.node number) ≡ true → has_zones (parts.node number) ≡ true
-link-zones parts number is = link-by (is_directory (parts.node number)) (is_file (parts.node number)) (is_link (parts.node number)) is
+link-zones parts number is = or_right (is_directory (parts.node number) || is_file (parts.node number)) (is_link (parts.node number)) is
 
 pub directory-zones : (parts : Parts) (number : ℕ) → is_directory (parts.node number) ≡ true → has_zones (parts.node number) ≡ true
 directory-zones parts number is = rw is refl

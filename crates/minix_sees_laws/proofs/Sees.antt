@@ -12,8 +12,8 @@ use Rattle.minix_sees_laws.proofs.Inode.{same-but-links, thing-directory, thing-
 
 -- ---- entries past which there are only free ones
 
-free-named : (name : List ℕ) (what : Entry) → what.inode ≡ 0 → named_inode name what ≡ None
-free-named name what free = rw free refl
+pub named-free : (name : List ℕ) (what : Entry) → what.inode ≡ 0 → named_inode name what ≡ None
+named-free name what free = rw free refl
 
 or-none : (found : Option ℕ) → option_or found None ≡ found
 or-none None = refl
@@ -31,7 +31,7 @@ first-more at name count zero free =
     ap (first_named at name) none
 first-more at name count (suc more) free =
     let before : first_named at name (more + count) ≡ first_named at name count = first-more at name count more (λ place from below. free place from (omega (arith, below))) in
-    let last : named_inode name (at (more + count)) ≡ None = free-named name (at (more + count)) (free (more + count) (omega arith) (omega arith)) in
+    let last : named_inode name (at (more + count)) ≡ None = named-free name (at (more + count)) (free (more + count) (omega arith) (omega arith)) in
     let step : suc more + count ≡ suc (more + count) = omega arith in
     let here : first_named at name (suc (more + count)) ≡ first_named at name count = rw (before, last) (or-none (first_named at name count)) in
     ap (first_named at name) step ∙ here

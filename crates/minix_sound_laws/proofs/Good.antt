@@ -1,7 +1,7 @@
 -- What holds where all that is met passes its judgment.
 use Rattle.std.proofs.Common.{◌≡◌, ◌≢◌, ◌⊎◌, ◌≤◌, ◌<◌, ◌==◌, ◌&&◌, ◌||◌, nat_le, nat_lt, ℕ, Bool, true, false, not, List, [], ◌∷◌, bytes_eq, Option, None, Some, Result, Ok, Err, refl, sym, ◌∙◌, ap, subst, inl, inr, eq-eqb}
 use Rattle.std.specs.Option.{option_or}
-use Rattle.std.proofs.lemmas.Bool.{eqb-true, leb-true, ltb-true}
+use Rattle.std.proofs.lemmas.Bool.{eqb-true, leb-true, ltb-true, not-true}
 use Rattle.std.proofs.lemmas.Slice.Eq.{bytes_eq-Decides}
 use Rattle.lilo_model.specs.Checks.{◌>>=◌, require}
 use Rattle.lilo_model.specs.MinixLayout.{BadSize, FileSize, is_size}
@@ -39,10 +39,6 @@ and-left false b is = cc
 pub and-right : (a b : Bool) → (a && b) ≡ true → b ≡ true
 and-right true b is = is
 and-right false b is = cc
-
-pub not-true : (a : Bool) → not a ≡ true → a ≡ false
-not-true true is = cc
-not-true false is = refl
 
 not-both : (a b : Bool) → not (a && b) ≡ true → a ≡ true → b ≡ true → ⊥
 not-both true true is one two = cc

@@ -13,10 +13,11 @@ use Rattle.minix_sound_laws.specs.Laws.{HasNumbers}
 use Rattle.minix_sound_laws.proofs.Lists.{In, Extends, ext-in}
 use Rattle.minix_sound_laws.proofs.Walk.{IsReached, reached-in, reached-some, IsBelow, Grows, Done}
 use Rattle.minix_sound_laws.proofs.Good.{AllGood, good-of, good-ext, GoodAt, good-at, good-before, IsAfter, order, SpotPasses, spot-passes, NamePasses, name-passes, dots-pass, zone-passes, single, end-passes, has-name, name-some, owner-none, apart}
-use Rattle.minix_sound_laws.proofs.Places.{place_at, places_in, count-places, is-named, names-it, in-places, each-to, places-most}
+use Rattle.minix_sound_laws.proofs.Places.{place_at, places_in, count-places, is-named, names-it, in-places, places-most}
 use Rattle.minix_sound_laws.proofs.Stops.{AreClear, zones-clear, zones-in, good-stop, stops-apart}
 use Rattle.minix_sound_laws.proofs.SoundStops.{stop-short}
 use Rattle.minix_sound_laws.proofs.Pointers.{stop-is, has-stop, zones-are, pointer-range, pointer-is, All, HasStop}
+use Rattle.minix_survey_laws.proofs.Count.{each-of}
 
 module _ (super : Super) (parts : Parts) (numbers : HasNumbers super parts) (met : List Met)
     (grows : Grows (surveyable super parts) [] met root_spot) (ok : judged (surveyable super parts) met ≡ Ok tt) where
@@ -386,7 +387,7 @@ module _ (super : Super) (parts : Parts) (numbers : HasNumbers super parts) (met
 
   pub places-bound : (number : ℕ) (all : List EntryPlace) → AreApart all → AllName super parts seen number all → length all ≤ names_of met number
   places-bound number all apart' name =
-      let few = places-most (places_in met number) all apart' (each-to (λ at. NamesAt super parts seen at.directory at.place number) (λ at. In at (places_in met number)) (place-met number) all name) in
+      let few = places-most (places_in met number) all apart' (each-of (λ at. NamesAt super parts seen at.directory at.place number) (λ at. In at (places_in met number)) (place-met number) all name) in
       subst (λ n. length all ≤ n) (count-places met number) few
 
   links-at : (number : ℕ) (all : List EntryPlace) → AreApart all → AllName super parts seen number all → length all ≤ (parts.node number).links

@@ -1,13 +1,13 @@
 -- The places at which an inode was named, one for each of its names.
 use Rattle.std.proofs.Common.{◌≡◌, ◌≤◌, ◌==◌, ℕ, suc, Bool, true, false, not, List, [], ◌∷◌, length, refl, sym, ◌∙◌, ap, subst, inl, inr, arith, eq-eqb}
-use Rattle.std.proofs.lemmas.Bool.{eqb-true}
+use Rattle.std.proofs.lemmas.Bool.{eqb-true, not-true}
 use Rattle.lilo_model.specs.MinixEntries.{Entry, is_dots}
 use Rattle.lilo_model.specs.MinixSurvey.{Spot, Met, Reaches, Refers, Stands, Ends, Surveyable, names_it, names_of}
 use Rattle.minix_survey_laws.specs.Survey.{EntryPlace, Each, IsNewPlace, AreApart}
 use Rattle.minix_survey_laws.proofs.Count.{without}
 use Rattle.minix_sound_laws.proofs.Lists.{In}
 use Rattle.minix_sound_laws.proofs.Walk.{AllFit}
-use Rattle.minix_sound_laws.proofs.Good.{and-left, and-right, not-true}
+use Rattle.minix_sound_laws.proofs.Good.{and-left, and-right}
 
 abbrev pub place_at : ℕ → ℕ → EntryPlace
 place_at directory place = record { directory = directory; place = place }
@@ -153,10 +153,6 @@ apart-places volume (Stands other there name ∷ before) inode fits =
 pub each-in : (Is : EntryPlace → Type 0) (all : List EntryPlace) → ((at : EntryPlace) → In at all → Is at) → Each Is all
 each-in Is [] is = tt
 each-in Is (at ∷ others) is = (is at (inl refl), each-in Is others (λ other has. is other (inr has)))
-
-pub each-to : (One Other : EntryPlace → Type 0) → ((at : EntryPlace) → One at → Other at) → (all : List EntryPlace) → Each One all → Each Other all
-each-to One Other to [] each = tt
-each-to One Other to (at ∷ others) each = (to at each.0, each-to One Other to others each.1)
 
 -- different places among some are no more than these
 pub places-most : (some all : List EntryPlace) → AreApart all → Each (λ at. In at some) all → length all ≤ length some

@@ -1,7 +1,7 @@
 -- The zones of an inode on a sound volume, stop by stop.
 use Rattle.std.proofs.Common.{◌≡◌, ◌≢◌, ◌≤◌, ◌<◌, ◌==◌, ◌++◌, ◌-◌, nat_lt, ℕ, suc, Bool, true, false, List, [], ◌∷◌, length, Result, Ok, Err, refl, sym, ◌∙◌, ap, subst, inl, inr, arith, eq-eqb}
 use Rattle.std.specs.Prelude.{slice_index, AllPairs}
-use Rattle.std.proofs.lemmas.Bool.{eqb-true, ne_eqb, le-leb, lt-ltb}
+use Rattle.std.proofs.lemmas.Bool.{eqb-true}
 use Rattle.lilo_model.specs.MinixLayout.{Kind, Super, numbers_in_zone}
 use Rattle.lilo_model.specs.MinixParts.{Parts, ZoneFault, Pointer, IsPointer, has_zones, inside, follow, follow_at}
 use Rattle.lilo_model.specs.MinixNames.{pointer, PointsTo, Named, Sound}
@@ -15,6 +15,7 @@ use Rattle.minix_zones.proofs.TurnLemmas.{per_some}
 use Rattle.minix_sound_laws.proofs.Lists.{In}
 use Rattle.minix_sound_laws.proofs.Stops.{in-contains, visit_at, at-hole, at-zone, at-refusal}
 use Rattle.minix_sound_laws.proofs.Pointers.{All, stop-is, pointer-is}
+use Rattle.minix_laws.proofs.Inside.{inside-hole, inside-zone}
 
 -- ---- stops in order
 
@@ -179,14 +180,6 @@ module _ (number : Stop → Result ℕ ZoneFault) where
       two-by first stops one two later order (λ earlier' list' has'. two-met stops (pairs-tail Before first stops order) one two earlier' later list' has') earlier list has _ refl
 
 -- ---- on a sound volume
-
-inside-hole : (super : Super) → inside super 0 ≡ Ok 0
-unfolding inside
-inside-hole super = refl
-
-inside-zone : (super : Super) (zone : ℕ) → zone ≢ 0 → super.first ≤ zone → zone < super.zones → inside super zone ≡ Ok zone
-unfolding inside
-inside-zone super zone some from below = rw (ne_eqb zone 0 some, le-leb super.first zone from, lt-ltb zone super.zones below) refl
 
 module _ (super : Super) (parts : Parts) (sound : Sound super parts) (number : ℕ) (named : Named super parts number) (zones : has_zones (parts.node number) ≡ true) where
   points : (at : Pointer) (zone : ℕ) → IsPointer super.kind at → pointer super parts number at ≡ zone → zone ≢ 0 → PointsTo super parts number at zone

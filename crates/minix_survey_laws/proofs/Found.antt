@@ -8,20 +8,7 @@ use Rattle.lilo_model.specs.MinixParts.{Parts, is_directory}
 use Rattle.lilo_model.specs.MinixEntries.{Entry, entry_with, named_inode, places, is_dots}
 use Rattle.lilo_model.specs.MinixNames.{entry, first_named, lookup}
 use Rattle.minix_survey_laws.specs.Survey.{IsTaken, NamesAt}
-
--- ---- an entry of a name
-
-some-by : (name : List ℕ) (what : Entry) (inode : ℕ) (is_free same : Bool) → (what.inode == 0) ≡ is_free → bytes_eq what.name name ≡ same
-    → (if not is_free && same then Some what.inode else None) ≡ Some inode → (inode ≢ 0) × (what ≡ entry_with inode name)
-some-by name what inode true same free is given = cc
-some-by name what inode false false free is given = cc
-some-by name what inode false true free is given =
-    let one : what.inode ≡ inode = cc in
-    let named : what.name ≡ name = (bytes_eq-Decides what.name name).0 is in
-    ((λ e. let t = eq-eqb what.inode 0 (one ∙ e) in cc), ap (λ n. entry_with n what.name) one ∙ ap (entry_with inode) named)
-
-named_inode-some : (name : List ℕ) (what : Entry) (inode : ℕ) → named_inode name what ≡ Some inode → (inode ≢ 0) × (what ≡ entry_with inode name)
-named_inode-some name what inode given = some-by name what inode _ _ refl refl given
+use Rattle.minix_laws.proofs.FirstNamed.{named_inode-some}
 
 -- ---- the first entry of a name
 

@@ -1,6 +1,6 @@
 -- Other bytes in a part of a zone are a change of that zone alone.
-use Rattle.std.proofs.Common.{◌≡◌, ◌≢◌, ℕ, ◌+◌, ◌*◌, ◌/◌, ◌%◌, ◌<◌, ◌≤◌, ◌==◌, ◌&&◌, ◌⊎◌, Bool, true, false, List, ◌++◌, length, refl, ◌∙◌, ap, arith, eq-eqb, length-append, inl, inr}
-use Rattle.std.proofs.lemmas.Bool.{eqb-true, ne_eqb}
+use Rattle.std.proofs.Common.{◌≡◌, ◌≢◌, ℕ, ◌+◌, ◌*◌, ◌/◌, ◌%◌, ◌<◌, ◌≤◌, ◌==◌, ◌⊎◌, Bool, true, false, List, ◌++◌, length, refl, ◌∙◌, ap, arith, eq-eqb, length-append, inl, inr}
+use Rattle.std.proofs.lemmas.Bool.{eqb-true, ne_eqb, and_right}
 use Rattle.lilo_model.specs.Bytes.{part_of, with_part}
 use Rattle.lilo_model.specs.Disks.{Image}
 use Rattle.lilo_model.specs.MinixLayout.{table_start, inode_of, inode_size, inode_place, zone_sector, super_sector}
@@ -122,10 +122,6 @@ part_law volume old image zone offset bytes sound range written = part-written v
 
 -- ---- one write
 
-and-false : (one other : Bool) → other ≡ false → (one && other) ≡ false
-and-false true other is = is
-and-false false other is = refl
-
 pub write_part_law : WritePartLaw
 write_part_law volume old zone offset bytes below inside = record {
   below = below;
@@ -133,5 +129,5 @@ write_part_law volume old zone offset bytes below inside = record {
   here = rw (eq-eqb volume.span.disk volume.span.disk refl, eq-eqb (volume.span.start + (zone_sector zone + offset / 512)) (volume.span.start + (zone_sector zone + offset / 512)) refl) refl;
   others = λ sector low apart.
       let far : (volume.span.start + (zone_sector zone + offset / 512) == volume.span.start + sector) ≡ false = ne_eqb (volume.span.start + (zone_sector zone + offset / 512)) (volume.span.start + sector) (λ e. apart (omega (arith, e))) in
-      rw (and-false (volume.span.disk == volume.span.disk) (volume.span.start + (zone_sector zone + offset / 512) == volume.span.start + sector) far) refl;
+      rw (and_right (volume.span.disk == volume.span.disk) (volume.span.start + (zone_sector zone + offset / 512) == volume.span.start + sector) far) refl;
 }

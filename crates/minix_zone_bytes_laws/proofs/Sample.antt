@@ -20,6 +20,7 @@ use Rattle.minix_zone_bytes_laws.specs.Part.{IsPast}
 use Rattle.minix_zone_bytes_laws.specs.Sample.{sample_layout, number_zone, parts_with, sample_parts, deeper, grown_with, grown_parts}
 use Rattle.minix_zone_bytes_laws.specs.Laws.{GrowthSampleLaw}
 use Rattle.minix_zone_bytes_laws.proofs.Numbers.{number_bytes_law}
+use Rattle.minix_laws.proofs.Inside.{some_numbers}
 
 -- the bitmap bit of the zone in use alone
 abbrev used : ℕ → Bool
@@ -69,18 +70,12 @@ all zone = true
 
 -- ---- pointers
 
-some-number : (kind : Kind) → 0 < numbers_in_zone kind
-some-number V1Short = omega arith
-some-number V1Long = omega arith
-some-number V2Short = omega arith
-some-number V2Long = omega arith
-
 abbrev firsts : ℕ → List ℕ
 firsts count = replicate count 0
 
 within-firsts : (kind : Kind) (count k d : ℕ) → k < length (firsts count) → get_or (firsts count) k d < numbers_in_zone kind
 within-firsts kind zero k d low = absurd (omega (arith, low))
-within-firsts kind (suc count) zero d low = some-number kind
+within-firsts kind (suc count) zero d low = some_numbers kind
 within-firsts kind (suc count) (suc k) d low = within-firsts kind count k d (omega (arith, low))
 
 is-pointer : (kind : Kind) (top count : ℕ) → top < 10 → length (firsts count) ≤ top - 6 → IsPointer kind (pointer_at top (replicate count 0))
@@ -96,7 +91,7 @@ numbers-fit V2Long number low = omega (arith, low)
 
 holds : (kind : Kind) (parts : Parts) (zone next : ℕ) → parts.zone zone ≡ number_zone kind next → next < 16 → HoldsOnly (sample_layout kind) parts zone (deeper next)
 holds kind parts zone next is low =
-    let has = number_bytes_law (sample_layout kind) (replicate 1024 0) 0 next refl (some-number kind) (numbers-fit kind next low) in
+    let has = number_bytes_law (sample_layout kind) (replicate 1024 0) 0 next refl (some_numbers kind) (numbers-fit kind next low) in
     record {
       here = ap (λ bytes. number_in kind bytes 0) is ∙ has.here;
       others = λ index inside apart. ap (λ bytes. number_in kind bytes index) is ∙ (has.others index inside apart ∙ number-zeros kind index);

@@ -12,7 +12,7 @@ use Rattle.minix_fill_laws.proofs.Given.{given_length, given_hole, given_at, cou
 use Rattle.minix_fill_laws.proofs.Places.{IsHole, below_hole, made_few, two_levels_made}
 use Rattle.minix_laws.proofs.Inside.{some_numbers}
 
-few_by : (kind : Kind) (blocks : List Bool) → length blocks ≤ reach kind → length (made_indirect (numbers_in_zone kind) blocks) ≤ reach kind
+pub few_by : (kind : Kind) (blocks : List Bool) → length blocks ≤ reach kind → length (made_indirect (numbers_in_zone kind) blocks) ≤ reach kind
 few_by V1Short blocks few = omega (arith, two_levels_made 512 (lit< tt) blocks (omega (arith, few)))
 few_by V1Long blocks few = omega (arith, two_levels_made 512 (lit< tt) blocks (omega (arith, few)))
 few_by V2Short blocks few = omega (arith, made_few 256 (lit< tt) blocks 256 (omega (arith, few)))

@@ -1,0 +1,4 @@
+pub mod Choose
+pub mod Place
+pub mod Rising
+pub mod Stay

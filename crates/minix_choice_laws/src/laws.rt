@@ -1,0 +1,22 @@
+// What holds of a choice.
+ghost use Rattle.minix_choice_laws.specs.Laws.{ChoiceLaw, FileLaw, PlaceLaw, PlaceStaysLaw};
+
+/// What is chosen is free, and it is enough.
+pub fn choice_is_free()
+    ensures { ChoiceLaw }
+{}
+
+/// The zones that are chosen for a file's blocks may be its zones.
+pub fn choice_may_be_a_file()
+    ensures { FileLaw }
+{}
+
+/// On a sound volume the name may be made at the place that is chosen.
+pub fn place_may_get_the_name()
+    ensures { PlaceLaw }
+{}
+
+/// And it may be made there still after what no name sees.
+pub fn place_stays()
+    ensures { PlaceStaysLaw }
+{}

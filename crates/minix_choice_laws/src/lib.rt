@@ -1,0 +1,7 @@
+//! Laws of what is chosen for a new file of a Minix volume: zones and an inode that are free, and a place in its
+//! directory where its name may be made.
+#![tactic(auto)]
+
+mod laws;
+
+pub use laws::{choice_is_free, choice_may_be_a_file, place_may_get_the_name, place_stays};

@@ -8,14 +8,8 @@ ghost use Rattle.write_model.specs.FileZones.{made_above, made_on, made_indirect
 ghost use Rattle.write_model.specs.Choice.{file_need};
 
 use minix_layout::FsKind;
+use minix_zones::{blocks_under, numbers_in_zone};
 use std::alloc::{AllocError, Global};
-
-/// The numbers in an indirect zone.
-pub(crate) fn numbers_in_zone(kind: FsKind) -> u32
-    ensures { result ≡ numbers_in_zone (kind_view kind) }
-{
-    if kind.is_v1() { 512 } else { 256 }
-}
 
 /// For each block of a file whether it gets a zone: it does unless it is a hole.
 #[tactic(auto, unfolding(write_model::specs::FileZones::data_blocks))]
@@ -45,16 +39,6 @@ fn is_any(made: &[bool]) -> bool
     ensures { result ≡ is_any made.now }
 {
     made.iter().any(|it| *it)
-}
-
-/// The blocks that are found through a number this many levels above them.
-#[tactic(auto, using(minix_zones::proofs::PowerLemmas::power_some, minix_zones::proofs::PowerLemmas::power_few))]
-pub(crate) fn blocks_under(kind: FsKind, level: u32) -> u32
-    requires { level ≤ 3 }
-    ensures power { result ≡ numbers_in_zone (kind_view kind) ^ level }
-    ensures some { 0 < result }
-{
-    numbers_in_zone(kind).pow(level)
 }
 
 /// Those of some from one on.

@@ -2,9 +2,7 @@
 ghost use Rattle.std.specs.Prelude.{◌≡◌, ◌+◌, ◌-◌, ◌≤◌, ◌<◌, ◌==◌, if◌then◌else◌, slice_index, IfOk, IfErr, length};
 ghost use Rattle.disk_trait.specs.Past.{Told};
 ghost use Rattle.lilo_model.specs.MinixLayout.{numbers_in_zone, reach};
-ghost use Rattle.lilo_model.specs.MinixParts.{parts_of, number_in, number_below, inside};
-ghost use Rattle.lilo_model.specs.MinixParts.{trail_of, pointer_with, block_pointer};
-ghost use Rattle.lilo_model.specs.MinixWalk.{branch_of};
+ghost use Rattle.lilo_model.specs.MinixParts.{parts_of, trail_of};
 ghost use Rattle.lilo_model.specs.MinixEntries.{entries_per_block};
 ghost use Rattle.minix_layout.specs.View.{kind_view, super_view, inode_view};
 ghost use Rattle.minix_zones.specs.View.{Gives, HasZoneCause, IsInside};
@@ -13,13 +11,11 @@ ghost use Rattle.write_model.specs.Growth.{one_if, way_along, missing_on_way, fi
 ghost use Rattle.write_model.specs.Growth.{promised_zone, promised_zones, count_fresh, completed};
 ghost use Rattle.minix_write.specs.Growth.{way_view};
 
-use crate::file_zones::{blocks_under, numbers_in_zone};
 use crate::taken::{Promise, Taken};
 use disk_trait::Disks;
-use minix_layout::{FsKind, Inode, Super};
+use minix_layout::{FsKind, Inode};
 use minix_tree::entries_per_block;
-use minix_zones::{Volume, ZoneFault};
-use sector_parts::FieldRef;
+use minix_zones::{Volume, ZoneFault, blocks_under, inside, number_below, numbers_in_zone, way_to};
 use std::alloc::{AllocError, Global};
 
 /// The number at the end of a way through indirect zones, and how many on it are 0.
@@ -27,109 +23,6 @@ use std::alloc::{AllocError, Global};
 struct Way {
     zone: u32,
     missing: u32,
-}
-
-/// The blocks that one of an inode's ten numbers leads to: the first of them, and the levels of indirect zones before
-/// them.
-#[derive(Clone, Copy)]
-struct Branch {
-    top: usize,
-    first: u32,
-    depth: u32,
-}
-
-/// The branch of a block.
-#[tactic(auto, unfolding(lilo_model::specs::MinixParts::pointer_by, lilo_model::specs::MinixWalk::branch_of))]
-fn branch_of(kind: FsKind, block: u32) -> Branch
-    ensures branch { branch_of (numbers_in_zone (kind_view kind)) block
-        ≡ record { top = result.top; first = result.first; depth = result.depth } }
-    ensures way { pointer_with (numbers_in_zone (kind_view kind)) result.top result.depth (block - result.first)
-        ≡ block_pointer (kind_view kind) block }
-    ensures begins { result.first ≤ block }
-    ensures ten { result.top < 10 }
-    ensures deep { result.depth ≤ 3 }
-{
-    let per = numbers_in_zone(kind);
-    if block < 7 {
-        Branch {
-            top: block as usize,
-            first: block,
-            depth: 0,
-        }
-    } else if block < 7 + per {
-        Branch {
-            top: 7,
-            first: 7,
-            depth: 1,
-        }
-    } else if block < 7 + per + per * per {
-        Branch {
-            top: 8,
-            first: 7 + per,
-            depth: 2,
-        }
-    } else {
-        Branch {
-            top: 9,
-            first: 7 + per + per * per,
-            depth: 3,
-        }
-    }
-}
-
-/// A number that may be followed: 0, or that of a data zone.
-#[tactic(auto, unfolding(lilo_model::specs::MinixParts::inside))]
-fn inside(layout: &Super, zone: u32) -> Result<u32, ZoneFault>
-    ensures found { Gives (λ found. found) result (inside (super_view layout.now) zone) }
-    ensures inside { IfOk result (IsInside layout.now) }
-    ensures refused { IfErr result (λ fault. fault ≡ ZoneFault.ZoneOutside zone) }
-{
-    if zone == 0 || (layout.first <= zone && zone < layout.zones) {
-        Ok(zone)
-    } else {
-        Err(ZoneFault::ZoneOutside(zone))
-    }
-}
-
-/// The number at an index of an indirect zone's bytes.
-#[tactic(auto, unfolding(lilo_model::specs::MinixParts::number_in))]
-fn number_in(kind: FsKind, bytes: &[u8; 1024], index: u32) -> u32
-    requires { index < numbers_in_zone (kind_view kind) }
-    ensures { result ≡ number_in (kind_view kind) bytes.now index }
-{
-    let numbers = FieldRef { bytes };
-    let index = index as usize;
-    if kind.is_v1() {
-        u32::from(numbers.u16_at(2 * index))
-    } else {
-        numbers.u32_at(4 * index)
-    }
-}
-
-/// The number at an index of an indirect zone, 0 where that zone is a hole.
-#[tactic(auto, unfolding(lilo_model::specs::MinixParts::inside))]
-fn number_below<D: Disks>(
-    volume: &mut Volume<'_, D>,
-    zone: u32,
-    index: u32,
-) -> Result<u32, ZoneFault>
-    requires zone { IsInside volume.old.layout zone }
-    requires index { index < numbers_in_zone (kind_view volume.old.layout.kind) }
-    ensures number { Told (past_of volume.old) (λ now. Gives (λ found. found) result
-        (inside (super_view volume.old.layout) (number_below (kind_view volume.old.layout.kind)
-        (parts_of (volume_view volume.old) now).zone zone index))) }
-    ensures inside { IfOk result (IsInside volume.old.layout) }
-    ensures cause { IfErr result (HasZoneCause (faults_of volume.old) (faults_of volume.new)) }
-    ensures later { faults_of volume.old ≤ faults_of volume.new }
-    ensures same { SameVolume volume.old volume.new }
-{
-    if zone == 0 {
-        return Ok(0);
-    }
-    let mut bytes = [0; 1024];
-    volume.read_zone(zone, &mut bytes)?;
-    let number = number_in(volume.layout().kind, &bytes, index);
-    inside(volume.layout(), number)
 }
 
 /// A number that was found, with how many before it are 0.
@@ -188,13 +81,8 @@ pub(crate) fn missing_on_way<D: Disks>(
     ensures later { faults_of volume.old ≤ faults_of volume.new }
     ensures same { SameVolume volume.old volume.new }
 {
-    let branch = branch_of(volume.layout().kind, block);
-    let way = way_along(
-        volume,
-        node.zones[branch.top],
-        branch.depth,
-        block - branch.first,
-    )?;
+    let to = way_to(volume.layout().kind, block);
+    let way = way_along(volume, node.zones[to.top], to.depth, to.index)?;
     Ok(way.missing)
 }
 
@@ -203,8 +91,7 @@ fn first_beside(kind: FsKind, block: u32, level: u32) -> u32
     requires { level ≤ 3 }
     ensures { result ≡ first_beside (numbers_in_zone (kind_view kind)) block level }
 {
-    let branch = branch_of(kind, block);
-    block - (block - branch.first) % blocks_under(kind, level)
+    block - way_to(kind, block).index % blocks_under(kind, level)
 }
 
 /// The zone so many levels above a block of a directory, where a promise has it.

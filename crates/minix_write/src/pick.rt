@@ -1,7 +1,7 @@
 // What is chosen for a file.
-ghost use Rattle.std.specs.Prelude.{◌≡◌, ◌≤◌, ◌<◌, ◌^◌, All, IfOk, IfErr, OnErr};
+ghost use Rattle.std.specs.Prelude.{◌≡◌, ◌≤◌, ◌<◌, ◌^◌, length, All, IfOk, IfErr, OnOk, OnErr};
 ghost use Rattle.disk_trait.specs.Past.{Told};
-ghost use Rattle.lilo_model.specs.MinixLayout.{numbers_in_zone};
+ghost use Rattle.lilo_model.specs.MinixLayout.{numbers_in_zone, name_size};
 ghost use Rattle.lilo_model.specs.MinixParts.{parts_of, blocks_for};
 ghost use Rattle.minix_layout.specs.View.{kind_view, super_view};
 ghost use Rattle.minix_zones.specs.View.{IsDataZone};
@@ -13,6 +13,7 @@ ghost use Rattle.write_model.specs.FileZones.{made_indirect};
 ghost use Rattle.write_model.specs.Choice.{choose, choice_with, file_need};
 ghost use Rattle.minix_write.specs.Taken.{with_choice};
 ghost use Rattle.minix_write.specs.Chosen.{free_for, spot_for, spot_view, zones_for, found_view};
+ghost use Rattle.minix_write.specs.Suits.{IsFileOf, SuitsWish};
 
 use crate::directory::look;
 use crate::file_zones::{FileZones, block_zones, file_zones, indirect_zones, zones_behind};
@@ -57,6 +58,7 @@ fn free_for<D: Disks>(
     ensures number { IfOk result (λ found. found.stat.inode ≡ wish.now.directory) }
     ensures node { IfOk result (λ found. IsNode volume.old found.stat) }
     ensures fits { IfOk result (λ found. IsStat volume.old.layout found.stat) }
+    ensures short { OnOk result (length wish.now.name.now ≤ name_size (kind_view volume.old.layout.kind)) }
     ensures cause { IfErr result (HasWriteCause (faults_of volume.old) (faults_of volume.new)) }
     ensures later { faults_of volume.old ≤ faults_of volume.new }
     ensures same { SameVolume volume.old volume.new }
@@ -97,6 +99,8 @@ fn spot_for<D: Disks>(
         (spot_for (super_view volume.old.layout) (parts_of (volume_view volume.old) now) (taken_view taken.now)
         wish.now.directory wish.now.name.now)) }
     ensures number { IfOk result (λ spot. spot.stat.inode ≡ wish.now.directory) }
+    ensures short { OnOk result (length wish.now.name.now ≤ name_size (kind_view volume.old.layout.kind)) }
+    ensures some { IfOk result (λ spot. 1 ≤ spot.inode) }
     ensures inode { IfOk result (λ spot. spot.inode ≤ volume.old.layout.inodes) }
     ensures node { IfOk result (λ spot. IsNode volume.old spot.stat) }
     ensures fits { IfOk result (λ spot. IsStat volume.old.layout spot.stat) }
@@ -246,6 +250,7 @@ fn choice_with(
         found.promised.items found.zones) }
     ensures zones { IfOk result (λ choice. choice.zones ≡ found.zones) }
     ensures inode { IfOk result (λ choice. choice.inode ≡ inode) }
+    ensures file { IfOk result (λ choice. IsFileOf (kind_view kind) file.now.blocks.items choice) }
 {
     let blocks = block_zones(alloc, file, found.zones.items())?;
     let indirect = indirect_zones(alloc, file, found.zones.items())?;
@@ -276,8 +281,7 @@ fn pick<D: Disks>(
     ensures choice { Told (past_of volume.old) (λ now. Gives (λ choice. choice) result
         (choose (super_view volume.old.layout) (parts_of (volume_view volume.old) now) (taken_view taken.now)
         (wish_view wish.now))) }
-    ensures data { IfOk result (λ choice. All (IsDataZone volume.old.layout) choice.zones) }
-    ensures inode { IfOk result (λ choice. choice.inode ≤ volume.old.layout.inodes) }
+    ensures suits { IfOk result (SuitsWish volume.old.layout wish.now) }
     ensures cause { IfErr result (HasWriteCause (faults_of volume.old) (faults_of volume.new)) }
     ensures later { faults_of volume.old ≤ faults_of volume.new }
     ensures same { SameVolume volume.old volume.new }
@@ -315,6 +319,7 @@ pub fn choose<D: Disks>(
         (choose (super_view volume.old.layout) (parts_of (volume_view volume.old) now) (taken_view taken.old)
         (wish_view wish.now))) }
     ensures taken { IfOk result (λ choice. taken.new ≡ with_choice taken.old wish.now.directory choice) }
+    ensures suits { IfOk result (SuitsWish volume.old.layout wish.now) }
 
     // When it is refused.
     ensures refused { OnErr result (taken.new ≡ taken.old) }

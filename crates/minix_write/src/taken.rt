@@ -312,7 +312,8 @@ impl Taken {
         ensures inode { IfOk result (λ found. Told (past_of volume.old) (λ now. found
             ≡ free_inode (super_view volume.old.layout) (parts_of (volume_view volume.old) now)
             (taken_view self.now).has_inode)) }
-        ensures inside { IfOk result (λ found. IfSome found (λ inode. inode ≤ volume.old.layout.inodes)) }
+        ensures inside { IfOk result (λ found. IfSome found (λ inode.
+            (1 ≤ inode) × (inode ≤ volume.old.layout.inodes))) }
         ensures device { IfErr result (λ fault. (fault ≡ BitFault.Device)
             × Rose (faults_of volume.old) (faults_of volume.new)) }
         ensures later { faults_of volume.old ≤ faults_of volume.new }

@@ -104,7 +104,7 @@ module _ {D : Type 0} {disks : Ghosts D} (old : Volume D disks) (zones : FileZon
       let S : Span → Type 0 = λ span. IsOutside span.disk (span.start + zone_sector (slice_index zones.indirect place)) 2 d s in
       subst S (sym kept.same_span) (off place some)
 
-  pub writes_join : (mid new : Volume D disks) (low middle high : ℕ) (result : Result (Unit {0}) ZoneFault) → IsReady old → MayBeFile (kind_view old.layout.kind) zones
+  pub writes_join : (mid new : Volume D disks) (low middle high : ℕ) (result : Result (Unit {0}) ZoneFault) → IsReady old → (IsTold (past_of old) → MayBeFile (kind_view old.layout.kind) zones)
       → low ≤ middle → middle ≤ high → WritesNumbers old mid zones low middle (Ok tt) → WritesNumbers mid new zones middle high result → WritesNumbers old new zones low high result
   writes_join mid new low middle high result ready may up down one two =
       let kept = one.steps.kept in
@@ -112,7 +112,7 @@ module _ {D : Type 0} {disks : Ghosts D} (old : Volume D disks) (zones : FileZon
         steps = steps_join old mid new ready one.steps two.steps;
         written = λ told. on_ok result _ _ (two.written (one.steps.goes_on.told told)) (λ written.
             let V : model.Volume → Type 0 = λ view. NumbersWritten view (parts_now mid) (parts_now new) zones middle high in
-            numbers_join (volume_view old) zones may (parts_now old) (parts_now mid) (parts_now new) low middle high up down (one.written told) (subst V (same_view old mid kept) written));
+            numbers_join (volume_view old) zones (may told) (parts_now old) (parts_now mid) (parts_now new) low middle high up down (one.written told) (subst V (same_view old mid kept) written));
         same_begun = two.same_begun ∙ one.same_begun;
         others = λ d s off. not_written_join (past_of old) (past_of mid) (past_of new) d s (one.others d s off) (two.others d s (off_kept mid kept d s off));
         device = cause_after old mid new Device result one.steps.goes_on.later two.device;
@@ -180,7 +180,7 @@ module _ {D : Type 0} {disks : Ghosts D} (old mid : Volume D disks) (kept : Keep
 -- ---- what is left after each call
 
 module _ {D : Type 0} {disks : Ghosts D} (old : Volume D disks) (zones : FileZones) (number : ℕ) (inode : Inode) (some : 1 ≤ number) (there : number ≤ old.layout.inodes)
-    (ready : IsReady old) (may : MayBeFile (kind_view old.layout.kind) zones) (free : MayHoldFile old zones) where
+    (ready : IsReady old) (may : IsTold (past_of old) → MayBeFile (kind_view old.layout.kind) zones) (free : MayHoldFile old zones) where
   pub fills_no_indirect : (new : Volume D disks) (low high : ℕ) (fault : ZoneFault) → WritesNumbers old new zones low high (Err fault) → FillsFile old new number inode zones (Err fault)
   fills_no_indirect new low high fault call = record {
     steps = call.steps;
@@ -234,7 +234,7 @@ module _ {D : Type 0} {disks : Ghosts D} (old : Volume D disks) (zones : FileZon
         steps = steps_join old next new ready (steps_join old mid next ready one.steps step) flush;
         filled = λ told. on_ok_held result _
             (let H : ℕ → Type 0 = λ n. NumbersWritten (volume_view old) (parts_now old) (parts_now mid) zones 0 n in
-            is_filled old zones number inode some there ready may free (parts_now mid) new fits size (subst H whole (one.written told)) (one_inode told));
+            is_filled old zones number inode some there ready (may told) free (parts_now mid) new fits size (subst H whole (one.written told)) (one_inode told));
         quiet = syncs.flushes.quiet;
         durable = on_ok result _ _ syncs.flushes.durable (λ durable. durable ∙ sym syncs.flushes.same_now);
         others = λ d s off other. not_written_join (past_of old) (past_of next) (past_of new) d s (both_others d s off other) (syncs.flushes.untouched d s);
@@ -281,7 +281,7 @@ module _ {D : Type 0} {disks : Ghosts D} (old : Volume D disks) (zones : FileZon
 
     may_stand : MayStand (super_view old.layout) (parts_now new) number
     may_stand = new_file_law (super_view old.layout) (parts_now new) number
-        (filled_law (super_view old.layout) (parts_now new) number zones may filled.has new_inode new_zones)
+        (filled_law (super_view old.layout) (parts_now new) number zones (may told) filled.has new_inode new_zones)
 
   pub gets_name : (new : Volume D disks) (result : Result (Unit {0}) ZoneFault) → IsUnnamedInode old number → is_size (kind_view old.layout.kind) inode.size ≡ true
       → FillsFile old new number inode zones result → MayGetName old new number inode zones result

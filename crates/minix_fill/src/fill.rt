@@ -1,9 +1,11 @@
 // Indirect zones and the inode.
 ghost use Rattle.std.specs.Prelude.{◌≡◌, ◌+◌, ◌≤◌, ◌<◌, ◌^◌, true, length};
-ghost use Rattle.lilo_model.specs.MinixLayout.{FitsInode, is_size};
+ghost use Rattle.disk_trait.specs.Moments.{IsTold};
+ghost use Rattle.lilo_model.specs.MinixLayout.{FitsInode, is_size, reach};
 ghost use Rattle.minix_fill_laws.specs.Laws.{MayBeFile};
 ghost use Rattle.minix_layout.specs.View.{kind_view, inode_view};
 ghost use Rattle.minix_steps.specs.Steps.{IsReady, IsUnnamedInode};
+ghost use Rattle.minix_zones.specs.Volume.{past_of};
 ghost use Rattle.minix_fill.specs.Numbers.{zones_view};
 ghost use Rattle.minix_fill.specs.Fill.{MayHoldFile, WritesNumbers, FillsFile, MayGetName};
 
@@ -30,7 +32,9 @@ pub fn fill_file<D: Disks>(
     requires there { number ≤ volume.old.layout.inodes }
     requires fits { FitsInode (kind_view volume.old.layout.kind) (inode_view inode.now) }
     requires size { is_size (kind_view volume.old.layout.kind) inode.now.size ≡ true }
-    requires may { MayBeFile (kind_view volume.old.layout.kind) (zones_view zones.now) }
+    requires few { length zones.now.indirect.now ≤ reach (kind_view volume.old.layout.kind) }
+    requires may { IsTold (past_of volume.old)
+        → MayBeFile (kind_view volume.old.layout.kind) (zones_view zones.now) }
     requires free { MayHoldFile volume.old (zones_view zones.now) }
     requires ready { IsReady volume.old }
     requires unnamed { IsUnnamedInode volume.old number }
@@ -48,7 +52,9 @@ fn write_indirect<D: Disks>(
     volume: &mut Volume<'_, D>,
     zones: &FileZones<'_>,
 ) -> Result<(), ZoneFault>
-    requires may { MayBeFile (kind_view volume.old.layout.kind) (zones_view zones.now) }
+    requires few { length zones.now.indirect.now ≤ reach (kind_view volume.old.layout.kind) }
+    requires may { IsTold (past_of volume.old)
+        → MayBeFile (kind_view volume.old.layout.kind) (zones_view zones.now) }
     requires free { MayHoldFile volume.old (zones_view zones.now) }
     requires ready { IsReady volume.old }
     ensures { WritesNumbers volume.old volume.new (zones_view zones.now) 0 (length zones.now.indirect.now) result }

@@ -9,4 +9,5 @@ mod zones;
 
 pub use extend::extend_in_zone;
 pub use hook::{grow_in_inode, hook_in_inode};
+pub use places::slot_of;
 pub use zones::make_zones;

@@ -8,7 +8,7 @@ use minix_layout::FsKind;
 use minix_tree::{entries_per_block, entry_size};
 
 /// Which entry of its block a place is.
-pub(crate) fn slot_of(kind: FsKind, place: u32) -> u16
+pub fn slot_of(kind: FsKind, place: u32) -> u16
     ensures is { result ≡ place % entries_per_block (kind_view kind) }
     ensures low { result < entries_per_block (kind_view kind) }
 {

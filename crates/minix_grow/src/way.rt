@@ -7,6 +7,7 @@ ghost use Rattle.minix_layout.specs.View.{kind_view};
 ghost use Rattle.minix_turns.specs.Inode.{tops};
 
 use minix_layout::FsKind;
+use minix_zones::numbers_in_zone;
 
 /// The blocks that one of an inode's ten numbers leads to: the first of them, and the levels of indirect zones before
 /// them.
@@ -15,13 +16,6 @@ pub(crate) struct Branch {
     pub(crate) top: usize,
     pub(crate) first: u32,
     pub(crate) depth: u32,
-}
-
-/// The numbers in an indirect zone.
-fn numbers_in_zone(kind: FsKind) -> u32
-    ensures { result ≡ numbers_in_zone (kind_view kind) }
-{
-    if kind.is_v1() { 512 } else { 256 }
 }
 
 /// The branch of a block.

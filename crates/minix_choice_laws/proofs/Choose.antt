@@ -196,7 +196,7 @@ holes_length : (holes : List ℕ) (made : List Bool) → length (without_holes h
 holes_length [] made = refl
 holes_length (hole ∷ holes) made = holes_length holes (slice_set made hole false) ∙ length-set made hole false
 
-blocks_length : (size : ℕ) (holes : List ℕ) → length (data_blocks size holes) ≡ blocks_for size
+pub blocks_length : (size : ℕ) (holes : List ℕ) → length (data_blocks size holes) ≡ blocks_for size
 unfolding data_blocks
 blocks_length size holes = holes_length holes (replicate (blocks_for size) true) ∙ length-replicate (blocks_for size) true
 

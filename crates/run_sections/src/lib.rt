@@ -1,0 +1,11 @@
+//! The section of a file's runs, a section sector at a time: its slots are made when they are asked for, and no memory is
+//! taken.
+#![tactic(auto)]
+
+mod laws;
+mod section;
+#[cfg(test)]
+mod tests;
+
+pub use laws::{section_sectors_are_the_plans, slots_are_the_plans};
+pub use section::{Naming, write_section_at};

@@ -4,4 +4,5 @@ pub mod PlaceLemmas
 pub mod ExtendLemmas
 pub mod ZoneLemmas
 pub mod HookLemmas
+pub mod OtherLemmas
 pub mod AfterLemmas

@@ -2,7 +2,7 @@
 ghost use Rattle.std.specs.Prelude.{◌≡◌, ◌≤◌, ◌<◌, ◌^◌, true, OnOk};
 ghost use Rattle.disk_trait.specs.Moments.{IsTold, IsQuiet};
 ghost use Rattle.lilo_model.specs.MinixLayout.{FitsInode, is_size};
-ghost use Rattle.minix_grow.specs.Places.{IsFreePlaceNow, IsNextPlaceNow, size_to};
+ghost use Rattle.minix_grow.specs.Places.{IsFreePlaceNow, IsNextPlaceNow, WritesPlaceAlone, size_to};
 ghost use Rattle.minix_layout.specs.View.{kind_view, inode_view};
 ghost use Rattle.minix_turns.specs.Joined.{Unseen};
 ghost use Rattle.minix_zones.specs.Volume.{past_of, HasDeviceCause};
@@ -38,6 +38,7 @@ pub fn extend_in_zone<D: Disks>(
     requires next { IsTold (past_of volume.old)
         → IsNextPlaceNow volume.old directory (inode_view node.now) place zone }
     ensures unseen { Unseen volume.old volume.new }
+    ensures others { WritesPlaceAlone volume.old volume.new directory place zone }
     ensures place { IsTold (past_of volume.old) → OnOk result (IsFreePlaceNow volume.new directory place) }
     ensures quiet { OnOk result (IsQuiet (past_of volume.new)) }
     ensures device { HasDeviceCause volume.old volume.new ZoneFault.Device result }

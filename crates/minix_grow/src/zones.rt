@@ -4,7 +4,7 @@ ghost use Rattle.disk_trait.specs.Moments.{IsTold, IsQuiet};
 ghost use Rattle.lilo_model.specs.Bytes.{with_part};
 ghost use Rattle.lilo_model.specs.MinixLayout.{numbers_in_zone, number_size};
 ghost use Rattle.minix_grow.specs.Way.{grown_bytes};
-ghost use Rattle.minix_grow.specs.Zones.{AreData, AreUnused, AreMarked, AreWritten, AreGrownNow};
+ghost use Rattle.minix_grow.specs.Zones.{AreData, AreUnused, AreMarked, AreWritten, AreGrownNow, WritesZonesAlone};
 ghost use Rattle.minix_layout.specs.View.{kind_view};
 ghost use Rattle.minix_steps.specs.Steps.{IsReady, Steps};
 ghost use Rattle.minix_zone_bytes_laws.specs.Part.{number_bytes, offset_of_number};
@@ -61,6 +61,7 @@ fn mark_all<D: Disks>(volume: &mut Volume<'_, D>, zones: &[u32]) -> Result<(), Z
     requires ready { IsReady volume.old }
     ensures steps { Steps volume.old volume.new }
     ensures marked { IsTold (past_of volume.old) → OnOk result (AreMarked volume.new zones.now (length zones.now)) }
+    ensures others { WritesZonesAlone volume.old volume.new zones.now }
     ensures device { HasDeviceCause volume.old volume.new ZoneFault.Device result }
 {
     for zone in zones {
@@ -84,6 +85,7 @@ fn write_all<D: Disks>(
         (kind_view volume.old.layout.kind) volume.new block growth.now (length growth.now)) }
     ensures marked { IsTold (past_of volume.old) → AreMarked volume.old growth.now (length growth.now)
         → OnOk result (AreMarked volume.new growth.now (length growth.now)) }
+    ensures others { WritesZonesAlone volume.old volume.new growth.now }
     ensures device { HasDeviceCause volume.old volume.new ZoneFault.Device result }
 {
     let kind = volume.layout().kind;
@@ -112,6 +114,7 @@ pub fn make_zones<D: Disks>(
     requires unused { AreUnused volume.old growth.now }
     ensures steps { Steps volume.old volume.new }
     ensures grown { IsTold (past_of volume.old) → OnOk result (AreGrownNow volume.new block growth.now) }
+    ensures others { WritesZonesAlone volume.old volume.new growth.now }
     ensures quiet { OnOk result (IsQuiet (past_of volume.new)) }
     ensures device { HasDeviceCause volume.old volume.new ZoneFault.Device result }
 {

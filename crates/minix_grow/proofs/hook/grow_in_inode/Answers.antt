@@ -1,4 +1,5 @@
 use Rattle.std.proofs.Common.{◌≡◌, ◌≤◌, ◌<◌, ◌+◌, ◌/◌, true, length, sym, subst}
+use Rattle.disk_trait.proofs.NotWrittenLemmas.{not_written_join}
 use Rattle.lilo_model.specs.MinixEntries.{entries_per_block, places}
 use Rattle.lilo_model.specs.MinixLayout.{FitsInode, is_size, reach}
 use Rattle.minix_layout.specs.View.{kind_view, inode_view}
@@ -8,6 +9,8 @@ use Rattle.minix_turns.proofs.JoinedLemmas.{steps_unseen, unseen_join}
 use Rattle.minix_grow.specs.Way.{depth_of}
 use Rattle.minix_grow.proofs.AfterLemmas.{hook_after}
 use Rattle.minix_grow.proofs.ZoneLemmas.{data_stay}
+use Rattle.minix_grow.proofs.OtherLemmas.{other_stays}
+use Rattle.minix_zones.specs.Volume.{past_of}
 use Rattle.minix_grow.proofs.hook.grow_in_inode.Goals as goal
 
 pub make_zones-requires-clause-ready : goal.make_zones-requires-clause-ready
@@ -65,3 +68,12 @@ returns-clause-places g c place told here below =
     let H : Super → Type 0 = λ l. place / entries_per_block (kind_view l.kind) ≡ c.args.block in
     let B : Super → Type 0 = λ l. place < places (kind_view l.kind) c.args.size in
     c.hook_in_inode.ensures.places place (c.make_zones.ensures.steps.goes_on.told told) (subst H (sym e) here) (subst B (sym e) below)
+
+pub returns-in_err-make_zones-clause-others : goal.returns-in_err-make_zones-clause-others
+returns-in_err-make_zones-clause-others g c d s off other = c.make_zones.ensures.others d s off
+
+pub returns-clause-others : goal.returns-clause-others
+returns-clause-others g c d s off other =
+    not_written_join (past_of c.args.volume.now) (past_of c.make_zones.new.volume) (past_of c.hook_in_inode.new.volume) d s
+    (c.make_zones.ensures.others d s off)
+    (c.hook_in_inode.ensures.turns.others d s (other_stays c.args.volume.now c.make_zones.new.volume c.make_zones.ensures.steps.kept c.args.directory d s other))

@@ -1,8 +1,11 @@
 use Rattle.std.proofs.Common.{◌≡◌, refl, arith}
 use Rattle.minix_grow.specs.Way.{grown_bytes}
 use Rattle.minix_layout.specs.View.{kind_view}
+use Rattle.disk_trait.proofs.NotWrittenLemmas.{not_written_none, not_written_join}
 use Rattle.minix_steps.proofs.StepLemmas.{steps_join}
 use Rattle.minix_grow.proofs.ZoneLemmas.{no_steps, data_stay, written_more, marked_stay}
+use Rattle.minix_grow.proofs.OtherLemmas.{off_stays}
+use Rattle.minix_zones.specs.Volume.{past_of}
 use Rattle.minix_grow.proofs.zones.write_all.Goals as goal
 
 pub loop-level-init : goal.loop-level-init
@@ -10,12 +13,18 @@ loop-level-init g c = record {
   steps = no_steps c.args.volume.now c.requires.ready;
   written = λ told level low. absurd (omega (arith, low));
   marked = λ told marked. marked;
+  others = λ d s off. not_written_none (past_of c.args.volume.now) d s;
   later = omega arith;
 }
 
 pub returns-in_err-write_zone-clause-steps : goal.returns-in_err-write_zone-clause-steps
 returns-in_err-write_zone-clause-steps g c =
     steps_join c.args.volume.now c.loop-level.volume c.write_zone.new.volume c.requires.ready c.loop-level.invariant.steps c.write_zone.ensures.steps
+
+pub returns-in_err-write_zone-clause-others : goal.returns-in_err-write_zone-clause-others
+returns-in_err-write_zone-clause-others g c d s off =
+    not_written_join (past_of c.args.volume.now) (past_of c.loop-level.volume) (past_of c.write_zone.new.volume) d s (c.loop-level.invariant.others d s off)
+    (c.write_zone.ensures.others d s (off_stays c.args.volume.now c.loop-level.volume c.loop-level.invariant.steps.kept _ d s (off c.loop-level.level c.loop-level-test.true)).bytes)
 
 pub loop-level-preserved : goal.loop-level-preserved
 loop-level-preserved g c =
@@ -30,5 +39,8 @@ loop-level-preserved g c =
       marked = λ told marked.
           marked_stay c.loop-level.volume c.write_zone.new.volume c.args.growth.now c.loop-level.level _ those refl c.loop-level-test.true _ (c.in_ok-write_zone.ensures.parts (c.loop-level.invariant.steps.goes_on.told told))
           _ (omega arith) (c.loop-level.invariant.marked told marked);
+      others = λ d s off.
+          not_written_join (past_of c.args.volume.now) (past_of c.loop-level.volume) (past_of c.write_zone.new.volume) d s (c.loop-level.invariant.others d s off)
+          (c.write_zone.ensures.others d s (off_stays c.args.volume.now c.loop-level.volume c.loop-level.invariant.steps.kept _ d s (off c.loop-level.level c.loop-level-test.true)).bytes);
       later = let a = c.loop-level.invariant.later in let b = c.write_zone.ensures.steps.goes_on.later in omega (arith, a, b);
     }

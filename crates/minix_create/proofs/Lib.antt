@@ -1,0 +1,9 @@
+pub mod ChosenLemmas
+pub mod EntryLemmas
+pub mod FillLemmas
+pub mod FromLemmas
+pub mod LinkLemmas
+pub mod MarkLemmas
+pub mod NextLemmas
+pub mod OpenLemmas
+pub mod StateLemmas

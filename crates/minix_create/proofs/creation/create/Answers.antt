@@ -1,0 +1,50 @@
+use Rattle.std.proofs.Common.{◌≡◌, Err, ap, sym, ◌∙◌, rules}
+use Rattle.minix_create.specs.Chosen.{block_of}
+use Rattle.minix_create.proofs.StateLemmas.{wrong_creates, next_is, since_halts, created_ok, created_err}
+use Rattle.minix_create.proofs.creation.create.Goals as goal
+
+pub returns-in_err-reserved-clause-halted : goal.returns-in_err-reserved-clause-halted
+returns-in_err-reserved-clause-halted g c =
+    let halt = c.in_err-reserved.field-0.0 in
+    let is : c.from_residual.result ≡ Err halt = search rules in
+    rw is (wrong_creates c.args.volume c.args.chosen (block_of c.args.blocks.now) c.requires.quiet c.requires.free halt.volume halt.fault c.in_err-reserved.ensures.halted)
+
+pub loop-index-init : goal.loop-index-init
+loop-index-init g c =
+    let reserves = c.in_ok-reserved.ensures.reserved in
+    record { hand = reserves.hand; same = reserves.same; since = reserves.since (block_of c.args.blocks.now) }
+
+pub returns-in-Err-clause-halted : goal.returns-in-Err-clause-halted
+returns-in-Err-clause-halted g c =
+    let inv = c.loop-index.invariant in
+    rw c.leave.ensures (since_halts c.args.volume (block_of c.args.blocks.now) c.args.chosen c.loop-index.reserved inv.same inv.since c.block.new.self.volume c.in-Err.fault c.in-Err.ensures.halted)
+
+pub loop-index-preserved : goal.loop-index-preserved
+loop-index-preserved g c =
+    let inv = c.loop-index.invariant in
+    let wrote = c.in_default-block.ensures.written in
+    let next = next_is c.loop-index.reserved.next _ c.in-Some.index _ c.next_index.ensures c.in-Some.is in
+    record {
+      hand = wrote.hand;
+      same = wrote.same ∙ inv.same;
+      since = wrote.since c.args.volume (block_of c.args.blocks.now) (ap (block_of c.args.blocks.now) next) inv.since;
+    }
+
+pub returns-in_err-filled-clause-halted : goal.returns-in_err-filled-clause-halted
+returns-in_err-filled-clause-halted g c =
+    let inv = c.loop-index.invariant in
+    let halt = c.in_err-filled.field-0.0 in
+    let is : c.from_residual-in_err-filled.result ≡ Err halt = search rules in
+    rw is (since_halts c.args.volume (block_of c.args.blocks.now) c.args.chosen c.loop-index.reserved inv.same inv.since halt.volume halt.fault c.in_err-filled.ensures.halted)
+
+pub returns-clause-created : goal.returns-clause-created
+returns-clause-created g c =
+    let inv = c.loop-index.invariant in
+    created_ok c.args.volume (block_of c.args.blocks.now) c.args.chosen c.loop-index.reserved inv.same inv.since c.requires.of_file c.in_ok-filled.filled c.in_ok-filled.ensures.filled
+    c.link.result c.link.ensures.linked
+
+pub returns-clause-halted : goal.returns-clause-halted
+returns-clause-halted g c =
+    let inv = c.loop-index.invariant in
+    created_err c.args.volume (block_of c.args.blocks.now) c.args.chosen c.loop-index.reserved inv.same inv.since c.requires.of_file c.in_ok-filled.filled c.in_ok-filled.ensures.filled
+    c.link.result c.link.ensures.halted

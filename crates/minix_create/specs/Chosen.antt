@@ -1,0 +1,123 @@
+-- What is chosen for a file (a rule of this project's own). A file's blocks and its sectors are counted from 0.
+use Rattle.std.specs.Prelude.{◌≡◌, ◌≢◌, ◌≤◌, ◌<◌, ◌+◌, ◌*◌, ◌/◌, ◌%◌, ◌==◌, ◌^◌, ℕ, true, false, Bool, if◌then◌else◌, List, [], Some, length, take, replicate, slice_index, slice_index_or, All}
+use Rattle.disk_trait.specs.declared.disks.Disks.{Ghosts}
+use Rattle.disk_trait.specs.declared.disks.Span.{Span}
+use Rattle.disk_trait.specs.Moments.{IsTold, now}
+use Rattle.lilo_model.specs.MinixEntries.{places}
+use Rattle.lilo_model.specs.MinixLayout.{Inode, is_size, reach}
+use Rattle.lilo_model.specs.MinixNames.{Thing, File, Link, Directory, Other, blocks, reached, IsSound}
+use Rattle.lilo_model.specs.MinixParts.{Parts, blocks_for, is_directory, is_file, is_link}
+use Rattle.minix_choice_laws.specs.Choice.{file_of, HasNamePlace}
+use Rattle.minix_entry_bytes_laws.specs.Written.{FitsEntry}
+use Rattle.minix_fill_laws.specs.Laws.{MayBeFile}
+use Rattle.minix_layout.specs.View.{kind_view, super_view}
+use Rattle.minix_layout.specs.declared.superblock.Super.{Super}
+use Rattle.minix_steps.specs.Written.{parts_now}
+use Rattle.minix_write.specs.Suits.{IsFileOf}
+use Rattle.minix_write.specs.declared.wish.Wish.{Wish}
+use Rattle.minix_zones.specs.View.{IsDataZone}
+use Rattle.minix_zones.specs.Volume.{volume_view, past_of}
+use Rattle.minix_zones.specs.declared.volume.Volume.{Volume}
+use Rattle.write_model.specs.Places.{is_overlooked}
+use Rattle.write_model.specs.Wish.{Overlooked}
+use Rattle.minix_create.specs.declared.chosen.Chosen.{Chosen}
+
+-- it is made for a wish
+pub record IsMade (wish : Wish) (chosen : Chosen) : Type 0 where
+  pub mode : chosen.mode ≡ wish.mode
+  pub size : chosen.length ≡ wish.length
+  pub time : chosen.time ≡ wish.time
+  pub directory : chosen.directory ≡ wish.directory
+  pub name : chosen.name ≡ wish.name.now
+
+-- it suits a volume with a superblock in a span, whatever the disks hold
+pub record Suits (layout : Super) (span : Span) (chosen : Chosen) : Type 0 where
+  pub name : FitsEntry (kind_view layout.kind) chosen.name
+  pub sized : is_size (kind_view layout.kind) chosen.length ≡ true
+  pub small : chosen.length < 2 ^ 32
+  pub in_some : 1 ≤ chosen.directory
+  pub in_there : chosen.directory ≤ layout.inodes
+  pub some : 1 ≤ chosen.choice.inode
+  pub there : chosen.choice.inode ≤ layout.inodes
+  pub are_data : All (IsDataZone layout) chosen.choice.zones
+  -- each of its blocks gets a zone or is a hole
+  pub made : List Bool
+  pub many : length made ≡ blocks_for chosen.length
+  pub file : IsFileOf (kind_view layout.kind) made chosen.choice
+  pub begins : chosen.start ≡ span.start
+
+-- in which sector of the disk a sector of the file will lie
+abbrev pub sector_of : Chosen → ℕ → ℕ
+sector_of chosen index = chosen.start + 2 * slice_index chosen.choice.blocks (index / 2) + index % 2
+
+-- what is chosen is free now on a sound volume, and may be a file
+pub record IsFreeNow {D : Type 0} {disks : Ghosts D} (volume : Volume D disks) (chosen : Chosen) : Type 0 where
+  pub sound : IsSound (volume_view volume) (now (past_of volume))
+  pub file : MayBeFile (kind_view volume.layout.kind) (file_of chosen.choice)
+  pub inode : (parts_now volume).has_inode chosen.choice.inode ≡ false
+  pub zones : (i : ℕ) → i < length chosen.choice.zones → (parts_now volume).has_zone (slice_index chosen.choice.zones i) ≡ false
+
+-- so it is where the volume is sound
+abbrev pub IsFreeWhereSound : {D : Type 0} {disks : Ghosts D} → Volume D disks → Chosen → Type 0
+IsFreeWhereSound volume chosen = IsTold (past_of volume) → IsSound (volume_view volume) (now (past_of volume)) → IsFreeNow volume chosen
+
+-- its name may be made now at its place in the directory that a path leads to
+abbrev pub MayLinkNow : {D : Type 0} {disks : Ghosts D} → Volume D disks → List (List ℕ) → Chosen → Type 0
+MayLinkNow volume outer chosen =
+    HasNamePlace (volume_view volume) (now (past_of volume)) outer chosen.directory chosen.choice.place chosen.name
+
+-- the place lies below the size of a directory that a path leads to, which needn't grow, and the name isn't overlooked
+pub record NeedsNoGrowth {D : Type 0} {disks : Ghosts D} (volume : Volume D disks) (overlooked : List Overlooked) (outer : List (List ℕ)) (chosen : Chosen) : Type 0 where
+  pub sound : IsSound (volume_view volume) (now (past_of volume))
+  pub leads : reached (super_view volume.layout) (parts_now volume) outer ≡ Some chosen.directory
+  pub is : is_directory ((parts_now volume).node chosen.directory) ≡ true
+  pub reached : blocks_for ((parts_now volume).node chosen.directory).size ≤ reach (kind_view volume.layout.kind)
+  pub seen : is_overlooked overlooked chosen.directory chosen.name ≡ false
+  pub below : chosen.choice.place < places (kind_view volume.layout.kind) ((parts_now volume).node chosen.directory).size
+  pub no_growth : chosen.choice.growth ≡ []
+
+-- then its name may be made there
+abbrev pub LinksWithoutGrowth : {D : Type 0} {disks : Ghosts D} → Volume D disks → List Overlooked → Chosen → Type 0
+LinksWithoutGrowth volume overlooked chosen =
+    (outer : List (List ℕ)) → IsTold (past_of volume) → NeedsNoGrowth volume overlooked outer chosen → MayLinkNow volume outer chosen
+
+-- ---- content
+
+-- the bytes of a block, zeros in a hole
+abbrev pub block_with : List ℕ → (ℕ → List ℕ) → ℕ → List ℕ
+block_with zones given index = if slice_index zones index == 0 then replicate 1024 0 else given index
+
+-- the content of a file whose blocks are given: zeros in holes, cut at its length
+abbrev pub content_with : Chosen → (ℕ → List ℕ) → List ℕ
+content_with chosen given = take chosen.length (blocks (block_with chosen.choice.blocks given) (blocks_for chosen.length))
+
+-- the inode of a new file, without its zones: a directory has a name of its own
+abbrev pub new_inode : Chosen → Inode
+new_inode chosen = record {
+  mode = chosen.mode;
+  links = if chosen.mode / 4096 == 4 then 2 else 1;
+  uid = 0;
+  gid = 0;
+  size = chosen.length;
+  times = replicate 3 chosen.time;
+  zones = replicate 10 0;
+}
+
+-- what a file is whose blocks are given
+abbrev pub thing_with : Chosen → (ℕ → List ℕ) → Thing
+thing_with chosen given =
+    if is_file (new_inode chosen) then File (content_with chosen given) else
+    if is_link (new_inode chosen) then Link (content_with chosen given) else
+    if is_directory (new_inode chosen) then Directory else
+    Other
+
+-- from one block on, the first that gets a zone, or how many blocks there are
+pub record IsNextBlock (zones : List ℕ) (from next : ℕ) : Type 0 where
+  pub from_on : from ≤ next
+  pub there : next ≤ length zones
+  pub some : next < length zones → slice_index zones next ≢ 0
+  pub holes : (at : ℕ) → from ≤ at → at < next → slice_index zones at ≡ 0
+
+-- a block of some
+abbrev pub block_of : List (List ℕ) → ℕ → List ℕ
+block_of given index = slice_index_or given index []

@@ -1,0 +1,4 @@
+pub mod Chosen
+pub mod Created
+pub mod Linked
+pub mod States

@@ -1,0 +1,44 @@
+// A file from its blocks.
+ghost use Rattle.std.specs.Prelude.{◌≡◌, ◌≤◌, ℕ, List, length, IfOk, IfErr};
+ghost use Rattle.disk_trait.specs.Moments.{IsTold, IsQuiet};
+ghost use Rattle.minix_create.specs.Chosen.{Suits, IsFreeNow, new_inode, block_of};
+ghost use Rattle.minix_create.specs.States.{CreatesFile, CreationHalts};
+ghost use Rattle.minix_fill.specs.Fill.{IsOfFile};
+ghost use Rattle.minix_zones.specs.Volume.{past_of};
+
+use crate::chosen::Chosen;
+use crate::halt::{Linked, WriteHalt};
+use disk_trait::Disks;
+use minix_zones::Volume;
+
+/// Makes a file of what was chosen: a regular file, a symbolic link, or another that is no directory. Its blocks are given,
+/// also those of holes, which aren't written.
+///
+/// # Errors
+///
+/// `Device` alone, where the disks report their past. Then the file isn't there, or the whole of it is.
+pub fn create<'d, D: Disks>(
+    volume: Volume<'d, D>,
+    chosen: Chosen,
+    blocks: &[[u8; 1024]],
+) -> Result<(Volume<'d, D>, Linked), WriteHalt<'d, D>>
+    requires suits { Suits volume.layout volume.span chosen }
+    requires of_file { IsOfFile (new_inode chosen) }
+    requires all { length chosen.choice.blocks ≤ length blocks.now }
+    requires quiet { IsQuiet (past_of volume) }
+    requires free { IsTold (past_of volume) → IsFreeNow volume chosen }
+    ensures created { IfOk result (CreatesFile volume.entry chosen (block_of blocks.now)) }
+    ensures halted { IfErr result (CreationHalts volume.entry chosen (block_of blocks.now)) }
+{
+    let mut reserved = chosen.reserve(volume)?;
+    while let Some(index) = reserved.next_index() {
+        if let Err(fault) = reserved.block(&blocks[index]) {
+            return Err(WriteHalt {
+                volume: reserved.leave(),
+                fault,
+            });
+        }
+    }
+    let filled = reserved.fill()?;
+    filled.link()
+}

@@ -1,0 +1,20 @@
+//! A new file on a sound Minix volume, versions 1 and 2: what is chosen for it is reserved, filled and linked, each by
+//! a value of its own. At any moment a stop leaves a sound volume without the file, or with the whole of it under its
+//! name.
+#![tactic(auto)]
+
+mod chosen;
+mod creation;
+mod entry_zone;
+mod filled;
+mod halt;
+mod reserved;
+mod steps;
+#[cfg(test)]
+mod tests;
+
+pub use chosen::{Chosen, choose};
+pub use creation::create;
+pub use filled::Filled;
+pub use halt::{Linked, WriteHalt};
+pub use reserved::Reserved;

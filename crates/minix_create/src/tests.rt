@@ -1,0 +1,216 @@
+use crate::{Chosen, choose, create};
+use disk_trait::{DiskFault, Disks, Geometry, MemDisks};
+use minix_layout::FsKind;
+use minix_stops::{SMALL_SPAN, small_disks};
+use minix_survey::survey;
+use minix_tree::{TreeFault, entry_size, lookup_name, read_file, stat_of};
+use minix_turns::{turn_free, turn_size};
+use minix_write::{Taken, Wish, WriteFault};
+use minix_zones::Volume;
+use sector_parts::Sector;
+use std::alloc::{AllocError, Global};
+use std::process::Abort;
+use std::test::Fail;
+
+// Disks in memory that report no past: so the conditions of a creation hold of any volume.
+#[derive(Drop)]
+struct Untold {
+    disks: MemDisks,
+}
+
+impl Disks for Untold {
+    ghost use Rattle.std.specs.Prelude.{None, length};
+    ghost use Rattle.disk_trait.specs.MemDisks.{sizes_of, geometries_of};
+
+    ghost past = { λ _. None };
+
+    ghost faults = { λ untold. untold.disks.faults };
+
+    ghost size_of = { λ untold. sizes_of untold.disks.start };
+
+    ghost count_of = { λ untold. length untold.disks.start };
+
+    ghost geometry_of = { λ untold. geometries_of untold.disks.start };
+
+    fn read(&mut self, disk: u8, sector: u64, into: &mut Sector) -> Result<(), DiskFault> {
+        self.disks.read(disk, sector, into)
+    }
+
+    fn write(&mut self, disk: u8, sector: u64, from: &Sector) -> Result<(), DiskFault> {
+        self.disks.write(disk, sector, from)
+    }
+
+    fn flush(&mut self) -> Result<(), DiskFault> {
+        self.disks.flush()
+    }
+
+    fn count(&self) -> u8 {
+        self.disks.count()
+    }
+
+    fn size(&self, disk: u8) -> u64 {
+        self.disks.size(disk)
+    }
+
+    fn geometry(&self, disk: u8) -> Geometry {
+        self.disks.geometry(disk)
+    }
+}
+
+// The second block is a hole: zones 6 and 7 are chosen.
+const LENGTH: u32 = 3000;
+
+const WISH: Wish<'static> = Wish {
+    mode: 0o100644,
+    length: LENGTH,
+    holes: &[1],
+    time: 7,
+    directory: 1,
+    name: b"new",
+};
+
+const BLOCKS: [[u8; 1024]; 3] = [[b'a'; 1024], [0; 1024], [b'c'; 1024]];
+
+// A place for one more entry in the root, which has two.
+#[tactic(auto, unfolding(disk_trait::specs::Moments::IsTold, disk_trait::specs::Moments::MayLeave))]
+fn make_place(rt: &impl Abort, volume: &mut Volume<'_, Untold>) -> Result<(), WriteFault> {
+    let kind = volume.layout().kind;
+    assert!(rt;
+        volume.layout().first == 5 && volume.layout().zones == 24 && volume.layout().inodes == 16
+    );
+    let stat = stat_of(volume, 1)?;
+    turn_free(volume, 5, 2)?;
+    turn_size(volume, 1, &stat.node, 3 * u32::from(entry_size(kind)))?;
+    Ok(())
+}
+
+fn choose_new(
+    rt: &impl Abort,
+    alloc: Global,
+    volume: &mut Volume<'_, Untold>,
+) -> Result<Chosen, WriteFault> {
+    let mut taken = Taken::new(alloc, volume)?;
+    let chosen = choose(alloc, volume, &WISH, &mut taken)?;
+    assert_eq!(rt; chosen.inode(), 2);
+    assert_eq!(rt; choose(alloc, volume, &WISH, &mut taken)?.inode(), 3);
+    Ok(chosen)
+}
+
+// Makes the file, and says in which sectors of the disk its first and its last sector lie.
+#[tactic(auto, unfolding(disk_trait::specs::Moments::IsTold, disk_trait::specs::Moments::MayLeave))]
+fn make(rt: &impl Abort, alloc: Global, disks: &mut Untold) -> Result<(u64, u64), WriteFault> {
+    assert!(rt; disks.size(0) == 64);
+    let Ok(mut volume) = Volume::attach(disks, SMALL_SPAN) else {
+        return Err(WriteFault::Device);
+    };
+    make_place(rt, &mut volume)?;
+    let chosen = choose_new(rt, alloc, &mut volume)?;
+    assert!(rt; chosen.blocks() == [6, 0, 7].as_slice());
+    let ends = (chosen.sector_of(0), chosen.sector_of(5));
+    match create(volume, chosen, &BLOCKS) {
+        Ok((_, linked)) => {
+            assert_eq!(rt; linked.inode, 2);
+            Ok(ends)
+        }
+        Err(halt) => Err(halt.fault),
+    }
+}
+
+// Whether the whole of the file is there, where the survey refuses nothing.
+fn is_there(alloc: Global, image: &mut MemDisks) -> Option<bool> {
+    if image.size(0) < 56 {
+        return None;
+    }
+    let Ok(mut volume) = Volume::attach(image, SMALL_SPAN) else {
+        return None;
+    };
+    if survey(alloc, &mut volume).is_err() {
+        return None;
+    }
+    match lookup_name(&mut volume, b"/new") {
+        Ok(_) => {}
+        Err(TreeFault::NotFound(_)) => return Some(false),
+        Err(_) => return None,
+    }
+    let Ok(text) = read_file(alloc, &mut volume, b"/new") else {
+        return None;
+    };
+    let bytes = text.bytes();
+    let whole = bytes.len() == 3000
+        && bytes[..1024].iter().all(|byte| *byte == b'a')
+        && bytes[1024..2048].iter().all(|byte| *byte == 0)
+        && bytes[2048..].iter().all(|byte| *byte == b'c');
+    if whole { Some(true) } else { None }
+}
+
+// Says of each unflushed write whether it was made, by the bits of a number, the lowest first.
+fn keep_by(keep: &mut [bool], choice: u32) {
+    let mut rest = choice;
+    for kept in keep {
+        *kept = rest % 2 == 1;
+        rest /= 2;
+    }
+}
+
+// What a stop after so many events leaves, with these of the unflushed writes made.
+fn left(
+    alloc: Global,
+    disks: &MemDisks,
+    prefix: u32,
+    choice: u32,
+) -> Result<Option<bool>, AllocError> {
+    if prefix > disks.events() {
+        return Ok(None);
+    }
+    let mut keep = vec![in alloc; false; disks.unflushed(prefix) as usize]?;
+    keep_by(keep.as_mut_slice(), choice);
+    let mut image = disks.left(alloc, prefix, keep.as_slice(), 0, &[])?;
+    Ok(is_there(alloc, &mut image))
+}
+
+// How many choices of at most five unflushed writes there are.
+fn choices(disks: &MemDisks, prefix: u32) -> u32 {
+    if prefix > disks.events() {
+        return 0;
+    }
+    match disks.unflushed(prefix) {
+        0 => 1,
+        1 => 2,
+        2 => 4,
+        3 => 8,
+        4 => 16,
+        5 => 32,
+        _ => 0,
+    }
+}
+
+// The place takes four events, the marks three, two blocks with the inode and a flush six, the entry two: the name comes
+// with the fourteenth.
+#[test]
+fn each_stop_has_the_file_whole_or_not_at_all(rt: HostRuntime) -> Result<(), Fail> {
+    let alloc = rt.alloc();
+    for kind in [
+        FsKind::V1Short,
+        FsKind::V1Long,
+        FsKind::V2Short,
+        FsKind::V2Long,
+    ] {
+        let mut disks = Untold {
+            disks: small_disks(alloc, kind, 32)?,
+        };
+        assert_eq!(rt; make(&rt, alloc, &mut disks), Ok((20, 23)));
+        let Untold { disks } = disks;
+        assert_eq!(rt; disks.events(), 15);
+        for prefix in 0..16 {
+            for choice in 0..choices(&disks, prefix) {
+                let found = left(alloc, &disks, prefix, choice)?;
+                let named = prefix == 15 || prefix == 14 && choice == 1;
+                assert!(rt;
+                    found == Some(named),
+                    "{found:?}, choice {choice} after {prefix} events of {kind:?}"
+                );
+            }
+        }
+    }
+    Ok(())
+}

@@ -1,0 +1,3 @@
+pub mod MappedLemmas
+pub mod NeededLemmas
+pub mod PlacesLemmas

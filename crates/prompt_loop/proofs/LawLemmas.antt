@@ -3,10 +3,11 @@ use Rattle.std.proofs.Common.{◌≡◌, ◌∙◌, refl, sym, ap, ℕ, List, []
 use Rattle.lilo_model.specs.Choice.{choice, opening, opening_behind}
 use Rattle.lilo_model.specs.DefaultLine.{DefaultLine}
 use Rattle.lilo_model.specs.Prompt.{ListedEntry, Decision, Opening}
+use Rattle.lilo_model.specs.Reason.{Reason}
 use Rattle.prompt_core.specs.Decided.{plain_setup, marks_text, marks_opening, decided}
 use Rattle.prompt_core.specs.Run.{Mark, Shown, Opened, Run, run_of}
 use Rattle.prompt_core.proofs.DecidedLemmas.{choice_law, opening_law}
-use Rattle.section_loader.specs.Reading.{Why, FileRest}
+use Rattle.section_loader.specs.Reading.{FileRest}
 use Rattle.prompt_loop.specs.Laws.{DecidesAs, ComesTo, AskLaw}
 use Rattle.prompt_loop.specs.Tale.{Tale, tale_behind, stopped_tale, marks_tale, tale_of}
 use Rattle.prompt_loop.proofs.TaleLemmas.{behind_behind}
@@ -24,19 +25,19 @@ good_marks message (Opened left ∷ marks) tale good =
     ∙ behind_behind message.bytes (marks_text message.bytes marks) tale)
 
 -- or up to where the prompt opens
-abbrev StopsAt : FileRest → Why → List Mark → Tale → Option Opening → Type 0
+abbrev StopsAt : FileRest → Reason → List Mark → Tale → Option Opening → Type 0
 StopsAt message why marks tale None = marks_tale message marks tale ≡ tale_behind (marks_text message.bytes marks) tale
 StopsAt message why marks tale (Some opens) = marks_tale message marks tale ≡ stopped_tale (opens.before ++ message.bytes) why opens.left
 
 byte_stops :
-    (message : FileRest) (why : Why) (byte : ℕ) (marks : List Mark) (tale : Tale) (opens : Option Opening)
+    (message : FileRest) (why : Reason) (byte : ℕ) (marks : List Mark) (tale : Tale) (opens : Option Opening)
     → StopsAt message why marks tale opens
     → StopsAt message why (Shown byte ∷ marks) tale (option_map (opening_behind (byte ∷ [])) opens)
 byte_stops message why byte marks tale None rest = ap (λ t. tale_behind (byte ∷ []) t) rest
 byte_stops message why byte marks tale (Some opens) rest = ap (λ t. tale_behind (byte ∷ []) t) rest
 
 stops_at :
-    (message : FileRest) (why : Why) (marks : List Mark) (tale : Tale) → message.stop ≡ Some why
+    (message : FileRest) (why : Reason) (marks : List Mark) (tale : Tale) → message.stop ≡ Some why
     → StopsAt message why marks tale (marks_opening marks)
 stops_at message why [] tale bad = refl
 stops_at message why (Shown byte ∷ marks) tale bad =
@@ -63,7 +64,7 @@ decides entries line message run tale decision law same =
 comes_to :
     (entries : List ListedEntry) (line : DefaultLine) (message : FileRest) (run : Run) (decision : Decision)
     → decided entries line message.bytes run ≡ decision
-    → (stop : Option Why) → message.stop ≡ stop → (opens : Option Opening) → marks_opening run.shown ≡ opens
+    → (stop : Option Reason) → message.stop ≡ stop → (opens : Option Opening) → marks_opening run.shown ≡ opens
     → ComesTo entries line message stop opens (tale_of message run) decision
 comes_to entries line message run decision law None is opens found =
     decides entries line message run (tale_of message run) decision law

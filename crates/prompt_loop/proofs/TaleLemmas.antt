@@ -1,11 +1,12 @@
 -- Tales after what was shown.
 use Rattle.std.proofs.Common.{◌≡◌, ◌∙◌, refl, sym, ap, ℕ, Bool, true, false, List, [], ◌∷◌, ◌++◌, append_assoc, append-nil, Option, None, Some, Err}
 use Rattle.lilo_model.specs.Prompt.{Key, ListedEntry}
+use Rattle.lilo_model.specs.Reason.{Reason}
 use Rattle.prompt_core.specs.Steps.{Said}
 use Rattle.prompt_core.specs.Run.{Mark, Shown, Opened, text_marks, Run, run_behind, said_marks, listed, opened_at, parts_marks}
 use Rattle.section_loader.specs.declared.reason.Halt.{Halt}
 use Rattle.section_loader.specs.declared.reason.Halt.TheVariants.{Device, Refused}
-use Rattle.section_loader.specs.Reading.{Why, FileRest}
+use Rattle.section_loader.specs.Reading.{FileRest}
 use Rattle.section_loader.specs.View.{reason_view}
 use Rattle.stream_trait.specs.Shows.{SinkState, Shows}
 use Rattle.stream_trait.proofs.ShowsLemmas.{shows_join}
@@ -72,7 +73,7 @@ said_tale message entries said before middle rest parts left tale =
     ap (λ marks. marks_tale message marks tale) (parts entries left) ∙ parts_tale message entries left said before middle rest tale
 
 whole_tale :
-    (before bytes all : List ℕ) (stop : Option Why) (left : List Key) (tale : Tale) → stop ≡ None
+    (before bytes all : List ℕ) (stop : Option Reason) (left : List Key) (tale : Tale) → stop ≡ None
     → tale_behind before (message_tale bytes stop left (tale_behind all tale)) ≡ tale_behind (before ++ (bytes ++ all)) tale
 whole_tale before bytes all stop left tale good =
     rw good (ap (λ t. tale_behind before t) (behind_behind bytes all tale) ∙ behind_behind before (bytes ++ all) tale)
@@ -97,13 +98,13 @@ says_whole message entries said before middle rest a b c d e f parts first good 
     }
 
 stop_tale :
-    (before bytes : List ℕ) (stop : Option Why) (why : Why) (left : List Key) (tale : Tale) → stop ≡ Some why
+    (before bytes : List ℕ) (stop : Option Reason) (why : Reason) (left : List Key) (tale : Tale) → stop ≡ Some why
     → tale_behind before (message_tale bytes stop left tale) ≡ stopped_tale (before ++ bytes) why left
 stop_tale before bytes stop why left tale is = rw is refl
 
 -- or up to where the message is refused
 pub says_stopped :
-    (message : FileRest) (entries : List ListedEntry) (said : Said) (before middle rest : List ℕ) (why : Why) (a b c : SinkState)
+    (message : FileRest) (entries : List ListedEntry) (said : Said) (before middle rest : List ℕ) (why : Reason) (a b c : SinkState)
     → AreParts entries said before middle rest → Shows a before b
     → (opening_rest said.opened message).stop ≡ Some why → Shows b (opening_rest said.opened message).bytes c
     → SaysUpTo why message entries said a c
@@ -119,7 +120,7 @@ says_stopped message entries said before middle rest why a b c parts first stops
 
 -- a message is shown from its first byte on
 message_shown :
-    (bytes : List ℕ) (stop : Option Why) (left : List Key) (tale : Tale)
+    (bytes : List ℕ) (stop : Option Reason) (left : List Key) (tale : Tale)
     → (more : List ℕ) × ((message_tale bytes stop left tale).shown ≡ bytes ++ more)
 message_shown bytes None left tale = (tale.shown, refl)
 message_shown bytes (Some why) left tale = ([], sym (append-nil bytes))

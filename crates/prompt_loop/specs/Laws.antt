@@ -4,10 +4,11 @@ use Rattle.std.specs.Option.{option_map}
 use Rattle.lilo_model.specs.Choice.{choice, opening}
 use Rattle.lilo_model.specs.DefaultLine.{DefaultLine}
 use Rattle.lilo_model.specs.Prompt.{Key, Settings, ListedEntry, Decision, Opening}
+use Rattle.lilo_model.specs.Reason.{Reason}
 use Rattle.prompt_core.specs.Decided.{plain_setup, picked_by, line_behind}
 use Rattle.prompt_core.specs.Run.{run_of}
 use Rattle.prompt_core.specs.Steps.{Chosen}
-use Rattle.section_loader.specs.Reading.{Why, FileRest}
+use Rattle.section_loader.specs.Reading.{FileRest}
 use Rattle.prompt_loop.specs.Tale.{Tale, stopped_tale, tale_of}
 
 -- a tale comes to a decision: the same choice, text and keys left, and the default line after it
@@ -24,7 +25,7 @@ pub record DecidesAs (entries : List ListedEntry) (line : DefaultLine) (tale : T
       }
 
 -- a tale comes to the decision, unless the message is refused where the prompt opens
-abbrev pub ComesTo : List ListedEntry → DefaultLine → FileRest → Option Why → Option Opening → Tale → Decision → Type 0
+abbrev pub ComesTo : List ListedEntry → DefaultLine → FileRest → Option Reason → Option Opening → Tale → Decision → Type 0
 ComesTo entries line message None opens tale decision = DecidesAs entries line tale decision
 ComesTo entries line message (Some why) None tale decision = DecidesAs entries line tale decision
 ComesTo entries line message (Some why) (Some opens) tale decision =

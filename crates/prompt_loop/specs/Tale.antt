@@ -1,17 +1,18 @@
 -- What asking at a prompt comes to, with the message's bytes at their place (this project's own).
 use Rattle.std.specs.Prelude.{◌≡◌, ℕ, List, [], ◌∷◌, ◌++◌, Option, None, Some, Result, Ok, Err}
 use Rattle.lilo_model.specs.Prompt.{Key, ListedEntry}
+use Rattle.lilo_model.specs.Reason.{Reason}
 use Rattle.prompt_core.specs.Steps.{Chosen, Said}
 use Rattle.prompt_core.specs.Run.{Mark, Shown, Opened, Run, said_marks}
 use Rattle.section_loader.specs.declared.reason.Halt.{Halt}
 use Rattle.section_loader.specs.declared.reason.Halt.TheVariants.{Device, Refused}
-use Rattle.section_loader.specs.Reading.{Why, FileRest}
+use Rattle.section_loader.specs.Reading.{FileRest}
 use Rattle.section_loader.specs.View.{reason_view}
 use Rattle.stream_trait.specs.Shows.{SinkState, Shows}
 
 -- what was chosen, if anything, or why the message was refused; all that was shown, and the keys that were not taken
 pub record Tale : Type 0 where
-  pub end : Result (Option Chosen) Why
+  pub end : Result (Option Chosen) Reason
   pub shown : List ℕ
   pub left : List Key
 
@@ -20,11 +21,11 @@ abbrev pub tale_behind : List ℕ → Tale → Tale
 tale_behind text tale = record { end = tale.end; shown = text ++ tale.shown; left = tale.left }
 
 -- a tale that ends where the message is refused
-abbrev pub stopped_tale : List ℕ → Why → List Key → Tale
+abbrev pub stopped_tale : List ℕ → Reason → List Key → Tale
 stopped_tale text why left = record { end = Err why; shown = text; left = left }
 
 -- a tale with the message before it, which may be refused, while these keys are not taken
-abbrev pub message_tale : List ℕ → Option Why → List Key → Tale → Tale
+abbrev pub message_tale : List ℕ → Option Reason → List Key → Tale → Tale
 message_tale bytes None left tale = tale_behind bytes tale
 message_tale bytes (Some why) left tale = stopped_tale bytes why left
 
@@ -47,7 +48,7 @@ pub record SaysAll (message : FileRest) (entries : List ListedEntry) (said : Sai
   pub says : (left : List Key) (tale : Tale) → marks_tale message (said_marks entries left said) tale ≡ tale_behind text tale
 
 -- this text was shown, and after it the message is refused
-pub record SaysUpTo (why : Why) (message : FileRest) (entries : List ListedEntry) (said : Said) (old new : SinkState) : Type 0 where
+pub record SaysUpTo (why : Reason) (message : FileRest) (entries : List ListedEntry) (said : Said) (old new : SinkState) : Type 0 where
   pub text : List ℕ
   pub shows : Shows old text new
   pub says : (left : List Key) (tale : Tale) → marks_tale message (said_marks entries left said) tale ≡ stopped_tale text why left

@@ -5,7 +5,7 @@ ghost use Rattle.sector_address.specs.Machine.{OnDisks};
 ghost use Rattle.prompt_core.specs.Run.{driven, run_of};
 ghost use Rattle.stream_trait.specs.Shows.{sink_of};
 ghost use Rattle.prompt_loop.specs.Asking.{Asks, ComesBy, ComesInSilence, IsDiskStop, IsKeysStop};
-ghost use Rattle.prompt_loop.specs.Message.{message_today};
+ghost use Rattle.prompt_loop.specs.Message.{message_rest};
 ghost use Rattle.prompt_loop.specs.Tale.{tale_of};
 
 use crate::message::Message;
@@ -37,7 +37,7 @@ pub fn ask<D: Disks, I: Source, O: Sink>(
 ) -> Result<(), Stop>
     requires { IfSome message.now (λ message. message.first.count ≡ 1) }
     ensures asked { OnDisks D.Disks bios.old.disks.now (λ now machine.
-        ComesBy I.Source result (λ keys. tale_of (message_today now machine message.now) (run_of prompt.old.setup keys))
+        ComesBy I.Source result (λ keys. tale_of (message_rest now machine message.now) (run_of prompt.old.setup keys))
         prompt.new.state (bios.old.keys.now, bios.new.keys.now) (sink_of O.Sink out.old) (sink_of O.Sink out.new)) }
     ensures setup { prompt.new.setup ≡ prompt.old.setup }
     ensures only { Asks D.Disks I.Source O.Sink (bios.old, out.old) (bios.new, out.new)
@@ -60,7 +60,7 @@ fn hear<D: Disks, I: Source, O: Sink>(
     requires { IfSome message.now (λ message. message.first.count ≡ 1) }
     ensures heard { OnDisks D.Disks bios.old.disks.now (λ now machine.
         ComesBy I.Source result
-        (λ keys. tale_of (message_today now machine message.now) (driven prompt.old.setup keys prompt.old.state))
+        (λ keys. tale_of (message_rest now machine message.now) (driven prompt.old.setup keys prompt.old.state))
         prompt.new.state (bios.old.keys.now, bios.new.keys.now) (sink_of O.Sink out.old) (sink_of O.Sink out.new)) }
     ensures setup { prompt.new.setup ≡ prompt.old.setup }
     ensures only { Asks D.Disks I.Source O.Sink (bios.old, out.old) (bios.new, out.new)
@@ -90,7 +90,7 @@ fn hear_silence<D: Disks, O: Sink>(
     requires { IfSome message.now (λ message. message.first.count ≡ 1) }
     ensures heard { OnDisks D.Disks disks.old (λ now machine.
         ComesInSilence result
-        (tale_of (message_today now machine message.now) (driven prompt.old.setup [] prompt.old.state))
+        (tale_of (message_rest now machine message.now) (driven prompt.old.setup [] prompt.old.state))
         prompt.new.state (sink_of O.Sink out.old) (sink_of O.Sink out.new)) }
     ensures setup { prompt.new.setup ≡ prompt.old.setup }
     ensures only { ReadsAndShows D.Disks O.Sink (disks.old, out.old) (disks.new, out.new) (IsDiskStop result) }

@@ -4,7 +4,7 @@ ghost use Rattle.bios_model.specs.Reads.{ReadsAndShows};
 ghost use Rattle.sector_address.specs.Machine.{OnDisks};
 ghost use Rattle.section_loader.specs.File.{IsCounted, rest_in};
 ghost use Rattle.stream_trait.specs.Shows.{sink_of};
-ghost use Rattle.prompt_loop.specs.Message.{ShowsFile, message_today, file_of, opening_rest};
+ghost use Rattle.prompt_loop.specs.Message.{ShowsFile, message_rest, file_of, opening_rest};
 
 use disk_trait::Disks;
 use section_loader::{FileReader, Halt};
@@ -31,7 +31,7 @@ pub(crate) fn show_opening<D: Disks, O: Sink>(
 ) -> Result<(), Halt>
     requires { IfSome message.now (λ message. message.first.count ≡ 1) }
     ensures shown { OnDisks D.Disks disks.old (λ now machine.
-        ShowsFile result (opening_rest opened (message_today now machine message.now))
+        ShowsFile result (opening_rest opened (message_rest now machine message.now))
         (sink_of O.Sink out.old) (sink_of O.Sink out.new)) }
     ensures only { ReadsAndShows D.Disks O.Sink (disks.old, out.old) (disks.new, out.new) (IsErrOf result Halt.Device) }
 {

@@ -7,7 +7,7 @@ ghost use Rattle.prompt_core.specs.Run.{listed};
 ghost use Rattle.prompt_core.specs.Steps.{key_step};
 ghost use Rattle.prompt_core.specs.View.{entries_view, said_of};
 ghost use Rattle.stream_trait.specs.Shows.{Shows, sink_of};
-ghost use Rattle.prompt_loop.specs.Message.{message_today};
+ghost use Rattle.prompt_loop.specs.Message.{message_rest};
 ghost use Rattle.prompt_loop.specs.Tale.{Says};
 
 use crate::message::{Message, show_opening};
@@ -27,7 +27,7 @@ pub(crate) fn feed_key<D: Disks, O: Sink>(
 ) -> Result<(), Halt>
     requires { IfSome message.now (λ message. message.first.count ≡ 1) }
     ensures says { OnDisks D.Disks disks.old (λ now machine.
-        Says result (message_today now machine message.now) prompt.old.setup.entries
+        Says result (message_rest now machine message.now) prompt.old.setup.entries
         (key_step prompt.old.setup prompt.old.state key).said (sink_of O.Sink out.old) (sink_of O.Sink out.new)) }
     ensures state { prompt.new.state ≡ (key_step prompt.old.setup prompt.old.state key).state }
     ensures setup { prompt.new.setup ≡ prompt.old.setup }
@@ -48,7 +48,7 @@ pub(crate) fn show_reply<D: Disks, O: Sink>(
 ) -> Result<(), Halt>
     requires { IfSome message.now (λ message. message.first.count ≡ 1) }
     ensures says { OnDisks D.Disks disks.old (λ now machine.
-        Says result (message_today now machine message.now) prompt.now.setup.entries (said_of reply.now)
+        Says result (message_rest now machine message.now) prompt.now.setup.entries (said_of reply.now)
         (sink_of O.Sink out.old) (sink_of O.Sink out.new)) }
     ensures only { ReadsAndShows D.Disks O.Sink (disks.old, out.old) (disks.new, out.new) (IsErrOf result Halt.Device) }
 {

@@ -1,6 +1,6 @@
 -- The steps of reading a file.
-use Rattle.std.proofs.Common.{◌≡◌, ◌≤◌, ◌+◌, ◌-◌, ◌==◌, ◌∙◌, inl, inr, ℕ, suc, true, refl, sym, ap, List, ◌++◌, map, take, length, Option, None, Some, Result, Ok, Err, arith}
-use Rattle.std.specs.Prelude.{min, Bool, false, nat_le, ◌<◌}
+use Rattle.std.proofs.Common.{◌≡◌, ◌≤◌, ◌+◌, ◌-◌, ◌∙◌, ℕ, zero, suc, true, refl, sym, ap, List, [], ◌++◌, map, take, length, Option, None, Some, Result, Ok, Err, arith, rules}
+use Rattle.std.specs.Prelude.{min, Bool, false, nat_le, ◌<◌, IsErr}
 use Rattle.std.specs.List.{concat}
 use Rattle.std.proofs.lemmas.List.{take-append-le, append-nil}
 use Rattle.std.proofs.Math.Seq.{take-append-add, take-length}
@@ -9,13 +9,14 @@ use Rattle.lilo_model.specs.Disks.{Image, Machine, DiskSector, bytes_at}
 use Rattle.lilo_model.specs.Slots as slots
 use Rattle.lilo_model.specs.Slots.{place_at}
 use Rattle.lilo_model.specs.Section.{sectors_for}
+use Rattle.lilo_model.specs.Reason.{NotFound}
 use Rattle.sector_address.specs.declared.slot.Slot.{Slot}
 use Rattle.bios_model.specs.Machine.{sector_bytes_at}
 use Rattle.map_section.specs.Reader.{ReaderState}
 use Rattle.section_loader.specs.declared.reason.Halt.{Halt}
 use Rattle.section_loader.specs.declared.reason.Halt.TheVariants.{Device, Refused}
-use Rattle.section_loader.specs.Reading.{Reading, reading_place, reading_slot, reading_sector, reading_ahead, rest_of, rest_behind}
-use Rattle.section_loader.specs.File.{Turns, FindsSector, Reads}
+use Rattle.section_loader.specs.Reading.{Reading, reading_place, reading_named, reading_sector, reading_ahead, FileRest, rest_of, rest_behind}
+use Rattle.section_loader.specs.File.{Turns, FindsSector, ReadsAt, Yields}
 
 -- a turn at which a section sector is fed
 pub fed_turn :
@@ -58,24 +59,46 @@ found_rest now left size behind (Ok place) bytes read long least =
     (ap (λ first. take left (first ++ concat (map (bytes_at now) behind.places))) here ∙ parts)
 found_rest now left size behind (Err fault) bytes read long least = let h : ⊥ = cc in absurd h
 
--- what is left after a slot of one sector that was read
+-- what is left behind a sector of a slot that was read
 pub read_rest :
-    (now : Image) (machine : Machine) (slot : slots.Slot) (left size : ℕ) (ahead : Reading) (behind : ℕ → Reading) (bytes : List ℕ)
-    → ahead ≡ reading_slot machine slot (sectors_for left) (behind (sectors_for left - slot.count))
-    → slot.count ≡ 1 → 0 < left → sector_bytes_at now machine slot 0 ≡ Ok bytes → length bytes ≡ 512 → size ≡ min 512 left
-    → rest_of now left ahead ≡ rest_behind (take size bytes) (rest_of now (left - size) (behind (sectors_for (left - size))))
-read_rest now machine slot left size ahead behind bytes is one some read long least =
-    let is_one : (slot.count == 1) ≡ true = grind arith in
-    let first : min slot.count (sectors_for left) ≡ suc 0 = grind arith in
-    let fewer : sectors_for left - slot.count ≡ sectors_for (left - size) = grind arith in
-    let named : ahead ≡ reading_place (behind (sectors_for (left - size))) (place_at machine slot 0) =
-    is ∙ rw (is_one, first, fewer) refl in
-    ap (λ reading. rest_of now left reading) named
-    ∙ found_rest now left size (behind (sectors_for (left - size))) (place_at machine slot 0) bytes read long least
+    (now : Image) (machine : Machine) (slot : slots.Slot) (index held left size : ℕ) (ahead : ℕ → Reading) (bytes : List ℕ)
+    → 0 < held → 0 < left → sector_bytes_at now machine slot index ≡ Ok bytes → length bytes ≡ 512 → size ≡ min 512 left
+    → rest_of now left (reading_named machine slot index (min held (sectors_for left)) (ahead (sectors_for left - held)))
+    ≡ rest_behind (take size bytes) (rest_of now (left - size)
+    (reading_named machine slot (index + 1) (min (held - 1) (sectors_for (left - size))) (ahead (sectors_for (left - size) - (held - 1)))))
+read_rest now machine slot index held left size ahead bytes more some read long least =
+    let first : min held (sectors_for left) ≡ suc (min (held - 1) (sectors_for (left - size))) = grind arith in
+    let fewer : sectors_for left - held ≡ sectors_for (left - size) - (held - 1) = grind arith in
+    let behind = reading_named machine slot (index + 1) (min (held - 1) (sectors_for (left - size))) (ahead (sectors_for (left - size) - (held - 1))) in
+    rw (first, fewer) (found_rest now left size behind (place_at machine slot index) bytes read long least)
 
--- a slot whose sector was read
-pub read_found :
-    (now : Image) (machine : Machine) (slot : slots.Slot) (done : Unit {0}) (bytes : List ℕ)
-    → Reads now machine slot (Ok done) bytes → sector_bytes_at now machine slot 0 ≡ Ok bytes
-read_found now machine slot done bytes (inl (one, read)) = read
-read_found now machine slot done bytes (inr (more, is)) = let h : ⊥ = cc in absurd h
+-- where a sector of a slot isn't there
+pub lost_rest :
+    (now : Image) (machine : Machine) (slot : slots.Slot) (index held left : ℕ) (ahead : ℕ → Reading)
+    → 0 < held → 0 < left → IsErr (place_at machine slot index)
+    → rest_of now left (reading_named machine slot index (min held (sectors_for left)) (ahead (sectors_for left - held)))
+    ≡ record { bytes = []; stop = Some NotFound }
+lost_rest now machine slot index held left ahead more some lost =
+    let first : min held (sectors_for left) ≡ suc (min (held - 1) (sectors_for left - 1)) = grind arith in
+    rw first (lost_by now left _ (place_at machine slot index) lost)
+  where
+    take-none : (n : ℕ) → ◌≡◌ {A = List ℕ} (take n []) []
+    take-none zero = refl
+    take-none (suc n) = refl
+
+    lost_by :
+        (now : Image) (left : ℕ) (behind : Reading) (found : Result DiskSector slots.AddressFault) → IsErr found
+        → rest_of now left (reading_place behind found) ≡ record { bytes = []; stop = Some NotFound }
+    lost_by now left behind (Ok place) lost = absurd (search rules)
+    lost_by now left behind (Err fault) lost = ap (λ bytes. record { bytes = bytes; stop = Some NotFound }) (take-none left)
+
+-- the same, as what is read of the file
+pub lost_yields :
+    (now : Image) (machine : Machine) (slot : slots.Slot) (index held left : ℕ) (ahead : ℕ → Reading) (old new : FileRest) (bytes : List ℕ) (halt : Halt)
+    → old ≡ rest_of now left (reading_named machine slot index (min held (sectors_for left)) (ahead (sectors_for left - held)))
+    → 0 < held → 0 < left → ReadsAt now machine slot index (Err halt) bytes
+    → Yields (Err halt) old bytes new
+lost_yields now machine slot index held left ahead old new bytes Device kept more some lost = tt
+lost_yields now machine slot index held left ahead old new bytes (Refused reason) kept more some (lost, is) =
+    kept ∙ lost_rest now machine slot index held left ahead more some lost
+    ∙ ap (λ r. record { bytes = []; stop = Some r }) (sym is)

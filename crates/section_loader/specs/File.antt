@@ -1,5 +1,5 @@
 -- What the steps of reading a file give.
-use Rattle.std.specs.Prelude.{◌≡◌, ◌⊎◌, ◌<◌, ◌≤◌, ◌-◌, ℕ, List, [], take, Option, None, Some, Result, Ok, Err, IsErr}
+use Rattle.std.specs.Prelude.{◌≡◌, ◌<◌, ◌≤◌, ◌-◌, ℕ, List, [], take, Option, None, Some, Result, Ok, Err, IsErr}
 use Rattle.disk_trait.specs.declared.disks.Disks.{Ghosts}
 use Rattle.lilo_model.specs.Disks.{Image, Machine, DiskSector}
 use Rattle.lilo_model.specs.Slots as slots
@@ -11,21 +11,35 @@ use Rattle.sector_address.specs.Machine.{OnDisks}
 use Rattle.sector_address.specs.View.{slot_view}
 use Rattle.sector_address.specs.declared.slot.Slot.{Slot}
 use Rattle.map_section.specs.Reader.{ReaderState, fed, turns_left}
-use Rattle.section_loader.specs.declared.reason.Reason.TheVariants as variants
 use Rattle.section_loader.specs.declared.reason.Halt.{Halt}
 use Rattle.section_loader.specs.declared.reason.Halt.TheVariants.{Device, Refused}
 use Rattle.section_loader.specs.declared.file.FileReader.{FileReader}
-use Rattle.section_loader.specs.Reading.{Because, Reading, ended_reading, reading_slot, reading_sector, FileRest, rest_ahead, rest_behind}
+use Rattle.section_loader.specs.Reading.{Reading, ended_reading, reading_slot, reading_sector, FileRest, rest_ahead, rest_behind}
 use Rattle.section_loader.specs.View.{reason_view}
 
--- as many sectors are needed as the bytes that are left take, and the first section sector has a slot of its own
+-- how many sectors are left of the slot at hand
+abbrev pub held_in : FileReader → ℕ
+held_in file = file.slot.count - file.index
+
+-- as many sectors are needed behind the slot at hand as the bytes that are left take, and the first section sector has a
+-- slot of its own
 pub record IsCounted (file : FileReader) : Type 0 where
-  pub needed : file.section.needed ≡ sectors_for file.left
+  pub needed : file.section.needed ≡ sectors_for file.left - held_in file
   pub one : file.first.count ≡ 1
+
+-- none is left of the slot at hand
+abbrev pub IsSpent : FileReader → Type 0
+IsSpent file = file.slot.count ≤ file.index
+
+-- one is left of it at least
+pub record HasNext (file : FileReader) : Type 0 where
+  pub some : file.index < file.slot.count
+  pub few : file.slot.count ≤ 255
 
 -- what is left of a file
 abbrev pub rest_in : Image → Machine → FileReader → FileRest
-rest_in image machine file = rest_ahead image machine (slot_view file.first) file.left file.section
+rest_in image machine file =
+    rest_ahead image machine (slot_view file.first) file.left (slot_view file.slot) file.index (held_in file) file.section
 
 -- a fact about what was left of a file and what is left now, where the disks report their past
 abbrev pub OnFile : {D : Type 0} → Ghosts D → D → FileReader → FileReader → (FileRest → FileRest → Type 0) → Type 0
@@ -55,6 +69,12 @@ Yields (Ok size) old sector new = old ≡ rest_behind (take size sector) new
 Yields (Err Device) old sector new = Unit {0}
 Yields (Err (Refused reason)) old sector new = old ≡ record { bytes = []; stop = Some (reason_view reason) }
 
+-- what is left of a file is the same, or what is refused is in place of it
+abbrev pub KeepsRest : Result (Unit {0}) Halt → FileRest → FileRest → Type 0
+KeepsRest (Ok done) old new = old ≡ new
+KeepsRest (Err Device) old new = Unit {0}
+KeepsRest (Err (Refused reason)) old new = old ≡ record { bytes = []; stop = Some (reason_view reason) }
+
 -- a reader was fed a section sector
 abbrev pub IsFed : ReaderState → ReaderState → Type 0
 IsFed old new = (bytes : List ℕ) × (new ≡ fed old bytes)
@@ -66,15 +86,13 @@ FindsSector image (Err Device) found old new = Unit {0}
 FindsSector image (Err (Refused reason)) found old new =
     (behind : ReaderState → Reading) → reading_sector image behind old found ≡ ended_reading (Some (reason_view reason))
 
+-- what is read of a slot at an index
+abbrev pub ReadsAt : Image → Machine → slots.Slot → ℕ → Result (Unit {0}) Halt → List ℕ → Type 0
+ReadsAt image machine slot index (Ok done) bytes = sector_bytes_at image machine slot index ≡ Ok bytes
+ReadsAt image machine slot index (Err Device) bytes = Unit {0}
+ReadsAt image machine slot index (Err (Refused reason)) bytes =
+    IsErr (place_at machine slot index) × (reason_view reason ≡ NotFound)
+
 -- what is read at a slot of one sector
 abbrev pub ReadsOne : Image → Machine → slots.Slot → Result (Unit {0}) Halt → List ℕ → Type 0
-ReadsOne image machine slot (Ok done) bytes = sector_bytes_at image machine slot 0 ≡ Ok bytes
-ReadsOne image machine slot (Err Device) bytes = Unit {0}
-ReadsOne image machine slot (Err (Refused reason)) bytes =
-    IsErr (place_at machine slot 0) × (reason_view reason ≡ Because NotFound)
-
--- what is read at a slot
-abbrev pub Reads : Image → Machine → slots.Slot → Result (Unit {0}) Halt → List ℕ → Type 0
-Reads image machine slot result bytes =
-    ((slot.count ≡ 1) × ReadsOne image machine slot result bytes)
-    ⊎ ((slot.count ≡ 1 → ⊥) × (result ≡ Err (Refused variants.Unbuilt)))
+ReadsOne image machine slot result bytes = ReadsAt image machine slot 0 result bytes

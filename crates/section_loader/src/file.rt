@@ -2,17 +2,17 @@
 ghost use Rattle.std.specs.Prelude.{◌≡◌, ◌<◌, ◌≤◌, ◌-◌, None, min, IfOk, OnOk, OnErr, IsErrOf};
 ghost use Rattle.lilo_model.specs.Disks.{Image, Machine};
 ghost use Rattle.lilo_model.specs.Slots.{place_at};
-ghost use Rattle.lilo_model.specs.Section.{sectors_for};
+ghost use Rattle.lilo_model.specs.Section.{sectors_for, file_content};
 ghost use Rattle.lilo_model.specs.Reason.{section_reason};
 ghost use Rattle.sector_address.specs.Machine.{OnDisks};
 ghost use Rattle.bios_model.specs.Reads.{OnlyReads};
 ghost use Rattle.sector_address.specs.View.{slot_view};
 ghost use Rattle.map_section.specs.Reader.{IsAsking};
 ghost use Rattle.map_section.specs.View.{section_fault_view};
-ghost use Rattle.section_loader.specs.Reading.{Because, reading_ahead, file_today};
+ghost use Rattle.section_loader.specs.Reading.{reading_ahead, content_rest};
 ghost use Rattle.section_loader.specs.View.{reason_view};
-ghost use Rattle.section_loader.specs.File.{IsCounted, rest_in, Counts, Turns, Names, OnFile};
-ghost use Rattle.section_loader.specs.File.{Yields, IsFed, FindsSector, Reads, ReadsOne};
+ghost use Rattle.section_loader.specs.File.{IsCounted, IsSpent, HasNext, rest_in, Counts, Turns, Names, OnFile};
+ghost use Rattle.section_loader.specs.File.{Yields, KeepsRest, IsFed, FindsSector, ReadsAt, ReadsOne};
 
 use crate::reason::{Halt, Reason};
 use bios_model::{BiosFault, read_slot};
@@ -32,6 +32,9 @@ pub struct FileReader {
     // The bytes that are left.
     pub(crate) left: u32,
     pub(crate) section: SectionReader,
+    // The slot at hand, and the index of its next sector; at first none is left of it.
+    pub(crate) slot: Slot,
+    pub(crate) index: u8,
 }
 
 impl FileReader {
@@ -41,12 +44,14 @@ impl FileReader {
         ensures counted { IsCounted result }
         ensures left { result.left ≡ length }
         ensures rest { (now : Image) (machine : Machine) → rest_in now machine result
-            ≡ file_today now machine (slot_view first.now) length chain }
+            ≡ content_rest (file_content now machine (slot_view first.now) length chain) }
     {
         FileReader {
             first: *first,
             left: length,
             section: SectionReader::new(length.div_ceil(SECTOR), chain),
+            slot: *first,
+            index: first.count,
         }
     }
 
@@ -64,16 +69,36 @@ impl FileReader {
         if self.left == 0 {
             return Ok(0);
         }
-        let slot = self.next_slot(disks)?;
-        read_sector(disks, &slot, into)?;
+        self.take_slot(disks)?;
+        read_at(disks, &self.slot, self.index, into)?;
+        self.index += 1;
         let size = self.left.min(SECTOR);
         self.left -= size;
         Ok(size as usize)
     }
 
-    // The slot of the next sector, after the section sectors that come before it.
+    // Takes the next slot in hand where none of the sectors of the one at hand is left.
+    fn take_slot<D: Disks>(&mut self, disks: &mut D) -> Result<(), Halt>
+        requires counted { IsCounted self.old }
+        requires some { 0 < self.old.left }
+        ensures counted { OnOk result (IsCounted self.new) }
+        ensures next { OnOk result (HasNext self.new) }
+        ensures left { self.new.left ≡ self.old.left }
+        ensures rest { OnFile D.Disks disks.old self.old self.new (λ old new. KeepsRest result old new) }
+        ensures reads { OnlyReads D.Disks disks.old disks.new (IsErrOf result Halt.Device) }
+    {
+        if self.index < self.slot.count {
+            return Ok(());
+        }
+        self.slot = self.next_slot(disks)?;
+        self.index = 0;
+        Ok(())
+    }
+
+    // The slot that comes next, after the section sectors that are before it.
     fn next_slot<D: Disks>(&mut self, disks: &mut D) -> Result<Slot, Halt>
         requires counted { IsCounted self.old }
+        requires spent { IsSpent self.old }
         requires some { 0 < self.old.left }
         ensures slot { IfOk result (λ slot. 1 ≤ slot.count) }
         ensures left { self.new.left ≡ self.old.left }
@@ -95,9 +120,12 @@ impl FileReader {
     // The slot that the section names next, or `None` where a section sector was read instead.
     fn turn<D: Disks>(&mut self, disks: &mut D) -> Result<Option<Slot>, Halt>
         requires counted { IsCounted self.old }
+        requires spent { IsSpent self.old }
         requires some { 0 < self.old.left }
         ensures left { self.new.left ≡ self.old.left }
         ensures first { self.new.first ≡ self.old.first }
+        ensures slot { self.new.slot ≡ self.old.slot }
+        ensures index { self.new.index ≡ self.old.index }
         ensures counts { IfOk result (λ slot. Counts slot self.old.section self.new.section) }
         ensures turn { OnDisks D.Disks disks.old (λ now machine.
             Turns machine (sectors_for self.old.left) result
@@ -123,6 +151,8 @@ impl FileReader {
         requires one { link.now.count ≡ 1 }
         ensures left { self.new.left ≡ self.old.left }
         ensures first { self.new.first ≡ self.old.first }
+        ensures slot { self.new.slot ≡ self.old.slot }
+        ensures index { self.new.index ≡ self.old.index }
         ensures fed { IfOk result (λ slot. (slot ≡ None) × IsFed self.old.section self.new.section) }
         ensures found { OnDisks D.Disks disks.old (λ now machine.
             FindsSector now result (place_at machine (slot_view link.now) 0) self.old.section self.new.section) }
@@ -137,26 +167,13 @@ impl FileReader {
 
 /// How a boot reports why a section is refused.
 fn reason_of(fault: SectionFault) -> Reason
-    ensures { reason_view result ≡ Because (section_reason (section_fault_view fault)) }
+    ensures { reason_view result ≡ section_reason (section_fault_view fault) }
 {
     match fault {
         SectionFault::BadSlot(place) => Reason::BadSlot(place),
         SectionFault::ChainTooLong(chain) => Reason::ChainTooLong(chain),
         SectionFault::ShortChain(sectors) => Reason::ShortChain(sectors),
     }
-}
-
-/// Reads the one sector that a slot names. A slot of more sectors isn't followed yet.
-fn read_sector<D: Disks>(disks: &mut D, slot: &Slot, into: &mut Sector) -> Result<(), Halt>
-    ensures sector { OnDisks D.Disks disks.old (λ now machine.
-        Reads now machine (slot_view slot.now) result into.new) }
-    ensures one { OnOk result (slot.now.count ≡ 1) }
-    ensures reads { OnlyReads D.Disks disks.old disks.new (IsErrOf result Halt.Device) }
-{
-    if slot.count != 1 {
-        return Err(Halt::Refused(Reason::Unbuilt));
-    }
-    read_one(disks, slot, into)
 }
 
 /// Reads the first sector that a slot names.
@@ -166,7 +183,17 @@ pub fn read_one<D: Disks>(disks: &mut D, slot: &Slot, into: &mut Sector) -> Resu
         ReadsOne now machine (slot_view slot.now) result into.new) }
     ensures reads { OnlyReads D.Disks disks.old disks.new (IsErrOf result Halt.Device) }
 {
-    match read_slot(disks, slot, 0, into) {
+    read_at(disks, slot, 0, into)
+}
+
+/// Reads the sector that a slot names at an index.
+fn read_at<D: Disks>(disks: &mut D, slot: &Slot, index: u8, into: &mut Sector) -> Result<(), Halt>
+    requires { index < slot.now.count }
+    ensures sector { OnDisks D.Disks disks.old (λ now machine.
+        ReadsAt now machine (slot_view slot.now) index result into.new) }
+    ensures reads { OnlyReads D.Disks disks.old disks.new (IsErrOf result Halt.Device) }
+{
+    match read_slot(disks, slot, index, into) {
         Ok(()) => Ok(()),
         Err(BiosFault::NotFound) => Err(Halt::Refused(Reason::NotFound)),
         Err(_) => Err(Halt::Device),

@@ -1,8 +1,7 @@
 //! The files of a map: followed along their sections, and placed in memory.
 //!
 //! A [`FileReader`] reads a file sector by sector, each once, by the slots of its section; [`load_bytes`] places what
-//! it reads. A slot of more than one sector isn't followed yet. A step that fails reports why nothing is started: a
-//! [`Halt`].
+//! it reads. A step that fails reports why nothing is started: a [`Halt`].
 #![tactic(auto)]
 
 mod file;

@@ -23,8 +23,6 @@ pub enum Reason {
     Header(SetupFault),
     /// The keys ended at the prompt.
     Idle,
-    /// The map needs a part of the loader that isn't built yet.
-    Unbuilt,
 }
 
 /// Why a step of a boot ended it.

@@ -107,11 +107,24 @@ fn a_file_is_followed_and_placed(rt: HostRuntime) -> Result<(), Fail> {
             Err(Halt::Refused(Reason::NotFound)),
             [20, 20, 0, 0],
         ),
-        // Both by one slot, which isn't followed yet.
+        // Both by one slot, alone or with more than the file needs.
         (
             b"\x03\x80\x02\0\x14\0\0\0\0\0\0\0\0\0\0\0",
             &[],
-            Err(Halt::Refused(Reason::Unbuilt)),
+            Ok(()),
+            [20, 20, 21, 0],
+        ),
+        (
+            b"\x03\x80\x7F\0\x14\0\0\0\0\0\0\0\0\0\0\0",
+            &[],
+            Ok(()),
+            [20, 20, 21, 0],
+        ),
+        // The second of one slot's sectors isn't there.
+        (
+            b"\x03\x80\x02\0\x1F\0\0\0\0\0\0\0\0\0\0\0",
+            &[],
+            Err(Halt::Refused(Reason::NotFound)),
             [0; 4],
         ),
         // The first of them can't be read.

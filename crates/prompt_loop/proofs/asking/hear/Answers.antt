@@ -4,7 +4,7 @@ use Rattle.sector_address.specs.Machine.{machine_of}
 use Rattle.prompt_core.specs.Run.{is_done, driven}
 use Rattle.stream_trait.specs.Shows.{sink_of}
 use Rattle.disk_trait.proofs.ToldLemmas.{told_all, told_map, told_both}
-use Rattle.prompt_loop.specs.Message.{message_today}
+use Rattle.prompt_loop.specs.Message.{message_rest}
 use Rattle.prompt_loop.specs.Tale.{tale_of}
 use Rattle.prompt_loop.proofs.AskLemmas.{goes_begin, goes_on, comes_done, comes_halted, comes_silent, lost_counted}
 use Rattle.prompt_loop.proofs.asking.hear.Goals as goal
@@ -15,7 +15,7 @@ loop-bios-init g c =
     record {
       goes =
           told_all (g.D.Disks.past c.args.bios.now.disks.now) _
-          (λ now. goes_begin g.I.Source (message_today now machine c.args.message.now) c.args.prompt.now.setup c.args.prompt.now.state c.args.bios.now.keys.now (sink_of g.O.Sink c.args.out.now));
+          (λ now. goes_begin g.I.Source (message_rest now machine c.args.message.now) c.args.prompt.now.setup c.args.prompt.now.state c.args.bios.now.keys.now (sink_of g.O.Sink c.args.out.now));
       setup = refl;
       same = search rules;
       later = omega arith;
@@ -33,7 +33,7 @@ returns-clause-heard g c =
     let done : is_done c.loop-bios.prompt.state ≡ true = search rules in
     told_map (g.D.Disks.past c.args.bios.now.disks.now) _ _
     (λ now far.
-    comes_done g.I.Source (message_today now machine c.args.message.now) (λ heard. tale_of (message_today now machine c.args.message.now) (driven setup heard c.args.prompt.now.state)) setup c.loop-bios.prompt.state
+    comes_done g.I.Source (message_rest now machine c.args.message.now) (λ heard. tale_of (message_rest now machine c.args.message.now) (driven setup heard c.args.prompt.now.state)) setup c.loop-bios.prompt.state
     c.args.bios.now.keys.now c.loop-bios.bios.keys.now (sink_of g.O.Sink c.args.out.now) (sink_of g.O.Sink c.loop-bios.out) far done)
     c.loop-bios.invariant.goes
 
@@ -47,7 +47,7 @@ returns-in-Silence-clause-heard g c =
     let comes = rw (c.in-Ok.ensures.disks, same.same_past, same.same_size, same.same_geometry, c.loop-bios.invariant.setup) at c.hear_silence.ensures.heard in
     told_both (g.D.Disks.past c.args.bios.now.disks.now) _ _ _
     (λ now far silent.
-    comes_silent g.I.Source (message_today now machine c.args.message.now) (λ heard. tale_of (message_today now machine c.args.message.now) (driven setup heard c.args.prompt.now.state)) setup c.loop-bios.prompt.state c.hear_silence.new.prompt.state c.hear_silence.result
+    comes_silent g.I.Source (message_rest now machine c.args.message.now) (λ heard. tale_of (message_rest now machine c.args.message.now) (driven setup heard c.args.prompt.now.state)) setup c.loop-bios.prompt.state c.hear_silence.new.prompt.state c.hear_silence.result
     c.args.bios.now.keys.now c.loop-bios.bios.keys.now c.key.new.self.keys.now (sink_of g.O.Sink c.args.out.now) (sink_of g.O.Sink c.loop-bios.out) (sink_of g.O.Sink c.hear_silence.new.out)
     far gives ended silent)
     c.loop-bios.invariant.goes comes
@@ -66,7 +66,7 @@ returns-in-Err g c =
       heard =
           told_both (g.D.Disks.past c.args.bios.now.disks.now) _ _ _
           (λ now far said. rw next
-          (comes_halted g.I.Source (message_today now machine c.args.message.now) (λ heard. tale_of (message_today now machine c.args.message.now) (driven setup heard c.args.prompt.now.state)) setup state c.in-Ok.key c.in-Err.halt
+          (comes_halted g.I.Source (message_rest now machine c.args.message.now) (λ heard. tale_of (message_rest now machine c.args.message.now) (driven setup heard c.args.prompt.now.state)) setup state c.in-Ok.key c.in-Err.halt
           c.args.bios.now.keys.now c.loop-bios.bios.keys.now c.key.new.self.keys.now (sink_of g.O.Sink c.args.out.now) (sink_of g.O.Sink c.loop-bios.out) (sink_of g.O.Sink c.feed_key.new.out)
           far waits c.in_default-key.not-Silence c.in-Ok.ensures.key (λ end. (c.in-Ok.ensures.stays end).0) said))
           c.loop-bios.invariant.goes says;
@@ -99,7 +99,7 @@ loop-bios-preserved g c =
       goes =
           told_both (g.D.Disks.past c.args.bios.now.disks.now) _ _ _
           (λ now far said. rw next
-          (goes_on g.I.Source (message_today now machine c.args.message.now) (λ heard. tale_of (message_today now machine c.args.message.now) (driven setup heard c.args.prompt.now.state)) setup state c.in-Ok.key
+          (goes_on g.I.Source (message_rest now machine c.args.message.now) (λ heard. tale_of (message_rest now machine c.args.message.now) (driven setup heard c.args.prompt.now.state)) setup state c.in-Ok.key
           c.args.bios.now.keys.now c.loop-bios.bios.keys.now c.key.new.self.keys.now (sink_of g.O.Sink c.args.out.now) (sink_of g.O.Sink c.loop-bios.out) (sink_of g.O.Sink c.feed_key.new.out)
           far waits c.in_default-key.not-Silence c.in-Ok.ensures.key (λ end. (c.in-Ok.ensures.stays end).0) said))
           c.loop-bios.invariant.goes says;

@@ -4,7 +4,7 @@ use Rattle.disk_trait.specs.Past.{Told, SameDisks}
 use Rattle.sector_address.specs.Machine.{machine_of}
 use Rattle.prompt_core.specs.Run.{driven}
 use Rattle.stream_trait.specs.Shows.{HasFailed, sink_of}
-use Rattle.prompt_loop.specs.Message.{message_today}
+use Rattle.prompt_loop.specs.Message.{message_rest}
 use Rattle.prompt_loop.specs.Tale.{tale_of}
 use Rattle.prompt_loop.proofs.AskLemmas.{Goes}
 use Rattle.prompt_loop.proofs.asking.hear.Given as goal
@@ -18,7 +18,7 @@ invariant-loop-bios g l =
     record {
       goes :
           Told (disks.past l.fn.bios.disks.now)
-          (λ now. Goes keys (message_today now machine l.message) (λ heard. tale_of (message_today now machine l.message) (driven setup heard l.fn.prompt.state)) setup l.prompt.state l.fn.bios.keys.now l.bios.keys.now (sink_of g.O.Sink l.fn.out) (sink_of g.O.Sink l.out));
+          (λ now. Goes keys (message_rest now machine l.message) (λ heard. tale_of (message_rest now machine l.message) (driven setup heard l.fn.prompt.state)) setup l.prompt.state l.fn.bios.keys.now l.bios.keys.now (sink_of g.O.Sink l.fn.out) (sink_of g.O.Sink l.out));
       setup : l.prompt.setup ≡ setup;
       same : SameDisks disks.past disks.size_of disks.count_of disks.geometry_of l.fn.bios.disks.now l.bios.disks.now;
       later : disks.faults l.fn.bios.disks.now ≤ disks.faults l.bios.disks.now;

@@ -3,7 +3,7 @@ use Rattle.sector_address.specs.Machine.{machine_of}
 use Rattle.prompt_core.specs.Run.{is_done, driven}
 use Rattle.stream_trait.specs.Shows.{sink_of}
 use Rattle.disk_trait.proofs.ToldLemmas.{told_both}
-use Rattle.prompt_loop.specs.Message.{message_today}
+use Rattle.prompt_loop.specs.Message.{message_rest}
 use Rattle.prompt_loop.specs.Tale.{tale_of}
 use Rattle.prompt_loop.proofs.AskLemmas.{silent_on, silent_halted}
 use Rattle.prompt_loop.proofs.SilenceLemmas.{silences_fall}
@@ -20,7 +20,7 @@ returns-in-Err-clause-heard g c =
     let next = rw c.loop-disks.invariant.setup at c.in-Err.ensures.state in
     told_both (g.D.Disks.past c.args.disks.now) _ _ _
     (λ now far said. rw next
-    (silent_halted (message_today now machine c.args.message.now) (tale_of (message_today now machine c.args.message.now) (driven setup [] c.args.prompt.now.state)) setup state c.in-Err.halt
+    (silent_halted (message_rest now machine c.args.message.now) (tale_of (message_rest now machine c.args.message.now) (driven setup [] c.args.prompt.now.state)) setup state c.in-Err.halt
     (sink_of g.O.Sink c.args.out.now) (sink_of g.O.Sink c.loop-disks.out) (sink_of g.O.Sink c.feed_key.new.out) far waits said))
     c.loop-disks.invariant.goes says
 
@@ -42,7 +42,7 @@ loop-disks-preserved g c =
       goes =
           told_both (g.D.Disks.past c.args.disks.now) _ _ _
           (λ now far said. rw next
-          (silent_on (message_today now machine c.args.message.now) (tale_of (message_today now machine c.args.message.now) (driven setup [] c.args.prompt.now.state)) setup state
+          (silent_on (message_rest now machine c.args.message.now) (tale_of (message_rest now machine c.args.message.now) (driven setup [] c.args.prompt.now.state)) setup state
           (sink_of g.O.Sink c.args.out.now) (sink_of g.O.Sink c.loop-disks.out) (sink_of g.O.Sink c.feed_key.new.out) far waits said))
           c.loop-disks.invariant.goes says;
       setup = search rules;

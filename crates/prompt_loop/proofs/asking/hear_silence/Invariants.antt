@@ -4,7 +4,7 @@ use Rattle.disk_trait.specs.Past.{Told, SameDisks}
 use Rattle.sector_address.specs.Machine.{machine_of}
 use Rattle.prompt_core.specs.Run.{driven}
 use Rattle.stream_trait.specs.Shows.{HasFailed, sink_of}
-use Rattle.prompt_loop.specs.Message.{message_today}
+use Rattle.prompt_loop.specs.Message.{message_rest}
 use Rattle.prompt_loop.specs.Tale.{tale_of}
 use Rattle.prompt_loop.proofs.AskLemmas.{GoesSilent}
 use Rattle.prompt_loop.proofs.SilenceLemmas.{silences}
@@ -18,7 +18,7 @@ invariant-loop-disks g l =
     record {
       goes :
           Told (disks.past l.fn.disks)
-          (λ now. GoesSilent (message_today now machine l.message) (tale_of (message_today now machine l.message) (driven setup [] l.fn.prompt.state)) setup l.prompt.state (sink_of g.O.Sink l.fn.out) (sink_of g.O.Sink l.out));
+          (λ now. GoesSilent (message_rest now machine l.message) (tale_of (message_rest now machine l.message) (driven setup [] l.fn.prompt.state)) setup l.prompt.state (sink_of g.O.Sink l.fn.out) (sink_of g.O.Sink l.out));
       setup : l.prompt.setup ≡ setup;
       same : SameDisks disks.past disks.size_of disks.count_of disks.geometry_of l.fn.disks l.disks;
       later : disks.faults l.fn.disks ≤ disks.faults l.disks;

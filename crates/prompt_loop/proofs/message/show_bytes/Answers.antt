@@ -1,6 +1,5 @@
 use Rattle.std.proofs.Common.{◌≡◌, take, ap, arith, rules}
 use Rattle.sector_address.specs.Machine.{machine_of}
-use Rattle.sector_address.specs.View.{slot_view}
 use Rattle.section_loader.specs.File.{rest_in}
 use Rattle.section_loader.proofs.RestLemmas.{ended_rest}
 use Rattle.stream_trait.specs.Shows.{sink_of}
@@ -21,7 +20,7 @@ returns-then-size-eq0-clause-shown g c =
     (λ now far yields.
     shown_whole (rest_in now machine c.args.file.now) (rest_in now machine c.loop-size.file) (rest_in now machine file) (take size c.next.new.into)
     (sink_of g.O.Sink c.args.out.now) (sink_of g.O.Sink c.loop-size.out) far yields (ap (λ n. take n c.next.new.into) zero)
-    (ended_rest now machine (slot_view file.first) file.left file.section none c.in_ok-size.ensures.counted.needed))
+    (ended_rest now machine file none c.in_ok-size.ensures.counted))
     c.loop-size.invariant.shown read
 
 pub loop-size-preserved : goal.loop-size-preserved

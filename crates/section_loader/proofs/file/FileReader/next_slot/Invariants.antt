@@ -21,6 +21,8 @@ invariant-loop-slot g l =
       needed : l.self.section.needed ≡ l.fn.self.section.needed;
       left : l.self.left ≡ l.fn.self.left;
       first : l.self.first ≡ l.fn.self.first;
+      slot : l.self.slot ≡ l.fn.self.slot;
+      index : l.self.index ≡ l.fn.self.index;
       same : SameDisks disks.past disks.size_of disks.count_of disks.geometry_of l.fn.disks l.disks;
       later : disks.faults l.fn.disks ≤ disks.faults l.disks;
     }

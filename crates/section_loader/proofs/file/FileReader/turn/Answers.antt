@@ -18,7 +18,7 @@ pub returns-in-Err-clause-turn : goal.returns-in-Err-clause-turn
 returns-in-Err-clause-turn g c = told_all _ _ (λ now.
     ahead_by now _ (slot_view c.args.self.now.first) (sectors_for c.args.self.now.left) c.args.self.now.section
     c.next.new.self _ c.in-Err.ensures.answer c.in-Err.ensures.state
-    ∙ ap (λ why. ended_reading (Some why)) (sym c.reason_of.ensures))
+    ∙ ap (λ reason. ended_reading (Some reason)) (sym c.reason_of.ensures))
 
 pub returns-in-Ok-Sector-clause-turn : goal.returns-in-Ok-Sector-clause-turn
 returns-in-Ok-Sector-clause-turn g c = told_map _ _ _

@@ -5,9 +5,11 @@ use Rattle.std.proofs.lemmas.List.{map-id}
 use Rattle.std.proofs.lemmas.Simd.{map-map}
 use Rattle.lilo_model.specs.Disks.{Image, Machine}
 use Rattle.lilo_model.specs.BootSector.{BootSector}
+use Rattle.lilo_model.specs.Slots as slots
 use Rattle.lilo_model.specs.Prompt.{Key, Decision, Opening}
 use Rattle.lilo_model.specs.Place.{Memory}
-use Rattle.lilo_model.specs.Boot.{GoodMap, settings_of, listed_entries, opening_at}
+use Rattle.lilo_model.specs.Boot.{GoodMap, error_text, settings_of, listed_entries, opening_at}
+use Rattle.lilo_model.specs.Reason as reasons
 use Rattle.prompt_core.specs.Decided.{plain_setup, picked_by, line_behind}
 use Rattle.prompt_core.specs.Run.{chosen_in, run_of}
 use Rattle.prompt_core.specs.Steps.{Chosen, State}
@@ -21,13 +23,19 @@ use Rattle.prompt_loop.proofs.LawLemmas.{ask_law}
 use Rattle.section_loader.specs.declared.reason.Reason.{Reason}
 use Rattle.section_loader.specs.declared.reason.Halt.{Halt}
 use Rattle.section_loader.specs.declared.reason.Halt.TheVariants.{Device, Refused}
-use Rattle.section_loader.specs.Reading.{Why, FileRest}
+use Rattle.section_loader.specs.Reading.{FileRest}
 use Rattle.section_loader.specs.View.{reason_view}
 use Rattle.stream_trait.specs.Shows.{SinkState, Shows, ShowsOne}
 use Rattle.stream_trait.proofs.ShowsLemmas.{shows_join, shows_one_join, shows_same}
+use Rattle.disk_trait.specs.declared.disks.Disks.{Ghosts}
+use Rattle.disk_trait.specs.declared.disks.Phase.{Phase}
+use Rattle.disk_trait.specs.declared.disks.Phase.TheVariants.{Before}
+use Rattle.disk_trait.specs.Calls.{SameOf}
 use Rattle.loader_core.specs.declared.outcome.Started.{Started}
+use Rattle.loader_core.specs.Leaves.{Leaves}
+use Rattle.loader_core.proofs.LeavesLemmas.{read_leaves}
 use Rattle.loader_core.specs.Start.{Reports, Went, unasked, stop_text}
-use Rattle.loader_core.specs.Today.{Report, why_text, prefixes, asking_report, refused_report, decided_report, message_read, prompt_report, asked_report, decision_today}
+use Rattle.loader_core.specs.Report.{Report, prefixes, asking_report, refused_report, decided_report, message_read, prompt_report, asked_report, decision_read}
 
 -- ---- a prefix that was shown
 
@@ -67,11 +75,11 @@ asked_chosen text left report (Err (Refused reason)) m ram a b c first second =
 
 -- the message is refused
 asked_refused :
-    (text : List ℕ) (left : List Key) (why : Why) (reason : Reason) (m : Memory) (ram : List ℕ) (a b c : SinkState)
-    → reason_view reason ≡ why → Shows a text b → Shows b (why_text (reason_view reason)) c
-    → Went (Err (stops.Halt (Refused reason))) (asking_report text left (refused_report (why_text why) why [])) m ram left a c
+    (text : List ℕ) (left : List Key) (why : reasons.Reason) (reason : Reason) (m : Memory) (ram : List ℕ) (a b c : SinkState)
+    → reason_view reason ≡ why → Shows a text b → Shows b (error_text (reason_view reason)) c
+    → Went (Err (stops.Halt (Refused reason))) (asking_report text left (refused_report (error_text why) why [])) m ram left a c
 asked_refused text left why reason m ram a b c is first second =
-    (refl, record { starts = ap (λ w. Err w) (sym is); shows = shows_join a b c text (why_text why) first (subst (λ w. Shows b (why_text w) c) is second) })
+    (refl, record { starts = ap (λ w. Err w) (sym is); shows = shows_join a b c text (error_text why) first (subst (λ w. Shows b (error_text w) c) is second) })
 
 -- a disk failed
 asked_lost :
@@ -102,30 +110,30 @@ asked_unheard text left left' report m ram a b c first second =
 
 -- a tale of a choice
 tale_chosen :
-    (image : Image) (machine : Machine) (good : GoodMap) (memory : ℕ) (message : FileRest) (decision : Decision) (tale : Tale) (chosen : Option Chosen)
-    (stop : Option Why) (opens : Option Opening) → ComesTo (listed_entries image machine good) good.line message stop opens tale decision → tale.end ≡ Ok chosen
-    → prompt_report image machine good memory message decision stop opens
+    (image : Image) (machine : Machine) (slot : slots.Slot) (good : GoodMap) (memory : ℕ) (message : FileRest) (decision : Decision) (tale : Tale) (chosen : Option Chosen)
+    (stop : Option reasons.Reason) (opens : Option Opening) → ComesTo (listed_entries image machine good) good.line message stop opens tale decision → tale.end ≡ Ok chosen
+    → prompt_report image machine slot good memory message decision stop opens
     ≡ asking_report tale.shown tale.left
-    (decided_report image machine good memory (line_behind (listed_entries image machine good) good.line chosen) (option_map picked_by chosen))
-tale_chosen image machine good memory message decision tale chosen None opens comes is =
+    (decided_report image machine slot good memory (line_behind (listed_entries image machine good) good.line chosen) (option_map picked_by chosen))
+tale_chosen image machine slot good memory message decision tale chosen None opens comes is =
     let same : comes.chosen ≡ chosen = let both : Ok comes.chosen ≡ Ok chosen = sym comes.end ∙ is in cc in
     rw (comes.decided, same) refl
-tale_chosen image machine good memory message decision tale chosen (Some why) None comes is =
+tale_chosen image machine slot good memory message decision tale chosen (Some why) None comes is =
     let same : comes.chosen ≡ chosen = let both : Ok comes.chosen ≡ Ok chosen = sym comes.end ∙ is in cc in
     rw (comes.decided, same) refl
-tale_chosen image machine good memory message decision tale chosen (Some why) (Some opens) comes is =
+tale_chosen image machine slot good memory message decision tale chosen (Some why) (Some opens) comes is =
     let both : Err why ≡ Ok chosen = sym (ap (λ t. t.end) comes) ∙ is in let h : ⊥ = cc in absurd h
 
 -- a tale of a message that is refused
 tale_stopped :
-    (image : Image) (machine : Machine) (good : GoodMap) (memory : ℕ) (message : FileRest) (decision : Decision) (tale : Tale) (why : Why)
-    (stop : Option Why) (opens : Option Opening) → ComesTo (listed_entries image machine good) good.line message stop opens tale decision → tale.end ≡ Err why
-    → prompt_report image machine good memory message decision stop opens ≡ asking_report tale.shown tale.left (refused_report (why_text why) why [])
-tale_stopped image machine good memory message decision tale why None opens comes is =
+    (image : Image) (machine : Machine) (slot : slots.Slot) (good : GoodMap) (memory : ℕ) (message : FileRest) (decision : Decision) (tale : Tale) (why : reasons.Reason)
+    (stop : Option reasons.Reason) (opens : Option Opening) → ComesTo (listed_entries image machine good) good.line message stop opens tale decision → tale.end ≡ Err why
+    → prompt_report image machine slot good memory message decision stop opens ≡ asking_report tale.shown tale.left (refused_report (error_text why) why [])
+tale_stopped image machine slot good memory message decision tale why None opens comes is =
     let both : Ok comes.chosen ≡ Err why = sym comes.end ∙ is in let h : ⊥ = cc in absurd h
-tale_stopped image machine good memory message decision tale why (Some other) None comes is =
+tale_stopped image machine slot good memory message decision tale why (Some other) None comes is =
     let both : Ok comes.chosen ≡ Err why = sym comes.end ∙ is in let h : ⊥ = cc in absurd h
-tale_stopped image machine good memory message decision tale why (Some other) (Some opens) comes is =
+tale_stopped image machine slot good memory message decision tale why (Some other) (Some opens) comes is =
     let both : Err other ≡ Err why = sym (ap (λ t. t.end) comes) ∙ is in
     let same : other ≡ why = cc in
     rw (comes, same) refl
@@ -136,14 +144,14 @@ record IsAsking (report : Report) (text : List ℕ) (left : List Key) : Type 0 w
   pub is : report ≡ asking_report text left behind
 
 tale_any :
-    (image : Image) (machine : Machine) (good : GoodMap) (memory : ℕ) (message : FileRest) (decision : Decision) (tale : Tale)
-    (stop : Option Why) (opens : Option Opening) → ComesTo (listed_entries image machine good) good.line message stop opens tale decision
-    → (end : Result (Option Chosen) Why) → tale.end ≡ end
-    → IsAsking (prompt_report image machine good memory message decision stop opens) tale.shown tale.left
-tale_any image machine good memory message decision tale stop opens comes (Ok chosen) is =
-    record { behind = decided_report image machine good memory (line_behind (listed_entries image machine good) good.line chosen) (option_map picked_by chosen); is = tale_chosen image machine good memory message decision tale chosen stop opens comes is }
-tale_any image machine good memory message decision tale stop opens comes (Err why) is =
-    record { behind = refused_report (why_text why) why []; is = tale_stopped image machine good memory message decision tale why stop opens comes is }
+    (image : Image) (machine : Machine) (slot : slots.Slot) (good : GoodMap) (memory : ℕ) (message : FileRest) (decision : Decision) (tale : Tale)
+    (stop : Option reasons.Reason) (opens : Option Opening) → ComesTo (listed_entries image machine good) good.line message stop opens tale decision
+    → (end : Result (Option Chosen) reasons.Reason) → tale.end ≡ end
+    → IsAsking (prompt_report image machine slot good memory message decision stop opens) tale.shown tale.left
+tale_any image machine slot good memory message decision tale stop opens comes (Ok chosen) is =
+    record { behind = decided_report image machine slot good memory (line_behind (listed_entries image machine good) good.line chosen) (option_map picked_by chosen); is = tale_chosen image machine slot good memory message decision tale chosen stop opens comes is }
+tale_any image machine slot good memory message decision tale stop opens comes (Err why) is =
+    record { behind = refused_report (error_text why) why []; is = tale_stopped image machine slot good memory message decision tale why stop opens comes is }
 
 -- ---- what asking came to
 
@@ -155,24 +163,24 @@ asked_tale image machine boot good keys =
 asked_law :
     (image : Image) (machine : Machine) (boot : BootSector) (good : GoodMap) (keys : List Key)
     → ComesTo (listed_entries image machine good) good.line (message_read image machine boot) (message_read image machine boot).stop
-    (opening_at image machine boot good keys) (asked_tale image machine boot good keys) (decision_today image machine boot good keys)
-unfolding opening_at decision_today
+    (opening_at image machine boot good keys) (asked_tale image machine boot good keys) (decision_read image machine boot good keys)
+unfolding opening_at decision_read
 asked_law image machine boot good keys = ask_law (settings_of boot) (listed_entries image machine good) good.line (message_read image machine boot) keys
 
 -- asking came to a choice, or to none
 pub asked_ok :
     (image : Image) (machine : Machine) (boot : BootSector) (good : GoodMap) (memory : ℕ) (keys left : List Key) (state : State) (result : Result Started Halt) (m : Memory) (ram : List ℕ) (a b c : SinkState)
     → Comes (Ok tt) (asked_tale image machine boot good keys) state left a b
-    → Reports (decided_report image machine good memory (line_behind (listed_entries image machine good) good.line (chosen_in state)) (option_map picked_by (chosen_in state))) result m ram b c
+    → Reports (decided_report image machine boot.line good memory (line_behind (listed_entries image machine good) good.line (chosen_in state)) (option_map picked_by (chosen_in state))) result m ram b c
     → Went (unasked result) (asked_report image machine boot memory good keys) m ram left a c
 unfolding asked_report
 asked_ok image machine boot good memory keys left state result m ram a b c comes rest =
     let tale = asked_tale image machine boot good keys in
     let message = message_read image machine boot in
-    let is = tale_chosen image machine good memory message (decision_today image machine boot good keys) tale (chosen_in state) message.stop
+    let is = tale_chosen image machine boot.line good memory message (decision_read image machine boot good keys) tale (chosen_in state) message.stop
     (opening_at image machine boot good keys) (asked_law image machine boot good keys) comes.0 in
     rw (is, comes.1)
-    (asked_chosen tale.shown left (decided_report image machine good memory (line_behind (listed_entries image machine good) good.line (chosen_in state)) (option_map picked_by (chosen_in state))) result m ram a b c comes.2 rest)
+    (asked_chosen tale.shown left (decided_report image machine boot.line good memory (line_behind (listed_entries image machine good) good.line (chosen_in state)) (option_map picked_by (chosen_in state))) result m ram a b c comes.2 rest)
 
 -- it was stopped
 pub asked_err :
@@ -183,19 +191,56 @@ unfolding asked_report
 asked_err image machine boot good memory keys left state stops.Keys m ram a b c comes shown =
     let tale = asked_tale image machine boot good keys in
     let message = message_read image machine boot in
-    let any = tale_any image machine good memory message (decision_today image machine boot good keys) tale message.stop
+    let any = tale_any image machine boot.line good memory message (decision_read image machine boot good keys) tale message.stop
     (opening_at image machine boot good keys) (asked_law image machine boot good keys) tale.end refl in
     rw any.is (asked_unheard tale.shown tale.left left any.behind m ram a b c comes shown)
 asked_err image machine boot good memory keys left state (stops.Halt Device) m ram a b c comes shown =
     let tale = asked_tale image machine boot good keys in
     let message = message_read image machine boot in
-    let any = tale_any image machine good memory message (decision_today image machine boot good keys) tale message.stop
+    let any = tale_any image machine boot.line good memory message (decision_read image machine boot good keys) tale message.stop
     (opening_at image machine boot good keys) (asked_law image machine boot good keys) tale.end refl in
     rw any.is (asked_lost tale.shown tale.left left any.behind m ram a b c comes shown)
 asked_err image machine boot good memory keys left state (stops.Halt (Refused reason)) m ram a b c comes shown =
     let tale = asked_tale image machine boot good keys in
     let message = message_read image machine boot in
     let why = reason_view reason in
-    let is = tale_stopped image machine good memory message (decision_today image machine boot good keys) tale why message.stop
+    let is = tale_stopped image machine boot.line good memory message (decision_read image machine boot good keys) tale why message.stop
     (opening_at image machine boot good keys) (asked_law image machine boot good keys) comes.0 in
     rw (is, comes.1) (asked_refused tale.shown left why reason m ram a b c refl comes.2 shown)
+
+-- ---- what is written of the default line
+
+pub asked_write :
+    (image : Image) (machine : Machine) (boot : BootSector) (good : GoodMap) (memory : ℕ) (keys left : List Key) (state : State) (a b : SinkState)
+    → Comes (Ok tt) (asked_tale image machine boot good keys) state left a b
+    → (asked_report image machine boot memory good keys).write
+    ≡ (decided_report image machine boot.line good memory (line_behind (listed_entries image machine good) good.line (chosen_in state)) (option_map picked_by (chosen_in state))).write
+unfolding asked_report
+asked_write image machine boot good memory keys left state a b comes =
+    let message = message_read image machine boot in
+    ap (λ r. r.write)
+    (tale_chosen image machine boot.line good memory message (decision_read image machine boot good keys) (asked_tale image machine boot good keys) (chosen_in state) message.stop
+    (opening_at image machine boot good keys) (asked_law image machine boot good keys) comes.0)
+
+pub asked_unwritten :
+    (image : Image) (machine : Machine) (boot : BootSector) (good : GoodMap) (memory : ℕ) (keys left : List Key) (state : State) (reason : Reason) (a b : SinkState)
+    → Comes (Err (stops.Halt (Refused reason))) (asked_tale image machine boot good keys) state left a b
+    → (asked_report image machine boot memory good keys).write ≡ None
+unfolding asked_report
+asked_unwritten image machine boot good memory keys left state reason a b comes =
+    let message = message_read image machine boot in
+    ap (λ r. r.write)
+    (tale_stopped image machine boot.line good memory message (decision_read image machine boot good keys) (asked_tale image machine boot good keys) (reason_view reason) message.stop
+    (opening_at image machine boot good keys) (asked_law image machine boot good keys) comes.0)
+
+-- what is left where asking was stopped
+pub asked_leaves :
+    {D : Type 0} (g : Ghosts D) (old new : D) (image : Image) (machine : Machine) (boot : BootSector) (good : GoodMap) (memory : ℕ) (keys left : List Key) (state : State) (stop : Stop) (phase : Phase) (a b : SinkState)
+    → Comes (Err stop) (asked_tale image machine boot good keys) state left a b → SameOf g old new → phase ≡ Before
+    → Leaves g old new (asked_report image machine boot memory good keys).write (Err stop) phase
+asked_leaves g old new image machine boot good memory keys left state stops.Keys phase a b comes same begins = same
+asked_leaves g old new image machine boot good memory keys left state (stops.Halt Device) phase a b comes same begins =
+    read_leaves g old new (asked_report image machine boot memory good keys).write Device phase same begins (λ reason is. let h : ⊥ = cc in absurd h)
+asked_leaves g old new image machine boot good memory keys left state (stops.Halt (Refused reason)) phase a b comes same begins =
+    read_leaves g old new (asked_report image machine boot memory good keys).write (Refused reason) phase same begins
+    (λ other is. asked_unwritten image machine boot good memory keys left state reason a b comes)

@@ -1,23 +1,25 @@
 -- What a choice from a good map comes to, whatever its message is.
-use Rattle.std.proofs.Common.{◌≡◌, ℕ, zero, suc, Bool, true, false, not, ◌||◌, if◌then◌else◌, refl, sym, ap, List, [], ◌∷◌, ◌++◌, length, map, zip, slice_get, Option, None, Some, is_some, option_map, Result, Ok, Err, arith}
+use Rattle.std.proofs.Common.{◌≡◌, ℕ, zero, suc, Bool, true, false, if◌then◌else◌, refl, sym, ap, List, [], ◌∷◌, length, map, zip, slice_get, Option, None, Some, option_map, Result, Ok, Err, arith}
 use Rattle.lilo_model.specs.Checks.{◌>>=◌, each}
-use Rattle.lilo_model.specs.Disks.{Image, Machine}
+use Rattle.std.specs.Result.{result_ok}
+use Rattle.std.proofs.lemmas.Slice.Eq.{bytes_eq-Decides}
+use Rattle.lilo_model.specs.Disks.{Image, Machine, DiskSector}
 use Rattle.lilo_model.specs.BootSector as maps
 use Rattle.lilo_model.specs.BootSector.{BootSector}
 use Rattle.lilo_model.specs.Slots as slots
-use Rattle.lilo_model.specs.Table.{Descriptor, password_flag, lock_flag, table_at}
-use Rattle.lilo_model.specs.LineSector.{line_at, is_same_line}
-use Rattle.lilo_model.specs.DefaultLine.{DefaultLine, Empty, Once, Kept, line_text, line_after}
-use Rattle.lilo_model.specs.Prompt.{Key, Settings, ListedEntry}
-use Rattle.lilo_model.specs.Choice.{Setup, Piece, Shows, Opens, picked_of, pieces_text, pieces_opening, opening_behind, filled_text, line_after_choice, course_of, choice, opening}
-use Rattle.lilo_model.specs.Boot.{MapSectors, GoodMap, slot_bytes_at, optional_at, entry_has, extra_slot, entries_of, map_sectors, present_line, password_at, good_map, fallback_of, settings_of, listed_entry, listed_entries}
+use Rattle.lilo_model.specs.Slots.{place_at}
+use Rattle.lilo_model.specs.Table.{Descriptor, password_flag, table_at}
+use Rattle.lilo_model.specs.LineSector.{line_at, line_bytes, is_same_line}
+use Rattle.lilo_model.specs.DefaultLine.{DefaultLine, Empty, Once, Kept, line_text}
+use Rattle.lilo_model.specs.Prompt.{ListedEntry}
+use Rattle.lilo_model.specs.Boot.{MapSectors, GoodMap, slot_bytes_at, optional_at, extra_slot, entries_of, map_sectors, present_line, password_at, good_map, settings_of, listed_entry, listed_entries, line_written, image_with_line}
 use Rattle.prompt_core.specs.declared.entry.Choice as prompts_choice
 use Rattle.prompt_core.specs.declared.entry.Settings as prompts
 use Rattle.prompt_core.specs.Decided.{plain_entry, plain_setup, line_by}
 use Rattle.prompt_core.specs.View.{settings_view, entries_view, setup_of}
 use Rattle.prompt_core.specs.Steps.{Chosen}
 use Rattle.loader_core.specs.Map.{prompt_entry}
-use Rattle.loader_core.specs.Today.{keeps_line}
+use Rattle.loader_core.specs.Report.{line_write, image_with, chosen_line, present_write}
 
 -- ---- a good map
 
@@ -150,48 +152,40 @@ entry_listed image machine good at entry long is = pair_listed image machine goo
 
 -- ---- the default line
 
--- only an empty line is the same as an empty one
-pub same_empty : (line : DefaultLine) → is_same_line Empty line ≡ true → line ≡ Empty
+-- the line after a choice of an entry
+pub line_chosen :
+    (image : Image) (machine : Machine) (entry : Descriptor) (password : Option (List ℕ)) (line : DefaultLine) (chosen : Chosen)
+    → line_by line chosen (Some (listed_entry image machine (entry, password)))
+    ≡ chosen_line image machine entry line chosen.picked.lock chosen.lock_line
+line_chosen image machine entry password line chosen = refl
+
+-- a line is the same as itself
+pub same_line : (line : DefaultLine) → is_same_line line line ≡ true
 unfolding is_same_line
-same_empty Empty same = refl
-same_empty (Once text) same = cc
-same_empty (Kept text) same = cc
+same_line Empty = refl
+same_line (Once text) = (bytes_eq-Decides text text).1 refl
+same_line (Kept text) = (bytes_eq-Decides text text).1 refl
 
-line_stays :
-    (lock : Bool) (text : List ℕ) (fallback : Option (List ℕ))
-    → is_same_line Empty (line_after Empty (if lock then Some text else None) fallback) ≡ not (lock || is_some fallback)
-unfolding is_same_line
-line_stays true text fallback = refl
-line_stays false text None = refl
-line_stays false text (Some kept) = refl
+-- nothing is written where the line stays
+pub write_none : (machine : Machine) (slot : slots.Slot) (line : DefaultLine) → line_write machine slot line line ≡ None
+write_none machine slot line = let same = same_line line in rw same refl
 
--- whether the choice of an entry keeps an empty line
-pub line_kept :
-    (image : Image) (machine : Machine) (entry : Descriptor) (password : Option (List ℕ)) (chosen : Chosen)
-    → is_same_line Empty (line_by Empty chosen (Some (listed_entry image machine (entry, password))))
-    ≡ keeps_line image machine entry chosen.picked.lock
-line_kept image machine entry password chosen =
-    line_stays (entry_has entry lock_flag || chosen.picked.lock) chosen.lock_line (filled_text (fallback_of image machine entry))
+-- the line that is there, or is not, stays
+pub present_none : (machine : Machine) (slot : slots.Slot) (line : Option DefaultLine) → present_write machine slot line line ≡ None
+present_none machine slot None = refl
+present_none machine slot (Some line) = write_none machine slot line
 
--- ---- the message
+-- the image in which the line is a new one is the one once that is written
+line_image :
+    (image : Image) (new : DefaultLine) (same : Bool) (found : Result DiskSector slots.AddressFault)
+    → line_written image new same found
+    ≡ image_with image (if same then None else option_map (λ place. record { place = place; bytes = line_bytes new }) (result_ok found))
+line_image image new true found = refl
+line_image image new false (Ok place) = refl
+line_image image new false (Err fault) = refl
 
-none_behind : {A B : Type 0} (f : A → B) (found : Option A) → option_map f found ≡ None → found ≡ None
-none_behind f None is = refl
-none_behind f (Some value) is = let h : ⊥ = cc in absurd h
-
-text_unopened : (one other : List ℕ) (pieces : List Piece) → pieces_opening pieces ≡ None → pieces_text one pieces ≡ pieces_text other pieces
-text_unopened one other [] is = refl
-text_unopened one other (Shows text ∷ pieces) is =
-    ap (λ behind. text ++ behind) (text_unopened one other pieces (none_behind (opening_behind text) (pieces_opening pieces) is))
-text_unopened one other (Opens keys ∷ pieces) is = let h : ⊥ = cc in absurd h
-
--- where the prompt doesn't open, the message has no part in the choice
-pub choice_unopened :
-    (settings : Settings) (entries : List ListedEntry) (line : DefaultLine) (one other : List ℕ) (keys : List Key)
-    → opening settings entries line keys ≡ None
-    → choice settings entries line (Some one) keys ≡ choice settings entries line (Some other) keys
-choice_unopened settings entries line one other keys is =
-    let setup : Setup = record { settings = settings; entries = entries; line = line } in
-    let course = course_of setup keys in
-    ap (λ text. record { picked = option_map picked_of course.picked; shown = text; line = line_after_choice setup course.picked; left = course.left })
-    (text_unopened one other course.shown is)
+pub image_same :
+    (image : Image) (machine : Machine) (boot : BootSector) (line new : DefaultLine)
+    → image_with_line image machine boot line new ≡ image_with image (line_write machine boot.line line new)
+unfolding image_with_line
+image_same image machine boot line new = line_image image new (is_same_line line new) (place_at machine boot.line 0)

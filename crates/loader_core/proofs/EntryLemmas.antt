@@ -12,33 +12,34 @@ use Rattle.bios_model.specs.Memory.{memory_of}
 use Rattle.section_loader.specs.declared.reason.Halt.{Halt}
 use Rattle.section_loader.specs.declared.reason.Halt.TheVariants.{Device, Refused}
 use Rattle.loader_core.specs.declared.outcome.Started.TheVariants as starts
-use Rattle.section_loader.specs.Reading.{Why, FileRest}
+use Rattle.lilo_model.specs.Reason.{Reason}
+use Rattle.section_loader.specs.Reading.{FileRest}
 use Rattle.section_loader.specs.Load.{IsCutSector, ReadsCut}
 use Rattle.loader_core.specs.Kernel.{LoadsKernel}
 use Rattle.std.specs.Prelude.{bit_and, ◌==◌}
 use Rattle.lilo_model.specs.Disks.{Image, Machine}
-use Rattle.loader_core.specs.Today.{handed_today, loaded_today, entry_today, main_today, initrd_file_today}
+use Rattle.loader_core.specs.Report.{handed_by, loaded_by, entry_by, main_rest, initrd_rest}
 use Rattle.loader_core.specs.Start.{table_written, IsStarted, Starts}
 use Rattle.section_loader.specs.View.{reason_view}
 use Rattle.setup_header.specs.declared.layout.Layout.{Layout}
 use Rattle.loader_core.proofs.MemoryLemmas.{held}
 
 handed_stop :
-    (entry : Descriptor) (main : FileRest) (why : Why) → main.stop ≡ Some why → handed_today entry main ≡ Err why
-unfolding handed_today
+    (entry : Descriptor) (main : FileRest) (why : Reason) → main.stop ≡ Some why → handed_by entry main ≡ Err why
+unfolding handed_by
 handed_stop entry main why stops = rw stops refl
 
 -- its first sector is refused
 pub ends_first :
     (entry : Descriptor) (main rest : FileRest) (size : ℕ) (sector : List ℕ) (m : Memory) (ram : List ℕ) (halt : Halt)
-    → ReadsCut (Err halt) size main sector rest → Starts (Err halt) (handed_today entry main) m ram
+    → ReadsCut (Err halt) size main sector rest → Starts (Err halt) (handed_by entry main) m ram
 ends_first entry main rest size sector m ram Device read = tt
 ends_first entry main rest size sector m ram (Refused reason) read = handed_stop entry main (reason_view reason) read.stops
 
 -- its second one is
 pub ends_second :
     (entry : Descriptor) (main mid rest : FileRest) (size size' : ℕ) (first sector : List ℕ) (m : Memory) (ram : List ℕ) (halt : Halt)
-    → IsCutSector size main first mid → ReadsCut (Err halt) size' mid sector rest → Starts (Err halt) (handed_today entry main) m ram
+    → IsCutSector size main first mid → ReadsCut (Err halt) size' mid sector rest → Starts (Err halt) (handed_by entry main) m ram
 ends_second entry main mid rest size size' first sector m ram Device one read = tt
 ends_second entry main mid rest size size' first sector m ram (Refused reason) one read =
     handed_stop entry main (reason_view reason) (ap (λ r. r.stop) one.read ∙ read.stops)
@@ -58,15 +59,15 @@ table_part first second long =
     ap (λ n. take 64 (drop (n + 446) (first ++ second))) (sym long) ∙ ap (λ b. take 64 b) (drop-append-add first second 446)
 
 -- what is handed over, where all of the file is there
-handed_by :
+is_handed :
     (entry : Descriptor) (main : FileRest) (boot table : List ℕ) (flag : Bool) → main.stop ≡ None
     → has_flag entry.flags table_flag ≡ flag → part_of main.bytes 0 512 ≡ boot
     → (flag ≡ true → part_of main.bytes (512 + 446) 64 ≡ part_of table 446 64)
-    → handed_today entry main
+    → handed_by entry main
     ≡ Ok (record { outcome = Handed; written = table_written flag table ++ (record { address = boot_address; bytes = boot } ∷ []) })
-unfolding handed_today
-handed_by entry main boot table true whole is first second = rw (whole, is, first, second refl) refl
-handed_by entry main boot table false whole is first second = rw (whole, is, first) refl
+unfolding handed_by
+is_handed entry main boot table true whole is first second = rw (whole, is, first, second refl) refl
+is_handed entry main boot table false whole is first second = rw (whole, is, first) refl
 
 told_boot :
     (flag : Bool) (table boot : List ℕ)
@@ -89,14 +90,14 @@ pub handed_whole :
     → (flag ≡ true → part_of main.bytes (512 + 446) 64 ≡ part_of table 446 64)
     → m1 ≡ memory_after m0 (table_written flag table)
     → memory_of ram ≡ with_bytes m1 (record { address = boot_address; bytes = boot }) → boot_address + 512 ≤ length ram
-    → IsStarted starts.Handed (handed_today entry main) m0 ram
+    → IsStarted starts.Handed (handed_by entry main) m0 ram
 handed_whole entry main boot table flag m0 m1 ram whole is first long second at_table at_boot inside =
     let w : Written = record { address = boot_address; bytes = boot } in
     let here = held ram m1 w [] at_boot tt (omega arith) in
     let there : boot ≡ part_of ram boot_address 512 = sym here ∙ ap (λ n. part_of ram boot_address n) long in
     record {
       written = table_written flag table ++ (w ∷ []);
-      is = handed_by entry main boot table flag whole is first second;
+      is = is_handed entry main boot table flag whole is first second;
       placed = at_boot ∙ ap (λ m. with_bytes m w) at_table ∙ placed_after flag table boot m0;
       held = told_boot flag table boot ∙ ap (λ b. record { address = boot_address; bytes = b } ∷ []) there;
     }
@@ -124,7 +125,7 @@ pub other_sectors :
     → IsCutSector (min 512 entry.main_length) main boot mid → IsCutSector (min 512 left) mid table rest → rest ≡ record { bytes = []; stop = None }
     → m1 ≡ memory_after m0 (table_written flag table)
     → memory_of ram ≡ with_bytes m1 (record { address = boot_address; bytes = boot }) → boot_address + 512 ≤ length ram
-    → IsStarted starts.Handed (handed_today entry main) m0 ram
+    → IsStarted starts.Handed (handed_by entry main) m0 ram
 other_sectors entry main mid rest boot table flag m0 m1 ram left is long more one two ended at_table at_boot inside =
     let least : 512 ≤ entry.main_length = at_least flag entry.main_length long in
     let size : length one.bytes ≡ 512 = omega (arith, one.long) in
@@ -145,9 +146,9 @@ other_sectors entry main mid rest boot table flag m0 m1 ram left is long more on
 
 -- a kernel was loaded
 pub kernel_started :
-    (layout : Layout) (today : Result Ending Why) (m : Memory) (ram : List ℕ) → LoadsKernel (Ok layout) today m ram
-    → Starts (Ok (starts.Loaded layout)) today m ram
-kernel_started layout today m ram loaded = record {
+    (layout : Layout) (ending : Result Ending Reason) (m : Memory) (ram : List ℕ) → LoadsKernel (Ok layout) ending m ram
+    → Starts (Ok (starts.Loaded layout)) ending m ram
+kernel_started layout ending m ram loaded = record {
   written = loaded.written;
   is = loaded.is;
   placed = loaded.placed;
@@ -156,9 +157,9 @@ kernel_started layout today m ram loaded = record {
 
 -- or wasn't
 pub kernel_refused :
-    (today : Result Ending Why) (m : Memory) (ram : List ℕ) (halt : Halt) → LoadsKernel (Err halt) today m ram → Starts (Err halt) today m ram
-kernel_refused today m ram Device loaded = tt
-kernel_refused today m ram (Refused reason) loaded = loaded
+    (ending : Result Ending Reason) (m : Memory) (ram : List ℕ) (halt : Halt) → LoadsKernel (Err halt) ending m ram → Starts (Err halt) ending m ram
+kernel_refused ending m ram Device loaded = tt
+kernel_refused ending m ram (Refused reason) loaded = loaded
 
 -- ---- which of both
 
@@ -173,13 +174,13 @@ table_set flags some = let is : (bit_and flags 128 == 0) ≡ false = grind arith
 
 pub entry_kernel :
     (image : Image) (machine : Machine) (entry : Descriptor) (line : List ℕ) (video : Option ℕ) (memory : ℕ) → has_flag entry.flags other_flag ≡ false
-    → entry_today image machine entry line video memory
-    ≡ loaded_today entry (main_today image machine entry) (initrd_file_today image machine entry) line video memory
-unfolding entry_today
+    → entry_by image machine entry line video memory
+    ≡ loaded_by entry (main_rest image machine entry) (initrd_rest image machine entry) line video memory
+unfolding entry_by
 entry_kernel image machine entry line video memory is = rw is refl
 
 pub entry_other :
     (image : Image) (machine : Machine) (entry : Descriptor) (line : List ℕ) (video : Option ℕ) (memory : ℕ) → has_flag entry.flags other_flag ≡ true
-    → entry_today image machine entry line video memory ≡ handed_today entry (main_today image machine entry)
-unfolding entry_today
+    → entry_by image machine entry line video memory ≡ handed_by entry (main_rest image machine entry)
+unfolding entry_by
 entry_other image machine entry line video memory is = rw is refl

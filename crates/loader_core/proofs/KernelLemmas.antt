@@ -11,7 +11,7 @@ use Rattle.section_loader.specs.declared.reason.Halt.TheVariants.{Device, Refuse
 use Rattle.section_loader.specs.Reading.{FileRest, rest_behind}
 use Rattle.section_loader.specs.Load.{Loads, IsLoaded, IsCutSector, ReadsCut}
 use Rattle.loader_core.specs.Kernel.{ReadsTwo, PlacesKernel, PlacesInitrd}
-use Rattle.loader_core.specs.Today.{initrd_today}
+use Rattle.loader_core.specs.Report.{initrd_read}
 use Rattle.section_loader.proofs.LoadLemmas.{with_bytes-join}
 
 -- ---- the first two sectors
@@ -113,14 +113,14 @@ pub initrd_placed :
     (region : headers.Region) (result : Result (Unit {0}) Halt) (old new : FileRest) (m m' : Memory)
     → Loads result region.size region.address old m new m'
     → ((done : Unit {0}) → result ≡ Ok done → new ≡ record { bytes = []; stop = None })
-    → PlacesInitrd result (Some region) (initrd_today (Some old)) m m'
+    → PlacesInitrd result (Some region) (initrd_read (Some old)) m m'
 initrd_placed region (Ok done) old new m m' loaded ends =
     let whole : old ≡ record { bytes = loaded.bytes; stop = None } =
     loaded.read ∙ ap (λ r. rest_behind loaded.bytes r) (ends done refl)
     ∙ ap (λ b. record { bytes = b; stop = None }) (append-nil loaded.bytes) in
     record {
       bytes = Some loaded.bytes;
-      is = ap (λ r. initrd_today (Some r)) whole;
+      is = ap (λ r. initrd_read (Some r)) whole;
       fits = loaded.long;
       placed = loaded.placed;
     }

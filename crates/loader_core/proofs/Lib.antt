@@ -4,9 +4,10 @@ pub mod ChoiceLemmas
 pub mod EndLemmas
 pub mod EntryLemmas
 pub mod KernelLemmas
+pub mod LeavesLemmas
 pub mod LoadedLemmas
 pub mod MapLemmas
 pub mod MemoryLemmas
 pub mod PlanLemmas
-pub mod TodayLemmas
+pub mod ReportLemmas
 pub mod WholeLemmas

@@ -17,15 +17,14 @@ use Rattle.setup_header.specs.declared.layout.Layout.{Layout}
 use Rattle.setup_header.specs.View.{layout_view}
 use Rattle.section_loader.specs.declared.reason.Halt.{Halt}
 use Rattle.section_loader.specs.declared.reason.Halt.TheVariants.{Device, Refused}
-use Rattle.section_loader.specs.Reading.{Why, Because, FileRest}
+use Rattle.section_loader.specs.Reading.{FileRest}
 use Rattle.lilo_model.specs.Disks.{Image, Machine}
-use Rattle.sector_address.specs.View.{slot_view}
 use Rattle.section_loader.specs.declared.file.FileReader.{FileReader}
 use Rattle.section_loader.specs.File.{rest_in}
 use Rattle.section_loader.proofs.RestLemmas.{rest_most}
 use Rattle.section_loader.specs.Load.{IsShort}
 use Rattle.loader_core.specs.Kernel.{IsTwo, ReadsTwo, GivesHeader, GivesLayout, IsPlaced, PlacesKernel, PlacesInitrd, LoadsKernel, IsSetupRefusal}
-use Rattle.loader_core.specs.Today.{whole_today, initrd_today, loaded_today}
+use Rattle.loader_core.specs.Report.{whole_read, initrd_read, loaded_by}
 use Rattle.section_loader.specs.View.{reason_view}
 
 -- ---- the first two sectors
@@ -72,27 +71,27 @@ two_there len main new sectors two =
 -- ---- the ends
 
 -- what is loaded once the first two sectors are judged
-abbrev loaded_from : Descriptor → List ℕ → FileRest → Option FileRest → List ℕ → Option ℕ → ℕ → Result Ending Why
+abbrev loaded_from : Descriptor → List ℕ → FileRest → Option FileRest → List ℕ → Option ℕ → ℕ → Result Ending reasons.Reason
 loaded_from entry sectors main initrd line video memory =
-    with_fault (λ fault. Because (reasons.Header fault)) (header_at sectors entry.main_length) >>= λ header.
-    (with_fault (λ fault. Because (reasons.Header fault)) (plan_memory header entry.main_length (initrd_size entry) (length line) memory) >>= λ layout.
-    (whole_today main >>= λ a.
-    (initrd_today initrd >>= λ bytes.
+    with_fault (λ fault. reasons.Header fault) (header_at sectors entry.main_length) >>= λ header.
+    (with_fault (λ fault. reasons.Header fault) (plan_memory header entry.main_length (initrd_size entry) (length line) memory) >>= λ layout.
+    (whole_read main >>= λ a.
+    (initrd_read initrd >>= λ bytes.
     Ok (record { outcome = Loaded layout; written = written_by header layout main.bytes bytes line video }))))
 
 loaded_two :
     (entry : Descriptor) (sectors : List ℕ) (main : FileRest) (initrd : Option FileRest) (line : List ℕ) (video : Option ℕ) (memory : ℕ)
     → nat_lt (length main.bytes) (min entry.main_length 1024) ≡ false → sectors ≡ first_two main.bytes
-    → loaded_today entry main initrd line video memory ≡ loaded_from entry sectors main initrd line video memory
-unfolding loaded_today
+    → loaded_by entry main initrd line video memory ≡ loaded_from entry sectors main initrd line video memory
+unfolding loaded_by
 loaded_two entry sectors main initrd line video memory there same = rw (there, same) refl
 
 -- the first two sectors aren't there
 pub loaded_short :
     (entry : Descriptor) (main : FileRest) (initrd : Option FileRest) (line : List ℕ) (video : Option ℕ) (memory : ℕ) (reason : Reason)
     → IsShort (min 1024 entry.main_length) main (Refused reason)
-    → loaded_today entry main initrd line video memory ≡ Err (reason_view reason)
-unfolding loaded_today
+    → loaded_by entry main initrd line video memory ≡ Err (reason_view reason)
+unfolding loaded_by
 loaded_short entry main initrd line video memory reason short =
     let less : nat_lt (length main.bytes) (min entry.main_length 1024) ≡ true = is_less (length main.bytes) (min entry.main_length 1024) (omega (arith, short.short)) in
     rw (less, short.stops) refl
@@ -105,15 +104,15 @@ pub record IsBegun (entry : Descriptor) (main : FileRest) (sectors : List ℕ) (
 loaded_begun :
     (entry : Descriptor) (main rest : FileRest) (sectors : List ℕ) (initrd : Option FileRest) (line : List ℕ) (video : Option ℕ) (memory : ℕ)
     → IsBegun entry main sectors rest
-    → loaded_today entry main initrd line video memory ≡ loaded_from entry sectors main initrd line video memory
+    → loaded_by entry main initrd line video memory ≡ loaded_from entry sectors main initrd line video memory
 loaded_begun entry main rest sectors initrd line video memory begun =
     loaded_two entry sectors main initrd line video memory
     (two_there entry.main_length main rest sectors begun.two)
     (two_sectors entry.main_length main rest sectors begun.two begun.most)
 
 refused_by :
-    {A : Type 0} → (read : Result A headers.SetupFault) (next : A → Result Ending Why) (reason : Reason) → IsSetupRefusal reason read
-    → (with_fault (λ fault. Because (reasons.Header fault)) read >>= next) ≡ Err (reason_view reason)
+    {A : Type 0} → (read : Result A headers.SetupFault) (next : A → Result Ending reasons.Reason) (reason : Reason) → IsSetupRefusal reason read
+    → (with_fault (λ fault. reasons.Header fault) read >>= next) ≡ Err (reason_view reason)
 refused_by (Ok value) next reason refused = absurd refused
 refused_by (Err fault) next reason refused = ap (λ why. Err why) (sym refused)
 
@@ -121,7 +120,7 @@ refused_by (Err fault) next reason refused = ap (λ why. Err why) (sym refused)
 pub loaded_header :
     (entry : Descriptor) (main rest : FileRest) (sectors : List ℕ) (initrd : Option FileRest) (line : List ℕ) (video : Option ℕ) (memory : ℕ) (reason : Reason)
     → IsBegun entry main sectors rest → IsSetupRefusal reason (header_at sectors entry.main_length)
-    → loaded_today entry main initrd line video memory ≡ Err (reason_view reason)
+    → loaded_by entry main initrd line video memory ≡ Err (reason_view reason)
 loaded_header entry main rest sectors initrd line video memory reason begun refused =
     loaded_begun entry main rest sectors initrd line video memory begun
     ∙ refused_by (header_at sectors entry.main_length) _ reason refused
@@ -131,7 +130,7 @@ pub loaded_layout :
     (entry : Descriptor) (main rest : FileRest) (sectors : List ℕ) (initrd : Option FileRest) (line : List ℕ) (video : Option ℕ) (memory : ℕ) (header : headers.Header) (reason : Reason)
     → IsBegun entry main sectors rest → header_at sectors entry.main_length ≡ Ok header
     → IsSetupRefusal reason (plan_memory header entry.main_length (initrd_size entry) (length line) memory)
-    → loaded_today entry main initrd line video memory ≡ Err (reason_view reason)
+    → loaded_by entry main initrd line video memory ≡ Err (reason_view reason)
 loaded_layout entry main rest sectors initrd line video memory header reason begun read refused =
     loaded_begun entry main rest sectors initrd line video memory begun
     ∙ rw read (refused_by (plan_memory header entry.main_length (initrd_size entry) (length line) memory) _ reason refused)
@@ -145,8 +144,8 @@ pub record IsPlanned (entry : Descriptor) (main : FileRest) (sectors : List ℕ)
 loaded_planned :
     (entry : Descriptor) (main rest : FileRest) (sectors : List ℕ) (initrd : Option FileRest) (line : List ℕ) (video : Option ℕ) (memory : ℕ) (header : headers.Header) (layout : headers.Layout)
     → IsPlanned entry main sectors rest line memory header layout
-    → loaded_today entry main initrd line video memory
-    ≡ (whole_today main >>= λ a. (initrd_today initrd >>= λ bytes. Ok (record { outcome = Loaded layout; written = written_by header layout main.bytes bytes line video })))
+    → loaded_by entry main initrd line video memory
+    ≡ (whole_read main >>= λ a. (initrd_read initrd >>= λ bytes. Ok (record { outcome = Loaded layout; written = written_by header layout main.bytes bytes line video })))
 loaded_planned entry main rest sectors initrd line video memory header layout planned =
     loaded_begun entry main rest sectors initrd line video memory planned.begun ∙ rw (planned.header_is, planned.layout_is) refl
 
@@ -154,7 +153,7 @@ loaded_planned entry main rest sectors initrd line video memory header layout pl
 pub loaded_stop :
     (entry : Descriptor) (main rest : FileRest) (sectors : List ℕ) (initrd : Option FileRest) (line : List ℕ) (video : Option ℕ) (memory : ℕ) (header : headers.Header) (layout : headers.Layout) (reason : Reason)
     → IsPlanned entry main sectors rest line memory header layout → rest.stop ≡ Some (reason_view reason)
-    → loaded_today entry main initrd line video memory ≡ Err (reason_view reason)
+    → loaded_by entry main initrd line video memory ≡ Err (reason_view reason)
 loaded_stop entry main rest sectors initrd line video memory header layout reason planned stops =
     let stop : main.stop ≡ Some (reason_view reason) = ap (λ r. r.stop) planned.begun.two.read ∙ stops in
     loaded_planned entry main rest sectors initrd line video memory header layout planned ∙ rw stop refl
@@ -162,8 +161,8 @@ loaded_stop entry main rest sectors initrd line video memory header layout reaso
 -- the initrd isn't there
 pub loaded_initrd :
     (entry : Descriptor) (main rest : FileRest) (sectors : List ℕ) (initrd : Option FileRest) (line : List ℕ) (video : Option ℕ) (memory : ℕ) (header : headers.Header) (layout : headers.Layout) (reason : Reason)
-    → IsPlanned entry main sectors rest line memory header layout → rest.stop ≡ None → initrd_today initrd ≡ Err (reason_view reason)
-    → loaded_today entry main initrd line video memory ≡ Err (reason_view reason)
+    → IsPlanned entry main sectors rest line memory header layout → rest.stop ≡ None → initrd_read initrd ≡ Err (reason_view reason)
+    → loaded_by entry main initrd line video memory ≡ Err (reason_view reason)
 loaded_initrd entry main rest sectors initrd line video memory header layout reason planned whole refused =
     let stop : main.stop ≡ None = ap (λ r. r.stop) planned.begun.two.read ∙ whole in
     loaded_planned entry main rest sectors initrd line video memory header layout planned ∙ rw (stop, refused) refl
@@ -171,8 +170,8 @@ loaded_initrd entry main rest sectors initrd line video memory header layout rea
 -- all of it is there
 pub loaded_whole :
     (entry : Descriptor) (main rest : FileRest) (sectors : List ℕ) (initrd : Option FileRest) (line : List ℕ) (video : Option ℕ) (memory : ℕ) (header : headers.Header) (layout : headers.Layout) (bytes : Option (List ℕ))
-    → IsPlanned entry main sectors rest line memory header layout → rest.stop ≡ None → initrd_today initrd ≡ Ok bytes
-    → loaded_today entry main initrd line video memory
+    → IsPlanned entry main sectors rest line memory header layout → rest.stop ≡ None → initrd_read initrd ≡ Ok bytes
+    → loaded_by entry main initrd line video memory
     ≡ Ok (record { outcome = Loaded layout; written = written_by header layout main.bytes bytes line video })
 loaded_whole entry main rest sectors initrd line video memory header layout bytes planned whole read =
     let stop : main.stop ≡ None = ap (λ r. r.stop) planned.begun.two.read ∙ whole in
@@ -208,14 +207,14 @@ written_pieces header layout sectors patched real protected line bytes video lon
 pub ends_short :
     (entry : Descriptor) (main rest : FileRest) (sectors : List ℕ) (initrd : Option FileRest) (line : List ℕ) (video : Option ℕ) (memory : ℕ) (m : Memory) (ram : List ℕ) (halt : Halt)
     → ReadsTwo (Err halt) (min 1024 entry.main_length) main sectors rest
-    → LoadsKernel (Err halt) (loaded_today entry main initrd line video memory) m ram
+    → LoadsKernel (Err halt) (loaded_by entry main initrd line video memory) m ram
 ends_short entry main rest sectors initrd line video memory m ram Device read = tt
 ends_short entry main rest sectors initrd line video memory m ram (Refused reason) read = loaded_short entry main initrd line video memory reason read
 
 pub ends_header :
     (entry : Descriptor) (main rest : FileRest) (sectors : List ℕ) (initrd : Option FileRest) (line : List ℕ) (video : Option ℕ) (memory : ℕ) (m : Memory) (ram : List ℕ) (halt : Halt)
     → IsBegun entry main sectors rest → GivesHeader (Err halt) (header_at sectors entry.main_length)
-    → LoadsKernel (Err halt) (loaded_today entry main initrd line video memory) m ram
+    → LoadsKernel (Err halt) (loaded_by entry main initrd line video memory) m ram
 ends_header entry main rest sectors initrd line video memory m ram Device begun read = absurd read
 ends_header entry main rest sectors initrd line video memory m ram (Refused reason) begun read = loaded_header entry main rest sectors initrd line video memory reason begun read
 
@@ -223,7 +222,7 @@ pub ends_layout :
     (entry : Descriptor) (main rest : FileRest) (sectors : List ℕ) (initrd : Option FileRest) (line : List ℕ) (video : Option ℕ) (memory : ℕ) (header : headers.Header) (m : Memory) (ram : List ℕ) (halt : Halt)
     → IsBegun entry main sectors rest → header_at sectors entry.main_length ≡ Ok header
     → GivesLayout (Err halt) (plan_memory header entry.main_length (initrd_size entry) (length line) memory)
-    → LoadsKernel (Err halt) (loaded_today entry main initrd line video memory) m ram
+    → LoadsKernel (Err halt) (loaded_by entry main initrd line video memory) m ram
 ends_layout entry main rest sectors initrd line video memory header m ram Device begun read planned = absurd planned
 ends_layout entry main rest sectors initrd line video memory header m ram (Refused reason) begun read planned =
     loaded_layout entry main rest sectors initrd line video memory header reason begun read planned
@@ -231,7 +230,7 @@ ends_layout entry main rest sectors initrd line video memory header m ram (Refus
 pub ends_kernel :
     (entry : Descriptor) (main rest : FileRest) (sectors patched : List ℕ) (initrd : Option FileRest) (line : List ℕ) (video : Option ℕ) (memory : ℕ) (header : headers.Header) (layout : Layout) (m m1 : Memory) (ram : List ℕ) (halt : Halt)
     → IsPlanned entry main sectors rest line memory header (layout_view layout) → PlacesKernel (Err halt) layout patched rest m m1
-    → LoadsKernel (Err halt) (loaded_today entry main initrd line video memory) m ram
+    → LoadsKernel (Err halt) (loaded_by entry main initrd line video memory) m ram
 ends_kernel entry main rest sectors patched initrd line video memory header layout m m1 ram Device planned placed = tt
 ends_kernel entry main rest sectors patched initrd line video memory header layout m m1 ram (Refused reason) planned placed =
     loaded_stop entry main rest sectors initrd line video memory header (layout_view layout) reason planned placed
@@ -239,8 +238,8 @@ ends_kernel entry main rest sectors patched initrd line video memory header layo
 pub ends_initrd :
     (entry : Descriptor) (main rest : FileRest) (sectors patched : List ℕ) (initrd : Option FileRest) (line : List ℕ) (video : Option ℕ) (memory : ℕ) (header : headers.Header) (layout : Layout) (region : Option headers.Region) (m m1 m2 : Memory) (ram : List ℕ) (halt : Halt)
     → IsPlanned entry main sectors rest line memory header (layout_view layout) → IsPlaced layout patched rest m m1
-    → PlacesInitrd (Err halt) region (initrd_today initrd) m1 m2
-    → LoadsKernel (Err halt) (loaded_today entry main initrd line video memory) m ram
+    → PlacesInitrd (Err halt) region (initrd_read initrd) m1 m2
+    → LoadsKernel (Err halt) (loaded_by entry main initrd line video memory) m ram
 ends_initrd entry main rest sectors patched initrd line video memory header layout region m m1 m2 ram Device planned placed read = tt
 ends_initrd entry main rest sectors patched initrd line video memory header layout region m m1 m2 ram (Refused reason) planned placed read =
     loaded_initrd entry main rest sectors initrd line video memory header (layout_view layout) reason planned (ap (λ r. r.stop) placed.read) read
@@ -251,7 +250,7 @@ pub begun_by :
     → rest_in now machine file ≡ main → file.left ≡ entry.main_length → IsTwo (min 1024 file.left) (rest_in now machine file) sectors rest
     → IsBegun entry main sectors rest
 begun_by now machine file entry main rest sectors is left two =
-    let most = rest_most now machine (slot_view file.first) file.left file.section in
+    let most = rest_most now machine file in
     record {
       two = subst (λ n. IsTwo (min 1024 n) main sectors rest) left (subst (λ r. IsTwo (min 1024 file.left) r sectors rest) is two);
       most = subst (λ n. length main.bytes ≤ n) left (subst (λ (r : FileRest). length r.bytes ≤ file.left) is most);

@@ -14,6 +14,7 @@ use Rattle.lilo_model.specs.Table as tables
 use Rattle.lilo_model.specs.Table.{fallback_flag, table_at}
 use Rattle.lilo_model.specs.Options as texts
 use Rattle.lilo_model.specs.Options.{options_at, extra_at}
+use Rattle.lilo_model.specs.Choice.{filled_text}
 use Rattle.lilo_model.specs.Reason.{NotFound, map_reason}
 use Rattle.lilo_model.specs.Reason as reasons
 use Rattle.lilo_model.specs.Boot.{MapSectors, slot_bytes_at, optional_at, extra_slot, entries_of, map_sectors, password_at, middle_of, fallback_of}
@@ -28,7 +29,6 @@ use Rattle.section_loader.specs.declared.reason.Reason.{Reason}
 use Rattle.section_loader.specs.declared.reason.Reason.TheVariants as variants
 use Rattle.section_loader.specs.declared.reason.Halt.{Halt}
 use Rattle.section_loader.specs.declared.reason.Halt.TheVariants.{Device, Refused}
-use Rattle.section_loader.specs.Reading.{Because}
 use Rattle.section_loader.specs.View.{reason_view}
 use Rattle.section_loader.specs.File.{ReadsOne}
 use Rattle.loader_core.specs.declared.map.Choices.{Choices}
@@ -193,7 +193,7 @@ extra_refused bytes fault same = sym same ∙ ap Err (refused-by _ _ _ fault sam
 
 -- ---- the sectors
 
-pub not_found : (reason : Reason) → reason_view reason ≡ Because NotFound → reason ≡ variants.NotFound
+pub not_found : (reason : Reason) → reason_view reason ≡ NotFound → reason ≡ variants.NotFound
 not_found variants.NotFound same = refl
 not_found variants.NotBootable same = cc
 not_found (variants.BadTable entry) same = cc
@@ -203,7 +203,6 @@ not_found (variants.ChainTooLong chain) same = cc
 not_found (variants.ShortChain sectors) same = cc
 not_found (variants.Header fault) same = cc
 not_found variants.Idle same = cc
-not_found variants.Unbuilt same = cc
 
 -- the sectors of a map, by those of its line, its table and its passwords
 abbrev sectors_by :
@@ -352,7 +351,8 @@ texts_some :
     (with_fault map_reason options >>= λ middle. with_fault map_reason (password_at (Some bytes)) >>= λ password. Ok middle)
     (option_and_then (λ bytes. option_map (λ extra. extra.fallback) (result_ok (extra_at bytes))) (Some bytes))
 texts_some found options extra bytes (Ok texts) at is judged =
-    let has = rw (is, at) at judged.1 in rw (judged.0, at) (record { middle_is = refl; fallback_is = has })
+    let same : found.fallback.items ≡ texts.fallback = rw (is, at) at judged.1 in
+    rw (judged.0, at) (record { middle_is = refl; fallback_is = ap (λ text. filled_text (Some text)) same })
 texts_some found options extra bytes (Err fault) at is judged = absurd (rw (is, at) at judged.1)
 
 refused_some :
@@ -361,14 +361,14 @@ refused_some :
     → IsBecause reason (with_fault map_reason (password_at (Some bytes)) >>= λ password. Ok middle)
 refused_some reason middle bytes (Ok texts) at judged = absurd judged.1
 refused_some reason middle bytes (Err fault) at judged =
-    rw at (record { why = map_reason fault; is = refl; because = judged.2 ∙ ap (λ f. Because (map_reason f)) judged.1 })
+    rw at (record { why = map_reason fault; is = refl; because = judged.2 ∙ ap map_reason judged.1 })
 
 texts_refused :
     (reason : Reason) (options : Result (List ℕ) maps.MapFault) (extra : Option (Result texts.Extra maps.MapFault)) (bytes : Option (List ℕ))
     → extra ≡ option_map extra_at bytes → JudgesTexts (Err (Refused reason)) options extra
     → IsBecause reason (with_fault map_reason options >>= λ middle. with_fault map_reason (password_at bytes) >>= λ password. Ok middle)
 texts_refused reason (Err fault) extra bytes is judged =
-    record { why = map_reason fault; is = refl; because = judged.2 ∙ ap (λ f. Because (map_reason f)) judged.1 }
+    record { why = map_reason fault; is = refl; because = judged.2 ∙ ap map_reason judged.1 }
 texts_refused reason (Ok middle) extra None is judged = absurd (rw is at judged).1
 texts_refused reason (Ok middle) extra (Some bytes) is judged = refused_some reason middle bytes (extra_at bytes) refl (rw is at judged)
 
@@ -379,7 +379,9 @@ texts_by :
     → ReadsTexts result
     (with_fault map_reason options >>= λ middle. with_fault map_reason (password_at bytes) >>= λ password. Ok middle)
     (option_and_then (λ bytes. option_map (λ extra. extra.fallback) (result_ok (extra_at bytes))) bytes)
-texts_by (Ok found) options extra None is judged = let none : found.has_fallback ≡ false = rw is at judged.1 in rw judged.0 (record { middle_is = refl; fallback_is = none })
+texts_by (Ok found) options extra None is judged =
+    let none : found.fallback.items ≡ [] = rw is at judged.1 in
+    rw judged.0 (record { middle_is = refl; fallback_is = ap (λ text. filled_text (Some text)) none })
 texts_by (Ok found) options extra (Some bytes) is judged = texts_some found options extra bytes (extra_at bytes) refl is judged
 texts_by (Err Device) options extra bytes is judged = absurd judged
 texts_by (Err (Refused reason)) options extra bytes is judged = texts_refused reason options extra bytes is judged

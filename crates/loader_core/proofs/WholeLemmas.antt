@@ -1,4 +1,4 @@
--- A kernel that was loaded as a whole is in memory as today's boot has it.
+-- A kernel that was loaded as a whole stands in memory as its report has it.
 use Rattle.std.proofs.Common.{◌≡◌, ◌≤◌, ◌+◌, ◌-◌, ◌∙◌, inl, inr, ℕ, refl, sym, ap, List, [], ◌∷◌, ◌++◌, length, Option, None, Some, Ok, length-append, arith}
 use Rattle.std.specs.Prelude.{IfSome}
 use Rattle.std.specs.Option.{option_map}
@@ -16,7 +16,7 @@ use Rattle.setup_header.specs.View.{region_view, layout_view}
 use Rattle.setup_header.specs.Words.{EndsBy, LiesIn, IsApartFrom, AreApart}
 use Rattle.section_loader.specs.Reading.{FileRest}
 use Rattle.loader_core.specs.Kernel.{IsPlaced, IsSized, IsInitrd, region_in, optional_region, regions_in, IsKernel}
-use Rattle.loader_core.specs.Today.{initrd_today, loaded_today}
+use Rattle.loader_core.specs.Report.{initrd_read, loaded_by}
 use Rattle.section_loader.proofs.LoadLemmas.{with_bytes-join}
 use Rattle.loader_core.proofs.LoadedLemmas.{IsPlanned, loaded_whole, written_pieces}
 use Rattle.loader_core.proofs.MemoryLemmas.{IsApart, AreApartFrom, held, memory_after-append}
@@ -128,11 +128,11 @@ pub kernel_whole :
     → IsPlanned entry main sectors rest line memory header (layout_view layout)
     → patched ≡ patch header (layout_view layout) video sectors → length patched ≡ 1024 → 1024 ≤ entry.main_length
     → IsPlaced layout patched rest m0 m1
-    → IsInitrd (option_map region_view layout.initrd) (initrd_today initrd) m1 m2
+    → IsInitrd (option_map region_view layout.initrd) (initrd_read initrd) m1 m2
     → m3 ≡ with_bytes m2 (record { address = layout.line.address; bytes = line })
     → memory_of ram ≡ with_bytes m3 (record { address = layout.line.address + length line; bytes = 0 ∷ [] })
     → layout.line.length ≡ length line + 1 → LiesIn (length ram) layout → AreApart layout
-    → IsKernel layout (loaded_today entry main initrd line video memory) m0 ram
+    → IsKernel layout (loaded_by entry main initrd line video memory) m0 ram
 kernel_whole entry main rest sectors initrd line video memory header layout patched m0 m1 m2 m3 ram planned is size least placed read at end long inside apart =
     let two = planned.begun.two in
     let first : length two.bytes ≡ 1024 = omega (arith, two.long) in

@@ -13,7 +13,7 @@ use Rattle.setup_header.specs.Words.{EndsBy}
 use Rattle.section_loader.specs.declared.reason.Reason.{Reason}
 use Rattle.section_loader.specs.declared.reason.Halt.{Halt}
 use Rattle.section_loader.specs.declared.reason.Halt.TheVariants.{Device, Refused}
-use Rattle.section_loader.specs.Reading.{Why, Because, FileRest, rest_behind}
+use Rattle.section_loader.specs.Reading.{FileRest, rest_behind}
 use Rattle.section_loader.specs.Load.{StopsFor, IsShort}
 use Rattle.section_loader.specs.View.{reason_view}
 
@@ -33,7 +33,7 @@ ReadsTwo (Err (Refused reason)) size old sectors new = IsShort size old (Refused
 -- a kernel is refused for this reason
 abbrev pub IsSetupRefusal : {A : Type 0} → Reason → Result A headers.SetupFault → Type 0
 IsSetupRefusal reason (Ok value) = ⊥
-IsSetupRefusal reason (Err fault) = reason_view reason ≡ Because (reasons.Header fault)
+IsSetupRefusal reason (Err fault) = reason_view reason ≡ (reasons.Header fault)
 
 -- a header, or the refusal of one
 abbrev pub GivesHeader : Result Header Halt → Result headers.Header headers.SetupFault → Type 0
@@ -79,13 +79,13 @@ IsSized (Some region) (Some bytes) = length bytes ≡ region.size
 IsSized _ _ = ⊥
 
 -- an initrd was placed at its region, or there is none
-pub record IsInitrd (region : Option headers.Region) (read : Result (Option (List ℕ)) Why) (memory memory' : Memory) : Type 0 where
+pub record IsInitrd (region : Option headers.Region) (read : Result (Option (List ℕ)) reasons.Reason) (memory memory' : Memory) : Type 0 where
   pub bytes : Option (List ℕ)
   pub is : read ≡ Ok bytes
   pub fits : IsSized region bytes
   pub placed : memory' ≡ memory_after memory (initrd_written region bytes)
 
-abbrev pub PlacesInitrd : Result (Unit {0}) Halt → Option headers.Region → Result (Option (List ℕ)) Why → Memory → Memory → Type 0
+abbrev pub PlacesInitrd : Result (Unit {0}) Halt → Option headers.Region → Result (Option (List ℕ)) reasons.Reason → Memory → Memory → Type 0
 PlacesInitrd (Ok done) region read memory memory' = IsInitrd region read memory memory'
 PlacesInitrd (Err Device) region read memory memory' = Unit {0}
 PlacesInitrd (Err (Refused reason)) region read memory memory' = read ≡ Err (reason_view reason)
@@ -106,13 +106,13 @@ regions_in ram layout =
     ∷ (region_in ram layout.protected ∷ (optional_region ram layout.initrd ++ (region_in ram layout.line ∷ [])))
 
 -- a kernel was loaded, and its regions hold what was put there
-pub record IsKernel (layout : Layout) (today : Result Ending Why) (memory : Memory) (ram : List ℕ) : Type 0 where
+pub record IsKernel (layout : Layout) (ending : Result Ending reasons.Reason) (memory : Memory) (ram : List ℕ) : Type 0 where
   pub written : List Written
-  pub is : today ≡ Ok (record { outcome = Loaded (layout_view layout); written = written })
+  pub is : ending ≡ Ok (record { outcome = Loaded (layout_view layout); written = written })
   pub placed : memory_of ram ≡ memory_after memory written
   pub held : written ≡ regions_in ram (layout_view layout)
 
-abbrev pub LoadsKernel : Result Layout Halt → Result Ending Why → Memory → List ℕ → Type 0
-LoadsKernel (Ok layout) today memory ram = IsKernel layout today memory ram
-LoadsKernel (Err Device) today memory ram = Unit {0}
-LoadsKernel (Err (Refused reason)) today memory ram = today ≡ Err (reason_view reason)
+abbrev pub LoadsKernel : Result Layout Halt → Result Ending reasons.Reason → Memory → List ℕ → Type 0
+LoadsKernel (Ok layout) ending memory ram = IsKernel layout ending memory ram
+LoadsKernel (Err Device) ending memory ram = Unit {0}
+LoadsKernel (Err (Refused reason)) ending memory ram = ending ≡ Err (reason_view reason)

@@ -1,28 +1,26 @@
--- What is booted today is the model's boot, but for what isn't built.
+-- What is reported of a boot is the model's boot.
 use Rattle.std.specs.Prelude.{◌≡◌, ℕ, List, Option, Result, Ok, Err}
 use Rattle.lilo_model.specs.DefaultLine.{DefaultLine}
 use Rattle.lilo_model.specs.Disks.{Image, Machine, Span}
 use Rattle.lilo_model.specs.Prompt.{Key}
+use Rattle.lilo_model.specs.Reason.{Reason}
 use Rattle.lilo_model.specs.Boot.{Boot, Ending, Refused, whole_boot}
-use Rattle.section_loader.specs.Reading.{Why, Unbuilt, Because}
-use Rattle.loader_core.specs.Today.{Report, boot_today, standing_line, IsUnbuilt}
+use Rattle.loader_core.specs.Report.{LineWrite, Report, boot_report, boot_write}
 
 -- a boot ends so
-abbrev pub EndsSo : Boot → Result Ending Why → Type 0
+abbrev pub EndsSo : Boot → Result Ending Reason → Type 0
 EndsSo boot (Ok ending) = (boot.outcome ≡ ending.outcome) × (boot.written ≡ ending.written)
-EndsSo boot (Err Unbuilt) = ⊥
-EndsSo boot (Err (Because reason)) = boot.outcome ≡ Refused reason
+EndsSo boot (Err reason) = boot.outcome ≡ Refused reason
 
--- a boot is the one of a report, and leaves this default line
-pub record IsReported (boot : Boot) (report : Report) (standing : Option DefaultLine) : Type 0 where
+-- a boot is the one of a report; this is written for its default line
+pub record IsReported (boot : Boot) (report : Report) (write : Option DefaultLine → Option LineWrite) : Type 0 where
   pub ends : EndsSo boot report.result
   pub shown : boot.shown ≡ report.shown
-  pub line : boot.line ≡ standing
   pub left : boot.left ≡ report.left
+  pub written : report.write ≡ write boot.line
 
--- outside what isn't built, today's boot is the model's, for all keys
-abbrev pub TodayLaw : Type 0
-TodayLaw =
+-- what is reported of a boot is the model's boot, for all keys
+abbrev pub ReportLaw : Type 0
+ReportLaw =
     (image : Image) (machine : Machine) (span : Span) (keys : List Key) (memory : ℕ)
-    → (IsUnbuilt image machine span memory keys → ⊥)
-    → IsReported (whole_boot image machine span keys memory) (boot_today image machine span memory keys) (standing_line image machine span)
+    → IsReported (whole_boot image machine span keys memory) (boot_report image machine span memory keys) (boot_write image machine span)

@@ -1,6 +1,7 @@
 pub mod Kernel
 pub mod Laws
+pub mod Leaves
 pub mod Map
+pub mod Report
 pub mod Start
-pub mod Today
 pub mod View

@@ -1,5 +1,5 @@
 -- What is read of a map before a choice, and what it says (this project's own).
-use Rattle.std.specs.Prelude.{◌≡◌, ℕ, Bool, true, false, is_some, List, [], ◌∷◌, ◌++◌, length, map, zip, All, Option, None, Some, Result, Ok, Err, IsErr}
+use Rattle.std.specs.Prelude.{◌≡◌, ℕ, Bool, true, false, List, [], ◌∷◌, ◌++◌, length, map, zip, All, Option, None, Some, Result, Ok, Err, IsErr}
 use Rattle.std.specs.Option.{option_map}
 use Rattle.lilo_model.specs.Checks.{seen, each}
 use Rattle.lilo_model.specs.Choice.{filled_text}
@@ -29,7 +29,6 @@ use Rattle.loader_core.specs.declared.map.Choices.{Choices}
 use Rattle.loader_core.specs.declared.map.GoodParts.{GoodParts}
 use Rattle.loader_core.specs.declared.map.MapParts.{MapParts}
 use Rattle.loader_core.specs.declared.map.Texts.{Texts}
-use Rattle.section_loader.specs.Reading.{Because}
 use Rattle.section_loader.specs.View.{reason_view}
 
 -- ---- what is read
@@ -164,7 +163,7 @@ pub record IsGoodMap (good : GoodParts) (judged : Result GoodMap maps.MapFault) 
 pub record IsBadMap (reason : Reason) (judged : Result GoodMap maps.MapFault) : Type 0 where
   pub fault : maps.MapFault
   pub is : judged ≡ Err fault
-  pub because : reason_view reason ≡ Because (map_reason fault)
+  pub because : reason_view reason ≡ (map_reason fault)
 
 -- what was found of a map that was judged
 abbrev pub Judges : Result GoodParts Reason → Result GoodMap maps.MapFault → Type 0
@@ -177,12 +176,12 @@ Judges (Err reason) judged = IsBadMap reason judged
 pub record IsBecause (reason : Reason) (middle : Result (List ℕ) reasons.Reason) : Type 0 where
   pub why : reasons.Reason
   pub is : middle ≡ Err why
-  pub because : reason_view reason ≡ Because why
+  pub because : reason_view reason ≡ why
 
--- the texts of an entry that were read: its middle text, and whether it has a fallback of a byte at least
+-- the texts of an entry that were read: its middle text, and its fallback, which has no byte where there is none
 pub record AreTexts (texts : Texts) (middle : Result (List ℕ) reasons.Reason) (fallback : Option (List ℕ)) : Type 0 where
   pub middle_is : middle ≡ Ok texts.middle.items
-  pub fallback_is : texts.has_fallback ≡ is_some (filled_text fallback)
+  pub fallback_is : filled_text (Some texts.fallback.items) ≡ filled_text fallback
 
 -- the same, unless a disk failed
 abbrev pub ReadsTexts : Result Texts Halt → Result (List ℕ) reasons.Reason → Option (List ℕ) → Type 0
@@ -190,11 +189,11 @@ ReadsTexts (Ok texts) middle fallback = AreTexts texts middle fallback
 ReadsTexts (Err Device) middle fallback = Unit {0}
 ReadsTexts (Err (Refused reason)) middle fallback = IsBecause reason middle
 
--- the texts of an entry, by what its two sectors say: the fallback has a byte at least, or it has none
-abbrev pub HasFallback : Bool → Option (Result texts.Extra maps.MapFault) → Type 0
-HasFallback has None = has ≡ false
-HasFallback has (Some (Ok extra)) = has ≡ is_some (filled_text (Some extra.fallback))
-HasFallback has (Some (Err fault)) = ⊥
+-- the fallback of an entry, by what its extra sector says: no byte where there is none
+abbrev pub IsFallback : List ℕ → Option (Result texts.Extra maps.MapFault) → Type 0
+IsFallback fallback None = fallback ≡ []
+IsFallback fallback (Some (Ok extra)) = fallback ≡ extra.fallback
+IsFallback fallback (Some (Err fault)) = ⊥
 
 -- the first of two sectors in which a length passes its limit
 abbrev pub IsFirstFault : Result (List ℕ) maps.MapFault → Option (Result texts.Extra maps.MapFault) → maps.MapFault → Type 0
@@ -205,7 +204,7 @@ IsFirstFault (Ok middle) (Some (Err fault)) first = first ≡ fault
 
 -- what two sectors say as the texts of an entry
 abbrev pub JudgesTexts : Result Texts Halt → Result (List ℕ) maps.MapFault → Option (Result texts.Extra maps.MapFault) → Type 0
-JudgesTexts (Ok found) options extra = (options ≡ Ok found.middle.items) × HasFallback found.has_fallback extra
+JudgesTexts (Ok found) options extra = (options ≡ Ok found.middle.items) × IsFallback found.fallback.items extra
 JudgesTexts (Err Device) options extra = ⊥
 JudgesTexts (Err (Refused reason)) options extra =
-    (fault : maps.MapFault) × IsFirstFault options extra fault × (reason_view reason ≡ Because (map_reason fault))
+    (fault : maps.MapFault) × IsFirstFault options extra fault × (reason_view reason ≡ (map_reason fault))

@@ -1,15 +1,18 @@
--- How a boot's end relates to today's report of it.
+-- How a boot's end is what is reported of it.
 use Rattle.std.specs.Prelude.{◌≡◌, ℕ, codes, Bool, true, false, List, [], ◌∷◌, length, Option, Result, Ok, Err, IsErrOf}
 use Rattle.disk_trait.specs.declared.disks.Span.{Span}
 use Rattle.disk_trait.specs.declared.disks.Disks.{Ghosts}
+use Rattle.disk_trait.specs.declared.disks.Phase.{Phase}
+use Rattle.disk_trait.specs.declared.disks.Phase.TheVariants as phases
 use Rattle.lilo_model.specs.Disks as disks
 use Rattle.lilo_model.specs.DefaultLine.{DefaultLine}
 use Rattle.lilo_model.specs.Prompt.{Key}
 use Rattle.lilo_model.specs.Place.{Memory, Written, memory_after}
 use Rattle.lilo_model.specs.Boot as boots
 use Rattle.lilo_model.specs.Bytes.{part_of}
-use Rattle.lilo_model.specs.Boot.{Ending, boot_address, table_address}
+use Rattle.lilo_model.specs.Boot.{Ending, boot_address, table_address, error_text}
 use Rattle.lilo_model.specs.Verdict.{told_regions}
+use Rattle.lilo_model.specs.Reason as reasons
 use Rattle.bios_model.specs.Memory.{memory_of}
 use Rattle.setup_header.specs.View.{layout_view}
 use Rattle.setup_header.specs.Words.{LiesIn}
@@ -25,12 +28,12 @@ use Rattle.prompt_loop.specs.declared.asking.Stop.TheVariants as stops
 use Rattle.section_loader.specs.declared.reason.Reason.{Reason}
 use Rattle.bios_model.specs.Keys.{MayLeave}
 use Rattle.stream_trait.specs.declared.source.Source as sources
-use Rattle.section_loader.specs.Reading.{Why, Unbuilt, Because}
 use Rattle.sector_address.specs.Machine.{OnDisks}
 use Rattle.stream_trait.specs.Shows.{SinkState, Shows, ShowsOne, sink_of}
 use Rattle.stream_trait.specs.declared.shown.Shown.{Shown}
 use Rattle.stream_trait.specs.declared.sink.Sink as sinks
-use Rattle.loader_core.specs.Today.{Report, why_text, IsUnbuilt, standing_line}
+use Rattle.loader_core.specs.Leaves.{Leaves}
+use Rattle.loader_core.specs.Report.{LineWrite, Report, boot_write}
 use Rattle.loader_core.specs.View.{started_view}
 use Rattle.section_loader.specs.View.{reason_view}
 
@@ -45,25 +48,25 @@ started_regions ram (starts.Loaded layout) = regions_in ram (layout_view layout)
 started_regions ram starts.Handed = region_in ram (record { address = boot_address; size = 512 }) ∷ []
 
 -- something was started, and memory holds what was put there
-pub record IsStarted (started : Started) (today : Result Ending Why) (memory : Memory) (ram : List ℕ) : Type 0 where
+pub record IsStarted (started : Started) (ending : Result Ending reasons.Reason) (memory : Memory) (ram : List ℕ) : Type 0 where
   pub written : List Written
-  pub is : today ≡ Ok (record { outcome = started_view started; written = written })
+  pub is : ending ≡ Ok (record { outcome = started_view started; written = written })
   pub placed : memory_of ram ≡ memory_after memory written
   pub held : told_regions (started_view started) written ≡ started_regions ram started
 
 -- what was started, or why nothing was, unless a disk failed
-abbrev pub Starts : Result Started Halt → Result Ending Why → Memory → List ℕ → Type 0
-Starts (Ok started) today memory ram = IsStarted started today memory ram
-Starts (Err Device) today memory ram = Unit {0}
-Starts (Err (Refused reason)) today memory ram = today ≡ Err (reason_view reason)
+abbrev pub Starts : Result Started Halt → Result Ending reasons.Reason → Memory → List ℕ → Type 0
+Starts (Ok started) ending memory ram = IsStarted started ending memory ram
+Starts (Err Device) ending memory ram = Unit {0}
+Starts (Err (Refused reason)) ending memory ram = ending ≡ Err (reason_view reason)
 
--- what was shown: today's text, or one that goes with a disk's failure
+-- what was shown: the text of the report, or one that goes with a disk's failure
 abbrev pub ShowsReport : Result Started Halt → Report → SinkState → SinkState → Type 0
 ShowsReport (Ok started) report old new = Shows old report.shown new
 ShowsReport (Err Device) report old new = ShowsOne old report.device new
 ShowsReport (Err (Refused reason)) report old new = Shows old report.shown new
 
--- a boot, or a part of it, went as today's report says
+-- a boot, or a part of it, went as the report says
 pub record Reports (report : Report) (result : Result Started Halt) (memory : Memory) (ram : List ℕ) (old new : SinkState) : Type 0 where
   pub starts : Starts result report.result memory ram
   pub shows : ShowsReport result report old new
@@ -93,21 +96,27 @@ Went (Err (stops.Halt Device)) report memory ram left old new = Reports report (
 Went (Err (stops.Halt (Refused reason))) report memory ram left old new =
     (report.left ≡ left) × Reports report (Err (Refused reason)) memory ram old new
 
+-- A part of a boot that takes no key went as a report says, and left of the disks what that says.
+pub record ReportsBy {D O : Type 0} (g : Ghosts D) (o : sinks.Ghosts O) (report : Report) (result : Result Started Halt) (phase : Phase) (old new : D × List ℕ × Shown O) : Type 0 where
+  pub reports : ReportsAs o report result (old.1, old.2) (new.1, new.2)
+  pub leaves : Leaves g old.0 new.0 report.write (unasked result) phase
+
 -- A fact about keys and those left: whichever keys a source leaves, it holds of those that it left before. Where the
 -- source reports its keys, these are all that it had, and what it has.
 abbrev pub OnKeys : {I : Type 0} → sources.Ghosts I → I × I → (List Key → List Key → Type 0) → Type 0
 OnKeys i keys P = (left : List Key) → MayLeave i keys.1 left → (all : List Key) × MayLeave i keys.0 all × P all left
 
--- the same of a source, the memory and the sink before and after
-abbrev pub WentBy : {I O : Type 0} → sources.Ghosts I → sinks.Ghosts O → Result Started Stop → (List Key → Report) → I × List ℕ × Shown O → I × List ℕ × Shown O → Type 0
-WentBy i o result report (keys, ram, out) (keys', ram', out') =
-    OnKeys i (keys, keys') (λ all left. Went result (report all) (memory_of ram) ram' left (sink_of o out) (sink_of o out'))
+-- The same of disks, a source, the memory and the sink before and after it: it left of the disks what the report says, by
+-- the phase in which a device failed.
+abbrev pub WentBy : {D I O : Type 0} → Ghosts D → sources.Ghosts I → sinks.Ghosts O → Result Started Stop → Phase → (List Key → Report) → D × I × List ℕ × Shown O → D × I × List ℕ × Shown O → Type 0
+WentBy g i o result phase report (disks, keys, ram, out) (disks', keys', ram', out') =
+    OnKeys i (keys, keys') (λ all left. Leaves g disks disks' (report all).write result phase
+    × Went result (report all) (memory_of ram) ram' left (sink_of o out) (sink_of o out'))
 
--- the same of what disks hold, where they report their past: the report for this image, machine, size of memory and
--- keys
-abbrev pub WentOn : {D I O : Type 0} → Ghosts D → sources.Ghosts I → sinks.Ghosts O → D → Result Started Stop → I × List ℕ × Shown O → I × List ℕ × Shown O → (disks.Image → disks.Machine → ℕ → List Key → Report) → Type 0
-WentOn g i o disks result old new report =
-    OnDisks g disks (λ now machine. WentBy i o result (report now machine (length old.1)) old new)
+-- the same of what disks hold, where they tell their past: the report for this image, machine, size of memory and keys
+abbrev pub WentOn : {D I O : Type 0} → Ghosts D → sources.Ghosts I → sinks.Ghosts O → Result Started Stop → Phase → D × I × List ℕ × Shown O → D × I × List ℕ × Shown O → (disks.Image → disks.Machine → ℕ → List Key → Report) → Type 0
+WentOn g i o result phase old new report =
+    OnDisks g old.0 (λ now machine. WentBy g i o result phase (report now machine (length old.2)) old new)
 
 -- a disk failed
 abbrev pub IsLost : Result Started Stop → Type 0
@@ -127,6 +136,14 @@ result_of (outcomes.Refused reason) = Err (stops.Halt (Refused reason))
 result_of outcomes.Keys = Err stops.Keys
 result_of (outcomes.Device phase) = Err (stops.Halt Device)
 
+-- the phase in which a device failed, where one did
+abbrev pub phase_of : Outcome → Phase
+phase_of (outcomes.Device phase) = phase
+phase_of (outcomes.Loaded layout) = phases.Before
+phase_of outcomes.Handed = phases.Before
+phase_of (outcomes.Refused reason) = phases.Before
+phase_of outcomes.Keys = phases.Before
+
 -- where a kernel was started, its regions lie in a memory of so many bytes
 abbrev pub LiesInside : ℕ → Started → Type 0
 LiesInside memory (starts.Loaded layout) = LiesIn memory layout
@@ -135,11 +152,6 @@ LiesInside memory starts.Handed = Unit {0}
 -- neighbouring sectors of a disk
 abbrev pub span_view : Span → disks.Span
 span_view span = record { disk = span.disk; start = span.start; count = span.count }
-
--- a boot is refused for this reason
-abbrev pub RefusesAs : boots.Outcome → Why → Type 0
-RefusesAs outcome Unbuilt = ⊥
-RefusesAs outcome (Because reason) = outcome ≡ boots.Refused reason
 
 -- a boot started what it is to start, showed what it is to show, and left the keys that it is to leave
 pub record StartsBoot (started : Started) (boot : boots.Boot) (memory memory' : Memory) (left : List Key) (old new : SinkState) : Type 0 where
@@ -150,7 +162,7 @@ pub record StartsBoot (started : Started) (boot : boots.Boot) (memory memory' : 
 
 -- a boot was refused as it is to be, showed what it is to show, and left the keys that it is to leave
 pub record RefusesBoot (reason : Reason) (boot : boots.Boot) (left : List Key) (old new : SinkState) : Type 0 where
-  pub outcome : RefusesAs boot.outcome (reason_view reason)
+  pub outcome : boot.outcome ≡ boots.Refused (reason_view reason)
   pub shows : Shows old boot.shown new
   pub keys : boot.left ≡ left
 
@@ -161,20 +173,17 @@ EndsAs (Err stops.Keys) boot memory memory' left old new = Unit {0}
 EndsAs (Err (stops.Halt Device)) boot memory memory' left old new = Unit {0}
 EndsAs (Err (stops.Halt (Refused reason))) boot memory memory' left old new = RefusesBoot reason boot left old new
 
--- what was done is this boot of the model, which leaves this default line and these keys
-pub record IsBoot (outcome : Outcome) (boot : boots.Boot) (standing : Option DefaultLine) (memory memory' : Memory) (left : List Key) (old new : SinkState) : Type 0 where
+-- what was done is this boot, and this was written for its default line
+pub record IsBoot {D : Type 0} (g : Ghosts D) (disks disks' : D) (write : Option DefaultLine → Option LineWrite) (outcome : Outcome) (boot : boots.Boot) (memory memory' : Memory) (left : List Key) (old new : SinkState) : Type 0 where
   pub ends : EndsAs (result_of outcome) boot memory memory' left old new
-  pub line : boot.line ≡ standing
+  pub leaves : Leaves g disks disks' (write boot.line) (result_of outcome) (phase_of outcome)
 
--- what was done is the model's boot from a span by the keys that the source had, unless these need what isn't built yet
-abbrev pub BootsAsModel : {I O : Type 0} → sources.Ghosts I → sinks.Ghosts O → disks.Image → disks.Machine → Span → Outcome → I × List ℕ × Shown O → I × List ℕ × Shown O → Type 0
-BootsAsModel i o now machine device outcome (keys, ram, out) (keys', ram', out') =
-    OnKeys i (keys, keys') (λ all left. (IsUnbuilt now machine (span_view device) (length ram) all → ⊥)
-    → IsBoot outcome (boots.whole_boot now machine (span_view device) all (length ram)) (standing_line now machine (span_view device)) (memory_of ram) (memory_of ram') left (sink_of o out) (sink_of o out'))
-
--- a boot from a span by the keys that the source had needs what isn't built yet
-abbrev pub NeedsUnbuilt : {I : Type 0} → sources.Ghosts I → disks.Image → disks.Machine → Span → ℕ → I × I → Type 0
-NeedsUnbuilt i now machine device memory keys = OnKeys i keys (λ all left. IsUnbuilt now machine (span_view device) memory all)
+-- What was done is the model's boot from a span by the keys that the source had, unless a disk or the source failed; and
+-- of the disks the sector of the default line was written, where that is another from then on, and no other sector.
+abbrev pub BootsAsModel : {D I O : Type 0} → Ghosts D → sources.Ghosts I → sinks.Ghosts O → disks.Image → disks.Machine → Span → Outcome → D × I × List ℕ × Shown O → D × I × List ℕ × Shown O → Type 0
+BootsAsModel g i o now machine device outcome (disks, keys, ram, out) (disks', keys', ram', out') =
+    OnKeys i (keys, keys') (λ all left. IsBoot g disks disks' (boot_write now machine (span_view device)) outcome
+    (boots.whole_boot now machine (span_view device) all (length ram)) (memory_of ram) (memory_of ram') left (sink_of o out) (sink_of o out'))
 
 -- a boot ended as a disk failed
 abbrev pub IsDiskFailure : Outcome → Type 0
@@ -185,7 +194,7 @@ IsDiskFailure outcome = IsLost (result_of outcome)
 -- the text after what ended the loading of an entry
 abbrev pub halt_text : Halt → List ℕ
 halt_text Device = codes "Error 80\n"
-halt_text (Refused reason) = why_text (reason_view reason)
+halt_text (Refused reason) = error_text (reason_view reason)
 
 -- the text after what ended the asking; none is shown of a source of keys that failed
 abbrev pub stop_text : Stop → List ℕ

@@ -9,7 +9,7 @@ ghost use Rattle.bios_model.specs.Reads.{OnlyReads};
 ghost use Rattle.bios_model.specs.Memory.{memory_of};
 ghost use Rattle.boot_map.specs.View.{descriptor_view};
 ghost use Rattle.boot_map.specs.Ranges.{HasSectors, FitsFlags};
-ghost use Rattle.loader_core.specs.Today.{entry_today, other_today, video_today};
+ghost use Rattle.loader_core.specs.Report.{entry_by, other_by, configured_video};
 ghost use Rattle.loader_core.specs.Start.{LiesInside, Starts, table_written};
 
 use crate::kernel::load_kernel;
@@ -38,7 +38,7 @@ pub(crate) fn load_entry<D: Disks>(
     requires flags { FitsFlags entry.now }
     requires line { length line.now ≤ 760 }
     ensures started { OnDisks D.Disks disks.old (λ now machine.
-        Starts result (entry_today now machine (descriptor_view entry.now) line.now video (length ram.old))
+        Starts result (entry_by now machine (descriptor_view entry.now) line.now video (length ram.old))
         (memory_of ram.old) ram.new) }
     ensures memory { length ram.new ≡ length ram.old }
     ensures inside { IfOk result (LiesInside (length ram.new)) }
@@ -54,7 +54,7 @@ pub(crate) fn load_entry<D: Disks>(
 
 /// The video mode of an entry: the one that was typed, or else the one that it is configured with.
 pub(crate) fn video_of(entry: &Descriptor, typed: Option<u16>) -> Option<u16>
-    ensures { result ≡ option_or typed (video_today (descriptor_view entry.now)) }
+    ensures { result ≡ option_or typed (configured_video (descriptor_view entry.now)) }
 {
     if typed.is_some() {
         return typed;
@@ -73,7 +73,7 @@ fn load_other<D: Disks>(disks: &mut D, ram: &mut Ram, entry: &Descriptor) -> Res
     requires flags { FitsFlags entry.now }
     requires other { has_flag entry.now.flags other_flag ≡ true }
     ensures started { OnDisks D.Disks disks.old (λ now machine.
-        Starts result (other_today now machine (descriptor_view entry.now)) (memory_of ram.old) ram.new) }
+        Starts result (other_by now machine (descriptor_view entry.now)) (memory_of ram.old) ram.new) }
     ensures memory { length ram.new ≡ length ram.old }
     ensures inside { IfOk result (LiesInside (length ram.new)) }
     ensures reads { OnlyReads D.Disks disks.old disks.new (IsErrOf result Halt.Device) }

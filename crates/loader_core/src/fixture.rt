@@ -11,7 +11,8 @@ use stream_trait::{MemSink, MemSource};
 // Bytes of a sector from an offset on.
 pub type Edit<'a> = (usize, usize, &'a [u8]);
 
-// A boot of the plain installation with some changes, from a sector on, by keys, where some reads, keys and texts fail.
+// A boot of the plain installation with some changes, from a sector on, by keys, where some calls of a disk, keys and texts
+// fail.
 #[derive(Clone, Copy)]
 pub struct Case<'a> {
     pub edits: &'a [Edit<'a>],
@@ -19,6 +20,8 @@ pub struct Case<'a> {
     pub memory: u32,
     pub keys: &'a [u8],
     pub failing_reads: &'a [u64],
+    // Whether a write that fails is made all the same.
+    pub made: bool,
     pub failing_keys: &'a [u64],
     pub failing_puts: &'a [u64],
 }
@@ -31,6 +34,7 @@ pub fn changed<'a>(edits: &'a [Edit<'a>]) -> Case<'a> {
         memory: 2_097_152,
         keys: b"",
         failing_reads: &[],
+        made: false,
         failing_keys: &[],
         failing_puts: &[],
     }
@@ -43,6 +47,8 @@ pub struct Booted {
     pub has_failed: bool,
     pub sink: MemSink,
     pub ram: Ram,
+    // The sector of the default line then.
+    pub line: Sector,
 }
 
 impl Booted {
@@ -64,11 +70,14 @@ pub fn boot_case(alloc: Global, case: &Case<'_>) -> Result<Booted, AllocError> {
     let mut sink = MemSink::new(alloc, 256, case.failing_puts)?;
     let mut keys = MemSource::new(alloc, case.keys, case.failing_keys)?;
     let (outcome, has_failed) = boot_over(&mut disks, case.start, &mut keys, &mut ram, &mut sink)?;
+    let mut line = [0; 512];
+    let _ = disks.read(0, 94, &mut line);
     Ok(Booted {
         outcome,
         has_failed,
         sink,
         ram,
+        line,
     })
 }
 
@@ -110,7 +119,7 @@ fn installation(alloc: Global, case: &Case<'_>) -> Result<MemDisks, AllocError> 
     for call in case.failing_reads {
         failing.push(Failing {
             call: *call,
-            made: false,
+            made: case.made,
         })?;
     }
     let Ok(geometry) = Geometry::new(16, 63) else {
@@ -120,7 +129,7 @@ fn installation(alloc: Global, case: &Case<'_>) -> Result<MemDisks, AllocError> 
         sectors: 4096,
         geometry,
     };
-    let mut disks = MemDisks::new(alloc, &[disk], 0, failing.as_slice())?;
+    let mut disks = MemDisks::new(alloc, &[disk], 8, failing.as_slice())?;
     put_sectors(&mut disks, sectors_of(alloc, case.edits)?.as_slice());
     Ok(disks)
 }

@@ -11,7 +11,7 @@ ghost use Rattle.boot_map.specs.View.{descriptor_view};
 ghost use Rattle.boot_map.specs.Ranges.{HasSectors, FitsFlags};
 ghost use Rattle.setup_header.specs.View.{header_view, region_view};
 ghost use Rattle.setup_header.specs.Words.{IsHeaderFor, HasLengths, LiesIn, AreApart, EndsBy};
-ghost use Rattle.loader_core.specs.Today.{initrd_file_today, initrd_today, kernel_today};
+ghost use Rattle.loader_core.specs.Report.{initrd_rest, initrd_read, kernel_by};
 ghost use Rattle.section_loader.specs.File.{IsCounted, OnFile};
 ghost use Rattle.loader_core.specs.Kernel.{ReadsTwo, HoldsKernel, PlacesKernel, PlacesInitrd, LoadsKernel};
 ghost use Rattle.loader_core.specs.Kernel.{GivesHeader, GivesLayout};
@@ -135,7 +135,7 @@ fn load_initrd<D: Disks>(
     requires fits { length ram.old < 2 ^ 32 }
     ensures placed { OnDisks D.Disks disks.old (λ now machine.
         PlacesInitrd result (option_map region_view region)
-        (initrd_today (initrd_file_today now machine (descriptor_view entry.now)))
+        (initrd_read (initrd_rest now machine (descriptor_view entry.now)))
         (memory_of ram.old) (memory_of ram.new)) }
     ensures memory { length ram.new ≡ length ram.old }
     ensures reads { OnlyReads D.Disks disks.old disks.new (IsErrOf result Halt.Device) }
@@ -159,7 +159,7 @@ pub(crate) fn load_kernel<D: Disks>(
     requires flags { FitsFlags entry.now }
     requires line { length line.now ≤ 760 }
     ensures loaded { OnDisks D.Disks disks.old (λ now machine.
-        LoadsKernel result (kernel_today now machine (descriptor_view entry.now) line.now video (length ram.old))
+        LoadsKernel result (kernel_by now machine (descriptor_view entry.now) line.now video (length ram.old))
         (memory_of ram.old) ram.new) }
     ensures memory { length ram.new ≡ length ram.old }
     ensures inside { IfOk result (LiesIn (length ram.new)) }

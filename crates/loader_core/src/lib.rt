@@ -6,6 +6,7 @@ mod entry;
 mod fixture;
 mod kernel;
 mod laws;
+mod line;
 mod loader;
 mod map;
 mod outcome;

@@ -1,41 +1,44 @@
 // The boot itself.
-ghost use Rattle.std.specs.Prelude.{◌≡◌, ℕ, Bool, List, Err, Some, ◌<◌, ◌≤◌, ◌++◌, codes, not, ◌||◌, length, slice_get};
+ghost use Rattle.std.specs.Prelude.{◌≡◌, ℕ, List, Err, Some, ◌<◌, ◌≤◌, ◌++◌, codes, length, slice_get};
 ghost use Rattle.std.specs.Prelude.{All, IfOk, IfSome, IsErrOf};
 ghost use Rattle.std.specs.Option.{option_map};
 ghost use Rattle.lilo_model.specs.Disks.{Image, Machine};
-ghost use Rattle.lilo_model.specs.DefaultLine.{Empty};
+ghost use Rattle.lilo_model.specs.Choice.{filled_text};
+ghost use Rattle.lilo_model.specs.DefaultLine as lines;
+ghost use Rattle.lilo_model.specs.DefaultLine.{line_after};
 ghost use Rattle.lilo_model.specs.Prompt.{Key};
-ghost use Rattle.lilo_model.specs.Boot.{MapSectors, GoodMap, listed_entries, picked_entry};
-ghost use Rattle.lilo_model.specs.Table.{has_flag, lock_flag};
-ghost use Rattle.sector_address.specs.Machine.{OnDisks};
+ghost use Rattle.lilo_model.specs.Boot.{MapSectors, GoodMap, listed_entries, picked_entry, picked_line, video_of};
+ghost use Rattle.sector_address.specs.Machine.{machine_of, OnDisks};
+ghost use Rattle.sector_address.specs.View.{slot_view};
+ghost use Rattle.bios_model.specs.Machine.{HasSector};
 ghost use Rattle.bios_model.specs.Memory.{memory_of};
 ghost use Rattle.bios_model.specs.Reads.{ReadsAndShows};
 ghost use Rattle.boot_map.specs.View.{boot_view, descriptor_view, table_view, line_view, map_fault_view};
 ghost use Rattle.boot_map.specs.Ranges.{IsNamed, IsOneSector, HasSectors, FitsFlags};
 ghost use Rattle.prompt_core.specs.Decided.{line_behind, picked_by};
 ghost use Rattle.prompt_core.specs.Run.{chosen_in};
-ghost use Rattle.prompt_loop.specs.Asking.{Asks};
-ghost use Rattle.loader_core.specs.Today.{boot_today, report_by, foreign_report, keeps_line};
-ghost use Rattle.loader_core.specs.Today.{map_report, sectors_report, good_report, asked_report, decided_report};
-ghost use Rattle.loader_core.specs.Today.{picked_report, texts_report, line_report, entry_report};
+ghost use Rattle.loader_core.specs.Report.{boot_report, report_by, foreign_report, line_write, chosen_line, locked_line};
+ghost use Rattle.loader_core.specs.Report.{map_report, sectors_report, good_report, asked_report, decided_report};
+ghost use Rattle.loader_core.specs.Report.{picked_report, texts_report, line_report, entry_report, or_device};
+ghost use Rattle.loader_core.specs.Leaves.{Leaves, WritesAndShows, WritesAndAsks};
 ghost use Rattle.loader_core.specs.Map.{StandsFor, IsTable, IsGood, ListsAs};
 ghost use Rattle.loader_core.specs.View.{picked_view};
 ghost use Rattle.stream_trait.specs.Shows.{sink_of, HasFailed};
-ghost use Rattle.loader_core.specs.Start.{LiesInside, Starts, result_of, span_view, halt_text, stop_text, map_text};
-ghost use Rattle.loader_core.specs.Start.{ReportsOn, ReportsAs, WentOn, WentBy, BootsAsModel, NeedsUnbuilt};
+ghost use Rattle.loader_core.specs.Start.{LiesInside, Starts, result_of, phase_of, span_view, halt_text, stop_text, map_text};
+ghost use Rattle.loader_core.specs.Start.{ReportsOn, ReportsAs, ReportsBy, WentOn, WentBy, BootsAsModel};
 ghost use Rattle.loader_core.specs.Start.{IsDiskFailure, IsLost, IsUnheard, unasked};
 
 use crate::entry::{load_entry, place_boot, video_of};
+use crate::line::{LineAt, Pick, is_locked, new_line, write_line};
 use crate::map::{
-    GoodParts, MapParts, Texts, command_line, is_empty_line, judge, keeps_line, message_of,
-    prompt_of, read_map, read_texts,
+    GoodParts, MapParts, Texts, command_line, judge, message_of, prompt_of, read_map, read_texts,
 };
 use crate::outcome::{Outcome, Started};
 use arrayvec::ArrayVec;
 use bios_model::{Bios, Ram};
 use boot_map::{BootSector, Descriptor, MapFault, Table};
 use disk_trait::{Disks, Phase, Span};
-use prompt_core::{Picked, Prompt};
+use prompt_core::Prompt;
 use prompt_loop::{Stop, ask};
 use section_loader::{Halt, Reason};
 use sector_parts::{Sector, part};
@@ -51,10 +54,10 @@ use stream_trait::{Shown, Sink, Source};
 /// where the entry says so. A boot sector that isn't of this format, and that a BIOS takes for one, is handed over
 /// itself.
 ///
-/// Each sector is read once, one at a time. Keys are taken by the prompt alone, as many as it needs for its choice.
-/// `Reason::Unbuilt` is for what isn't followed yet: a default line, a choice that changes it, and a slot of more than
-/// one sector. No disk is written, and nothing is allocated. After a refusal or a failure nothing is said of the
-/// memory.
+/// Each sector is read once, one at a time, but for that of a file which a slot names twice. Keys are taken by the prompt
+/// alone, as many as it needs for its choice. Where the choice makes the default line another, that line's sector is
+/// written and made durable before the first byte of a kernel is read; no other sector is written. Nothing is allocated.
+/// After a refusal or a failure nothing is said of the memory.
 pub fn boot<D: Disks, I: Source, O: Sink>(
     bios: &mut Bios<'_, D, I>,
     device: Span,
@@ -63,40 +66,41 @@ pub fn boot<D: Disks, I: Source, O: Sink>(
 ) -> Outcome
     requires { device.start < D.size_of bios.old.disks.now device.disk }
 
-    // It is today's boot, and outside what isn't built yet the model's, by the keys that it took; the default line
-    // stays.
-    ensures today { WentOn D.Disks I.Source O.Sink bios.old.disks.now (result_of result)
-        (bios.old.keys.now, ram.old, out.old) (bios.new.keys.now, ram.new, out.new)
-        (λ now machine memory keys. boot_today now machine (span_view device) memory keys) }
+    // It is the model's boot by the keys that it took, and so is what is written of the default line; where a device
+    // failed, the text says so.
+    ensures report { WentOn D.Disks I.Source O.Sink (result_of result) (phase_of result)
+        (bios.old.disks.now, bios.old.keys.now, ram.old, out.old)
+        (bios.new.disks.now, bios.new.keys.now, ram.new, out.new)
+        (λ now machine memory keys. boot_report now machine (span_view device) memory keys) }
     ensures boot { OnDisks D.Disks bios.old.disks.now (λ now machine.
-        BootsAsModel I.Source O.Sink now machine device result
-        (bios.old.keys.now, ram.old, out.old) (bios.new.keys.now, ram.new, out.new)) }
-    ensures unbuilt { OnDisks D.Disks bios.old.disks.now (λ now machine. result ≡ Outcome.Refused Reason.Unbuilt
-        → NeedsUnbuilt I.Source now machine device (length ram.old) (bios.old.keys.now, bios.new.keys.now)) }
+        BootsAsModel D.Disks I.Source O.Sink now machine device result
+        (bios.old.disks.now, bios.old.keys.now, ram.old, out.old)
+        (bios.new.disks.now, bios.new.keys.now, ram.new, out.new)) }
 
     // A disk's failure has its cause, and so have a source's and a sink's.
-    ensures asks { Asks D.Disks I.Source O.Sink (bios.old, out.old) (bios.new, out.new)
+    ensures asks { WritesAndAsks D.Disks I.Source O.Sink (bios.old, out.old) (bios.new, out.new)
         (IsDiskFailure result) (result ≡ Outcome.Keys) }
-    ensures before { (phase : _) → result ≡ Outcome.Device phase → phase ≡ Phase.Before }
 
     // A kernel that was loaded lies in memory.
     ensures inside { IfOk (result_of result) (LiesInside (length ram.new)) }
     ensures memory { length ram.new ≡ length ram.old }
 {
-    outcome_of(boot_by(bios, device, ram, out))
+    let mut phase = Phase::Before;
+    let end = boot_by(bios, device, ram, out, &mut phase);
+    outcome_of(end, phase)
 }
 
-/// How a boot's end is reported.
-fn outcome_of(end: Result<Started, Stop>) -> Outcome
+/// How a boot's end is reported, with the phase in which a disk failed.
+fn outcome_of(end: Result<Started, Stop>, phase: Phase) -> Outcome
     ensures end { result_of result ≡ end }
-    ensures before { (phase : _) → result ≡ Outcome.Device phase → phase ≡ Phase.Before }
+    ensures phase { IsLost end → phase_of result ≡ phase }
     ensures keys { result ≡ Outcome.Keys → IsUnheard end }
 {
     match end {
         Ok(Started::Loaded(layout)) => Outcome::Loaded(layout),
         Ok(Started::Handed) => Outcome::Handed,
         Err(Stop::Keys) => Outcome::Keys,
-        Err(Stop::Halt(Halt::Device)) => Outcome::Device(Phase::Before),
+        Err(Stop::Halt(Halt::Device)) => Outcome::Device(phase),
         Err(Stop::Halt(Halt::Refused(reason))) => Outcome::Refused(reason),
     }
 }
@@ -117,14 +121,17 @@ fn boot_by<D: Disks, I: Source, O: Sink>(
     device: Span,
     ram: &mut Ram,
     out: &mut Shown<'_, O>,
+    phase: &mut Phase,
 ) -> Result<Started, Stop>
-    requires { device.start < D.size_of bios.old.disks.now device.disk }
-    ensures went { WentOn D.Disks I.Source O.Sink bios.old.disks.now result
-        (bios.old.keys.now, ram.old, out.old) (bios.new.keys.now, ram.new, out.new)
-        (λ now machine memory keys. boot_today now machine (span_view device) memory keys) }
+    requires device { device.start < D.size_of bios.old.disks.now device.disk }
+    requires begins { phase.old ≡ Phase.Before }
+    ensures went { WentOn D.Disks I.Source O.Sink result phase.new
+        (bios.old.disks.now, bios.old.keys.now, ram.old, out.old)
+        (bios.new.disks.now, bios.new.keys.now, ram.new, out.new)
+        (λ now machine memory keys. boot_report now machine (span_view device) memory keys) }
     ensures memory { length ram.new ≡ length ram.old }
     ensures inside { IfOk result (LiesInside (length ram.new)) }
-    ensures asks { Asks D.Disks I.Source O.Sink (bios.old, out.old) (bios.new, out.new)
+    ensures asks { WritesAndAsks D.Disks I.Source O.Sink (bios.old, out.old) (bios.new, out.new)
         (IsLost result) (IsUnheard result) }
 {
     let mut sector = [0; 512];
@@ -136,7 +143,7 @@ fn boot_by<D: Disks, I: Source, O: Sink>(
         return Err(Stop::Halt(Halt::Device));
     }
     match BootSector::read(&sector) {
-        Ok(boot) => boot_map(bios, &boot, ram, out),
+        Ok(boot) => boot_map(bios, &boot, ram, out, phase),
         Err(fault) => unasked(boot_other(&sector, fault, ram, out)),
     }
 }
@@ -190,23 +197,26 @@ fn boot_map<D: Disks, I: Source, O: Sink>(
     boot: &BootSector,
     ram: &mut Ram,
     out: &mut Shown<'_, O>,
+    phase: &mut Phase,
 ) -> Result<Started, Stop>
     requires line { IsOneSector boot.now.line }
     requires table { length boot.now.table.items ≡ 3 }
     requires slots { All IsOneSector boot.now.table.items }
     requires names { boot.now.names ≤ 19 }
     requires message { IfSome boot.now.message IsOneSector }
-    ensures went { WentOn D.Disks I.Source O.Sink bios.old.disks.now result
-        (bios.old.keys.now, ram.old, out.old) (bios.new.keys.now, ram.new, out.new)
+    requires begins { phase.old ≡ Phase.Before }
+    ensures went { WentOn D.Disks I.Source O.Sink result phase.new
+        (bios.old.disks.now, bios.old.keys.now, ram.old, out.old)
+        (bios.new.disks.now, bios.new.keys.now, ram.new, out.new)
         (λ now machine memory keys. map_report now machine (boot_view boot.now) memory keys) }
     ensures memory { length ram.new ≡ length ram.old }
     ensures inside { IfOk result (LiesInside (length ram.new)) }
-    ensures asks { Asks D.Disks I.Source O.Sink (bios.old, out.old) (bios.new, out.new)
+    ensures asks { WritesAndAsks D.Disks I.Source O.Sink (bios.old, out.old) (bios.new, out.new)
         (IsLost result) (IsUnheard result) }
 {
     out.put(b"L");
     match read_map(bios.disks, boot) {
-        Ok(parts) => boot_parts(bios, boot, parts, ram, out),
+        Ok(parts) => boot_parts(bios, boot, parts, ram, out, phase),
         Err(halt) => {
             out.put(map_text(halt));
             Err(Stop::Halt(halt))
@@ -221,21 +231,26 @@ fn boot_parts<D: Disks, I: Source, O: Sink>(
     parts: MapParts,
     ram: &mut Ram,
     out: &mut Shown<'_, O>,
+    phase: &mut Phase,
 ) -> Result<Started, Stop>
     requires known { IfOk parts.table (IsTable boot.now.names) }
+    requires line { IsOneSector boot.now.line }
     requires message { IfSome boot.now.message IsOneSector }
+    requires begins { phase.old ≡ Phase.Before }
     ensures went { OnDisks D.Disks bios.old.disks.now (λ now machine.
         (sectors : MapSectors) → StandsFor parts sectors
-        → WentBy I.Source O.Sink result (sectors_report now machine (boot_view boot.now) (length ram.old) sectors)
-        (bios.old.keys.now, ram.old, out.old) (bios.new.keys.now, ram.new, out.new)) }
+        → WentBy D.Disks I.Source O.Sink result phase.new
+        (sectors_report now machine (boot_view boot.now) (length ram.old) sectors)
+        (bios.old.disks.now, bios.old.keys.now, ram.old, out.old)
+        (bios.new.disks.now, bios.new.keys.now, ram.new, out.new)) }
     ensures memory { length ram.new ≡ length ram.old }
     ensures inside { IfOk result (LiesInside (length ram.new)) }
-    ensures asks { Asks D.Disks I.Source O.Sink (bios.old, out.old) (bios.new, out.new)
+    ensures asks { WritesAndAsks D.Disks I.Source O.Sink (bios.old, out.old) (bios.new, out.new)
         (IsLost result) (IsUnheard result) }
 {
     out.put(b"IL");
     match judge(parts) {
-        Ok(good) => boot_good(bios, boot, good, ram, out),
+        Ok(good) => boot_good(bios, boot, good, ram, out, phase),
         Err(reason) => {
             out.put(b"-\n");
             Err(Stop::Halt(Halt::Refused(reason)))
@@ -250,47 +265,58 @@ fn boot_good<D: Disks, I: Source, O: Sink>(
     good: GoodParts,
     ram: &mut Ram,
     out: &mut Shown<'_, O>,
+    phase: &mut Phase,
 ) -> Result<Started, Stop>
     requires known { IsTable boot.now.names good.table }
+    requires line { IsOneSector boot.now.line }
     requires message { IfSome boot.now.message IsOneSector }
+    requires begins { phase.old ≡ Phase.Before }
     ensures went { OnDisks D.Disks bios.old.disks.now (λ now machine.
         (model : GoodMap) → IsGood good model
-        → WentBy I.Source O.Sink result (good_report now machine (boot_view boot.now) (length ram.old) model)
-        (bios.old.keys.now, ram.old, out.old) (bios.new.keys.now, ram.new, out.new)) }
+        → WentBy D.Disks I.Source O.Sink result phase.new
+        (good_report now machine (boot_view boot.now) (length ram.old) model)
+        (bios.old.disks.now, bios.old.keys.now, ram.old, out.old)
+        (bios.new.disks.now, bios.new.keys.now, ram.new, out.new)) }
     ensures memory { length ram.new ≡ length ram.old }
     ensures inside { IfOk result (LiesInside (length ram.new)) }
-    ensures asks { Asks D.Disks I.Source O.Sink (bios.old, out.old) (bios.new, out.new)
+    ensures asks { WritesAndAsks D.Disks I.Source O.Sink (bios.old, out.old) (bios.new, out.new)
         (IsLost result) (IsUnheard result) }
 {
     out.put(b"O\n");
-    if !is_empty_line(&good.line) {
-        return Err(Stop::Halt(Halt::Refused(Reason::Unbuilt)));
-    }
-    boot_asked(bios, boot, good, ram, out)
+    boot_asked(bios, boot, good, ram, out, phase)
 }
 
-/// Boots what is chosen at the prompt of a map without a default line.
+/// Boots what is chosen at the prompt of a good map.
 fn boot_asked<D: Disks, I: Source, O: Sink>(
     bios: &mut Bios<'_, D, I>,
     boot: &BootSector,
     good: GoodParts,
     ram: &mut Ram,
     out: &mut Shown<'_, O>,
+    phase: &mut Phase,
 ) -> Result<Started, Stop>
     requires known { IsTable boot.now.names good.table }
+    requires line { IsOneSector boot.now.line }
     requires message { IfSome boot.now.message IsOneSector }
+    requires begins { phase.old ≡ Phase.Before }
     ensures went { OnDisks D.Disks bios.old.disks.now (λ now machine.
-        (model : GoodMap) → IsGood good model → model.line ≡ Empty
-        → WentBy I.Source O.Sink result (asked_report now machine (boot_view boot.now) (length ram.old) model)
-        (bios.old.keys.now, ram.old, out.old) (bios.new.keys.now, ram.new, out.new)) }
+        (model : GoodMap) → IsGood good model
+        → WentBy D.Disks I.Source O.Sink result phase.new
+        (asked_report now machine (boot_view boot.now) (length ram.old) model)
+        (bios.old.disks.now, bios.old.keys.now, ram.old, out.old)
+        (bios.new.disks.now, bios.new.keys.now, ram.new, out.new)) }
     ensures memory { length ram.new ≡ length ram.old }
     ensures inside { IfOk result (LiesInside (length ram.new)) }
-    ensures asks { Asks D.Disks I.Source O.Sink (bios.old, out.old) (bios.new, out.new)
+    ensures asks { WritesAndAsks D.Disks I.Source O.Sink (bios.old, out.old) (bios.new, out.new)
         (IsLost result) (IsUnheard result) }
 {
     let mut prompt = prompt_of(boot, good.choices, &good.line);
+    let at = LineAt {
+        slot: boot.line,
+        line: good.line,
+    };
     match ask(bios, &mut prompt, &message_of(boot), out) {
-        Ok(()) => unasked(boot_chosen(bios.disks, &good.table, &prompt, ram, out)),
+        Ok(()) => unasked(boot_chosen(bios.disks, &good.table, &at, &prompt, ram, out, phase)),
         Err(stop) => {
             out.put(stop_text(stop));
             Err(stop)
@@ -298,83 +324,107 @@ fn boot_asked<D: Disks, I: Source, O: Sink>(
     }
 }
 
-/// Boots what was chosen at a prompt that is done, from a map without a default line.
+/// Boots what was chosen at a prompt that is done.
 fn boot_chosen<D: Disks, O: Sink>(
     disks: &mut D,
     table: &Table,
+    at: &LineAt,
     prompt: &Prompt,
     ram: &mut Ram,
     out: &mut Shown<'_, O>,
+    phase: &mut Phase,
 ) -> Result<Started, Halt>
     requires named { All IsNamed table.now.entries.items }
     requires sectors { All HasSectors table.now.entries.items }
     requires flags { All FitsFlags table.now.entries.items }
+    requires slot { HasSector at.now.slot }
+    requires begins { phase.old ≡ Phase.Before }
     ensures report { OnDisks D.Disks disks.old (λ now machine. (model : GoodMap)
-        → model.line ≡ Empty → model.entries ≡ table_view table.now → length model.passwords ≡ length model.entries
-        → ReportsAs O.Sink (decided_report now machine model (length ram.old)
+        → model.line ≡ line_view at.now.line → model.entries ≡ table_view table.now
+        → length model.passwords ≡ length model.entries
+        → ReportsBy D.Disks O.Sink (decided_report now machine (slot_view at.now.slot) model (length ram.old)
         (line_behind (listed_entries now machine model) model.line (chosen_in prompt.now.state))
-        (option_map picked_by (chosen_in prompt.now.state))) result (ram.old, out.old) (ram.new, out.new)) }
+        (option_map picked_by (chosen_in prompt.now.state))) result phase.new
+        (disks.old, ram.old, out.old) (disks.new, ram.new, out.new)) }
     ensures memory { length ram.new ≡ length ram.old }
     ensures inside { IfOk result (LiesInside (length ram.new)) }
-    ensures only { ReadsAndShows D.Disks O.Sink (disks.old, out.old) (disks.new, out.new) (IsErrOf result Halt.Device) }
+    ensures only { WritesAndShows D.Disks O.Sink (disks.old, out.old) (disks.new, out.new) (IsErrOf result Halt.Device) }
 {
     match prompt.picked() {
-        Some(picked) => boot_picked(disks, table, picked, prompt.words(), ram, out),
+        Some(picked) => {
+            let pick = Pick {
+                picked,
+                words: prompt.words(),
+                lock_line: prompt.lock_line(),
+            };
+            boot_picked(disks, table, at, pick, ram, out, phase)
+        }
         None => Err(Halt::Refused(Reason::Idle)),
     }
 }
 
-/// Boots the entry of a table that was picked with these words, where there is one.
+/// Boots the entry of a table that was picked, where there is one.
 fn boot_picked<D: Disks, O: Sink>(
     disks: &mut D,
     table: &Table,
-    picked: Picked,
-    words: &[u8],
+    at: &LineAt,
+    pick: Pick<'_>,
     ram: &mut Ram,
     out: &mut Shown<'_, O>,
+    phase: &mut Phase,
 ) -> Result<Started, Halt>
     requires named { All IsNamed table.now.entries.items }
     requires sectors { All HasSectors table.now.entries.items }
     requires flags { All FitsFlags table.now.entries.items }
-    requires words { length words.now ≤ 470 }
-    ensures report { OnDisks D.Disks disks.old (λ now machine. (keeps : Bool)
-        → IfSome (slice_get table.now.entries.items picked.entry)
-        (λ entry. keeps ≡ keeps_line now machine (descriptor_view entry) picked.lock)
-        → ReportsAs O.Sink (picked_report now machine keeps (length ram.old)
-        (picked_entry (table_view table.now) (Some (picked_view picked words.now)))) result
-        (ram.old, out.old) (ram.new, out.new)) }
+    requires slot { HasSector at.now.slot }
+    requires words { length pick.words.now ≤ 470 }
+    requires lock_line { length pick.lock_line.now ≤ 470 }
+    requires begins { phase.old ≡ Phase.Before }
+    ensures report { OnDisks D.Disks disks.old (λ now machine. (new : lines.DefaultLine)
+        → IfSome (slice_get table.now.entries.items pick.entry.picked.entry) (λ entry. new ≡ chosen_line now machine
+        (descriptor_view entry) (line_view at.now.line) pick.entry.picked.lock pick.entry.lock_line.now)
+        → ReportsBy D.Disks O.Sink (picked_report now machine
+        (line_write machine (slot_view at.now.slot) (line_view at.now.line) new) (length ram.old)
+        (picked_entry (table_view table.now) (Some (picked_view pick.entry.picked pick.entry.words.now)))) result phase.new
+        (disks.old, ram.old, out.old) (disks.new, ram.new, out.new)) }
     ensures memory { length ram.new ≡ length ram.old }
     ensures inside { IfOk result (LiesInside (length ram.new)) }
-    ensures only { ReadsAndShows D.Disks O.Sink (disks.old, out.old) (disks.new, out.new) (IsErrOf result Halt.Device) }
+    ensures only { WritesAndShows D.Disks O.Sink (disks.old, out.old) (disks.new, out.new) (IsErrOf result Halt.Device) }
 {
-    match table.entries.as_slice().get(usize::from(picked.entry)) {
-        Some(entry) => boot_entry(disks, entry, picked, words, ram, out),
+    match table.entries.as_slice().get(usize::from(pick.picked.entry)) {
+        Some(entry) => boot_entry(disks, entry, at, pick, ram, out, phase),
         None => Err(Halt::Refused(Reason::Idle)),
     }
 }
 
-/// Boots an entry that was picked with these words.
+/// Boots an entry that was picked.
 fn boot_entry<D: Disks, O: Sink>(
     disks: &mut D,
     entry: &Descriptor,
-    picked: Picked,
-    words: &[u8],
+    at: &LineAt,
+    pick: Pick<'_>,
     ram: &mut Ram,
     out: &mut Shown<'_, O>,
+    phase: &mut Phase,
 ) -> Result<Started, Halt>
     requires named { IsNamed entry.now }
     requires sectors { HasSectors entry.now }
     requires flags { FitsFlags entry.now }
-    requires words { length words.now ≤ 470 }
-    ensures report { ReportsOn D.Disks O.Sink disks.old result (ram.old, out.old) (ram.new, out.new)
-        (λ now machine memory. texts_report now machine (descriptor_view entry.now) (picked_view picked words.now)
-        (keeps_line now machine (descriptor_view entry.now) picked.lock) memory) }
+    requires slot { HasSector at.now.slot }
+    requires words { length pick.words.now ≤ 470 }
+    requires lock_line { length pick.lock_line.now ≤ 470 }
+    requires begins { phase.old ≡ Phase.Before }
+    ensures report { OnDisks D.Disks disks.old (λ now machine. ReportsBy D.Disks O.Sink
+        (texts_report now machine (descriptor_view entry.now) (picked_view pick.entry.picked pick.entry.words.now)
+        (line_write machine (slot_view at.now.slot) (line_view at.now.line) (chosen_line now machine
+        (descriptor_view entry.now) (line_view at.now.line) pick.entry.picked.lock pick.entry.lock_line.now)) (length ram.old))
+        result phase.new (disks.old, ram.old, out.old) (disks.new, ram.new, out.new)) }
     ensures memory { length ram.new ≡ length ram.old }
     ensures inside { IfOk result (LiesInside (length ram.new)) }
-    ensures only { ReadsAndShows D.Disks O.Sink (disks.old, out.old) (disks.new, out.new) (IsErrOf result Halt.Device) }
+    ensures only { WritesAndShows D.Disks O.Sink (disks.old, out.old) (disks.new, out.new) (IsErrOf result Halt.Device) }
 {
     match read_texts(disks, entry) {
-        Ok(texts) => boot_texts(disks, entry, picked, words, texts, ram, out),
+        Ok(texts) => boot_texts(disks, entry, at, pick, texts, ram, out, phase),
         Err(halt) => {
             out.put(halt_text(halt));
             Err(halt)
@@ -382,42 +432,83 @@ fn boot_entry<D: Disks, O: Sink>(
     }
 }
 
-/// Boots an entry that was picked with these words, and whose texts were read.
+/// Boots an entry that was picked and whose texts were read, once the default line is written.
 fn boot_texts<D: Disks, O: Sink>(
     disks: &mut D,
     entry: &Descriptor,
-    picked: Picked,
-    words: &[u8],
+    at: &LineAt,
+    pick: Pick<'_>,
     texts: Texts,
+    ram: &mut Ram,
+    out: &mut Shown<'_, O>,
+    phase: &mut Phase,
+) -> Result<Started, Halt>
+    requires named { IsNamed entry.now }
+    requires sectors { HasSectors entry.now }
+    requires flags { FitsFlags entry.now }
+    requires slot { HasSector at.now.slot }
+    requires words { length pick.words.now ≤ 470 }
+    requires lock_line { length pick.lock_line.now ≤ 470 }
+    requires middle { length texts.middle.items ≤ 255 }
+    requires begins { phase.old ≡ Phase.Before }
+    ensures report { OnDisks D.Disks disks.old (λ now machine. ReportsBy D.Disks O.Sink
+        (or_device (codes "Error 80\n") (line_report now machine (descriptor_view entry.now)
+        (picked_view pick.entry.picked pick.entry.words.now) (line_write machine (slot_view at.now.slot) (line_view at.now.line)
+        (line_after (line_view at.now.line) (locked_line (descriptor_view entry.now) pick.entry.picked.lock pick.entry.lock_line.now)
+        (filled_text (Some texts.fallback.items)))) (length ram.old) texts.middle.items))
+        result phase.new (disks.old, ram.old, out.old) (disks.new, ram.new, out.new)) }
+    ensures memory { length ram.new ≡ length ram.old }
+    ensures inside { IfOk result (LiesInside (length ram.new)) }
+    ensures only { WritesAndShows D.Disks O.Sink (disks.old, out.old) (disks.new, out.new) (IsErrOf result Halt.Device) }
+{
+    let new = new_line(
+        &at.line,
+        is_locked(entry, pick.picked.lock),
+        pick.lock_line,
+        texts.fallback.as_slice(),
+    );
+    match write_line(disks, at, &new, phase) {
+        Ok(()) => boot_line(disks, entry, pick, &texts, ram, out),
+        Err(halt) => {
+            out.put(halt_text(halt));
+            Err(halt)
+        }
+    }
+}
+
+/// Boots an entry that was picked and whose texts were read, with the default line as it is.
+fn boot_line<D: Disks, O: Sink>(
+    disks: &mut D,
+    entry: &Descriptor,
+    pick: Pick<'_>,
+    texts: &Texts,
     ram: &mut Ram,
     out: &mut Shown<'_, O>,
 ) -> Result<Started, Halt>
     requires named { IsNamed entry.now }
     requires sectors { HasSectors entry.now }
     requires flags { FitsFlags entry.now }
-    requires words { length words.now ≤ 470 }
-    requires middle { length texts.middle.items ≤ 255 }
+    requires words { length pick.words.now ≤ 470 }
+    requires middle { length texts.now.middle.items ≤ 255 }
     ensures report { ReportsOn D.Disks O.Sink disks.old result (ram.old, out.old) (ram.new, out.new)
-        (λ now machine memory. line_report now machine (descriptor_view entry.now) (picked_view picked words.now)
-        (not ((has_flag entry.now.flags lock_flag || picked.lock) || texts.has_fallback)) memory texts.middle.items) }
+        (λ now machine memory. entry_report now machine (descriptor_view entry.now)
+        (picked_line (descriptor_view entry.now) (picked_view pick.entry.picked pick.entry.words.now) texts.now.middle.items)
+        (video_of (descriptor_view entry.now) (picked_view pick.entry.picked pick.entry.words.now)) memory) }
     ensures memory { length ram.new ≡ length ram.old }
     ensures inside { IfOk result (LiesInside (length ram.new)) }
     ensures only { ReadsAndShows D.Disks O.Sink (disks.old, out.old) (disks.new, out.new) (IsErrOf result Halt.Device) }
 {
-    if !keeps_line(entry, picked.lock, texts.has_fallback) {
-        return Err(Halt::Refused(Reason::Unbuilt));
-    }
     let line = command_line(
-        picked.automatic,
+        pick.picked.automatic,
         entry.name.as_slice(),
         texts.middle.as_slice(),
-        words,
+        pick.words,
     );
     start_entry(
         disks,
         entry,
         line.as_slice(),
-        video_of(entry, picked.vga),
+        video_of(entry, pick.picked.vga),
         ram,
         out,
     )

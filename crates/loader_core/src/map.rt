@@ -1,11 +1,11 @@
 // The sectors of a map, and what they say.
-ghost use Rattle.std.specs.Prelude.{◌≡◌, ◌≤◌, ◌<◌, ◌+◌, ◌||◌, ◌++◌, codes, ℕ, List, not, [], if◌then◌else◌, length, map, zip, All, Option, Some};
+ghost use Rattle.std.specs.Prelude.{◌≡◌, ◌≤◌, ◌<◌, ◌+◌, ◌++◌, codes, ℕ, List, [], if◌then◌else◌, length, map, zip, All, Option, Some};
 ghost use Rattle.std.specs.Prelude.{IfOk, IfSome, IsErrOf};
 ghost use Rattle.std.specs.Option.{option_map};
 ghost use Rattle.lilo_model.specs.Checks.{seen, each};
 ghost use Rattle.lilo_model.specs.Disks.{Image, Machine};
 ghost use Rattle.lilo_model.specs.Options.{extra_at};
-ghost use Rattle.lilo_model.specs.Table.{has_flag, lock_flag};
+ghost use Rattle.lilo_model.specs.Table.{has_flag};
 ghost use Rattle.lilo_model.specs.Reason.{map_reason};
 ghost use Rattle.lilo_model.specs.Place.{command_line};
 ghost use Rattle.lilo_model.specs.Boot.{MapSectors, GoodMap, slot_bytes_at, optional_at, extra_slot, entries_of, map_sectors};
@@ -18,10 +18,9 @@ ghost use Rattle.boot_map.specs.View.{map_fault_view};
 ghost use Rattle.boot_map.specs.Ranges.{IsOneSector, IsLine, IsNamed, HasSectors};
 ghost use Rattle.prompt_core.specs.Decided.{plain_setup};
 ghost use Rattle.prompt_core.specs.View.{choice_view, entries_view, settings_view};
-ghost use Rattle.prompt_loop.specs.Message.{message_today};
-ghost use Rattle.section_loader.specs.Reading.{Because};
+ghost use Rattle.prompt_loop.specs.Message.{message_rest};
 ghost use Rattle.section_loader.specs.View.{reason_view};
-ghost use Rattle.loader_core.specs.Today.{is_empty_line, message_read};
+ghost use Rattle.loader_core.specs.Report.{message_read};
 ghost use Rattle.loader_core.specs.Map.{ReadsThere, ReadsExtra, password_sector, prompt_entry, JudgesChoice, ReadsChoice, Adds};
 ghost use Rattle.loader_core.specs.Map.{ReadsChoices, StandsFor, ReadsMap, IsTable, Judges, JudgesTexts, ReadsTexts};
 
@@ -66,8 +65,8 @@ pub(crate) struct GoodParts {
 pub(crate) struct Texts {
     /// The middle of its command line.
     pub(crate) middle: ArrayVec<u8, 500>,
-    /// Whether it has a fallback of at least one byte.
-    pub(crate) has_fallback: bool,
+    /// Its fallback, of no bytes where it has none.
+    pub(crate) fallback: ArrayVec<u8, 470>,
 }
 
 /// Reads the sectors of a map that are read before a choice: the default line's, those of the table, and where that
@@ -251,7 +250,7 @@ fn is_set(entry: &Descriptor, flag: u16) -> bool
 
 /// How a boot reports what is wrong with a map.
 pub(crate) fn map_reason_of(fault: MapFault) -> Reason
-    ensures { reason_view result ≡ Because (map_reason (map_fault_view fault)) }
+    ensures { reason_view result ≡ map_reason (map_fault_view fault) }
 {
     match fault {
         MapFault::NotOurs | MapFault::BadVersion(_) => Reason::NotBootable,
@@ -287,13 +286,6 @@ pub(crate) fn judge(parts: MapParts) -> Result<GoodParts, Reason>
     }
 }
 
-/// Whether there is no default line.
-pub(crate) fn is_empty_line(line: &DefaultLine) -> bool
-    ensures { result ≡ is_empty_line (line_view line.now) }
-{
-    matches!(line, DefaultLine::Empty)
-}
-
 /// The prompt of a good map.
 pub(crate) fn prompt_of(
     boot: &BootSector,
@@ -324,11 +316,11 @@ fn settings_of(boot: &BootSector) -> Settings
 }
 
 /// The message of a map, if it has one.
-#[tactic(auto, unfolding(crate::specs::Today::message_read))]
+#[tactic(auto, unfolding(crate::specs::Report::message_read))]
 pub(crate) fn message_of(boot: &BootSector) -> Option<Message>
     requires { IfSome boot.now.message IsOneSector }
     ensures message { (now : Image) (machine : Machine)
-        → message_today now machine result ≡ message_read now machine (boot_view boot.now) }
+        → message_rest now machine result ≡ message_read now machine (boot_view boot.now) }
     ensures one { IfSome result (λ message. message.first.count ≡ 1) }
 {
     match boot.message {
@@ -370,22 +362,15 @@ fn judge_texts(
         Ok(options) => options,
         Err(fault) => return Err(Halt::Refused(map_reason_of(fault))),
     };
-    let has_fallback = match extra {
-        None => false,
-        Some(Ok(extra)) => !extra.fallback.is_empty(),
+    let fallback = match extra {
+        None => ArrayVec::new(),
+        Some(Ok(extra)) => extra.fallback,
         Some(Err(fault)) => return Err(Halt::Refused(map_reason_of(fault))),
     };
     Ok(Texts {
         middle: options.middle,
-        has_fallback,
+        fallback,
     })
-}
-
-/// Whether a choice of this entry, with the word `lock` or without, leaves an empty default line as it is.
-pub(crate) fn keeps_line(entry: &Descriptor, lock: bool, has_fallback: bool) -> bool
-    ensures { result ≡ not ((has_flag entry.now.flags lock_flag || lock) || has_fallback) }
-{
-    !(is_set(entry, flags::LOCK) || lock || has_fallback)
 }
 
 /// The command line of a chosen entry.

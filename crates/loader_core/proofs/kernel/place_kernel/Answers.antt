@@ -1,7 +1,6 @@
 use Rattle.std.proofs.Common.{arith, rules}
 use Rattle.sector_address.specs.Machine.{machine_of}
 use Rattle.bios_model.specs.Memory.{memory_of}
-use Rattle.sector_address.specs.View.{slot_view}
 use Rattle.section_loader.specs.File.{rest_in}
 use Rattle.loader_core.proofs.KernelLemmas.{kernel_placed}
 use Rattle.section_loader.proofs.RestLemmas.{ended_rest}
@@ -23,6 +22,6 @@ returns-clause-placed g c =
     (λ done is.
     let left = rw is at c.load_bytes-2.ensures.left in
     let counted = rw is at c.load_bytes-2.ensures.counted in
-    ended_rest now machine (slot_view c.load_bytes-2.new.file.first) c.load_bytes-2.new.file.left c.load_bytes-2.new.file.section
-    (omega (arith, left, c.in_ok-load_bytes.ensures.left, c.requires.kernel.rest, c.requires.kernel.least)) counted.needed))
+    ended_rest now machine c.load_bytes-2.new.file
+    (omega (arith, left, c.in_ok-load_bytes.ensures.left, c.requires.kernel.rest, c.requires.kernel.least)) counted))
     c.in_ok-load_bytes.ensures.loaded protected

@@ -4,7 +4,8 @@ use Rattle.bios_model.specs.Memory.{memory_of}
 use Rattle.boot_map.specs.View.{boot_view}
 use Rattle.stream_trait.specs.Shows.{sink_of}
 use Rattle.disk_trait.proofs.ToldLemmas.{told_map, told_both}
-use Rattle.loader_core.proofs.BootLemmas.{map_found, map_halted, keys_map, keys_still}
+use Rattle.loader_core.proofs.BootLemmas.{map_found, map_halted, map_write, map_unwritten, keys_map, keys_still}
+use Rattle.loader_core.proofs.LeavesLemmas.{leaves_as, leaves_after, read_leaves}
 use Rattle.loader_core.proofs.loader.boot_map.Goals as goal
 
 pub returns-in-Ok-clause-went : goal.returns-in-Ok-clause-went
@@ -14,8 +15,13 @@ returns-in-Ok-clause-went g c =
     let rest = rw (same.same_past, same.same_size, same.same_geometry) at c.boot_parts.ensures.went in
     told_both (g.D.Disks.past c.args.bios.now.disks.now) _ _ _
     (λ now found went. keys_map g.I.Source _ _ _
-    (λ keys left went. map_found now machine (boot_view c.args.boot.now) (length c.args.ram.now) found.sectors keys c.boot_parts.result (memory_of c.args.ram.now) c.boot_parts.new.ram left
-    (sink_of g.O.Sink c.args.out.now) (sink_of g.O.Sink c.put.new.self) (sink_of g.O.Sink c.boot_parts.new.out) found.is c.put.ensures.shown went)
+    (λ keys left went. (
+      leaves_as g.D.Disks c.args.bios.now.disks.now c.boot_parts.new.bios.disks.now c.boot_parts.result c.boot_parts.new.phase _ _
+          (map_write now machine (boot_view c.args.boot.now) (length c.args.ram.now) found.sectors keys found.is)
+          (leaves_after g.D.Disks c.args.bios.now.disks.now c.read_map.new.disks c.boot_parts.new.bios.disks.now same c.in-Ok.ensures.reads.later _ c.boot_parts.result c.boot_parts.new.phase went.0),
+      map_found now machine (boot_view c.args.boot.now) (length c.args.ram.now) found.sectors keys c.boot_parts.result (memory_of c.args.ram.now) c.boot_parts.new.ram left
+          (sink_of g.O.Sink c.args.out.now) (sink_of g.O.Sink c.put.new.self) (sink_of g.O.Sink c.boot_parts.new.out) found.is c.put.ensures.shown went.1,
+    ))
     (went found.sectors found.stands))
     c.in-Ok.ensures.parts rest
 
@@ -25,6 +31,10 @@ returns-in-Err-clause-went g c =
     let error = rw c.map_text.ensures at c.put-in-Err.ensures.shown in
     told_map (g.D.Disks.past c.args.bios.now.disks.now) _ _
     (λ now found. keys_still g.I.Source _ _
-    (λ left. map_halted now machine (boot_view c.args.boot.now) (length c.args.ram.now) c.in-Err.halt (memory_of c.args.ram.now) c.args.ram.now left
-    (sink_of g.O.Sink c.args.out.now) (sink_of g.O.Sink c.put.new.self) (sink_of g.O.Sink c.put-in-Err.new.self) found c.put.ensures.shown error))
+    (λ left. (
+      read_leaves g.D.Disks c.args.bios.now.disks.now c.read_map.new.disks _ c.in-Err.halt c.args.phase.now c.in-Err.ensures.reads.same c.requires.begins
+          (λ reason is. map_unwritten now machine (boot_view c.args.boot.now) (length c.args.ram.now) c.in-Err.halt reason left is found),
+      map_halted now machine (boot_view c.args.boot.now) (length c.args.ram.now) c.in-Err.halt (memory_of c.args.ram.now) c.args.ram.now left
+          (sink_of g.O.Sink c.args.out.now) (sink_of g.O.Sink c.put.new.self) (sink_of g.O.Sink c.put-in-Err.new.self) found c.put.ensures.shown error,
+    )))
     c.in-Err.ensures.parts

@@ -19,7 +19,7 @@ use Rattle.loader_core.specs.Laws.{IsReported, ReportLaw}
 use Rattle.loader_core.proofs.EndLemmas.{entry_same}
 use Rattle.loader_core.proofs.ChoiceLemmas.{line_stands, write_none, present_none, image_same}
 
--- a report behind the texts before the prompt
+-- a report after the texts before the prompt
 abbrev behind : Report → Report
 behind report =
     report_behind (codes "L") (or_device (codes " 80\n") (report_behind (codes "IL") (report_behind (codes "O\n") report)))

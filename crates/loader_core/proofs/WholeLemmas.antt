@@ -1,4 +1,4 @@
--- A kernel that was loaded as a whole stands in memory as its report has it.
+-- A kernel that was loaded as a whole lies in memory as its report has it.
 use Rattle.std.proofs.Common.{◌≡◌, ◌≤◌, ◌+◌, ◌-◌, ◌∙◌, inl, inr, ℕ, refl, sym, ap, List, [], ◌∷◌, ◌++◌, length, Option, None, Some, Ok, length-append, arith}
 use Rattle.std.specs.Prelude.{IfSome}
 use Rattle.std.specs.Option.{option_map}

@@ -179,7 +179,7 @@ abbrev pub prefixes : List ℕ → List (List ℕ)
 prefixes [] = [] ∷ []
 prefixes (byte ∷ text) = [] ∷ map (λ front. byte ∷ front) (prefixes text)
 
--- A report of what comes behind a prompt that showed this text and left these keys: where a disk or the source of keys
+-- A report of what comes after a prompt that showed this text and left these keys: where a disk or the source of keys
 -- failed there, a prefix of it.
 abbrev pub asking_report : List ℕ → List Key → Report → Report
 asking_report text left report = record {
@@ -191,7 +191,7 @@ asking_report text left report = record {
   write = report.write;
 }
 
--- the text behind what is loaded, or behind a refusal
+-- the text after what is loaded, or after a refusal
 abbrev pub end_text : Result Ending Reason → List ℕ
 end_text (Ok ending) = []
 end_text (Err why) = error_text why
@@ -246,7 +246,7 @@ prompt_report image machine slot good memory message decision (Some why) None =
 prompt_report image machine slot good memory message decision (Some why) (Some opens) =
     asking_report (opens.before ++ message.bytes) opens.left (refused_report (error_text why) why [])
 
--- a prompt that is told these keys
+-- a prompt that is given these keys
 unfoldable pub asked_report : Image → Machine → BootSector → ℕ → GoodMap → List Key → Report
 asked_report image machine boot memory good keys =
     prompt_report

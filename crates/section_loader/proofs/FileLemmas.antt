@@ -59,7 +59,7 @@ found_rest now left size behind (Ok place) bytes read long least =
     (ap (λ first. take left (first ++ concat (map (bytes_at now) behind.places))) here ∙ parts)
 found_rest now left size behind (Err fault) bytes read long least = let h : ⊥ = cc in absurd h
 
--- what is left behind a sector of a slot that was read
+-- what is left after a sector of a slot that was read
 pub read_rest :
     (now : Image) (machine : Machine) (slot : slots.Slot) (index held left size : ℕ) (ahead : ℕ → Reading) (bytes : List ℕ)
     → 0 < held → 0 < left → sector_bytes_at now machine slot index ≡ Ok bytes → length bytes ≡ 512 → size ≡ min 512 left

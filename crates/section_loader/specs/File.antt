@@ -21,7 +21,7 @@ use Rattle.section_loader.specs.View.{reason_view}
 abbrev pub held_in : FileReader → ℕ
 held_in file = file.slot.count - file.index
 
--- as many sectors are needed behind the slot at hand as the bytes that are left take, and the first section sector has a
+-- as many sectors are needed after the slot at hand as the bytes that are left take, and the first section sector has a
 -- slot of its own
 pub record IsCounted (file : FileReader) : Type 0 where
   pub needed : file.section.needed ≡ sectors_for file.left - held_in file

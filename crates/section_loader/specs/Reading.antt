@@ -28,13 +28,13 @@ abbrev pub reading_place : Reading → Result DiskSector slots.AddressFault → 
 reading_place behind (Ok place) = record behind { places = place ∷ behind.places }
 reading_place behind (Err fault) = lost_reading
 
--- so many sectors of a slot, from an index on, and what is read behind them
+-- so many sectors of a slot, from an index on, and what is read after them
 abbrev pub reading_named : Machine → slots.Slot → ℕ → ℕ → Reading → Reading
 reading_named machine slot index zero behind = behind
 reading_named machine slot index (suc more) behind =
     reading_place (reading_named machine slot (index + 1) more behind) (place_at machine slot index)
 
--- the sectors of a slot, as many as are wanted, and what is read behind them
+-- the sectors of a slot, as many as are wanted, and what is read after them
 abbrev pub reading_slot : Machine → slots.Slot → ℕ → Reading → Reading
 reading_slot machine slot wanted behind = reading_named machine slot 0 (min slot.count wanted) behind
 
@@ -77,7 +77,7 @@ rest_of image left reading = record {
 }
 
 -- what is left of a file of which so many sectors of a slot are left, from an index on, where a reader of its section
--- stands behind that slot
+-- comes after that slot
 abbrev pub rest_ahead : Image → Machine → slots.Slot → ℕ → slots.Slot → ℕ → ℕ → ReaderState → FileRest
 rest_ahead image machine first left slot index held state =
     rest_of image left

@@ -1,4 +1,4 @@
--- Which reason of the model each reason stands for.
+-- Which reason of the model each reason is.
 use Rattle.lilo_model.specs.Reason as reasons
 use Rattle.setup_header.specs.View.{setup_fault_view}
 use Rattle.section_loader.specs.declared.reason.Reason.{Reason}

@@ -5,6 +5,7 @@ use Rattle.disk_trait.specs.declared.disks.Disks.{Ghosts}
 use Rattle.disk_trait.specs.declared.disks.Phase.{Phase}
 use Rattle.disk_trait.specs.declared.disks.Phase.TheVariants.{Before, Commit, After}
 use Rattle.disk_trait.specs.Calls.{SameOf, GoesOn}
+use Rattle.disk_trait.specs.Moments.{IsTold}
 use Rattle.bios_model.specs.declared.bios.Bios.{Bios}
 use Rattle.bios_model.specs.Writes.{WritesPlace}
 use Rattle.section_loader.specs.declared.reason.Halt.{Halt}
@@ -59,8 +60,9 @@ pub record WritesLine {D : Type 0} (g : Ghosts D) (old new : D) (write : Option 
   pub line : LineWritten g old new write result phase
   pub goes_on : GoesOn g old new
 
--- the disks are of the same sizes and shapes, and no count of faults fell
+-- the disks are of the same sizes and shapes, no count of faults fell, and they report their past where they did before
 pub record KeepsDisks {D : Type 0} (g : Ghosts D) (old new : D) : Type 0 where
+  pub told : IsTold (g.past old) → IsTold (g.past new)
   pub later : g.faults old ≤ g.faults new
   pub size : g.size_of new ≡ g.size_of old
   pub count : g.count_of new ≡ g.count_of old

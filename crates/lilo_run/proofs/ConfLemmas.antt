@@ -18,7 +18,9 @@ use Rattle.conf_settings.specs.declared.reason.ConfFault.{ConfFault}
 use Rattle.mbr_table.specs.declared.table_fault.TableFault.{TableFault}
 use Rattle.mbr_table.specs.declared.table_fault.TableFault.TheVariants as tables
 use Rattle.lilo_run.specs.Refusal.{table_verdict, text_verdict, conf_verdict, halt_verdict, RefusesText, ConfRefuses}
-use Rattle.lilo_run.specs.Run.{Does, Carries, IsPlaceHalt}
+use Rattle.disk_trait.specs.declared.disks.Disks.{Ghosts}
+use Rattle.disk_trait.specs.Calls.{SameOf}
+use Rattle.lilo_run.specs.Run.{State, Does, Carries, IsPlaceHalt}
 use Rattle.lilo_run.proofs.RunLemmas.{carries_kept}
 use Rattle.lilo_model.specs.Prompt.{Key}
 use Rattle.lilo_run.specs.Verdict.{plain_command, command_effect, install_effect, conf_effect, conf_query_effect, query_effect, reads_conf, has_conf}
@@ -148,30 +150,25 @@ conf_listed now machine root path device status memory old new is (inr (inl fail
 conf_listed now machine root path device status memory old new is (inr (inr failed)) = absurd failed.shown
 
 -- an installation, and what it would do
-pub installs :
-    (now : Image) (machine : Machine) (size : ℕ) (root : Option Device) (path : List ℕ) (status : ℕ) (memory : Memory) (keys : List Key)
-    (old new : SinkState)
-    → Does (install_effect now machine root path) status memory memory old new
-    → Carries (command_effect now machine size root path words.Install keys) status memory memory keys old new
-unfolding command_effect
-installs now machine size root path status memory keys old new does = carries_kept (install_effect now machine root path) status memory memory keys old new does
+module _ {D : Type 0} (g : Ghosts D) (now : Image) (machine : Machine) (size : ℕ) (root : Option Device) (path : List ℕ) (status : ℕ) (keys : List Key) (old new : State D) (same : SameOf g old.disks new.disks) where
+  pub installs :
+      Does (install_effect now machine root path) status old.memory new.memory old.sink new.sink
+      → Carries g (command_effect now machine size root path words.Install keys) status keys old new
+  unfolding command_effect
+  installs does = carries_kept g (install_effect now machine root path) status keys old new same does
 
-pub would_install :
-    (now : Image) (machine : Machine) (size : ℕ) (root : Option Device) (path : List ℕ) (status : ℕ) (memory : Memory) (keys : List Key)
-    (old new : SinkState)
-    → Does (install_effect now machine root path) status memory memory old new
-    → Carries (command_effect now machine size root path words.Test keys) status memory memory keys old new
-unfolding command_effect
-would_install now machine size root path status memory keys old new does = carries_kept (install_effect now machine root path) status memory memory keys old new does
+  pub would_install :
+      Does (install_effect now machine root path) status old.memory new.memory old.sink new.sink
+      → Carries g (command_effect now machine size root path words.Test keys) status keys old new
+  unfolding command_effect
+  would_install does = carries_kept g (install_effect now machine root path) status keys old new same does
 
--- `-q`
-pub queries :
-    (now : Image) (machine : Machine) (size : ℕ) (root : Option Device) (path : List ℕ) (device : Option Device) (status : ℕ) (memory : Memory) (keys : List Key)
-    (old new : SinkState)
-    → Does (plain_command now machine root path (words.Query device)) status memory memory old new
-    → Carries (command_effect now machine size root path (words.Query device) keys) status memory memory keys old new
-unfolding command_effect
-queries now machine size root path device status memory keys old new does = carries_kept (plain_command now machine root path (words.Query device)) status memory memory keys old new does
+  -- `-q`
+  pub queries :
+      (device : Option Device) → Does (plain_command now machine root path (words.Query device)) status old.memory new.memory old.sink new.sink
+      → Carries g (command_effect now machine size root path (words.Query device) keys) status keys old new
+  unfolding command_effect
+  queries device does = carries_kept g (plain_command now machine root path (words.Query device)) status keys old new same does
 
 -- ---- parts that read one
 

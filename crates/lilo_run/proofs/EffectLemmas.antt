@@ -16,15 +16,22 @@ use Rattle.stream_trait.specs.declared.source.Source as sources
 use Rattle.prompt_loop.specs.declared.asking.Stop.TheVariants as stops
 use Rattle.section_loader.specs.declared.reason.Halt.TheVariants as ends
 use Rattle.lilo_model.specs.Prompt.{Key}
-use Rattle.loader_core.specs.Today.{Report, boot_today}
+use Rattle.loader_core.specs.Report.{Report, boot_report}
+use Rattle.loader_core.specs.Leaves.{HasPut, CameTo}
+use Rattle.loader_core.proofs.BootLemmas.{keys_map}
+use Rattle.disk_trait.specs.declared.disks.Disks.{Ghosts}
+use Rattle.disk_trait.specs.declared.disks.Phase.{Phase}
+use Rattle.disk_trait.specs.declared.disks.Phase.TheVariants.{Before, Commit, After}
+use Rattle.disk_trait.specs.Calls.{SameOf}
 use Rattle.section_loader.specs.View.{reason_view}
 use Rattle.section_loader.specs.declared.reason.Reason.{Reason}
 use Rattle.loader_core.specs.declared.outcome.Outcome.TheVariants as outcomes
 use Rattle.stream_trait.proofs.ShowsLemmas.{shows_join}
 use Rattle.lilo_run.specs.Dump as dumps
-use Rattle.lilo_run.specs.Refusal.{device_failed, keys_failed, halt_verdict, why_verdict}
-use Rattle.lilo_run.specs.Run.{Carries, HaltsAt}
+use Rattle.lilo_run.specs.Refusal.{device_failed, failed_at_commit, failed_after_commit, phase_verdict, keys_failed, halt_verdict, reason_verdict}
+use Rattle.lilo_run.specs.Run.{State, IsDone, Carries, CarriedOut, LostBefore, LostAtCommit, LostAfter, Unheard, HaltsAt}
 use Rattle.lilo_run.specs.Verdict.{report_effect, boot_effect, regions_text}
+use Rattle.lilo_run.proofs.RunLemmas.{carries_after}
 use Rattle.lilo_run.specs.declared.refusal.Halt.{Halt}
 use Rattle.lilo_run.specs.declared.refusal.Halt.TheVariants.{Device, NotBuilt, NoPlace, NotOurs, Boot}
 
@@ -60,105 +67,108 @@ regions_same_by ram real protected line (Some initrd) = refl
 pub regions_same : (ram : List ℕ) (layout : Layout) → regions_in ram (layout_view layout) ≡ dumps.regions_of layout ram
 regions_same ram layout = regions_same_by ram layout.real layout.protected layout.line layout.initrd
 
--- something was started, and is reported
-boot_done :
-    (dump : Bool) (report : Report) (outcome : boots.Outcome) (written regions : List Written) (memory memory' : Memory) (left : List Key)
-    (old mid new : SinkState)
-    → report.result ≡ Ok (record { outcome = outcome; written = written }) → start_check outcome ≡ Ok tt
-    → memory' ≡ memory_after memory written → report.left ≡ left
-    → told_regions outcome written ≡ regions → Shows old report.shown mid → Shows mid (regions_text dump regions) new
-    → Carries (report_effect dump report) 0 memory memory' left old new
-unfolding report_effect
-boot_done dump report outcome written regions memory memory' left old mid new is started placed kept held shown told =
-    rw (is, started, held)
-    (inl (
-      record {
+-- something was started, and is told of
+module _ {D : Type 0} (g : Ghosts D) (dump : Bool) (report : Report) (left : List Key) (old new : State D) (mid : SinkState) where
+  boot_done :
+      (outcome : boots.Outcome) (written regions : List Written)
+      → report.result ≡ Ok (record { outcome = outcome; written = written }) → start_check outcome ≡ Ok tt
+      → new.memory ≡ memory_after old.memory written → report.left ≡ left
+      → told_regions outcome written ≡ regions → Shows old.sink report.shown mid → Shows mid (regions_text dump regions) new.sink
+      → HasPut g old.disks new.disks report.write → Carries g (report_effect dump report) 0 left old new
+  unfolding report_effect
+  boot_done outcome written regions is started placed kept held shown told put =
+      let done : IsDone (report_effect dump report) 0 old.memory new.memory old.sink new.sink =
+      rw (is, started, held)
+      (record {
         answer = refl;
-        shown = shows_join old mid new report.shown (regions_text dump regions) shown told;
+        shown = shows_join old.sink mid new.sink report.shown (regions_text dump regions) shown told;
         placed = λ done. placed;
-      },
-      kept,
-    ))
+      }) in
+      CarriedOut done kept put
 
-pub boot_loaded :
-    (dump : Bool) (report : Report) (layout : Layout) (memory : Memory) (ram : List ℕ) (left : List Key) (old mid new : SinkState)
-    → Went (result_of (outcomes.Loaded layout)) report memory ram left old mid
-    → Shows mid (regions_text dump (dumps.regions_of layout ram)) new
-    → Carries (report_effect dump report) 0 memory (memory_of ram) left old new
-boot_loaded dump report layout memory ram left old mid new went told =
-    let reports = went.1 in
-    boot_done dump report (boots.Loaded (layout_view layout)) reports.starts.written (dumps.regions_of layout ram) memory (memory_of ram) left old mid new
-    reports.starts.is refl reports.starts.placed went.0 (reports.starts.held ∙ regions_same ram layout) reports.shows told
+  pub boot_loaded :
+      (layout : Layout) (ram : List ℕ) → new.memory ≡ memory_of ram
+      → Went (result_of (outcomes.Loaded layout)) report old.memory ram left old.sink mid
+      → Shows mid (regions_text dump (dumps.regions_of layout ram)) new.sink → HasPut g old.disks new.disks report.write
+      → Carries g (report_effect dump report) 0 left old new
+  boot_loaded layout ram is went told put =
+      let reports = went.1 in
+      boot_done (boots.Loaded (layout_view layout)) reports.starts.written (dumps.regions_of layout ram)
+      reports.starts.is refl (is ∙ reports.starts.placed) went.0 (reports.starts.held ∙ regions_same ram layout) reports.shows told put
 
-pub boot_handed :
-    (dump : Bool) (report : Report) (memory : Memory) (ram : List ℕ) (left : List Key) (old mid new : SinkState)
-    → Went (result_of outcomes.Handed) report memory ram left old mid
-    → Shows mid (regions_text dump (dumps.boot_sector_in ram ∷ [])) new
-    → Carries (report_effect dump report) 0 memory (memory_of ram) left old new
-boot_handed dump report memory ram left old mid new went told =
-    let reports = went.1 in
-    boot_done dump report boots.Handed reports.starts.written (dumps.boot_sector_in ram ∷ []) memory (memory_of ram) left old mid new
-    reports.starts.is refl reports.starts.placed went.0 reports.starts.held reports.shows told
+  pub boot_handed :
+      (ram : List ℕ) → new.memory ≡ memory_of ram
+      → Went (result_of outcomes.Handed) report old.memory ram left old.sink mid
+      → Shows mid (regions_text dump (dumps.boot_sector_in ram ∷ [])) new.sink → HasPut g old.disks new.disks report.write
+      → Carries g (report_effect dump report) 0 left old new
+  boot_handed ram is went told put =
+      let reports = went.1 in
+      boot_done boots.Handed reports.starts.written (dumps.boot_sector_in ram ∷ [])
+      reports.starts.is refl (is ∙ reports.starts.placed) went.0 reports.starts.held reports.shows told put
 
--- nothing was started
-pub boot_refused :
-    (dump : Bool) (report : Report) (reason : Reason) (status : ℕ) (memory memory' : Memory) (ram : List ℕ) (left : List Key)
-    (old mid new : SinkState)
-    → Went (result_of (outcomes.Refused reason)) report memory ram left old mid
-    → status ≡ (halt_verdict (Boot reason)).status → 1 ≤ status → Shows mid (halt_verdict (Boot reason)).text new
-    → Carries (report_effect dump report) status memory memory' left old new
-unfolding report_effect
-boot_refused dump report reason status memory memory' ram left old mid new went answer some told =
-    rw went.1.starts
-    (inl (
-      record {
+  -- nothing was started
+  pub boot_refused :
+      (reason : Reason) (status : ℕ) (ram : List ℕ)
+      → Went (result_of (outcomes.Refused reason)) report old.memory ram left old.sink mid
+      → status ≡ (halt_verdict (Boot reason)).status → 1 ≤ status → Shows mid (halt_verdict (Boot reason)).text new.sink
+      → HasPut g old.disks new.disks report.write → Carries g (report_effect dump report) status left old new
+  unfolding report_effect
+  boot_refused reason status ram went answer some told put =
+      let starts = went.1.starts in
+      let done : IsDone (report_effect dump report) status old.memory new.memory old.sink new.sink =
+      rw starts
+      (record {
         answer = answer;
-        shown = shows_join old mid new report.shown (why_verdict (reason_view reason)).text went.1.shows told;
+        shown = shows_join old.sink mid new.sink report.shown (reason_verdict (reason_view reason)).text went.1.shows told;
         placed = λ zero. absurd (omega (arith, zero, some));
-      },
-      went.0,
-    ))
+      }) in
+      CarriedOut done went.0 put
 
--- a disk failed
-pub boot_failed :
-    (dump : Bool) (report : Report) (status : ℕ) (memory memory' : Memory) (ram : List ℕ) (left : List Key) (old mid new : SinkState)
-    → Went (Err (stops.Halt ends.Device)) report memory ram left old mid → status ≡ 8 → Shows mid device_failed.text new
-    → Carries (report_effect dump report) status memory memory' left old new
-unfolding report_effect
-boot_failed dump report status memory memory' ram left old mid new went answer told =
-    inr (inl (record { answer = answer; shown = shows_one_then old mid new report.device device_failed.text went.shows told }))
+  -- a disk failed
+  pub boot_failed :
+      (phase : Phase) (status : ℕ) (ram : List ℕ)
+      → Went (Err (stops.Halt ends.Device)) report old.memory ram left old.sink mid → status ≡ (phase_verdict phase).status
+      → Shows mid (phase_verdict phase).text new.sink → CameTo g old.disks new.disks report.write phase
+      → Carries g (report_effect dump report) status left old new
+  unfolding report_effect
+  boot_failed Before status ram went answer told came =
+      LostBefore (record { answer = answer; shown = shows_one_then old.sink mid new.sink report.device device_failed.text went.shows told }) came
+  boot_failed Commit status ram went answer told came =
+      LostAtCommit (record { answer = answer; shown = shows_one_then old.sink mid new.sink report.device failed_at_commit.text went.shows told }) came
+  boot_failed After status ram went answer told came =
+      LostAfter (record { answer = answer; shown = shows_one_then old.sink mid new.sink report.device failed_after_commit.text went.shows told }) came
 
--- the source of keys failed
-pub boot_unheard :
-    (dump : Bool) (report : Report) (status : ℕ) (memory memory' : Memory) (ram : List ℕ) (left : List Key) (old mid new : SinkState)
-    → Went (result_of outcomes.Keys) report memory ram left old mid → status ≡ 11 → Shows mid keys_failed.text new
-    → Carries (report_effect dump report) status memory memory' left old new
-unfolding report_effect
-boot_unheard dump report status memory memory' ram left old mid new went answer told =
-    inr (inr (inr (record { answer = answer; shown = shows_one_then old mid new report.unheard keys_failed.text went told })))
+  -- the source of keys failed
+  pub boot_unheard :
+      (status : ℕ) (ram : List ℕ)
+      → Went (result_of outcomes.Keys) report old.memory ram left old.sink mid → status ≡ 11 → Shows mid keys_failed.text new.sink
+      → SameOf g old.disks new.disks → Carries g (report_effect dump report) status left old new
+  unfolding report_effect
+  boot_unheard status ram went answer told same =
+      Unheard (record { answer = answer; shown = shows_one_then old.sink mid new.sink report.unheard keys_failed.text went told }) same
 
 -- a device was found, and booted
 pub place_booted :
-    {I : Type 0} → (i : sources.Ghosts I) (now : Image) (machine : Machine) (size : ℕ) (dump : Bool) (place : Result Span DeviceFault) (span : Span)
-    (status : ℕ) (keys : I × I) (memory memory' : Memory) (old new : SinkState)
-    → place ≡ Ok span → OnKeys i keys (λ all left. Carries (report_effect dump (boot_today now machine span size all)) status memory memory' left old new)
-    → OnKeys i keys (λ all left. Carries (boot_effect now machine size dump place all) status memory memory' left old new)
+    {D I : Type 0} → (g : Ghosts D) (i : sources.Ghosts I) (now : Image) (machine : Machine) (size : ℕ) (dump : Bool) (place : Result Span DeviceFault) (span : Span)
+    (status : ℕ) (keys : I × I) (first : D) (old new : State D)
+    → place ≡ Ok span → SameOf g first old.disks → g.faults first ≤ g.faults old.disks
+    → OnKeys i keys (λ all left. Carries g (report_effect dump (boot_report now machine span size all)) status left old new)
+    → OnKeys i keys (λ all left. Carries g (boot_effect now machine size dump place all) status left (record { disks = first; memory = old.memory; sink = old.sink }) new)
 unfolding boot_effect
-place_booted i now machine size dump place span status keys memory memory' old new is goes = rw is goes
+place_booted g i now machine size dump place span status keys first old new is same later goes =
+    keys_map i keys _ _
+    (λ all left carries. rw is (carries_after g (report_effect dump (boot_report now machine span size all)) status left first old new same later carries)) goes
 
 -- no device was found
-pub place_failed :
-    (now : Image) (machine : Machine) (size : ℕ) (dump : Bool) (place : Result Span DeviceFault) (keys : List Key) (halt : Halt)
-    (status : ℕ) (memory : Memory) (old new : SinkState)
-    → HaltsAt halt place → status ≡ (halt_verdict halt).status → 1 ≤ status → Shows old (halt_verdict halt).text new
-    → Carries (boot_effect now machine size dump place keys) status memory memory keys old new
-unfolding boot_effect report_effect boot_today
-place_failed now machine size dump (Ok span) keys Device status memory old new halts answer some told =
-    inr (inl (record { answer = answer; shown = inl told }))
-place_failed now machine size dump (Err fault) keys Device status memory old new halts answer some told =
-    inr (inl (record { answer = answer; shown = inl told }))
-place_failed now machine size dump place keys (NoPlace fault) status memory old new halts answer some told =
-    rw halts (inl (record { answer = answer; shown = told; placed = λ zero. absurd (omega (arith, zero, some)) }, refl))
-place_failed now machine size dump place keys NotBuilt status memory old new halts answer some told = absurd halts
-place_failed now machine size dump place keys NotOurs status memory old new halts answer some told = absurd halts
-place_failed now machine size dump place keys (Boot reason) status memory old new halts answer some told = absurd halts
+module _ {D : Type 0} (g : Ghosts D) (now : Image) (machine : Machine) (size : ℕ) (dump : Bool) (keys : List Key) (status : ℕ) (old new : State D) (same : SameOf g old.disks new.disks) (kept : new.memory ≡ old.memory) where
+  pub place_failed :
+      (place : Result Span DeviceFault) (halt : Halt) → HaltsAt halt place → status ≡ (halt_verdict halt).status → 1 ≤ status → Shows old.sink (halt_verdict halt).text new.sink
+      → Carries g (boot_effect now machine size dump place keys) status keys old new
+  unfolding boot_effect report_effect boot_report
+  place_failed (Ok span) Device halts answer some told = LostBefore (record { answer = answer; shown = inl told }) same
+  place_failed (Err fault) Device halts answer some told = LostBefore (record { answer = answer; shown = inl told }) same
+  place_failed place (NoPlace fault) halts answer some told =
+      rw halts (CarriedOut (record { answer = answer; shown = told; placed = λ zero. absurd (omega (arith, zero, some)) }) refl same)
+  place_failed place NotBuilt halts answer some told = absurd halts
+  place_failed place NotOurs halts answer some told = absurd halts
+  place_failed place (Boot reason) halts answer some told = absurd halts

@@ -7,6 +7,7 @@ use Rattle.lilo_model.specs.Refusal.{DeviceFault}
 use Rattle.lilo_model.specs.Devices.{Device}
 use Rattle.lilo_model.specs.Words as words
 use Rattle.lilo_model.specs.Words.{Command, Part, run_at}
+use Rattle.loader_core.specs.Report.{image_with}
 use Rattle.lilo_run.specs.Verdict.{query_effect, report_effect, boot_effect, install_effect, conf_query_effect, command_effect, part_effect, parts_effects, words_effects, effects_of, run_left, is_boot, has_boot, run_boots}
 use Rattle.lilo_run.proofs.RunLemmas.{no_boot_first}
 
@@ -47,50 +48,51 @@ keyless now machine memory other root path (words.Restore device) keys none = re
 keyless now machine memory other root path (words.Boot device dump) keys none = absurd cc
 
 parts_same :
-    (now : Image) (machine : Machine) (memory other : ℕ) (parts : List Part) (keys : List Key) → has_boot parts ≡ false
-    → parts_effects (part_effect now machine memory) parts keys ≡ parts_effects (part_effect now machine other) parts keys
-parts_same now machine memory other [] keys none = refl
-parts_same now machine memory other (part ∷ parts) keys none =
+    (machine : Machine) (memory other : ℕ) (now : Image) (parts : List Part) (keys : List Key) → has_boot parts ≡ false
+    → parts_effects (part_effect machine memory) now parts keys ≡ parts_effects (part_effect machine other) now parts keys
+parts_same machine memory other now [] keys none = refl
+parts_same machine memory other now (part ∷ parts) keys none =
     let both = no_boot_first part parts none in
     let first = (keyless now machine memory other part.root (conf_path part.config) part.command keys both.0).same in
-    let rest = parts_same now machine memory other parts (part_effect now machine other part keys).left both.1 in
+    let effect = part_effect machine other now part keys in
+    let rest = parts_same machine memory other (image_with now effect.write) parts effect.left both.1 in
     rw (first, rest) refl
 
 words_same :
-    (now : Image) (machine : Machine) (memory other : ℕ) (words : List (List ℕ)) (keys : List Key) (run : Result (List Part) (Option ℕ)) → run_boots run ≡ false
-    → words_effects (part_effect now machine memory) words keys run ≡ words_effects (part_effect now machine other) words keys run
-words_same now machine memory other words keys (Ok parts) none = parts_same now machine memory other parts keys none
-words_same now machine memory other words keys (Err wrong) none = refl
+    (machine : Machine) (memory other : ℕ) (now : Image) (words : List (List ℕ)) (keys : List Key) (run : Result (List Part) (Option ℕ)) → run_boots run ≡ false
+    → words_effects (part_effect machine memory) now words keys run ≡ words_effects (part_effect machine other) now words keys run
+words_same machine memory other now words keys (Ok parts) none = parts_same machine memory other now parts keys none
+words_same machine memory other now words keys (Err wrong) none = refl
 
 -- what arguments do is the same in a memory of any size
 pub same_in_any_memory :
     (now : Image) (machine : Machine) (memory other : ℕ) (words : List (List ℕ)) (keys : List Key) → run_boots (run_at words) ≡ false
     → effects_of now machine memory words keys ≡ effects_of now machine other words keys
 unfolding effects_of
-same_in_any_memory now machine memory other words keys none = words_same now machine memory other words keys (run_at words) none
+same_in_any_memory now machine memory other words keys none = words_same machine memory other now words keys (run_at words) none
 
 parts_left :
-    (now : Image) (machine : Machine) (memory : ℕ) (parts : List Part) (keys : List Key) → has_boot parts ≡ false
-    → run_left keys (parts_effects (part_effect now machine memory) parts keys) ≡ keys
-parts_left now machine memory [] keys none = refl
-parts_left now machine memory (part ∷ parts) keys none =
+    (machine : Machine) (memory : ℕ) (now : Image) (parts : List Part) (keys : List Key) → has_boot parts ≡ false
+    → run_left keys (parts_effects (part_effect machine memory) now parts keys) ≡ keys
+parts_left machine memory now [] keys none = refl
+parts_left machine memory now (part ∷ parts) keys none =
     let both = no_boot_first part parts none in
     let first = (keyless now machine memory memory part.root (conf_path part.config) part.command keys both.0).left in
-    let rest = parts_left now machine memory parts keys both.1 in
+    let rest = parts_left machine memory (image_with now (part_effect machine memory now part keys).write) parts keys both.1 in
     rw first rest
 
 words_left :
-    (now : Image) (machine : Machine) (memory : ℕ) (words : List (List ℕ)) (keys : List Key) (run : Result (List Part) (Option ℕ)) → run_boots run ≡ false
-    → run_left keys (words_effects (part_effect now machine memory) words keys run) ≡ keys
-words_left now machine memory words keys (Ok parts) none = parts_left now machine memory parts keys none
-words_left now machine memory words keys (Err wrong) none = refl
+    (machine : Machine) (memory : ℕ) (now : Image) (words : List (List ℕ)) (keys : List Key) (run : Result (List Part) (Option ℕ)) → run_boots run ≡ false
+    → run_left keys (words_effects (part_effect machine memory) now words keys run) ≡ keys
+words_left machine memory now words keys (Ok parts) none = parts_left machine memory now parts keys none
+words_left machine memory now words keys (Err wrong) none = refl
 
 -- without a boot all keys are left
 pub all_are_left :
     (now : Image) (machine : Machine) (memory : ℕ) (words : List (List ℕ)) (keys : List Key) → run_boots (run_at words) ≡ false
     → run_left keys (effects_of now machine memory words keys) ≡ keys
 unfolding effects_of
-all_are_left now machine memory words keys none = words_left now machine memory words keys (run_at words) none
+all_are_left now machine memory words keys none = words_left machine memory now words keys (run_at words) none
 
 first_by : (first rest : Bool) → first ≡ true → (first || rest) ≡ true
 first_by true rest is = refl

@@ -1,9 +1,16 @@
 -- The loop over the parts of a run.
-use Rattle.std.proofs.Common.{◌≡◌, ◌≤◌, ◌<◌, ◌≢◌, ◌∙◌, ◌==◌, ◌⊎◌, ◌+◌, ◌-◌, ℕ, inl, inr, Bool, true, false, cond, ◌||◌, List, [], ◌∷◌, ◌++◌, Option, None, Some, Err, codes, IfSome, IsTrue, refl, sym, subst, arith}
+use Rattle.std.proofs.Common.{◌≡◌, ◌≤◌, ◌<◌, ◌≢◌, ◌∙◌, ◌==◌, ◌⊎◌, ◌+◌, ◌-◌, ℕ, inl, inr, Bool, true, false, cond, ◌||◌, List, [], ◌∷◌, ◌++◌, Option, None, Some, Err, codes, IfSome, IsTrue, refl, sym, ap, subst, arith}
 use Rattle.std.proofs.lemmas.Bool.{eqb-true, false≢true}
-use Rattle.disk_trait.specs.Past.{Image, SameDisks}
+use Rattle.disk_trait.specs.Past.{Image, Past, Told}
+use Rattle.disk_trait.specs.Moments.{IsTold, now}
+use Rattle.disk_trait.specs.Calls.{SameOf}
+use Rattle.disk_trait.specs.declared.disks.Phase.TheVariants.{Before, Commit, After}
+use Rattle.disk_trait.proofs.MomentLemmas.{told_now}
+use Rattle.section_loader.specs.declared.reason.Halt.TheVariants as ends
+use Rattle.section_loader.specs.declared.reason.Reason.TheVariants as reasons
+use Rattle.prompt_loop.specs.declared.asking.Stop.TheVariants as stops
 use Rattle.disk_trait.specs.declared.disks.Disks.{Ghosts}
-use Rattle.sector_address.specs.Machine.{OnDisks}
+use Rattle.sector_address.specs.Machine.{OnDisks, machine_of}
 use Rattle.lilo_model.specs.Disks.{Machine}
 use Rattle.lilo_model.specs.Place.{Memory}
 use Rattle.lilo_model.specs.Prompt.{Key}
@@ -13,7 +20,11 @@ use Rattle.stream_trait.specs.Shows.{SinkState, Shows, answer_of}
 use Rattle.stream_trait.specs.declared.source.Source as sources
 use Rattle.stream_trait.proofs.ShowsLemmas.{zero_before}
 use Rattle.loader_core.specs.Start.{OnKeys}
-use Rattle.lilo_run.specs.Run.{IsDone, Does, Carries, Runs, is_part_status}
+use Rattle.loader_core.specs.Report.{LineWrite, image_with}
+use Rattle.lilo_model.specs.Faults.{Rose}
+use Rattle.loader_core.specs.Leaves.{HasPut, KeepsDisks}
+use Rattle.loader_core.proofs.LeavesLemmas.{same_self, same_join, leaves_after}
+use Rattle.lilo_run.specs.Run.{State, IsDone, Does, Carries, CarriedOut, LostBefore, LostAtCommit, LostAfter, Starved, Unheard, EndsAt, IsPassed, IsOver, Runs, IsLost, is_part_status}
 use Rattle.lilo_run.specs.Verdict.{Effect, keeping, early_status, early_parts, parts_effects, effects_of, is_boot, has_boot}
 
 -- how many turns are left at most
@@ -29,86 +40,128 @@ place_within (Some place) from len within = within.1
 
 -- ---- parts in order
 
--- a part that ended with 0 was done
-pub done_with_zero :
-    (effect : Effect) (own : ℕ) (m0 m1 : Memory) (left : List Key) (old new : SinkState)
-    → Carries effect own m0 m1 left old new → own ≡ 0 → IsDone effect 0 m0 m1 old new × (effect.left ≡ left)
-done_with_zero effect own m0 m1 left old new (inl (done, is)) zero =
-    (record { answer = sym zero ∙ done.answer; shown = done.shown; placed = λ none. done.placed zero }, is)
-done_with_zero effect own m0 m1 left old new (inr (inl failed)) zero = absurd (let eight = failed.answer in omega (arith, zero, eight))
-done_with_zero effect own m0 m1 left old new (inr (inr (inl failed))) zero = absurd (let thirteen = failed.answer in omega (arith, zero, thirteen))
-done_with_zero effect own m0 m1 left old new (inr (inr (inr failed))) zero = absurd (let eleven = failed.answer in omega (arith, zero, eleven))
+module _ {D : Type 0} (g : Ghosts D) where
+  -- a part that ended with 0 was done
+  pub done_with_zero :
+      (effect : Effect) (own : ℕ) (left : List Key) (old new : State D) → Carries g effect own left old new → own ≡ 0
+      → IsDone effect 0 old.memory new.memory old.sink new.sink × (effect.left ≡ left) × HasPut g old.disks new.disks effect.write
+  done_with_zero effect own left old new (CarriedOut done is put) zero =
+      (record { answer = sym zero ∙ done.answer; shown = done.shown; placed = λ none. done.placed zero }, is, put)
+  done_with_zero effect own left old new (LostBefore failed same) zero = absurd (let eight = failed.answer in omega (arith, zero, eight))
+  done_with_zero effect own left old new (LostAtCommit failed came) zero = absurd (let nine = failed.answer in omega (arith, zero, nine))
+  done_with_zero effect own left old new (LostAfter failed came) zero = absurd (let ten = failed.answer in omega (arith, zero, ten))
+  done_with_zero effect own left old new (Starved failed same) zero = absurd (let thirteen = failed.answer in omega (arith, zero, thirteen))
+  done_with_zero effect own left old new (Unheard failed same) zero = absurd (let eleven = failed.answer in omega (arith, zero, eleven))
 
--- a command that takes no key
-pub carries_kept :
-    (effect : Effect) (status : ℕ) (m0 m1 : Memory) (keys : List Key) (old new : SinkState)
-    → Does effect status m0 m1 old new → Carries (keeping keys effect) status m0 m1 keys old new
-carries_kept effect status m0 m1 keys old new (inl done) = inl (record { answer = done.answer; shown = done.shown; placed = done.placed }, refl)
-carries_kept effect status m0 m1 keys old new (inr (inl failed)) = inr (inl failed)
-carries_kept effect status m0 m1 keys old new (inr (inr failed)) = inr (inr (inl failed))
+  -- a command that takes no key and writes nothing
+  pub carries_kept :
+      (effect : Effect) (status : ℕ) (keys : List Key) (old new : State D) → SameOf g old.disks new.disks
+      → Does effect status old.memory new.memory old.sink new.sink → Carries g (keeping keys effect) status keys old new
+  carries_kept effect status keys old new same (inl done) = CarriedOut (record { answer = done.answer; shown = done.shown; placed = done.placed }) refl same
+  carries_kept effect status keys old new same (inr (inl failed)) = LostBefore failed same
+  carries_kept effect status keys old new same (inr (inr failed)) = Starved failed same
+
+  -- one that began as disks were read
+  pub carries_after :
+      (effect : Effect) (status : ℕ) (left : List Key) (first : D) (old new : State D) → SameOf g first old.disks → g.faults first ≤ g.faults old.disks
+      → Carries g effect status left old new → Carries g effect status left (record { disks = first; memory = old.memory; sink = old.sink }) new
+  carries_after effect status left first old new same later (CarriedOut done is put) =
+      CarriedOut done is (leaves_after g first old.disks new.disks same later effect.write (Err (stops.Halt (ends.Refused reasons.Idle))) Before put)
+  carries_after effect status left first old new same later (LostBefore failed kept) = LostBefore failed (same_join g first old.disks new.disks same kept)
+  carries_after effect status left first old new same later (LostAtCommit failed came) =
+      LostAtCommit failed (leaves_after g first old.disks new.disks same later effect.write (Err (stops.Halt ends.Device)) Commit came)
+  carries_after effect status left first old new same later (LostAfter failed came) =
+      LostAfter failed (leaves_after g first old.disks new.disks same later effect.write (Err (stops.Halt ends.Device)) After came)
+  carries_after effect status left first old new same later (Starved failed kept) = Starved failed (same_join g first old.disks new.disks same kept)
+  carries_after effect status left first old new same later (Unheard failed kept) = Unheard failed (same_join g first old.disks new.disks same kept)
+
+  -- ---- what disks hold
+
+  -- what disks hold once a default line was written
+  pub put_now :
+      (old new : D) (write : Option LineWrite) → HasPut g old new write → IsTold (g.past old)
+      → now (g.past new) ≡ image_with (now (g.past old)) write
+  put_now old new None put told = ap now put.same_past
+  put_now old new (Some write) put told = put.writes.written told
+
+  -- a fact of what disks hold, in the words of what they held before
+  pub told_here :
+      (old mid : D) → g.size_of mid ≡ g.size_of old → g.geometry_of mid ≡ g.geometry_of old
+      → (P : Image → Machine → Type 0) → OnDisks g mid P → IsTold (g.past mid) → P (now (g.past mid)) (machine_of g old)
+  told_here old mid size geometry P told is = rw (size, geometry) at (told_now (g.past mid) (λ image. P image (machine_of g mid)) told is)
+
+pub told_from : (past : Option Past) (P : Image → Type 0) → (IsTold past → P (now past)) → Told past P
+unfolding IsTold now
+told_from None P holds = tt
+told_from (Some past) P holds = holds tt
 
 -- a part that answers 0 was shown
 shown_by : (failed : Bool) (own : ℕ) → own ≡ 0 → answer_of own failed ≡ 0 → failed ≡ false
 shown_by false own none zero = refl
 shown_by true own none zero = absurd (let twelve : answer_of own true ≡ 12 = rw none refl in omega (arith, zero, twelve))
 
--- what the rest of the parts does is what is left of all of them, by keys
-abbrev pub ContinuesWith : (Part → List Key → Effect) → List Part → List Part → List Key → List Key → Memory → Memory → SinkState → SinkState → Type 0
-ContinuesWith effect all rest keys keys' m0 m1 s0 s1 =
-    (status : ℕ) (m2 : Memory) (s2 : SinkState) (left : List Key) → Runs (parts_effects effect rest keys') status m1 m2 keys' left s1 s2
-    → Runs (parts_effects effect all keys) status m0 m2 keys left s0 s2
-
--- whichever keys are left for the rest
-abbrev pub Continues : {I : Type 0} → sources.Ghosts I → (Part → List Key → Effect) → List Part → List Part → I → I → Memory → Memory → SinkState → SinkState → Type 0
-Continues i effect all rest k0 k1 m0 m1 s0 s1 = OnKeys i (k0, k1) (λ keys keys'. ContinuesWith effect all rest keys keys' m0 m1 s0 s1)
-
-pub continues_more :
-    {I : Type 0} → (i : sources.Ghosts I) (effect : Part → List Key → Effect) (all rest behind : List Part) (part : Part) (own : ℕ) (k0 k1 k2 : I) (m0 m1 m2 : Memory)
-    (s0 s1 s2 : SinkState)
-    → Continues i effect all rest k0 k1 m0 m1 s0 s1 → rest ≡ part ∷ behind → OnKeys i (k1, k2) (λ keys left. Carries (effect part keys) own m1 m2 left s1 s2)
-    → answer_of own s2.failed ≡ 0 → Continues i effect all behind k0 k2 m0 m2 s0 s2
-continues_more i effect all rest behind part own k0 k1 k2 m0 m1 m2 s0 s1 s2 goes is does zero = λ keys2 may.
-    let none = zero_before own s2.failed zero in
-    let (keys1, may1, carries) = does keys2 may in
-    let (keys0, may0, later) = goes keys1 may1 in
-    let done = done_with_zero (effect part keys1) own m1 m2 keys2 s1 s2 carries none in (
-      keys0,
-      may0,
-      λ status m3 s3 left runs.
-          let next = subst (λ keys. Runs (parts_effects effect behind keys) status m2 m3 keys left s2 s3) (sym done.1) runs in
-          later status m3 s3 left (rw is (inr (m2, s2, done.0, shown_by s2.failed own none zero, next))),
-    )
-
-pub continues_end :
-    {I : Type 0} → (i : sources.Ghosts I) (effect : Part → List Key → Effect) (all rest : List Part) (k0 k1 : I) (m0 m1 : Memory) (s0 s1 : SinkState)
-    → Continues i effect all rest k0 k1 m0 m1 s0 s1 → rest ≡ []
-    → OnKeys i (k0, k1) (λ keys left. Runs (parts_effects effect all keys) 0 m0 m1 keys left s0 s1)
-continues_end i effect all rest k0 k1 m0 m1 s0 s1 goes is = λ keys1 may.
-    let (keys0, may0, later) = goes keys1 may in
-    (keys0, may0, later 0 m1 s1 keys1 (rw is (refl, refl, refl, refl)))
-
-pub continues_start :
-    {I : Type 0} → (i : sources.Ghosts I) (effect : Part → List Key → Effect) (all : List Part) (k : I) (m : Memory) (s : SinkState)
-    → Continues i effect all all k k m m s s
-continues_start i effect all k m s = λ keys may. (keys, may, λ status m2 s2 left runs. runs)
-
 not_12 : (own : ℕ) → IsTrue (is_part_status own) → own ≢ 12
 not_12 own known is = false≢true (rw is at known)
 
-pub continues_last :
-    {I : Type 0} → (i : sources.Ghosts I) (effect : Part → List Key → Effect) (all rest behind : List Part) (part : Part) (own status : ℕ) (k0 k1 k2 : I) (m0 m1 m2 : Memory)
-    (s0 s1 s2 : SinkState)
-    → Continues i effect all rest k0 k1 m0 m1 s0 s1 → rest ≡ part ∷ behind → OnKeys i (k1, k2) (λ keys left. Carries (effect part keys) own m1 m2 left s1 s2)
-    → IsTrue (is_part_status own) → status ≡ answer_of own s2.failed → status ≢ 0 → ((keys : List Key) → (effect part keys).boots ≡ false → m2 ≡ m1)
-    → OnKeys i (k0, k2) (λ keys left. Runs (parts_effects effect all keys) status m0 m2 keys left s0 s2)
-continues_last i effect all rest behind part own status k0 k1 k2 m0 m1 m2 s0 s1 s2 goes is does known answer some quiet = λ keys2 may.
-    let (keys1, may1, carries) = does keys2 may in
-    let (keys0, may0, later) = goes keys1 may1 in (
-      keys0,
-      may0,
-      later status m2 s2 keys2
-          (rw is (inl (record { own = own; does = carries; answer = answer; some = some; own_not_12 = not_12 own known; quiet = quiet keys1 }))),
-    )
+module _ {D I : Type 0} (g : Ghosts D) (i : sources.Ghosts I) (effect : Image → Part → List Key → Effect) where
+  -- what parts do over what disks hold
+  abbrev pub effects_at : D → List Part → List Key → List Effect
+  effects_at disks parts keys = parts_effects effect (now (g.past disks)) parts keys
+
+  -- what the rest of the parts does is what is left of all of them, by keys
+  abbrev pub ContinuesWith : List Part → List Part → List Key → List Key → State D → State D → Type 0
+  ContinuesWith all rest keys keys' start here =
+      (status : ℕ) (there : State D) (left : List Key) → Runs g (effects_at here.disks rest keys') status keys' left here there
+      → Runs g (effects_at start.disks all keys) status keys left start there
+
+  -- whichever keys are left for the rest
+  abbrev pub Continues : List Part → List Part → I → I → State D → State D → Type 0
+  Continues all rest k0 k1 start here = OnKeys i (k0, k1) (λ keys keys'. ContinuesWith all rest keys keys' start here)
+
+  pub continues_more :
+      (all rest behind : List Part) (part : Part) (own : ℕ) (k0 k1 k2 : I) (start here there : State D)
+      → Continues all rest k0 k1 start here → rest ≡ part ∷ behind
+      → OnKeys i (k1, k2) (λ keys left. Carries g (effect (now (g.past here.disks)) part keys) own left here there)
+      → IsTold (g.past here.disks) → answer_of own there.sink.failed ≡ 0 → Continues all behind k0 k2 start there
+  continues_more all rest behind part own k0 k1 k2 start here there goes is does told zero = λ keys2 may.
+      let none = zero_before own there.sink.failed zero in
+      let (keys1, may1, carries) = does keys2 may in
+      let (keys0, may0, later) = goes keys1 may1 in
+      let first = effect (now (g.past here.disks)) part keys1 in
+      let (done, kept, put) = done_with_zero g first own keys2 here there carries none in
+      let passed : IsPassed g first here there = record { done = done; wrote = put; whole = shown_by there.sink.failed own none zero } in (
+        keys0,
+        may0,
+        λ status last left runs.
+            let there_runs = subst (λ image. Runs g (parts_effects effect image behind keys2) status keys2 left there last) (put_now g here.disks there.disks first.write put told) runs in
+            let next = subst (λ keys. Runs g (parts_effects effect (image_with (now (g.past here.disks)) first.write) behind keys) status keys left there last) (sym kept) there_runs in
+            later status last left (rw is (inr (there, passed, next))),
+      )
+
+  pub continues_end :
+      (all rest : List Part) (k0 k1 : I) (start here : State D) → Continues all rest k0 k1 start here → rest ≡ []
+      → OnKeys i (k0, k1) (λ keys left. Runs g (effects_at start.disks all keys) 0 keys left start here)
+  continues_end all rest k0 k1 start here goes is = λ keys1 may.
+      let (keys0, may0, later) = goes keys1 may in
+      let over : IsOver 0 keys1 keys1 here here = record { zero = refl; memory = refl; kept = refl; sink = refl; disks = refl } in
+      (keys0, may0, later 0 here keys1 (rw is over))
+
+  pub continues_start : (all : List Part) (k : I) (start : State D) → Continues all all k k start start
+  continues_start all k start = λ keys may. (keys, may, λ status there left runs. runs)
+
+  pub continues_last :
+      (all rest behind : List Part) (part : Part) (own status : ℕ) (k0 k1 k2 : I) (start here there : State D)
+      → Continues all rest k0 k1 start here → rest ≡ part ∷ behind
+      → OnKeys i (k1, k2) (λ keys left. Carries g (effect (now (g.past here.disks)) part keys) own left here there)
+      → IsTrue (is_part_status own) → status ≡ answer_of own there.sink.failed → status ≢ 0
+      → ((keys : List Key) → (effect (now (g.past here.disks)) part keys).boots ≡ false → there.memory ≡ here.memory)
+      → OnKeys i (k0, k2) (λ keys left. Runs g (effects_at start.disks all keys) status keys left start there)
+  continues_last all rest behind part own status k0 k1 k2 start here there goes is does known answer some quiet = λ keys2 may.
+      let (keys1, may1, carries) = does keys2 may in
+      let (keys0, may0, later) = goes keys1 may1 in
+      let ends : EndsAt g (effect (now (g.past here.disks)) part keys1) status keys2 here there =
+      record { own = own; does = carries; answer = answer; some = some; own_not_12 = not_12 own known; quiet = quiet keys1 } in
+      (keys0, may0, later status there keys2 (rw is (inl ends)))
 
 -- a status that the sink doesn't change
 pub own_status : (own known : ℕ) (failed : Bool) → answer_of own failed ≡ known → known ≢ 12 → own ≡ known
@@ -118,6 +171,25 @@ own_status own known failed is other = by (own == 0) failed refl is
     by true true zero is = absurd (other (let twelve : answer_of own true ≡ 12 = rw zero refl in sym is ∙ twelve))
     by true false zero is = let plain : answer_of own false ≡ own = rw zero refl in sym plain ∙ is
     by false failed zero is = let plain : answer_of own failed ≡ own = rw zero refl in sym plain ∙ is
+
+-- nor does it that of a disk that failed
+pub own_lost : (own status : ℕ) (failed : Bool) → status ≡ answer_of own failed → IsLost status → IsLost own
+own_lost own status failed answer (inl is) = inl (own_status own 8 failed (sym answer ∙ is) (λ same. omega (arith, same)))
+own_lost own status failed answer (inr (inl is)) = inr (inl (own_status own 9 failed (sym answer ∙ is) (λ same. omega (arith, same))))
+own_lost own status failed answer (inr (inr is)) = inr (inr (own_status own 10 failed (sym answer ∙ is) (λ same. omega (arith, same))))
+
+-- a count that rose after it stayed or rose
+pub rose_after : (a b c : ℕ) → a ≤ b → Rose b c → Rose a c
+rose_after a b c before rose below = let risen = rose below in omega (arith, before, risen)
+
+pub keeps_twice : {D : Type 0} → (g : Ghosts D) (old mid new : D) → KeepsDisks g old mid → KeepsDisks g mid new → KeepsDisks g old new
+keeps_twice g old mid new first next = record {
+  told = λ is. next.told (first.told is);
+  later = let before = first.later in let after = next.later in omega (arith, before, after);
+  size = next.size ∙ first.size;
+  count = next.count ∙ first.count;
+  geometry = next.geometry ∙ first.geometry;
+}
 
 -- ---- what is known whatever disks hold
 
@@ -175,9 +247,10 @@ begun_last size_of all behind part from own failed (inr later) is early = rw lat
 
 -- ---- memory
 
--- without a boot the memory and the keys stay, and no part is left that boots
-abbrev pub Stays : {I : Type 0} → List Part → List Part → List ℕ → List ℕ → I → I → Type 0
-Stays all rest old new k0 k1 = has_boot all ≡ false → ((new ≡ old) × (k1 ≡ k0)) × (has_boot rest ≡ false)
+-- without a boot the memory, the keys and the disks stay, and no part is left that boots
+abbrev pub Stays : {D I : Type 0} → Ghosts D → List Part → List Part → D × I × List ℕ → D × I × List ℕ → Type 0
+Stays g all rest (d0, k0, old) (d1, k1, new) =
+    has_boot all ≡ false → ((new ≡ old) × (k1 ≡ k0)) × (SameOf g d0 d1 × (has_boot rest ≡ false))
 
 none_by : (first rest : Bool) → (first || rest) ≡ false → (first ≡ false) × (rest ≡ false)
 none_by true rest is = absurd cc
@@ -188,21 +261,13 @@ unfolding has_boot
 no_boot_first part parts is = none_by (is_boot part.command) (has_boot parts) is
 
 pub stays_more :
-    {I : Type 0} → (all rest behind : List Part) (part : Part) (old mid new : List ℕ) (k0 k1 k2 : I)
-    → Stays all rest old mid k0 k1 → rest ≡ part ∷ behind → (is_boot part.command ≡ false → new ≡ mid) → (is_boot part.command ≡ false → k2 ≡ k1)
-    → Stays all behind old new k0 k2
-stays_more all rest behind part old mid new k0 k1 k2 stays is quiet kept none =
+    {D I : Type 0} → (g : Ghosts D) (all rest behind : List Part) (part : Part) (d0 d1 d2 : D) (k0 k1 k2 : I) (old mid new : List ℕ)
+    → Stays g all rest (d0, k0, old) (d1, k1, mid) → rest ≡ part ∷ behind → (is_boot part.command ≡ false → new ≡ mid) → (is_boot part.command ≡ false → k2 ≡ k1)
+    → (is_boot part.command ≡ false → SameOf g d1 d2) → Stays g all behind (d0, k0, old) (d2, k2, new)
+stays_more g all rest behind part d0 d1 d2 k0 k1 k2 old mid new stays is quiet kept same none =
     let before = stays none in
-    let first = no_boot_first part behind (subst (λ parts. has_boot parts ≡ false) is before.1) in
-    ((quiet first.0 ∙ before.0.0, kept first.0 ∙ before.0.1), first.1)
-
--- ---- disks that stay the same
-
--- what is reported of disks that stayed the same was reported of them before
-pub told_same :
-    {D : Type 0} (g : Ghosts D) (old mid : D) → SameDisks g.past g.size_of g.count_of g.geometry_of old mid
-    → (P : Image → Machine → Type 0) → OnDisks g mid P → OnDisks g old P
-told_same g old mid same P told = rw (same.same_past, same.same_size, same.same_geometry) at told
+    let first = no_boot_first part behind (subst (λ parts. has_boot parts ≡ false) is before.1.1) in
+    ((quiet first.0 ∙ before.0.0, kept first.0 ∙ before.0.1), (same_join g d0 d1 d2 before.1.0 (same first.0), first.1))
 
 -- ---- arguments that are no run
 
@@ -213,15 +278,15 @@ unfolding usage_text
 usage_is words wrong is = rw is refl
 
 pub usage_runs :
-    (now : Image) (machine : Machine) (size : ℕ) (words : List (List ℕ)) (keys : List Key) (wrong : Option ℕ) (memory : Memory)
+    {D : Type 0} (g : Ghosts D) (image : Image) (machine : Machine) (size : ℕ) (words : List (List ℕ)) (keys : List Key) (wrong : Option ℕ) (disks : D) (memory : Memory)
     (old new : SinkState)
     → run_at words ≡ Err wrong → Shows old (usage_text words) new
-    → Runs (effects_of now machine size words keys) 1 memory memory keys keys old new
+    → Runs g (effects_of image machine size words keys) 1 keys keys (record { disks = disks; memory = memory; sink = old }) (record { disks = disks; memory = memory; sink = new })
 unfolding effects_of
-usage_runs now machine size words keys wrong memory old new is shown =
+usage_runs g image machine size words keys wrong disks memory old new is shown =
     rw is (inl (record {
       own = 1;
-      does = inl (record { answer = refl; shown = shown; placed = λ zero. absurd (omega (arith, zero)) }, refl);
+      does = CarriedOut (record { answer = refl; shown = shown; placed = λ zero. absurd (omega (arith, zero)) }) refl (same_self g disks);
       answer = refl;
       some = λ zero. omega (arith, zero);
       own_not_12 = λ twelve. omega (arith, twelve);

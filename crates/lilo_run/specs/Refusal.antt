@@ -4,6 +4,8 @@ use Rattle.conf_file.specs.View.{Refuses, HasCause}
 use Rattle.conf_file.specs.declared.file_fault.FileFault.{FileFault}
 use Rattle.conf_file.specs.declared.file_fault.FileFault.TheVariants as files
 use Rattle.conf_settings.specs.View.{fault_view}
+use Rattle.disk_trait.specs.declared.disks.Phase.{Phase}
+use Rattle.disk_trait.specs.declared.disks.Phase.TheVariants.{Before, Commit, After}
 use Rattle.lilo_model.specs.ConfRefusal.{ConfRefusal}
 use Rattle.lilo_model.specs.Devices as devices
 use Rattle.mbr_table.specs.View.{device_view}
@@ -14,8 +16,8 @@ use Rattle.minix_search.specs.View.{told_fault}
 use Rattle.lilo_run.specs.declared.conf.ConfHalt.{ConfHalt}
 use Rattle.lilo_run.specs.declared.conf.ConfHalt.TheVariants.{File, Text}
 use Rattle.lilo_model.specs.Refusal as model
+use Rattle.lilo_model.specs.Reason.{Reason}
 use Rattle.lilo_model.specs.Verdict.{Verdict, verdict_of}
-use Rattle.section_loader.specs.Reading.{Why, Unbuilt, Because}
 use Rattle.section_loader.specs.View.{reason_view}
 use Rattle.lilo_run.specs.declared.refusal.PlaceFault.{PlaceFault}
 use Rattle.lilo_run.specs.declared.refusal.PlaceFault.TheVariants.{NoDisk, NoPartition, BadTable}
@@ -32,9 +34,23 @@ place_fault_view BadTable = model.BadTable
 abbrev pub not_built : Verdict
 not_built = record { status = 15; text = codes "lilo: not built\n" }
 
--- what is answered and printed where a disk failed
+-- what is answered and printed where a disk failed before the write of the default line
 abbrev pub device_failed : Verdict
 device_failed = record { status = 8; text = codes "lilo: device\n" }
+
+-- where one failed in that write, or the flush of it
+abbrev pub failed_at_commit : Verdict
+failed_at_commit = record { status = 9; text = codes "lilo: device at commit\n" }
+
+-- where one failed after that flush
+abbrev pub failed_after_commit : Verdict
+failed_after_commit = record { status = 10; text = codes "lilo: device after commit\n" }
+
+-- what is answered and printed where a disk failed in a phase
+abbrev pub phase_verdict : Phase → Verdict
+phase_verdict Before = device_failed
+phase_verdict Commit = failed_at_commit
+phase_verdict After = failed_after_commit
 
 -- what is answered and printed where the source of keys failed
 abbrev pub keys_failed : Verdict
@@ -45,9 +61,8 @@ abbrev pub no_memory : Verdict
 no_memory = record { status = 13; text = codes "lilo: memory\n" }
 
 -- what is answered and printed where nothing is started
-abbrev pub why_verdict : Why → Verdict
-why_verdict Unbuilt = not_built
-why_verdict (Because reason) = verdict_of (Err (model.Boot reason))
+abbrev pub reason_verdict : Reason → Verdict
+reason_verdict reason = verdict_of (Err (model.Boot reason))
 
 -- what is answered and printed where a command ended early
 abbrev pub halt_verdict : Halt → Verdict
@@ -55,7 +70,7 @@ halt_verdict halts.Device = device_failed
 halt_verdict halts.NotBuilt = not_built
 halt_verdict (halts.NoPlace fault) = verdict_of (Err (model.Device (place_fault_view fault)))
 halt_verdict halts.NotOurs = verdict_of (Err model.NotOurs)
-halt_verdict (halts.Boot reason) = why_verdict (reason_view reason)
+halt_verdict (halts.Boot reason) = reason_verdict (reason_view reason)
 
 -- ---- configurations
 

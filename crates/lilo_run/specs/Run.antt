@@ -1,5 +1,5 @@
--- How what was done relates to what the definitions give.
-use Rattle.std.specs.Prelude.{◌≡◌, ◌≢◌, ◌⊎◌, ℕ, ◌==◌, Bool, false, List, [], ◌∷◌, ◌++◌, length, Option, Result, Ok, Err}
+-- How what was done stands to what the definitions give.
+use Rattle.std.specs.Prelude.{◌≡◌, ◌≢◌, ◌⊎◌, ℕ, ◌==◌, Bool, false, List, [], ◌∷◌, ◌++◌, length, All, Option, None, Some, Result, Ok, Err}
 use Rattle.std.specs.List.{list_any}
 use Rattle.std.specs.Option.{option_map}
 use Rattle.disk_trait.specs.declared.disks.Span.{Span}
@@ -17,7 +17,6 @@ use Rattle.boot_map.specs.declared.map_fault.MapFault.TheVariants as maps
 use Rattle.mbr_table.specs.View.{span_view}
 use Rattle.mbr_table.specs.declared.table_fault.TableFault.{TableFault}
 use Rattle.mbr_table.specs.declared.table_fault.TableFault.TheVariants as faults
-use Rattle.section_loader.specs.Reading.{Why, Unbuilt, Because}
 use Rattle.section_loader.specs.declared.reason.Reason.TheVariants as reasons
 use Rattle.lilo_model.specs.Faults.{Rose}
 use Rattle.stream_trait.specs.Shows.{SinkState, Shows, ShowsOne, Prints, PrintsOne, answer_of, sink_of}
@@ -30,14 +29,16 @@ use Rattle.lilo_run.specs.declared.refusal.Halt.{Halt}
 use Rattle.lilo_run.specs.declared.refusal.Halt.TheVariants.{Device, NotBuilt, NoPlace, NotOurs, Boot}
 use Rattle.lilo_run.specs.declared.refusal.PlaceFault.TheVariants as variants
 use Rattle.lilo_run.specs.Refusal.{place_fault_view}
-use Rattle.lilo_run.specs.Verdict.{Effect, effects_of, run_verdict}
+use Rattle.disk_trait.specs.declared.disks.Phase.TheVariants.{Commit, After}
+use Rattle.disk_trait.specs.Calls.{SameOf}
+use Rattle.disk_trait.specs.Moments.{now, IsQuiet, LeavesOnly}
+use Rattle.disk_trait.specs.NotWritten.{IsOther, NotWritten}
+use Rattle.loader_core.specs.Leaves.{HasPut, CameTo}
+use Rattle.loader_core.specs.Report.{LineWrite, image_with}
+use Rattle.lilo_model.specs.Disks.{Image}
+use Rattle.lilo_run.specs.Verdict.{Effect, effects_of, run_verdict, run_image}
 
 -- ---- a reader
-
--- a reader is refused for this reason of a boot
-abbrev pub RefusesFor : {B : Type 0} → Why → Result B model.Refusal → Type 0
-RefusesFor Unbuilt read = ⊥
-RefusesFor (Because reason) read = read ≡ Err (model.Boot reason)
 
 -- what a reader returned, seen by view, is what the model gives, unless a disk failed
 abbrev pub Halts : {B : Type 0} → Halt → Result B model.Refusal → Type 0
@@ -45,7 +46,7 @@ Halts Device read = Unit {0}
 Halts NotBuilt read = ⊥
 Halts (NoPlace fault) read = read ≡ Err (model.Device (place_fault_view fault))
 Halts NotOurs read = read ≡ Err model.NotOurs
-Halts (Boot reason) read = RefusesFor (reason_view reason) read
+Halts (Boot reason) read = read ≡ Err (model.Boot (reason_view reason))
 
 abbrev pub Gives : {A B : Type 0} → (A → B) → Result A Halt → Result B model.Refusal → Type 0
 Gives view (Ok value) read = read ≡ Ok (view value)
@@ -105,49 +106,83 @@ DoesBeside g o disks memory status old new effect =
 
 -- ---- keys
 
--- It was done, and left the keys that it is to leave; or a disk or the source of keys failed, or memory didn't suffice.
-abbrev pub Carries : Effect → ℕ → Memory → Memory → List Key → SinkState → SinkState → Type 0
-Carries effect status memory memory' left old new =
-    (IsDone effect status memory memory' old new × (effect.left ≡ left))
-    ⊎ (IsFailed 8 effect.failures status old new
-    ⊎ (IsFailed 13 effect.starved status old new ⊎ IsFailed 11 effect.unheard status old new))
+-- the disks, the memory and the sink at a moment
+pub record State (D : Type 0) : Type 0 where
+  pub disks : D
+  pub memory : Memory
+  pub sink : SinkState
 
--- The same of a source, the memory and the sink before and after: whichever keys the source leaves, those that it left
--- before were carried out so.
-abbrev pub CarriesBy : {I O : Type 0} → sources.Ghosts I → sinks.Ghosts O → ℕ → (List Key → Effect) → I × List ℕ × Shown O → I × List ℕ × Shown O → Type 0
-CarriesBy i o status effect (keys, ram, out) (keys', ram', out') =
-    OnKeys i (keys, keys') (λ all left. Carries (effect all) status (memory_of ram) (memory_of ram') left (sink_of o out) (sink_of o out'))
+-- It was done, left the keys that it is to leave, and wrote what it is to write. Or memory didn't suffice, or the source of
+-- keys or a disk failed: before the write, in it, or after it.
+pub data Carries {D : Type 0} (g : Ghosts D) (effect : Effect) (status : ℕ) (left : List Key) (old new : State D) : Type 0 where
+  CarriedOut : IsDone effect status old.memory new.memory old.sink new.sink → effect.left ≡ left → HasPut g old.disks new.disks effect.write
+      → Carries g effect status left old new
+  LostBefore : IsFailed 8 effect.failures status old.sink new.sink → SameOf g old.disks new.disks → Carries g effect status left old new
+  LostAtCommit : IsFailed 9 effect.at_commit status old.sink new.sink → CameTo g old.disks new.disks effect.write Commit
+      → Carries g effect status left old new
+  LostAfter : IsFailed 10 effect.after_commit status old.sink new.sink → CameTo g old.disks new.disks effect.write After
+      → Carries g effect status left old new
+  Starved : IsFailed 13 effect.starved status old.sink new.sink → SameOf g old.disks new.disks → Carries g effect status left old new
+  Unheard : IsFailed 11 effect.unheard status old.sink new.sink → SameOf g old.disks new.disks → Carries g effect status left old new
 
--- the same of what disks hold, where they report their past
-abbrev pub CarriesOn : {D I O : Type 0} → Ghosts D → sources.Ghosts I → sinks.Ghosts O → D → ℕ → I × List ℕ × Shown O → I × List ℕ × Shown O → (disks.Image → disks.Machine → ℕ → List Key → Effect) → Type 0
-CarriesOn g i o disks status old new effect =
-    OnDisks g disks (λ now machine. CarriesBy i o status (effect now machine (length old.1)) old new)
+-- the state of disks, a memory and a sink
+abbrev pub state_of : {D O : Type 0} → sinks.Ghosts O → D → List ℕ → Shown O → State D
+state_of o disks ram out = record { disks = disks; memory = memory_of ram; sink = sink_of o out }
+
+-- The same of disks, a source, the memory and the sink before and after: whichever keys the source leaves, those that it
+-- left before were carried out so.
+abbrev pub CarriesBy : {D I O : Type 0} → Ghosts D → sources.Ghosts I → sinks.Ghosts O → ℕ → (List Key → Effect) → D × I × List ℕ × Shown O → D × I × List ℕ × Shown O → Type 0
+CarriesBy g i o status effect (disks, keys, ram, out) (disks', keys', ram', out') =
+    OnKeys i (keys, keys') (λ all left. Carries g (effect all) status left (state_of o disks ram out) (state_of o disks' ram' out'))
+
+-- the same of what the disks held, where they report their past
+abbrev pub CarriesOn : {D I O : Type 0} → Ghosts D → sources.Ghosts I → sinks.Ghosts O → ℕ → D × I × List ℕ × Shown O → D × I × List ℕ × Shown O → (disks.Image → disks.Machine → ℕ → List Key → Effect) → Type 0
+CarriesOn g i o status old new effect =
+    OnDisks g old.0 (λ now machine. CarriesBy g i o status (effect now machine (length old.2)) old new)
+
+-- a disk failed, by the status
+abbrev pub IsLost : ℕ → Type 0
+IsLost status = (status ≡ 8) ⊎ ((status ≡ 9) ⊎ (status ≡ 10))
 
 -- ---- a run
 
 -- A run ended at a part, with a status other than 0: the part's own, or 12 where that is 0 and its text wasn't shown.
-pub record EndsAt (part : Effect) (status : ℕ) (memory memory' : Memory) (left : List Key) (old new : SinkState) : Type 0 where
+pub record EndsAt {D : Type 0} (g : Ghosts D) (part : Effect) (status : ℕ) (left : List Key) (old new : State D) : Type 0 where
   pub own : ℕ
-  pub does : Carries part own memory memory' left old new
-  pub answer : status ≡ answer_of own new.failed
+  pub does : Carries g part own left old new
+  pub answer : status ≡ answer_of own new.sink.failed
   pub some : status ≢ 0
   -- no part has 12 of its own
   pub own_not_12 : own ≢ 12
   -- only a boot changes memory
-  pub quiet : part.boots ≡ false → memory' ≡ memory
+  pub quiet : part.boots ≡ false → new.memory ≡ old.memory
+
+-- a part was done with 0, and its text was shown whole
+pub record IsPassed {D : Type 0} (g : Ghosts D) (part : Effect) (old new : State D) : Type 0 where
+  pub done : IsDone part 0 old.memory new.memory old.sink new.sink
+  pub wrote : HasPut g old.disks new.disks part.write
+  pub whole : new.sink.failed ≡ false
+
+-- no part more was done: these keys are left
+pub record IsOver {D : Type 0} (status : ℕ) (keys left : List Key) (old new : State D) : Type 0 where
+  pub zero : status ≡ 0
+  pub memory : new.memory ≡ old.memory
+  pub kept : keys ≡ left
+  pub sink : new.sink ≡ old.sink
+  pub disks : new.disks ≡ old.disks
 
 -- The parts run in order until one answers other than 0, and that status is the answer: each before it was done with 0,
 -- and its text was shown whole. Where there are no more these keys are left.
-abbrev pub Runs : List Effect → ℕ → Memory → Memory → List Key → List Key → SinkState → SinkState → Type 0
-Runs [] status memory memory' keys left old new = (status ≡ 0) × (memory' ≡ memory) × (keys ≡ left) × (new ≡ old)
-Runs (part ∷ parts) status memory memory' keys left old new =
-    EndsAt part status memory memory' left old new
-    ⊎ ((mid : Memory) × (shown : SinkState) × IsDone part 0 memory mid old shown × (shown.failed ≡ false)
-    × Runs parts status mid memory' part.left left shown new)
+abbrev pub Runs : {D : Type 0} → Ghosts D → List Effect → ℕ → List Key → List Key → State D → State D → Type 0
+Runs g [] status keys left old new = IsOver status keys left old new
+Runs {D} g (part ∷ parts) status keys left old new =
+    EndsAt g part status left old new
+    ⊎ ((mid : State D) × IsPassed g part old mid × Runs g parts status part.left left mid new)
 
--- the same, by the memory and the sink before them and after them
-abbrev pub RunsAll : {O : Type 0} → sinks.Ghosts O → List Effect → ℕ → List Key → List Key → List ℕ × Shown O → List ℕ × Shown O → Type 0
-RunsAll o parts status keys left old new = Runs parts status (memory_of old.0) (memory_of new.0) keys left (sink_of o old.1) (sink_of o new.1)
+-- the same, by the disks, the memory and the sink before them and after them
+abbrev pub RunsAll : {D O : Type 0} → Ghosts D → sinks.Ghosts O → List Effect → ℕ → List Key → List Key → D × List ℕ × Shown O → D × List ℕ × Shown O → Type 0
+RunsAll g o parts status keys left (disks, ram, out) (disks', ram', out') =
+    Runs g parts status keys left (state_of o disks ram out) (state_of o disks' ram' out')
 
 -- a fact about what the parts of arguments do by keys over what disks hold, with a memory of so many bytes, where the
 -- disks report their past: whichever keys the source leaves, it holds of those that it left before
@@ -162,42 +197,111 @@ abbrev pub BeginsWith0 : List Effect → Type 0
 BeginsWith0 [] = ⊥
 BeginsWith0 (part ∷ parts) = part.verdict.status ≡ 0
 
--- the status is the verdict's, or 8, 11 or 13, or where the first part would answer 0 it is 12
+-- the status is the verdict's, or 8, 9, 10, 11 or 13, or where the first part would answer 0 it is 12
 abbrev pub Answers : List Effect → ℕ → Type 0
 Answers parts status =
     (status ≡ (run_verdict parts).status)
-    ⊎ ((status ≡ 8) ⊎ ((status ≡ 11) ⊎ ((status ≡ 13) ⊎ ((status ≡ 12) × BeginsWith0 parts))))
+    ⊎ (IsLost status ⊎ ((status ≡ 11) ⊎ ((status ≡ 13) ⊎ ((status ≡ 12) × BeginsWith0 parts))))
 
--- A part reported its text, as far as the sink took it: the verdict's with its status, a text of a failure with 8 or
--- 11, one that says out of memory with 13, and with 12 in the place of 0 a prefix of the verdict's. Where it wasn't a
--- failure's, these keys are left.
-abbrev pub Tells : Effect → ℕ → List Key → Option (List ℕ) → Option (List ℕ) → ℕ → ℕ → Type 0
-Tells part status left old new before now =
-    ((status ≡ part.verdict.status) × (part.left ≡ left) × Prints old part.verdict.text new before now)
-    ⊎ (((status ≡ 8) × PrintsOne old part.failures new before now)
-    ⊎ (((status ≡ 11) × PrintsOne old part.unheard new before now)
-    ⊎ (((status ≡ 13) × PrintsOne old part.starved new before now)
-    ⊎ ((status ≡ 12) × (part.verdict.status ≡ 0) × (part.left ≡ left) × Rose before now × TakesFront old part.verdict.text new))))
+-- what a sink has taken, and how often it failed, with the disks and the memory at that moment
+pub record Scene (D : Type 0) : Type 0 where
+  pub disks : D
+  pub memory : Memory
+  pub taken : Option (List ℕ)
+  pub faults : ℕ
+
+-- A part's text was taken whole, or the sink's faults rose; with 12 in the place of 0 a prefix of it.
+abbrev pub TellsText : {D : Type 0} → List ℕ → Scene D → Scene D → Type 0
+TellsText text old new = Prints old.taken text new.taken old.faults new.faults
+
+-- one of some texts
+abbrev pub TellsOne : {D : Type 0} → List (List ℕ) → Scene D → Scene D → Type 0
+TellsOne texts old new = PrintsOne old.taken texts new.taken old.faults new.faults
+
+-- A part told its text, as far as the sink took it: the verdict's with its status, a text of a failure with 8 to 11, one
+-- of want of memory with 13, and with 12 in the place of 0 a prefix of the verdict's. Where it wasn't a failure's, these
+-- keys are left, and what is to be written was; a failure before the write left the disks, one in it has written it or
+-- hasn't, and one after it left it written.
+pub data Tells {D : Type 0} (g : Ghosts D) (part : Effect) (status : ℕ) (left : List Key) (old new : Scene D) : Type 0 where
+  TellsVerdict : status ≡ part.verdict.status → part.left ≡ left → TellsText part.verdict.text old new → HasPut g old.disks new.disks part.write
+      → Tells g part status left old new
+  TellsLost : status ≡ 8 → TellsOne part.failures old new → SameOf g old.disks new.disks → Tells g part status left old new
+  TellsLostAtCommit : status ≡ 9 → TellsOne part.at_commit old new → CameTo g old.disks new.disks part.write Commit → Tells g part status left old new
+  TellsLostAfter : status ≡ 10 → TellsOne part.after_commit old new → CameTo g old.disks new.disks part.write After → Tells g part status left old new
+  TellsUnheard : status ≡ 11 → TellsOne part.unheard old new → SameOf g old.disks new.disks → Tells g part status left old new
+  TellsStarved : status ≡ 13 → TellsOne part.starved old new → SameOf g old.disks new.disks → Tells g part status left old new
+  TellsCut : status ≡ 12 → part.verdict.status ≡ 0 → part.left ≡ left → Rose old.faults new.faults → TakesFront old.taken part.verdict.text new.taken
+      → HasPut g old.disks new.disks part.write → Tells g part status left old new
 
 -- what a sink has taken after a text that it took whole
 abbrev pub taken_behind : Option (List ℕ) → List ℕ → Option (List ℕ)
 taken_behind old text = option_map (λ taken. taken ++ text) old
 
--- Parts in order reported their texts: those that answer 0 whole, and then the one that answers otherwise, at which the
--- run ends. Memory has what they put there where the status is 0 or 12, and what the parts before it put there where
--- the part at which the run ended doesn't boot.
-abbrev pub TellsRun : List Effect → ℕ → Memory → Memory → List Key → List Key → Option (List ℕ) → Option (List ℕ) → ℕ → ℕ → Type 0
-TellsRun [] status memory memory' keys left old new before now = (status ≡ 0) × (memory' ≡ memory) × (keys ≡ left) × (new ≡ old)
-TellsRun (part ∷ parts) status memory memory' keys left old new before now =
-    ((status ≢ 0) × Tells part status left old new before now × (status ≡ 12 → memory' ≡ memory_after memory part.written)
-    × (part.boots ≡ false → memory' ≡ memory))
-    ⊎ ((part.verdict.status ≡ 0)
-    × TellsRun parts status (memory_after memory part.written) memory' part.left left (taken_behind old part.verdict.text) new before now)
+-- a run ended at a part: with 12 memory has what the part puts there, and where it doesn't boot memory stays
+pub record TellsEnd {D : Type 0} (g : Ghosts D) (part : Effect) (status : ℕ) (left : List Key) (old new : Scene D) : Type 0 where
+  pub some : status ≢ 0
+  pub tells : Tells g part status left old new
+  pub placed : status ≡ 12 → new.memory ≡ memory_after old.memory part.written
+  pub quiet : part.boots ≡ false → new.memory ≡ old.memory
 
--- the same, by the memory and the sink before them and after them
-abbrev pub TellsAll : {O : Type 0} → sinks.Ghosts O → List Effect → ℕ → List Key → List Key → List ℕ × O → List ℕ × O → Type 0
-TellsAll o parts status keys left old new =
-    TellsRun parts status (memory_of old.0) (memory_of new.0) keys left (o.taken old.1) (o.taken new.1) (o.faults old.1) (o.faults new.1)
+-- a part answered 0: it wrote what it is to write, its text was taken whole, and memory has what it puts there
+pub record TellsPassed {D : Type 0} (g : Ghosts D) (part : Effect) (old new : Scene D) : Type 0 where
+  pub zero : part.verdict.status ≡ 0
+  pub wrote : HasPut g old.disks new.disks part.write
+  pub placed : new.memory ≡ memory_after old.memory part.written
+  pub taken : new.taken ≡ taken_behind old.taken part.verdict.text
+  pub counted : new.faults ≡ old.faults
+
+-- no part more told a text
+pub record TellsNone {D : Type 0} (status : ℕ) (keys left : List Key) (old new : Scene D) : Type 0 where
+  pub zero : status ≡ 0
+  pub memory : new.memory ≡ old.memory
+  pub kept : keys ≡ left
+  pub taken : new.taken ≡ old.taken
+  pub disks : new.disks ≡ old.disks
+
+-- Parts in order told their texts: those that answer 0 whole, and then the one that answers otherwise, at which the run
+-- ends. Memory has what they put there where the status is 0 or 12, and what the parts before it put there where the
+-- part at which the run ended doesn't boot. Each part that answers 0 wrote its default line, where that is another.
+abbrev pub TellsRun : {D : Type 0} → Ghosts D → List Effect → ℕ → List Key → List Key → Scene D → Scene D → Type 0
+TellsRun g [] status keys left old new = TellsNone status keys left old new
+TellsRun {D} g (part ∷ parts) status keys left old new =
+    TellsEnd g part status left old new
+    ⊎ ((mid : Scene D) × TellsPassed g part old mid × TellsRun g parts status part.left left mid new)
+
+-- disks, a memory and a sink at a moment
+abbrev pub scene_of : {D O : Type 0} → sinks.Ghosts O → D × List ℕ × O → Scene D
+scene_of o (disks, ram, out) = record { disks = disks; memory = memory_of ram; taken = o.taken out; faults = o.faults out }
+
+-- the same, by the disks, the memory and the sink before them and after them
+abbrev pub TellsAll : {D O : Type 0} → Ghosts D → sinks.Ghosts O → List Effect → ℕ → List Key → List Key → D × List ℕ × O → D × List ℕ × O → Type 0
+TellsAll g o parts status keys left old new = TellsRun g parts status keys left (scene_of o old) (scene_of o new)
+
+-- ---- what is left of the disks
+
+-- the disks hold what they held, with the default lines of some parts
+abbrev pub HoldsWritten : {D : Type 0} → Ghosts D → List Effect → D → D → Type 0
+HoldsWritten g parts old new = now (g.past new) ≡ run_image (now (g.past old)) parts
+
+-- an image is what disks held, or what they hold once the first of some parts, or the first two, and so on, have written
+-- their default lines
+abbrev pub IsWritten : List Effect → Image → Image → Type 0
+IsWritten [] now c = c ≡ now
+IsWritten (part ∷ parts) now c = (c ≡ now) ⊎ IsWritten parts (image_with now part.write) c
+
+-- a sector isn't one that a default line is written to
+abbrev pub IsBeside : ℕ → ℕ → Option LineWrite → Type 0
+IsBeside d s None = Unit {0}
+IsBeside d s (Some write) = IsOther write.place.disk write.place.sector d s
+
+-- from a quiet moment, a stop at any moment leaves what was held before some part
+abbrev pub LeavesWritten : {D : Type 0} → Ghosts D → List Effect → D → D → Type 0
+LeavesWritten g parts old new = IsQuiet (g.past old) → LeavesOnly (g.past old) (g.past new) (IsWritten parts (now (g.past old)))
+
+-- every sector but those of the default lines is never written
+abbrev pub LeavesOthers : {D : Type 0} → Ghosts D → List Effect → D → D → Type 0
+LeavesOthers g parts old new =
+    (d s : ℕ) → All (λ part. IsBeside d s part.write) parts → NotWritten (g.past old) (g.past new) d s
 
 -- whether a part that reads no configuration and doesn't boot may end with this status
 abbrev pub is_plain_status : ℕ → Bool
@@ -209,16 +313,16 @@ is_conf_status status = list_any (λ known. known == status) (0 ∷ 2 ∷ 3 ∷ 
 
 -- whether a boot may
 abbrev pub is_boot_status : ℕ → Bool
-is_boot_status status = list_any (λ known. known == status) (0 ∷ 3 ∷ 6 ∷ 7 ∷ 8 ∷ 11 ∷ 15 ∷ [])
+is_boot_status status = list_any (λ known. known == status) (0 ∷ 3 ∷ 6 ∷ 7 ∷ 8 ∷ 9 ∷ 10 ∷ 11 ∷ 15 ∷ [])
 
 -- whether a part may
 abbrev pub is_part_status : ℕ → Bool
-is_part_status status = list_any (λ known. known == status) (0 ∷ 2 ∷ 3 ∷ 6 ∷ 7 ∷ 8 ∷ 11 ∷ 13 ∷ 15 ∷ [])
+is_part_status status = list_any (λ known. known == status) (0 ∷ 2 ∷ 3 ∷ 6 ∷ 7 ∷ 8 ∷ 9 ∷ 10 ∷ 11 ∷ 13 ∷ 15 ∷ [])
 
 -- whether parts in order may
 abbrev pub is_run_status : ℕ → Bool
-is_run_status status = list_any (λ known. known == status) (0 ∷ 2 ∷ 3 ∷ 6 ∷ 7 ∷ 8 ∷ 11 ∷ 12 ∷ 13 ∷ 15 ∷ [])
+is_run_status status = list_any (λ known. known == status) (0 ∷ 2 ∷ 3 ∷ 6 ∷ 7 ∷ 8 ∷ 9 ∷ 10 ∷ 11 ∷ 12 ∷ 13 ∷ 15 ∷ [])
 
 -- whether arguments may
 abbrev pub is_status : ℕ → Bool
-is_status status = list_any (λ known. known == status) (0 ∷ 1 ∷ 2 ∷ 3 ∷ 6 ∷ 7 ∷ 8 ∷ 11 ∷ 12 ∷ 13 ∷ 15 ∷ [])
+is_status status = list_any (λ known. known == status) (0 ∷ 1 ∷ 2 ∷ 3 ∷ 6 ∷ 7 ∷ 8 ∷ 9 ∷ 10 ∷ 11 ∷ 12 ∷ 13 ∷ 15 ∷ [])

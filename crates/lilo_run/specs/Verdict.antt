@@ -1,9 +1,10 @@
--- What `lilo` answers, prints, and leaves in memory and of its keys, as if nothing failed, and what it may print where
--- something did. The verdicts are the model's, but for arguments and boots that need a part that isn't built yet. (This
--- project's own.)
+-- What `lilo` answers, prints, writes, and leaves in memory and of its keys, as if nothing failed, and what it may print
+-- where something did. The verdicts are the model's, but for words that need a part that isn't built yet. (This project's
+-- own.)
 use Rattle.std.specs.Prelude.{ℕ, ◌==◌, Bool, true, false, if◌then◌else◌, List, [], ◌∷◌, ◌++◌, map, flat_map, Option, None, Some, Result, Ok, Err}
 use Rattle.std.specs.List.{list_any}
 use Rattle.lilo_model.specs.Boot.{Ending}
+use Rattle.lilo_model.specs.Reason.{Reason}
 use Rattle.lilo_model.specs.Checks.{◌>>=◌}
 use Rattle.lilo_model.specs.ConfVerdict.{conf_path, conf_device, place_at, conf_query_verdict}
 use Rattle.lilo_model.specs.Devices.{Device}
@@ -14,16 +15,19 @@ use Rattle.lilo_model.specs.Refusal as refusals
 use Rattle.lilo_model.specs.Verdict.{Verdict, verdict_of, verdict_behind, query_verdict, start_check, region_text, told_regions}
 use Rattle.lilo_model.specs.Words as words
 use Rattle.lilo_model.specs.Words.{Command, Part, run_at, usage_text}
-use Rattle.section_loader.specs.Reading.{Why}
-use Rattle.loader_core.specs.Today.{Report, boot_today}
-use Rattle.lilo_run.specs.Refusal.{not_built, device_failed, keys_failed, no_memory, why_verdict}
+use Rattle.loader_core.specs.Report.{LineWrite, Report, boot_report, image_with}
+use Rattle.lilo_run.specs.Refusal.{not_built, device_failed, failed_at_commit, failed_after_commit, keys_failed, no_memory, reason_verdict}
 
 -- what a command does
 pub record Effect : Type 0 where
   -- its status, and what it prints
   pub verdict : Verdict
-  -- the texts of which it prints one where a disk failed
+  -- the texts of which it prints one where a disk failed before it wrote
   pub failures : List (List ℕ)
+  -- those where one failed in its write or the flush of that
+  pub at_commit : List (List ℕ)
+  -- those where one failed after that
+  pub after_commit : List (List ℕ)
   -- those where memory didn't suffice
   pub starved : List (List ℕ)
   -- and those where the source of keys failed
@@ -32,22 +36,24 @@ pub record Effect : Type 0 where
   pub written : List Written
   -- the keys that it leaves
   pub left : List Key
-  -- whether it boots: no other command changes memory
+  -- what it writes of a default line
+  pub write : Option LineWrite
+  -- whether it boots: no other command changes memory or writes
   pub boots : Bool
 
 -- a command that only answers and prints
 abbrev pub plain_effect : Verdict → List (List ℕ) → Effect
 plain_effect verdict failures =
-    record { verdict = verdict; failures = failures; starved = []; unheard = []; written = []; left = []; boots = false }
+    record { verdict = verdict; failures = failures; at_commit = []; after_commit = []; starved = []; unheard = []; written = []; left = []; write = None; boots = false }
 
 -- one that reads a configuration first, which takes memory
 abbrev pub conf_effect : Verdict → Effect
 conf_effect verdict =
     record (plain_effect verdict (device_failed.text ∷ [])) { starved = no_memory.text ∷ [] }
 
--- a command that takes no key of these
+-- a command that takes no key of these, and writes nothing
 abbrev pub keeping : List Key → Effect → Effect
-keeping keys effect = record effect { left = keys }
+keeping keys effect = record effect { left = keys; write = None }
 
 -- ---- a command
 
@@ -63,39 +69,38 @@ regions_text dump regions = if dump then flat_map region_text regions else []
 abbrev pub told_text : Bool → Ending → List ℕ
 told_text dump ending = regions_text dump (told_regions ending.outcome ending.written)
 
--- what is answered at the end of a boot, and printed after what it showed
-abbrev pub end_verdict : Bool → Result Ending Why → Verdict
+-- what is answered at the end of a boot, and printed behind what it showed
+abbrev pub end_verdict : Bool → Result Ending Reason → Verdict
 end_verdict dump (Ok ending) = verdict_of (start_check ending.outcome >>= λ a. Ok (told_text dump ending))
-end_verdict dump (Err why) = why_verdict why
+end_verdict dump (Err reason) = reason_verdict reason
 
 -- what was put into memory where something was started
-abbrev pub end_written : Result Ending Why → List Written
+abbrev pub end_written : Result Ending Reason → List Written
 end_written (Ok ending) = ending.written
-end_written (Err why) = []
+end_written (Err reason) = []
 
--- what is printed where a disk failed, after what a boot showed
-abbrev pub failed_behind : List ℕ → List ℕ
-failed_behind shown = shown ++ device_failed.text
-
--- what is printed where the source of keys failed, after what a boot showed
-abbrev pub unheard_behind : List ℕ → List ℕ
-unheard_behind shown = shown ++ keys_failed.text
+-- what is printed after what a boot showed, with the text of this verdict at the end
+abbrev pub failed_behind : Verdict → List ℕ → List ℕ
+failed_behind failed shown = shown ++ failed.text
 
 -- a boot that goes as a report says
 unfoldable pub report_effect : Bool → Report → Effect
 report_effect dump report = record {
   verdict = verdict_behind report.shown (end_verdict dump report.result);
-  failures = map failed_behind report.device;
+  failures = map (failed_behind device_failed) report.device;
+  at_commit = map (failed_behind failed_at_commit) report.device;
+  after_commit = map (failed_behind failed_after_commit) report.device;
   starved = [];
-  unheard = map unheard_behind report.unheard;
+  unheard = map (failed_behind keys_failed) report.unheard;
   written = end_written report.result;
   left = report.left;
+  write = report.write;
   boots = true;
 }
 
 -- `boot`, with `--dump` or without, in a memory of so many bytes, by keys
 unfoldable pub boot_effect : Image → Machine → ℕ → Bool → Result Span refusals.DeviceFault → List Key → Effect
-boot_effect now machine memory dump (Ok span) keys = report_effect dump (boot_today now machine span memory keys)
+boot_effect now machine memory dump (Ok span) keys = report_effect dump (boot_report now machine span memory keys)
 boot_effect now machine memory dump (Err fault) keys =
     record (plain_effect (verdict_of (Err (refusals.Device fault))) (device_failed.text ∷ [])) { left = keys; boots = true }
 
@@ -131,24 +136,25 @@ command_effect now machine memory root path (words.SetLine line) keys = keeping 
 command_effect now machine memory root path (words.Restore device) keys = keeping keys (plain_command now machine root path (words.Restore device))
 
 -- a part
-abbrev pub part_effect : Image → Machine → ℕ → Part → List Key → Effect
-part_effect now machine memory part keys = command_effect now machine memory part.root (conf_path part.config) part.command keys
+abbrev pub part_effect : Machine → ℕ → Image → Part → List Key → Effect
+part_effect machine memory now part keys = command_effect now machine memory part.root (conf_path part.config) part.command keys
 
 -- ---- a run
 
--- what parts do in order, each by the keys that the one before it left
-abbrev pub parts_effects : (Part → List Key → Effect) → List Part → List Key → List Effect
-parts_effects effect [] keys = []
-parts_effects effect (part ∷ parts) keys = effect part keys ∷ parts_effects effect parts (effect part keys).left
+-- what parts do in order, each over what the disks hold after the one before it, and by the keys that it left
+abbrev pub parts_effects : (Image → Part → List Key → Effect) → Image → List Part → List Key → List Effect
+parts_effects effect now [] keys = []
+parts_effects effect now (part ∷ parts) keys =
+    effect now part keys ∷ parts_effects effect (image_with now (effect now part keys).write) parts (effect now part keys).left
 
--- what the parts of a run do; arguments that are none are as one part, which reports the usage
-abbrev pub words_effects : (Part → List Key → Effect) → List (List ℕ) → List Key → Result (List Part) (Option ℕ) → List Effect
-words_effects effect words keys (Ok parts) = parts_effects effect parts keys
-words_effects effect words keys (Err wrong) = keeping keys (plain_effect (record { status = 1; text = usage_text words }) []) ∷ []
+-- what the parts of a run do; words that are none are as one part, which tells the usage
+abbrev pub words_effects : (Image → Part → List Key → Effect) → Image → List (List ℕ) → List Key → Result (List Part) (Option ℕ) → List Effect
+words_effects effect now words keys (Ok parts) = parts_effects effect now parts keys
+words_effects effect now words keys (Err wrong) = keeping keys (plain_effect (record { status = 1; text = usage_text words }) []) ∷ []
 
 -- what the parts of arguments do by keys over disks that hold this image, with a memory of so many bytes
 unfoldable pub effects_of : Image → Machine → ℕ → List (List ℕ) → List Key → List Effect
-effects_of now machine memory words keys = words_effects (part_effect now machine memory) words keys (run_at words)
+effects_of now machine memory words keys = words_effects (part_effect machine memory) now words keys (run_at words)
 
 -- Verdict: the texts of the parts that answer 0, and after them the first other verdict
 abbrev pub run_verdict : List Effect → Verdict
@@ -165,7 +171,12 @@ run_left keys (part ∷ parts) = run_left part.left parts
 abbrev pub run_written : List Effect → List Written
 run_written parts = flat_map (λ part. part.written) parts
 
--- ---- what is known of arguments, whatever disks hold
+-- what disks hold once they wrote the default lines that are others from then on
+abbrev pub run_image : Image → List Effect → Image
+run_image now [] = now
+run_image now (part ∷ parts) = run_image (image_with now part.write) parts
+
+-- ---- what is known of words, whatever disks hold
 
 -- what is answered whatever a disk holds: 15 for `-R` and `-u`, which aren't built, and 3 for a device of a disk
 -- without sectors

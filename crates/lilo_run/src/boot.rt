@@ -2,12 +2,12 @@
 ghost use Rattle.std.specs.Prelude.{◌≡◌, ◌<◌, [], ◌∷◌, length, IfSome, IsTrue};
 ghost use Rattle.mbr_table.specs.View.{device_view, span_view};
 ghost use Rattle.stream_trait.specs.Shows.{Shows, sink_of};
-ghost use Rattle.loader_core.specs.Today.{boot_today};
+ghost use Rattle.loader_core.specs.Report.{boot_report};
 ghost use Rattle.setup_header.specs.Words.{LiesIn};
 ghost use Rattle.lilo_run.specs.Dump.{regions_of, boot_sector_in};
-ghost use Rattle.prompt_loop.specs.Asking.{Asks};
-ghost use Rattle.lilo_run.specs.Refusal.{keys_failed};
-ghost use Rattle.lilo_run.specs.Run.{is_boot_status, CarriesOn};
+ghost use Rattle.loader_core.specs.Leaves.{WritesAndAsks};
+ghost use Rattle.lilo_run.specs.Refusal.{keys_failed, phase_verdict};
+ghost use Rattle.lilo_run.specs.Run.{is_boot_status, CarriesOn, IsLost};
 ghost use Rattle.lilo_model.specs.ConfVerdict.{place_at};
 ghost use Rattle.lilo_run.specs.Verdict.{early_at, boot_effect, report_effect, regions_text};
 
@@ -15,7 +15,7 @@ use crate::dump::{dump_memory, dump_sector};
 use crate::place::find_device;
 use crate::refusal::{Halt, say};
 use bios_model::{Bios, Ram};
-use disk_trait::{Disks, Span};
+use disk_trait::{Disks, Phase, Span};
 use loader_core::{Outcome, Shown, boot};
 use mbr_table::Device;
 use setup_header::Layout;
@@ -30,13 +30,14 @@ pub(crate) fn boot_device<D: Disks, I: Source, O: Sink>(
     ram: &mut Ram,
     out: &mut Shown<'_, O>,
 ) -> u8
-    ensures does { CarriesOn D.Disks I.Source O.Sink bios.old.disks.now result
-        (bios.old.keys.now, ram.old, out.old) (bios.new.keys.now, ram.new, out.new)
+    ensures does { CarriesOn D.Disks I.Source O.Sink result
+        (bios.old.disks.now, bios.old.keys.now, ram.old, out.old)
+        (bios.new.disks.now, bios.new.keys.now, ram.new, out.new)
         (λ now machine memory. boot_effect now machine memory dump (place_at now machine (device_view device))) }
     ensures early { IfSome (early_at (D.size_of bios.old.disks.now) (device_view device)) (λ status. result ≡ status) }
     ensures known { IsTrue (is_boot_status result) }
     ensures memory { length ram.new ≡ length ram.old }
-    ensures asks { Asks D.Disks I.Source O.Sink (bios.old, out.old) (bios.new, out.new) (result ≡ 8) (result ≡ 11) }
+    ensures asks { WritesAndAsks D.Disks I.Source O.Sink (bios.old, out.old) (bios.new, out.new) (IsLost result) (result ≡ 11) }
 {
     match find_device(bios.disks, device) {
         Ok(span) => boot_span(bios, span, dump, ram, out),
@@ -53,12 +54,13 @@ fn boot_span<D: Disks, I: Source, O: Sink>(
     out: &mut Shown<'_, O>,
 ) -> u8
     requires { span.start < D.size_of bios.old.disks.now span.disk }
-    ensures does { CarriesOn D.Disks I.Source O.Sink bios.old.disks.now result
-        (bios.old.keys.now, ram.old, out.old) (bios.new.keys.now, ram.new, out.new)
-        (λ now machine memory keys. report_effect dump (boot_today now machine (span_view span) memory keys)) }
+    ensures does { CarriesOn D.Disks I.Source O.Sink result
+        (bios.old.disks.now, bios.old.keys.now, ram.old, out.old)
+        (bios.new.disks.now, bios.new.keys.now, ram.new, out.new)
+        (λ now machine memory keys. report_effect dump (boot_report now machine (span_view span) memory keys)) }
     ensures known { IsTrue (is_boot_status result) }
     ensures memory { length ram.new ≡ length ram.old }
-    ensures asks { Asks D.Disks I.Source O.Sink (bios.old, out.old) (bios.new, out.new) (result ≡ 8) (result ≡ 11) }
+    ensures asks { WritesAndAsks D.Disks I.Source O.Sink (bios.old, out.old) (bios.new, out.new) (IsLost result) (result ≡ 11) }
 {
     match boot(bios, span, ram, out) {
         Outcome::Loaded(layout) => {
@@ -71,7 +73,7 @@ fn boot_span<D: Disks, I: Source, O: Sink>(
         }
         Outcome::Refused(reason) => say(out, Halt::Boot(reason)),
         Outcome::Keys => say_keys(out),
-        Outcome::Device(_) => say(out, Halt::Device),
+        Outcome::Device(phase) => say_failed(out, phase),
     }
 }
 
@@ -85,7 +87,39 @@ fn say_keys<O: Sink>(out: &mut Shown<'_, O>) -> u8
     11
 }
 
-/// Reports what a kernel's loading has put into memory, where that is asked for.
+/// Shows the line that tells in which phase a disk failed, and gives its status.
+fn say_failed<O: Sink>(out: &mut Shown<'_, O>, phase: Phase) -> u8
+    ensures status { result ≡ (phase_verdict phase).status }
+    ensures lost { IsLost result }
+    ensures shown { Shows (sink_of O.Sink out.old) (phase_verdict phase).text (sink_of O.Sink out.new) }
+    ensures same_reference { out.new.out.ghost_name ≡ out.old.out.ghost_name }
+{
+    out.put(phase_line(phase));
+    phase_status(phase)
+}
+
+fn phase_status(phase: Phase) -> u8
+    ensures status { result ≡ (phase_verdict phase).status }
+    ensures lost { IsLost result }
+{
+    match phase {
+        Phase::Before => 8,
+        Phase::Commit => 9,
+        Phase::After => 10,
+    }
+}
+
+fn phase_line(phase: Phase) -> &'static [u8]
+    ensures { result.now ≡ (phase_verdict phase).text }
+{
+    match phase {
+        Phase::Before => b"lilo: device\n",
+        Phase::Commit => b"lilo: device at commit\n",
+        Phase::After => b"lilo: device after commit\n",
+    }
+}
+
+/// Tells what a kernel's loading has put into memory, where that is asked for.
 fn tell_kernel<O: Sink>(dump: bool, out: &mut Shown<'_, O>, ram: &Ram, layout: &Layout)
     requires { LiesIn (length ram.now) layout.now }
     ensures shown { Shows (sink_of O.Sink out.old)

@@ -1,8 +1,7 @@
 // What is known of runs, as laws, which no code needs to call.
 ghost use Rattle.lilo_run.specs.Laws.{BootVerdictLaw, NoKeysLaw, NoMemoryLaw};
 
-/// Outside what isn't built yet, the verdict of a boot is the model's, for all keys, and so are the keys that it
-/// leaves.
+/// The verdict of a boot is the model's, for all keys, and so are the keys that it leaves and what it writes.
 pub fn boots_answer_as_the_model()
     ensures { BootVerdictLaw }
 {}

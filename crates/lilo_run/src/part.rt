@@ -1,8 +1,9 @@
 // A part of a run.
 ghost use Rattle.std.specs.Prelude.{◌≡◌, ℕ, List, true, false, length, IfSome, IsTrue};
 ghost use Rattle.lilo_words.specs.View.{command_view, part_view};
-ghost use Rattle.prompt_loop.specs.Asking.{Asks};
-ghost use Rattle.lilo_run.specs.Run.{is_part_status, CarriesOn};
+ghost use Rattle.disk_trait.specs.Calls.{SameOf};
+ghost use Rattle.loader_core.specs.Leaves.{WritesAndAsks};
+ghost use Rattle.lilo_run.specs.Run.{is_part_status, CarriesOn, IsLost};
 ghost use Rattle.lilo_run.specs.Verdict.{part_effect, early_status, is_boot, reads_conf};
 
 use crate::boot::boot_device;
@@ -25,9 +26,10 @@ pub(crate) fn carry_out<D: Disks, I: Source, O: Sink>(
     out: &mut Shown<'_, O>,
 ) -> u8
     ensures does { (words : List (List ℕ))
-        → CarriesOn D.Disks I.Source O.Sink bios.old.disks.now result
-        (bios.old.keys.now, ram.old, out.old) (bios.new.keys.now, ram.new, out.new)
-        (λ now machine memory. part_effect now machine memory (part_view words part.entry)) }
+        → CarriesOn D.Disks I.Source O.Sink result
+        (bios.old.disks.now, bios.old.keys.now, ram.old, out.old)
+        (bios.new.disks.now, bios.new.keys.now, ram.new, out.new)
+        (λ now machine memory. part_effect machine memory now (part_view words part.entry)) }
     ensures early { (words : List (List ℕ)) → IfSome (early_status (D.size_of bios.old.disks.now)
         (command_view words part.entry.command)) (λ status. result ≡ status) }
     ensures known { IsTrue (is_part_status result) }
@@ -38,7 +40,9 @@ pub(crate) fn carry_out<D: Disks, I: Source, O: Sink>(
         → ram.new ≡ ram.old }
     ensures keys { (words : List (List ℕ)) → is_boot (command_view words part.entry.command) ≡ false
         → bios.new.keys.now ≡ bios.old.keys.now }
-    ensures asks { Asks D.Disks I.Source O.Sink (bios.old, out.old) (bios.new, out.new) (result ≡ 8) (result ≡ 11) }
+    ensures same { (words : List (List ℕ)) → is_boot (command_view words part.entry.command) ≡ false
+        → SameOf D.Disks bios.old.disks.now bios.new.disks.now }
+    ensures asks { WritesAndAsks D.Disks I.Source O.Sink (bios.old, out.old) (bios.new, out.new) (IsLost result) (result ≡ 11) }
 {
     let path = conf_path(part.config).as_bytes();
     match part.command {

@@ -1,12 +1,11 @@
 // Why a command ends before its work is done, with its status and text.
 ghost use Rattle.std.specs.Prelude.{◌≡◌, ◌≤◌, ◌⊎◌, ◌++◌, length, codes, decimal, IsTrue};
 ghost use Rattle.lilo_model.specs.Refusal.{refusal_line};
-ghost use Rattle.section_loader.specs.Reading.{Because};
 ghost use Rattle.stream_trait.specs.Shows.{Shows, sink_of};
 ghost use Rattle.section_loader.specs.View.{reason_view};
 ghost use Rattle.setup_header.specs.View.{setup_fault_view};
 ghost use Rattle.lilo_model.specs.Reason.{setup_text};
-ghost use Rattle.lilo_run.specs.Refusal.{place_fault_view, halt_verdict, why_verdict};
+ghost use Rattle.lilo_run.specs.Refusal.{place_fault_view, halt_verdict, reason_verdict};
 ghost use Rattle.lilo_run.specs.Run.{is_plain_status};
 
 use arrayvec::ArrayVec;
@@ -92,11 +91,10 @@ impl Halt {
 }
 
 fn reason_status(reason: Reason) -> u8
-    ensures status { result ≡ (why_verdict (reason_view reason)).status }
-    ensures known { (result ≡ 7) ⊎ (result ≡ 15) }
+    ensures status { result ≡ (reason_verdict (reason_view reason)).status }
+    ensures known { result ≡ 7 }
 {
     match reason {
-        Reason::Unbuilt => 15,
         Reason::NotBootable
         | Reason::BadTable(_)
         | Reason::BadLine
@@ -111,7 +109,7 @@ fn reason_status(reason: Reason) -> u8
 
 #[tactic(auto, unfolding(lilo_model::specs::Refusal::refusal_line, lilo_model::specs::Reason::reason_text))]
 fn reason_line(reason: Reason) -> Line
-    ensures { result.items ≡ (why_verdict (reason_view reason)).text }
+    ensures { result.items ≡ (reason_verdict (reason_view reason)).text }
 {
     match reason {
         Reason::NotBootable => line(b"lilo: boot: not bootable\n"),
@@ -127,7 +125,6 @@ fn reason_line(reason: Reason) -> Line
         Reason::NotFound => line(b"lilo: boot: not found\n"),
         Reason::Header(fault) => setup_line(fault),
         Reason::Idle => line(b"lilo: boot: idle\n"),
-        Reason::Unbuilt => line(b"lilo: not built\n"),
     }
 }
 

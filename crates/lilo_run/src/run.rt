@@ -1,7 +1,7 @@
 // The top call: what the program `lilo` does with its arguments.
 ghost use Rattle.std.specs.Prelude.{◌≡◌, true, Bool, ◌↔◌, ◌++◌, codes, false, length, IfSome, IfOk, IsOk};
 ghost use Rattle.std.specs.Prelude.{IsErr, IsTrue};
-ghost use Rattle.disk_trait.specs.Past.{SameDisks};
+ghost use Rattle.disk_trait.specs.Calls.{SameOf};
 ghost use Rattle.lilo_model.specs.Faults.{Rose};
 ghost use Rattle.stream_trait.specs.Sink.{Takes};
 ghost use Rattle.lilo_model.specs.Place.{memory_after};
@@ -11,13 +11,14 @@ ghost use Rattle.sector_address.specs.Machine.{OnDisks};
 ghost use Rattle.bios_model.specs.Memory.{memory_of};
 ghost use Rattle.lilo_words.specs.Run.{run_behind, parts_behind};
 ghost use Rattle.stream_trait.specs.Shows.{Shows, sink_of, Prints};
-ghost use Rattle.lilo_run.specs.Run.{Answers, is_run_status, is_status, RunsAll, OnParts, TellsAll};
+ghost use Rattle.lilo_run.specs.Run.{Answers, is_run_status, is_status, IsLost, RunsAll, OnParts, TellsAll};
+ghost use Rattle.lilo_run.specs.Run.{HoldsWritten, LeavesWritten, LeavesOthers};
 ghost use Rattle.loader_core.specs.Start.{OnKeys};
 ghost use Rattle.lilo_model.specs.ConfVerdict.{place_at};
-ghost use Rattle.lilo_run.specs.Verdict.{part_effect, parts_effects, run_verdict, run_left, run_written, early_answer};
-ghost use Rattle.lilo_run.specs.Verdict.{early_parts, has_boot, has_conf};
+ghost use Rattle.lilo_run.specs.Verdict.{part_effect, parts_effects, run_verdict, run_left, run_written};
+ghost use Rattle.lilo_run.specs.Verdict.{early_answer, early_parts, has_boot, has_conf};
 ghost use Rattle.lilo_run.specs.Laws.{IsBootRun, TellsBoot};
-ghost use Rattle.prompt_loop.specs.Asking.{Asks};
+ghost use Rattle.loader_core.specs.Leaves.{KeepsDisks, WritesAndAsks};
 
 use crate::part::carry_out;
 use bios_model::{Bios, Ram};
@@ -33,8 +34,9 @@ use stream_trait::{Sink, Source, Words, answer};
 ///
 /// `-q DEVICE` prints the names in the map of a device, a line each, with ` *` after the default's.
 /// Without a device it is that of `boot=` in the configuration, or the volume's: the file `/etc/lilo.conf`, or that
-/// after `-C`, on the volume of the device after `--root`, or on the first that is found.
-/// `boot DEVICE` boots it, by [`loader_core::boot`], and with `--dump` reports what was put into memory. The options
+/// behind `-C`, on the volume of the device behind `--root`, or on the first that is found.
+/// `boot DEVICE` boots it, by [`loader_core::boot`], and with `--dump` tells what was put into memory. Where the boot makes
+/// the default line another, that line's sector is written and made durable. The options
 /// `-C`, `--root` and `-v` before these two have no effect. An installation and `-t` read their configuration so far.
 /// What else the grammar has isn't built yet.
 ///
@@ -47,14 +49,16 @@ use stream_trait::{Sink, Source, Words, answer};
 /// | 3 | the volume or the configuration's file isn't | `lilo: volume: no volume`, `layout`, `missing PATH`, `path PATH` |
 /// | 6 | `-q` finds a foreign boot sector, or one of another version | `lilo: not ours` |
 /// | 7 | the boot is refused, or the map is | `lilo: boot: REASON` |
-/// | 8 | a disk failed | `lilo: device` |
+/// | 8 | a disk failed, and nothing was written yet | `lilo: device` |
+/// | 9 | a disk failed in the write of the default line, or in the flush of it | `lilo: device at commit` |
+/// | 10 | a disk failed after that | `lilo: device after commit` |
 /// | 11 | the source of keys failed | `lilo: keys` |
 /// | 12 | the sink failed at a part that would answer 0 | |
 /// | 13 | there is no memory for a configuration | `lilo: memory` |
-/// | 15 | the part isn't built yet, or the boot isn't | `lilo: not built` |
+/// | 15 | the part isn't built yet | `lilo: not built` |
 ///
-/// After the sink failed nothing is put, and the part that runs is the last. No disk is written, and only boots take
-/// keys. Memory is allocated for a configuration alone.
+/// After the sink failed nothing is put, and the part that runs is the last. Only boots take keys, and only they write: the
+/// sector of the default line, and no other. Memory is allocated for a configuration alone.
 pub fn lilo<D: Disks, I: Source, O: Sink>(
     alloc: Global,
     words: &Words,
@@ -68,24 +72,36 @@ pub fn lilo<D: Disks, I: Source, O: Sink>(
     ensures status { OnParts D.Disks I.Source disks.old (keys.old, keys.new) (length ram.old) words.now
         (λ parts _ _. Answers parts result) }
     ensures device { result ≡ 8 → Rose (D.faults disks.old) (D.faults disks.new) }
+    ensures at_commit { result ≡ 9 → Rose (D.faults disks.old) (D.faults disks.new) }
+    ensures after_commit { result ≡ 10 → Rose (D.faults disks.old) (D.faults disks.new) }
     ensures unheard { result ≡ 11 → Rose (I.faults keys.old) (I.faults keys.new) }
     ensures sink { result ≡ 12 → Rose (O.faults out.old) (O.faults out.new) }
     ensures starved { result ≡ 13 → IfOk (run_at words.now) (λ parts. has_conf parts ≡ true) }
 
-    // The text and the keys left go with the status. Only a failed sink may have cut the text short, in the part at
-    // which the run ended.
+    // The text, the keys left and what the disks hold go with the status. Only a failed sink may have cut the text short, in
+    // the part at which the run ended.
     ensures text { OnParts D.Disks I.Source disks.old (keys.old, keys.new) (length ram.old) words.now
-        (λ parts all left. TellsAll O.Sink parts result all left (ram.old, out.old) (ram.new, out.new)) }
+        (λ parts all left. TellsAll D.Disks O.Sink parts result all left
+        (disks.old, ram.old, out.old) (disks.new, ram.new, out.new)) }
     ensures whole { result ≡ 0 → OnParts D.Disks I.Source disks.old (keys.old, keys.new) (length ram.old) words.now
         (λ parts _ _. Takes (O.taken out.old) (run_verdict parts).text (O.taken out.new)) }
     ensures left { result ≡ 0 → OnParts D.Disks I.Source disks.old (keys.old, keys.new) (length ram.old) words.now
         (λ parts all left. run_left all parts ≡ left) }
 
-    // Outside what isn't built yet, a boot by itself has the model's verdict, and leaves the keys that the model's
-    // leaves.
+    // A boot by itself has the model's verdict, leaves the keys that the model's leaves, and writes the line that it writes.
     ensures boot { (device : Device) (dump : Bool) → IsBootRun words.now device dump
         → OnDisks D.Disks disks.old (λ now machine. OnKeys I.Source (keys.old, keys.new) (λ all left.
-        TellsBoot O.Sink now machine (length ram.old) (place_at now machine device) dump all left result out.old out.new)) }
+        TellsBoot D.Disks O.Sink now machine (length ram.old) (place_at now machine device) dump all left result
+        (disks.old, ram.old, out.old) (disks.new, ram.new, out.new))) }
+
+    // Each boot that answers 0 wrote its default line, and a stop at any moment leaves what the disks held before one of
+    // the boots or after it: the sector of a default line has its old bytes or its new ones, and no other is written.
+    ensures lines { result ≡ 0 → OnParts D.Disks I.Source disks.old (keys.old, keys.new) (length ram.old) words.now
+        (λ parts _ _. HoldsWritten D.Disks parts disks.old disks.new) }
+    ensures moments { OnParts D.Disks I.Source disks.old (keys.old, keys.new) (length ram.old) words.now
+        (λ parts _ _. LeavesWritten D.Disks parts disks.old disks.new) }
+    ensures others { OnParts D.Disks I.Source disks.old (keys.old, keys.new) (length ram.old) words.now
+        (λ parts _ _. LeavesOthers D.Disks parts disks.old disks.new) }
 
     // Arguments that aren't in the grammar, whatever the disks report.
     ensures usage { (result ≡ 1) ↔ IsErr (run_at words.now) }
@@ -104,8 +120,10 @@ pub fn lilo<D: Disks, I: Source, O: Sink>(
     ensures no_run { IsErr (run_at words.now) → (ram.new ≡ ram.old) × (keys.new ≡ keys.old) }
     ensures size { length ram.new ≡ length ram.old }
 
-    // Nothing else happens.
-    ensures same { SameDisks D.past D.size_of D.count_of D.geometry_of disks.old disks.new }
+    // Without a boot no disk is written, whatever the disks tell; and their sizes and shapes always stay.
+    ensures same { IfOk (run_at words.now) (λ parts. has_boot parts ≡ false → SameOf D.Disks disks.old disks.new) }
+    ensures same_no_run { IsErr (run_at words.now) → SameOf D.Disks disks.old disks.new }
+    ensures keeps { KeepsDisks D.Disks disks.old disks.new }
 {
     let mut shown = Shown::new(out);
     let mut bios = Bios { disks, keys };
@@ -122,7 +140,8 @@ fn run_words<D: Disks, I: Source, O: Sink>(
     out: &mut Shown<'_, O>,
 ) -> u8
     ensures does { OnParts D.Disks I.Source bios.old.disks.now (bios.old.keys.now, bios.new.keys.now) (length ram.old)
-        words.now (λ parts all left. RunsAll O.Sink parts result all left (ram.old, out.old) (ram.new, out.new)) }
+        words.now (λ parts all left. RunsAll D.Disks O.Sink parts result all left
+        (bios.old.disks.now, ram.old, out.old) (bios.new.disks.now, ram.new, out.new)) }
     ensures usage { (result ≡ 1) ↔ IsErr (run_at words.now) }
     ensures usage_line { IsErr (run_at words.now)
         → Shows (sink_of O.Sink out.old) (usage_text words.now) (sink_of O.Sink out.new) }
@@ -135,7 +154,11 @@ fn run_words<D: Disks, I: Source, O: Sink>(
     ensures no_boot { IfOk (run_at words.now) (λ parts. has_boot parts ≡ false
         → (ram.new ≡ ram.old) × (bios.new.keys.now ≡ bios.old.keys.now)) }
     ensures no_run { IsErr (run_at words.now) → (ram.new ≡ ram.old) × (bios.new.keys.now ≡ bios.old.keys.now) }
-    ensures asks { Asks D.Disks I.Source O.Sink (bios.old, out.old) (bios.new, out.new) (result ≡ 8) (result ≡ 11) }
+    ensures same { IfOk (run_at words.now) (λ parts. has_boot parts ≡ false
+        → SameOf D.Disks bios.old.disks.now bios.new.disks.now) }
+    ensures same_no_run { IsErr (run_at words.now) → SameOf D.Disks bios.old.disks.now bios.new.disks.now }
+    ensures asks { WritesAndAsks D.Disks I.Source O.Sink (bios.old, out.old) (bios.new, out.new)
+        (IsLost result) (result ≡ 11) }
 {
     match check(words) {
         Ok(()) => run_parts(alloc, words, bios, ram, out),
@@ -156,9 +179,9 @@ fn run_parts<D: Disks, I: Source, O: Sink>(
 ) -> u8
     requires { IsOk (run_behind words.now 0) }
     ensures does { OnDisks D.Disks bios.old.disks.now (λ now machine.
-        OnKeys I.Source (bios.old.keys.now, bios.new.keys.now) (λ all left. RunsAll O.Sink
-        (parts_effects (part_effect now machine (length ram.old)) (parts_behind words.now 0) all) result all left
-        (ram.old, out.old) (ram.new, out.new))) }
+        OnKeys I.Source (bios.old.keys.now, bios.new.keys.now) (λ all left. RunsAll D.Disks O.Sink
+        (parts_effects (part_effect machine (length ram.old)) now (parts_behind words.now 0) all) result all left
+        (bios.old.disks.now, ram.old, out.old) (bios.new.disks.now, ram.new, out.new))) }
     ensures early { IfSome (early_parts (D.size_of bios.old.disks.now) (parts_behind words.now 0))
         (λ status. result ≡ status) }
     ensures known { IsTrue (is_run_status result) }
@@ -167,7 +190,10 @@ fn run_parts<D: Disks, I: Source, O: Sink>(
     ensures memory { length ram.new ≡ length ram.old }
     ensures no_boot { has_boot (parts_behind words.now 0) ≡ false
         → (ram.new ≡ ram.old) × (bios.new.keys.now ≡ bios.old.keys.now) }
-    ensures asks { Asks D.Disks I.Source O.Sink (bios.old, out.old) (bios.new, out.new) (result ≡ 8) (result ≡ 11) }
+    ensures same { has_boot (parts_behind words.now 0) ≡ false
+        → SameOf D.Disks bios.old.disks.now bios.new.disks.now }
+    ensures asks { WritesAndAsks D.Disks I.Source O.Sink (bios.old, out.old) (bios.new, out.new)
+        (IsLost result) (result ≡ 11) }
 {
     let mut next = Some(0);
     while let Some(from) = next {

@@ -16,11 +16,17 @@ struct Case<'a> {
     sector: u32,
     at: usize,
     byte: u8,
+    // The head of the default line's sector.
+    line: &'a [u8],
+    // Whether the name has a fallback, which is itself.
+    falls_back: bool,
     // Whether memory has more than a mebibyte.
     is_large: bool,
     keys: &'a [u8],
     failing_keys: &'a [u64],
     failing_calls: &'a [u64],
+    // Whether a write that fails is made.
+    is_made: bool,
     failing_puts: &'a [u64],
     status: u8,
     text: &'a [u8],
@@ -33,7 +39,7 @@ fn installation(alloc: Global, case: &Case<'_>) -> Result<MemDisks, AllocError> 
     for call in case.failing_calls {
         failing.push(Failing {
             call: *call,
-            made: false,
+            made: case.is_made,
         })?;
     }
     let Ok(geometry) = Geometry::new(16, 63) else {
@@ -43,7 +49,7 @@ fn installation(alloc: Global, case: &Case<'_>) -> Result<MemDisks, AllocError> 
         sectors: 4096,
         geometry,
     };
-    let mut disks = MemDisks::new(alloc, &[disk], 0, failing.as_slice())?;
+    let mut disks = MemDisks::new(alloc, &[disk], 8, failing.as_slice())?;
     let mut first = boot_sector();
     put_part(
         &mut first,
@@ -51,8 +57,9 @@ fn installation(alloc: Global, case: &Case<'_>) -> Result<MemDisks, AllocError> 
         b"\0\0\0\0\x05\0\0\0\x58\x02\0\0\xE8\x03\0\0",
     );
     put_sector(&mut disks, case, 0, &first);
-    put_text(&mut disks, case, 94, b"LINE");
-    put_text(&mut disks, case, 95, LINUX);
+    put_sector(&mut disks, case, 94, &line_sector(case.line));
+    put_sector(&mut disks, case, 95, &descriptor_sector(case.falls_back));
+    put_text(&mut disks, case, 102, b"\x05\0\0\0linux");
     put_text(&mut disks, case, 99, OPTIONS);
     put_text(&mut disks, case, 100, SECTION);
     put_sector(&mut disks, case, 82, &first_sector());
@@ -73,6 +80,26 @@ fn logical_table() -> Sector {
         b"\0\0\0\0\x83\0\0\0\x0A\0\0\0\x14\0\0\0\0\0\0\0\x05",
     );
     put_part(&mut sector, 0x1FE, b"\x55\xAA");
+    sector
+}
+
+// A default line's sector with this head.
+fn line_sector(head: &[u8]) -> Sector {
+    let mut sector = [0; 512];
+    if head.len() <= 512 {
+        put_part(&mut sector, 0, head);
+    }
+    sector
+}
+
+// The descriptor of the name, with the fallback that its extra sector has, or without one.
+fn descriptor_sector(falls_back: bool) -> Sector {
+    let mut sector = [0; 512];
+    put_part(&mut sector, 0, LINUX);
+    if falls_back {
+        put_part(&mut sector, 16, b"\x10");
+        put_part(&mut sector, 56, b"\x03\x80\x01\0\x66\0\0\0");
+    }
     sector
 }
 
@@ -107,8 +134,16 @@ fn words_of(alloc: Global, line: &[&str]) -> Result<Words, AllocError> {
     Ok(words)
 }
 
-// Runs a case, and gives the status and the text.
-fn answer(alloc: Global, case: &Case<'_>) -> Result<(u8, Vec<u8>), AllocError> {
+// What came of a run: the status, the text, and the default line's sector.
+#[derive(Drop)]
+struct Answer {
+    status: u8,
+    text: Vec<u8>,
+    line: Sector,
+}
+
+// Runs a case.
+fn answer_of(alloc: Global, case: &Case<'_>) -> Result<Answer, AllocError> {
     let words = words_of(alloc, case.words)?;
     let mut disks = installation(alloc, case)?;
     let mut keys = MemSource::new(alloc, case.keys, case.failing_keys)?;
@@ -116,7 +151,19 @@ fn answer(alloc: Global, case: &Case<'_>) -> Result<(u8, Vec<u8>), AllocError> {
     let memory = if case.is_large { 2_097_152 } else { 1_048_576 };
     let mut ram = Ram::new(alloc, memory)?;
     let status = lilo(alloc, &words, &mut disks, &mut keys, &mut out, &mut ram, 0);
-    Ok((status, Vec::from_slice(alloc, out.bytes())?))
+    let mut line = [0; 512];
+    let _ = disks.read(0, 94, &mut line);
+    Ok(Answer {
+        status,
+        text: Vec::from_slice(alloc, out.bytes())?,
+        line,
+    })
+}
+
+// Runs a case, and gives the status and the text.
+fn answer(alloc: Global, case: &Case<'_>) -> Result<(u8, Vec<u8>), AllocError> {
+    let answer = answer_of(alloc, case)?;
+    Ok((answer.status, answer.text))
 }
 
 // Runs a case, and gives the status and whether the text is the one that is wanted.
@@ -135,10 +182,13 @@ const WHOLE: Case<'static> = Case {
     sector: 0,
     at: 512,
     byte: 0,
+    line: b"LINE",
+    falls_back: false,
     is_large: true,
     keys: b"",
     failing_keys: &[],
     failing_calls: &[],
+    is_made: false,
     failing_puts: &[],
     status: 0,
     text: b"linux *\n",
@@ -394,14 +444,14 @@ const BOOTS: [Case<'static>; 6] = [
         text: b"lilo: boot: not bootable\n",
         ..WHOLE
     },
-    // An entry's lock isn't built, and the part after the boot doesn't run.
+    // The kernel's mark is broken, and the part after the boot doesn't run.
     Case {
         words: &["boot", "/dev/hda", "--then", "-q", "/dev/hda"],
-        sector: 95,
-        at: 16,
-        byte: 8,
-        status: 15,
-        text: b"LILO\nlilo: not built\n",
+        sector: 82,
+        at: 0x1FE,
+        byte: 0,
+        status: 7,
+        text: b"LILO\nLoading linux\nError\nlilo: boot: header\n",
         ..WHOLE
     },
     Case {
@@ -474,6 +524,179 @@ fn each_read_of_a_boot_may_fail(rt: HostRuntime) -> Result<(), Fail> {
     )?;
     assert_eq!(rt; status, 0);
     assert!(rt; text.as_slice() == same.as_slice());
+    Ok(())
+}
+
+const TWICE: &[&str] = &["boot", "/dev/hda", "--then", "boot", "/dev/hda"];
+
+// The default line for one boot, with the words `single`.
+const ONCE: &[u8] = b"LINE\x01\0\x0C\0linux single";
+
+// The same for all boots.
+const KEPT: &[u8] = b"LINE\x02\0\x0C\0linux single";
+
+// No default line.
+const NO_LINE: &[u8] = b"LINE\0\0\0\0";
+
+// The prompt is wanted at each boot.
+const ASKING: Case<'static> = Case {
+    words: TWICE,
+    at: 0x0C,
+    byte: 1,
+    ..WHOLE
+};
+
+// Runs, and the default line's sector after them.
+const LINES: [(Case<'static>, &[u8]); 6] = [
+    // A line for one boot: the next boot of the run asks.
+    (
+        Case {
+            line: ONCE,
+            keys: b"linux\n",
+            text: b"LILO\nLoading linux\nLILO\nboot: linux\nLoading linux\n",
+            ..ASKING
+        },
+        NO_LINE,
+    ),
+    // One for all boots.
+    (
+        Case {
+            line: KEPT,
+            text: b"LILO\nLoading linux\nLILO\nLoading linux\n",
+            ..ASKING
+        },
+        KEPT,
+    ),
+    // The first boot locks, and the second takes that line.
+    (
+        Case {
+            keys: b"linux single lock\n",
+            text: b"LILO\nboot: linux single lock\nLoading linux\nLILO\nLoading linux\n",
+            ..ASKING
+        },
+        KEPT,
+    ),
+    // A lock of the entry's own, and a fallback.
+    (
+        Case {
+            words: BOOT_AND_LIST,
+            sector: 95,
+            at: 16,
+            byte: 8,
+            text: b"LILO\nLoading linux\nlinux *\n",
+            ..WHOLE
+        },
+        b"LINE\x02\0\x05\0linux",
+    ),
+    (
+        Case {
+            words: BOOT_AND_LIST,
+            falls_back: true,
+            text: b"LILO\nLoading linux\nlinux *\n",
+            ..WHOLE
+        },
+        b"LINE\x02\0\x05\0linux",
+    ),
+    // A line has served though its kernel is refused.
+    (
+        Case {
+            words: TWICE,
+            line: ONCE,
+            sector: 82,
+            at: 0x1FE,
+            byte: 0,
+            status: 7,
+            text: b"LILO\nLoading linux\nError\nlilo: boot: header\n",
+            ..WHOLE
+        },
+        NO_LINE,
+    ),
+];
+
+const BOOT_AND_LIST: &[&str] = &["boot", "/dev/hda", "--then", "-q", "/dev/hda"];
+
+#[test]
+fn boots_leave_default_lines(rt: HostRuntime) -> Result<(), Fail> {
+    for (case, line) in LINES {
+        let answer = answer_of(rt.alloc(), &case)?;
+        assert_eq!(rt;
+            answer.status,
+            case.status,
+            "{:?}, line {:?}",
+            case.words, case.line
+        );
+        assert!(rt;
+            answer.text.as_slice() == case.text,
+            "{:?}, line {:?}",
+            case.words,
+            case.line
+        );
+        assert!(rt;
+            answer.line == line_sector(line),
+            "{:?}, line {:?}",
+            case.words,
+            case.line
+        );
+    }
+    Ok(())
+}
+
+// The call that fails, whether its write is made, the status, the text, and the line's sector then: before, in and after
+// the write of a line that served one boot, whose second boot isn't begun.
+const BROKEN_LINES: [(u64, bool, u8, &[u8], &[u8]); 6] = [
+    (5, false, 8, b"LILO\nError 80\nlilo: device\n", ONCE),
+    (
+        6,
+        false,
+        9,
+        b"LILO\nError 80\nlilo: device at commit\n",
+        ONCE,
+    ),
+    (
+        6,
+        true,
+        9,
+        b"LILO\nError 80\nlilo: device at commit\n",
+        NO_LINE,
+    ),
+    (
+        7,
+        false,
+        9,
+        b"LILO\nError 80\nlilo: device at commit\n",
+        NO_LINE,
+    ),
+    (
+        8,
+        false,
+        10,
+        b"LILO\nLoading linux\nError 80\nlilo: device after commit\n",
+        NO_LINE,
+    ),
+    (
+        9,
+        false,
+        10,
+        b"LILO\nLoading linux\nError 80\nlilo: device after commit\n",
+        NO_LINE,
+    ),
+];
+
+#[test]
+fn a_write_of_a_line_may_fail(rt: HostRuntime) -> Result<(), Fail> {
+    for (call, is_made, status, text, line) in BROKEN_LINES {
+        let case = Case {
+            words: TWICE,
+            line: ONCE,
+            failing_calls: &[call],
+            is_made,
+            ..WHOLE
+        };
+        let answer = answer_of(rt.alloc(), &case)?;
+        assert_eq!(rt; answer.status, status, "call {call}");
+        assert!(rt; answer.text.as_slice() == text, "call {call}");
+        assert!(rt; answer.line == line_sector(line), "call {call}");
+    }
     Ok(())
 }
 

@@ -1,11 +1,10 @@
-use Rattle.std.proofs.Common.{length}
+use Rattle.std.proofs.Common.{length, refl}
 use Rattle.sector_address.specs.Machine.{machine_of}
-use Rattle.bios_model.specs.Memory.{memory_of}
 use Rattle.mbr_table.specs.View.{device_view, span_view}
 use Rattle.lilo_model.specs.ConfVerdict.{place_at}
-use Rattle.stream_trait.specs.Shows.{sink_of}
 use Rattle.disk_trait.proofs.ToldLemmas.{told_map, told_both}
 use Rattle.loader_core.proofs.BootLemmas.{keys_still}
+use Rattle.lilo_run.specs.Run.{state_of}
 use Rattle.lilo_run.proofs.EffectLemmas.{place_booted, place_failed}
 use Rattle.lilo_run.proofs.boot.boot_device.Goals as goal
 
@@ -15,14 +14,18 @@ returns-in-Ok-clause-does g c =
     let same = c.in-Ok.ensures.reads.same in
     let rest = rw (same.same_past, same.same_size, same.same_geometry) at c.boot_span.ensures.does in
     told_both (g.D.Disks.past c.args.bios.now.disks.now) _ _ _
-    (λ now place goes. place_booted g.I.Source now machine (length c.args.ram.now) c.args.dump (place_at now machine (device_view c.args.device)) (span_view c.in-Ok.span) c.boot_span.result
-    (c.args.bios.now.keys.now, c.boot_span.new.bios.keys.now) (memory_of c.args.ram.now) (memory_of c.boot_span.new.ram)
-    (sink_of g.O.Sink c.args.out.now) (sink_of g.O.Sink c.boot_span.new.out) place goes)
+    (λ now place goes. place_booted g.D.Disks g.I.Source now machine (length c.args.ram.now) c.args.dump (place_at now machine (device_view c.args.device)) (span_view c.in-Ok.span) c.boot_span.result
+    (c.args.bios.now.keys.now, c.boot_span.new.bios.keys.now) c.args.bios.now.disks.now
+    (state_of g.O.Sink c.find_device.new.disks c.args.ram.now c.args.out.now) (state_of g.O.Sink c.boot_span.new.bios.disks.now c.boot_span.new.ram c.boot_span.new.out)
+    place same c.in-Ok.ensures.reads.later goes)
     c.in-Ok.ensures.place rest
 
 pub returns-in-Err-clause-does : goal.returns-in-Err-clause-does
 returns-in-Err-clause-does g c =
+    let machine = machine_of g.D.Disks c.args.bios.now.disks.now in
     told_map (g.D.Disks.past c.args.bios.now.disks.now) _ _
     (λ now halts. keys_still g.I.Source c.args.bios.now.keys.now _
-    (λ keys. place_failed now _ _ c.args.dump _ keys c.in-Err.halt _ _ _ _ halts c.say.ensures.status c.say.ensures.some c.say.ensures.shown))
+    (λ keys. place_failed g.D.Disks now machine (length c.args.ram.now) c.args.dump keys c.say.result
+    (state_of g.O.Sink c.args.bios.now.disks.now c.args.ram.now c.args.out.now) (state_of g.O.Sink c.find_device.new.disks c.args.ram.now c.say.new.out)
+    c.in-Err.ensures.reads.same refl (place_at now machine (device_view c.args.device)) c.in-Err.halt halts c.say.ensures.status c.say.ensures.some c.say.ensures.shown))
     c.in-Err.ensures.place

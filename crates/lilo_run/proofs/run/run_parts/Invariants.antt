@@ -1,10 +1,11 @@
 -- What the parts that are left do is what is left of all of them.
 use Rattle.std.proofs.Common.{◌≡◌, ◌≤◌, length, IfSome, IsOk}
-use Rattle.disk_trait.specs.Past.{Told, SameDisks}
+use Rattle.disk_trait.specs.Moments.{IsTold}
+use Rattle.loader_core.specs.Leaves.{KeepsDisks}
 use Rattle.sector_address.specs.Machine.{machine_of}
-use Rattle.bios_model.specs.Memory.{memory_of}
 use Rattle.lilo_words.specs.Run.{run_behind, parts_behind, parts_of_next}
 use Rattle.stream_trait.specs.Shows.{sink_of, HasFailed}
+use Rattle.lilo_run.specs.Run.{state_of}
 use Rattle.lilo_run.specs.Verdict.{part_effect}
 use Rattle.lilo_run.proofs.ConfLemmas.{AreRead}
 use Rattle.lilo_run.proofs.RunLemmas.{turns_left, Continues, Begun, Stays}
@@ -15,21 +16,21 @@ invariant-loop-next g l = record {
   place : IfSome l.next (λ from. from ≤ length l.words);
   run : IfSome l.next (λ from. IsOk (run_behind l.words from));
   does :
-      Told (g.D.Disks.past l.fn.bios.disks.now) (λ now.
-      Continues g.I.Source (part_effect now (machine_of g.D.Disks l.fn.bios.disks.now) (length l.fn.ram))
-      (parts_behind l.words 0) (parts_of_next l.words l.next) l.fn.bios.keys.now l.bios.keys.now (memory_of l.fn.ram) (memory_of l.ram)
-      (sink_of g.O.Sink l.fn.out)
-      (sink_of g.O.Sink l.out));
+      IsTold (g.D.Disks.past l.fn.bios.disks.now)
+      → Continues g.D.Disks g.I.Source (part_effect (machine_of g.D.Disks l.fn.bios.disks.now) (length l.fn.ram))
+      (parts_behind l.words 0) (parts_of_next l.words l.next) l.fn.bios.keys.now l.bios.keys.now
+      (state_of g.O.Sink l.fn.bios.disks.now l.fn.ram l.fn.out) (state_of g.O.Sink l.bios.disks.now l.ram l.out);
   begun : Begun (g.D.Disks.size_of l.fn.bios.disks.now) (parts_behind l.words 0) l.next;
-  later : g.D.Disks.faults l.fn.bios.disks.now ≤ g.D.Disks.faults l.bios.disks.now;
+  keeps : KeepsDisks g.D.Disks l.fn.bios.disks.now l.bios.disks.now;
   keys_later : g.I.Source.faults l.fn.bios.keys.now ≤ g.I.Source.faults l.bios.keys.now;
   sink :
       HasFailed (sink_of g.O.Sink l.fn.out)
       (sink_of g.O.Sink l.out);
   memory : length l.ram ≡ length l.fn.ram;
   conf : AreRead (parts_behind l.words 0) (parts_of_next l.words l.next);
-  stays : Stays (parts_behind l.words 0) (parts_of_next l.words l.next) l.fn.ram l.ram l.fn.bios.keys.now l.bios.keys.now;
-  same : SameDisks g.D.Disks.past g.D.Disks.size_of g.D.Disks.count_of g.D.Disks.geometry_of l.fn.bios.disks.now l.bios.disks.now;
+  stays :
+      Stays g.D.Disks (parts_behind l.words 0) (parts_of_next l.words l.next) (l.fn.bios.disks.now, l.fn.bios.keys.now, l.fn.ram)
+      (l.bios.disks.now, l.bios.keys.now, l.ram);
   disks_reference : l.bios.disks.ghost_name ≡ l.fn.bios.disks.ghost_name;
   keys_reference : l.bios.keys.ghost_name ≡ l.fn.bios.keys.ghost_name;
   out_reference : l.out.out.ghost_name ≡ l.fn.out.out.ghost_name;

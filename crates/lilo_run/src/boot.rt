@@ -37,7 +37,8 @@ pub(crate) fn boot_device<D: Disks, I: Source, O: Sink>(
     ensures early { IfSome (early_at (D.size_of bios.old.disks.now) (device_view device)) (λ status. result ≡ status) }
     ensures known { IsTrue (is_boot_status result) }
     ensures memory { length ram.new ≡ length ram.old }
-    ensures asks { WritesAndAsks D.Disks I.Source O.Sink (bios.old, out.old) (bios.new, out.new) (IsLost result) (result ≡ 11) }
+    ensures asks { WritesAndAsks D.Disks I.Source O.Sink (bios.old, out.old) (bios.new, out.new)
+        (IsLost result) (result ≡ 11) }
 {
     match find_device(bios.disks, device) {
         Ok(span) => boot_span(bios, span, dump, ram, out),
@@ -60,7 +61,8 @@ fn boot_span<D: Disks, I: Source, O: Sink>(
         (λ now machine memory keys. report_effect dump (boot_report now machine (span_view span) memory keys)) }
     ensures known { IsTrue (is_boot_status result) }
     ensures memory { length ram.new ≡ length ram.old }
-    ensures asks { WritesAndAsks D.Disks I.Source O.Sink (bios.old, out.old) (bios.new, out.new) (IsLost result) (result ≡ 11) }
+    ensures asks { WritesAndAsks D.Disks I.Source O.Sink (bios.old, out.old) (bios.new, out.new)
+        (IsLost result) (result ≡ 11) }
 {
     match boot(bios, span, ram, out) {
         Outcome::Loaded(layout) => {

@@ -42,7 +42,8 @@ pub(crate) fn carry_out<D: Disks, I: Source, O: Sink>(
         → bios.new.keys.now ≡ bios.old.keys.now }
     ensures same { (words : List (List ℕ)) → is_boot (command_view words part.entry.command) ≡ false
         → SameOf D.Disks bios.old.disks.now bios.new.disks.now }
-    ensures asks { WritesAndAsks D.Disks I.Source O.Sink (bios.old, out.old) (bios.new, out.new) (IsLost result) (result ≡ 11) }
+    ensures asks { WritesAndAsks D.Disks I.Source O.Sink (bios.old, out.old) (bios.new, out.new)
+        (IsLost result) (result ≡ 11) }
 {
     let path = conf_path(part.config).as_bytes();
     match part.command {

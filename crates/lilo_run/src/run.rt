@@ -35,10 +35,10 @@ use stream_trait::{Sink, Source, Words, answer};
 /// `-q DEVICE` prints the names in the map of a device, a line each, with ` *` after the default's.
 /// Without a device it is that of `boot=` in the configuration, or the volume's: the file `/etc/lilo.conf`, or that
 /// behind `-C`, on the volume of the device behind `--root`, or on the first that is found.
-/// `boot DEVICE` boots it, by [`loader_core::boot`], and with `--dump` tells what was put into memory. Where the boot makes
-/// the default line another, that line's sector is written and made durable. The options
-/// `-C`, `--root` and `-v` before these two have no effect. An installation and `-t` read their configuration so far.
-/// What else the grammar has isn't built yet.
+/// `boot DEVICE` boots it, by [`loader_core::boot`], and with `--dump` tells what was put into memory. Where the boot
+/// makes the default line another, that line's sector is written and made durable. The options `-C`, `--root` and `-v`
+/// before these two have no effect. An installation and `-t` read their configuration so far. What else the grammar has
+/// isn't built yet.
 ///
 /// | status | comes | text |
 /// |---|---|---|
@@ -49,16 +49,16 @@ use stream_trait::{Sink, Source, Words, answer};
 /// | 3 | the volume or the configuration's file isn't | `lilo: volume: no volume`, `layout`, `missing PATH`, `path PATH` |
 /// | 6 | `-q` finds a foreign boot sector, or one of another version | `lilo: not ours` |
 /// | 7 | the boot is refused, or the map is | `lilo: boot: REASON` |
-/// | 8 | a disk failed, and nothing was written yet | `lilo: device` |
-/// | 9 | a disk failed in the write of the default line, or in the flush of it | `lilo: device at commit` |
+/// | 8 | a disk failed before the part wrote | `lilo: device` |
+/// | 9 | a disk failed in the write of the default line or the flush of it | `lilo: device at commit` |
 /// | 10 | a disk failed after that | `lilo: device after commit` |
 /// | 11 | the source of keys failed | `lilo: keys` |
 /// | 12 | the sink failed at a part that would answer 0 | |
 /// | 13 | there is no memory for a configuration | `lilo: memory` |
 /// | 15 | the part isn't built yet | `lilo: not built` |
 ///
-/// After the sink failed nothing is put, and the part that runs is the last. Only boots take keys, and only they write: the
-/// sector of the default line, and no other. Memory is allocated for a configuration alone.
+/// After the sink failed nothing is put, and the part that runs is the last. Only boots take keys, and only they write:
+/// the sector of the default line, and no other. Memory is allocated for a configuration alone.
 pub fn lilo<D: Disks, I: Source, O: Sink>(
     alloc: Global,
     words: &Words,
@@ -78,8 +78,8 @@ pub fn lilo<D: Disks, I: Source, O: Sink>(
     ensures sink { result ≡ 12 → Rose (O.faults out.old) (O.faults out.new) }
     ensures starved { result ≡ 13 → IfOk (run_at words.now) (λ parts. has_conf parts ≡ true) }
 
-    // The text, the keys left and what the disks hold go with the status. Only a failed sink may have cut the text short, in
-    // the part at which the run ended.
+    // The text, the keys left and what the disks hold go with the status. Only a failed sink may have cut the text short,
+    // in the part at which the run ended.
     ensures text { OnParts D.Disks I.Source disks.old (keys.old, keys.new) (length ram.old) words.now
         (λ parts all left. TellsAll D.Disks O.Sink parts result all left
         (disks.old, ram.old, out.old) (disks.new, ram.new, out.new)) }
@@ -88,7 +88,8 @@ pub fn lilo<D: Disks, I: Source, O: Sink>(
     ensures left { result ≡ 0 → OnParts D.Disks I.Source disks.old (keys.old, keys.new) (length ram.old) words.now
         (λ parts all left. run_left all parts ≡ left) }
 
-    // A boot by itself has the model's verdict, leaves the keys that the model's leaves, and writes the line that it writes.
+    // A boot by itself has the model's verdict, leaves the keys that the model's leaves, and writes the line that it
+    // writes.
     ensures boot { (device : Device) (dump : Bool) → IsBootRun words.now device dump
         → OnDisks D.Disks disks.old (λ now machine. OnKeys I.Source (keys.old, keys.new) (λ all left.
         TellsBoot D.Disks O.Sink now machine (length ram.old) (place_at now machine device) dump all left result

@@ -136,14 +136,14 @@ fn words_of(alloc: Global, line: &[&str]) -> Result<Words, AllocError> {
 
 // What came of a run: the status, the text, and the default line's sector.
 #[derive(Drop)]
-struct Answer {
+struct RunEnd {
     status: u8,
     text: Vec<u8>,
     line: Sector,
 }
 
 // Runs a case.
-fn answer_of(alloc: Global, case: &Case<'_>) -> Result<Answer, AllocError> {
+fn end_of(alloc: Global, case: &Case<'_>) -> Result<RunEnd, AllocError> {
     let words = words_of(alloc, case.words)?;
     let mut disks = installation(alloc, case)?;
     let mut keys = MemSource::new(alloc, case.keys, case.failing_keys)?;
@@ -153,7 +153,7 @@ fn answer_of(alloc: Global, case: &Case<'_>) -> Result<Answer, AllocError> {
     let status = lilo(alloc, &words, &mut disks, &mut keys, &mut out, &mut ram, 0);
     let mut line = [0; 512];
     let _ = disks.read(0, 94, &mut line);
-    Ok(Answer {
+    Ok(RunEnd {
         status,
         text: Vec::from_slice(alloc, out.bytes())?,
         line,
@@ -162,8 +162,8 @@ fn answer_of(alloc: Global, case: &Case<'_>) -> Result<Answer, AllocError> {
 
 // Runs a case, and gives the status and the text.
 fn answer(alloc: Global, case: &Case<'_>) -> Result<(u8, Vec<u8>), AllocError> {
-    let answer = answer_of(alloc, case)?;
-    Ok((answer.status, answer.text))
+    let end = end_of(alloc, case)?;
+    Ok((end.status, end.text))
 }
 
 // Runs a case, and gives the status and whether the text is the one that is wanted.
@@ -618,21 +618,21 @@ const BOOT_AND_LIST: &[&str] = &["boot", "/dev/hda", "--then", "-q", "/dev/hda"]
 #[test]
 fn boots_leave_default_lines(rt: HostRuntime) -> Result<(), Fail> {
     for (case, line) in LINES {
-        let answer = answer_of(rt.alloc(), &case)?;
+        let end = end_of(rt.alloc(), &case)?;
         assert_eq!(rt;
-            answer.status,
+            end.status,
             case.status,
             "{:?}, line {:?}",
             case.words, case.line
         );
         assert!(rt;
-            answer.text.as_slice() == case.text,
+            end.text.as_slice() == case.text,
             "{:?}, line {:?}",
             case.words,
             case.line
         );
         assert!(rt;
-            answer.line == line_sector(line),
+            end.line == line_sector(line),
             "{:?}, line {:?}",
             case.words,
             case.line
@@ -641,8 +641,8 @@ fn boots_leave_default_lines(rt: HostRuntime) -> Result<(), Fail> {
     Ok(())
 }
 
-// The call that fails, whether its write is made, the status, the text, and the line's sector then: before, in and after
-// the write of a line that served one boot, whose second boot isn't begun.
+// The call that fails, whether its write is made, the status, the text, and the line's sector then: before, in and
+// after the write of a line that served one boot. No second boot is begun.
 const BROKEN_LINES: [(u64, bool, u8, &[u8], &[u8]); 6] = [
     (5, false, 8, b"LILO\nError 80\nlilo: device\n", ONCE),
     (
@@ -692,10 +692,10 @@ fn a_write_of_a_line_may_fail(rt: HostRuntime) -> Result<(), Fail> {
             is_made,
             ..WHOLE
         };
-        let answer = answer_of(rt.alloc(), &case)?;
-        assert_eq!(rt; answer.status, status, "call {call}");
-        assert!(rt; answer.text.as_slice() == text, "call {call}");
-        assert!(rt; answer.line == line_sector(line), "call {call}");
+        let end = end_of(rt.alloc(), &case)?;
+        assert_eq!(rt; end.status, status, "call {call}");
+        assert!(rt; end.text.as_slice() == text, "call {call}");
+        assert!(rt; end.line == line_sector(line), "call {call}");
     }
     Ok(())
 }

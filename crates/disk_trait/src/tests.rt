@@ -38,33 +38,6 @@ fn expect_byte<D: Disks>(rt: &impl Abort, disks: &mut D, disk: u8, sector: u64, 
     );
 }
 
-#[test]
-fn disks_begin_with_zeros_and_what_is_set(rt: HostRuntime) -> Result<(), Fail> {
-    let geometry = Geometry {
-        heads: 255,
-        sectors: 63,
-    };
-    let asked = [MemDisk {
-        sectors: 3,
-        geometry,
-    }];
-    let mut disks = MemDisks::new(rt.alloc(), &asked, 8, &[])?;
-    disks.set(0, 2, &filled(7));
-    assert_eq!(rt; disks.count(), 1);
-    assert_eq!(rt; disks.size(0), 3);
-    assert_eq!(rt; disks.size(1), 0);
-    assert_eq!(rt; disks.geometry(0), geometry);
-    assert_eq!(rt; disks.geometry(1).heads, 16);
-    assert_eq!(rt; disks.geometry(1).sectors, 63);
-    expect_byte(&rt, &mut disks, 0, 1, 0);
-    expect_byte(&rt, &mut disks, 0, 2, 7);
-    assert_eq!(rt; disks.write(0, 2, &filled(8)), Ok(()));
-    assert_eq!(rt; disks.write(0, 2, &filled(9)), Ok(()));
-    expect_byte(&rt, &mut disks, 0, 1, 0);
-    expect_byte(&rt, &mut disks, 0, 2, 9);
-    Ok(())
-}
-
 // A call, and for a write the byte that fills the sector.
 #[derive(Clone, Copy, Debug)]
 enum Call {
@@ -81,6 +54,43 @@ fn make<D: Disks>(disks: &mut D, call: Call) -> Result<u8, DiskFault> {
         Call::Flush => disks.flush()?,
     }
     Ok(0)
+}
+
+// Expects what each call answers.
+fn expect_calls<D: Disks>(rt: &impl Abort, disks: &mut D, calls: &[(Call, Result<u8, DiskFault>)]) {
+    for (call, answer) in calls {
+        assert_eq!(rt; make(disks, *call), *answer, "{call:?}");
+    }
+}
+
+#[test]
+fn disks_begin_with_zeros_and_what_is_set(rt: HostRuntime) -> Result<(), Fail> {
+    let geometry = Geometry {
+        heads: 255,
+        sectors: 63,
+    };
+    let asked = [MemDisk {
+        sectors: 3,
+        geometry,
+    }];
+    let mut disks = MemDisks::new(rt.alloc(), &asked, 8, &[])?;
+    disks.set(0, 2, &filled(7));
+    assert_eq!(rt; disks.count(), 1);
+    for (disk, size, heads) in [(0, 3, 255), (1, 0, 16)] {
+        assert_eq!(rt; disks.size(disk), size);
+        let shape = Geometry { heads, sectors: 63 };
+        assert_eq!(rt; disks.geometry(disk), shape);
+    }
+    let calls = [
+        (Call::Read(0, 1), Ok(0)),
+        (Call::Read(0, 2), Ok(7)),
+        (Call::Write(0, 2, 8), Ok(0)),
+        (Call::Write(0, 2, 9), Ok(0)),
+        (Call::Read(0, 1), Ok(0)),
+        (Call::Read(0, 2), Ok(9)),
+    ];
+    expect_calls(&rt, &mut disks, &calls);
+    Ok(())
 }
 
 const FAILED: Result<u8, DiskFault> = Err(DiskFault::Failed);

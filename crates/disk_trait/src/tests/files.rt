@@ -170,53 +170,67 @@ fn counted_disks<'c>(
     Ok(disks)
 }
 
+// A call, what it answers, and the seeks, reads and writes of the first file.
+type Row = (Call, Result<u8, DiskFault>, [u32; 3]);
+
+// Makes each call, and expects the calls of a file.
+fn expect_taken(
+    rt: &impl Abort,
+    disks: &mut FileDisks<CountedFile<'_>>,
+    file: &Calls,
+    rows: &[Row],
+) {
+    for (call, answer, calls) in rows {
+        assert_eq!(rt; make(disks, *call), *answer, "{call:?}");
+        assert_eq!(rt; file.taken(), *calls, "{call:?}");
+    }
+}
+
+// Sectors 1 to 3 are read at once, and a sector that was read isn't read again until one is written.
+const NEIGHBOURS: [Row; 21] = [
+    (Call::Write(0, 0, 9), Ok(0), [1, 0, 1]),
+    (Call::Write(0, 1, 8), Ok(0), [0, 0, 1]),
+    (Call::Read(0, 2), Ok(3), [0, 1, 0]),
+    (Call::Read(1, 1), Ok(2), [0, 0, 0]),
+    (Call::Flush, Ok(0), [0, 0, 0]),
+    (Call::Write(0, 3, 7), Ok(0), [0, 0, 1]),
+    (Call::Read(0, 3), Ok(7), [1, 1, 0]),
+    (Call::Read(0, 4), OUT_OF_RANGE, [0, 0, 0]),
+    (Call::Read(0, 0), Ok(9), [1, 1, 0]),
+    (Call::Read(0, 1), Ok(8), [0, 1, 0]),
+    (Call::Read(0, 1), Ok(8), [0, 0, 0]),
+    (Call::Read(0, 3), Ok(7), [0, 0, 0]),
+    (Call::Read(0, 2), Ok(3), [0, 0, 0]),
+    (Call::Write(0, 2, 6), Ok(0), [1, 0, 1]),
+    (Call::Read(0, 3), Ok(7), [0, 1, 0]),
+    (Call::Read(0, 2), Ok(6), [1, 1, 0]),
+    (Call::Read(0, 3), Ok(7), [0, 1, 0]),
+    (Call::Write(0, 3, 5), Ok(0), [1, 0, 1]),
+    (Call::Read(0, 3), Ok(5), [1, 1, 0]),
+    (Call::Read(0, 1), Ok(8), [1, 1, 0]),
+    (Call::Read(0, 3), Ok(5), [1, 1, 0]),
+];
+
 #[test]
 fn neighbouring_sectors_need_no_seek(rt: HostRuntime) -> Result<(), Fail> {
     let (first, second) = (Calls::new(), Calls::new());
     first.most.set(LENGTH);
     let mut disks = counted_disks(rt.alloc(), [&first, &second])?;
     assert_eq!(rt; first.taken(), [1, 0, 0]);
-    // Each call, and the seeks, reads and writes of the first file. Sectors 1 to 3 are read at once, and a
-    // sector that was read isn't read again until one is written.
-    let run = [
-        (Call::Write(0, 0, 9), Ok(0), [1, 0, 1]),
-        (Call::Write(0, 1, 8), Ok(0), [0, 0, 1]),
-        (Call::Read(0, 2), Ok(3), [0, 1, 0]),
-        (Call::Read(1, 1), Ok(2), [0, 0, 0]),
-        (Call::Flush, Ok(0), [0, 0, 0]),
-        (Call::Write(0, 3, 7), Ok(0), [0, 0, 1]),
-        (Call::Read(0, 3), Ok(7), [1, 1, 0]),
-        (Call::Read(0, 4), OUT_OF_RANGE, [0, 0, 0]),
-        (Call::Read(0, 0), Ok(9), [1, 1, 0]),
-        (Call::Read(0, 1), Ok(8), [0, 1, 0]),
-        (Call::Read(0, 1), Ok(8), [0, 0, 0]),
-        (Call::Read(0, 3), Ok(7), [0, 0, 0]),
-        (Call::Read(0, 2), Ok(3), [0, 0, 0]),
-        (Call::Write(0, 2, 6), Ok(0), [1, 0, 1]),
-        (Call::Read(0, 3), Ok(7), [0, 1, 0]),
-        (Call::Read(0, 2), Ok(6), [1, 1, 0]),
-        (Call::Read(0, 3), Ok(7), [0, 1, 0]),
-        (Call::Write(0, 3, 5), Ok(0), [1, 0, 1]),
-        (Call::Read(0, 3), Ok(5), [1, 1, 0]),
-        (Call::Read(0, 1), Ok(8), [1, 1, 0]),
-        (Call::Read(0, 3), Ok(5), [1, 1, 0]),
-    ];
-    for (call, answer, calls) in run {
-        assert_eq!(rt; make(&mut disks, call), answer, "{call:?}");
-        assert_eq!(rt; first.taken(), calls, "{call:?}");
-    }
+    expect_taken(&rt, &mut disks, &first, &NEIGHBOURS);
 
     // Where sectors can't be read at once, the one that was asked for is read alone.
     first.most.set(512);
-    for granted in 0..2 {
+    for refused in [1, 2] {
         let _ = make(&mut disks, Call::Write(0, 3, 5));
         let _ = make(&mut disks, Call::Read(0, 0));
         let _ = first.taken();
-        first.refused.set(granted + 1);
-        assert_eq!(rt; make(&mut disks, Call::Read(0, 1)), Ok(8), "{granted}");
-        assert_eq!(rt; first.taken(), [1, granted + 2, 0], "{granted}");
-        assert_eq!(rt; make(&mut disks, Call::Read(0, 1)), Ok(8), "{granted}");
-        assert_eq!(rt; first.taken(), [0, 0, 0], "{granted}");
+        first.refused.set(refused);
+        let rows = [
+            (Call::Read(0, 1), Ok(8), [1, refused + 1, 0]),
+            (Call::Read(0, 1), Ok(8), [0, 0, 0]),
+        ];
+        expect_taken(&rt, &mut disks, &first, &rows);
     }
     Ok(())
 }
@@ -229,13 +243,15 @@ fn an_image_that_is_named_twice(rt: HostRuntime) -> Result<(), Fail> {
     // Sectors 1 to 3 are read at once, and one of them is written by the other name.
     for (disk, other) in [(0, 1), (1, 0)] {
         let _ = make(&mut disks, Call::Write(other, 2, 3));
-        expect_byte(&rt, &mut disks, disk, 0, 1);
-        expect_byte(&rt, &mut disks, disk, 1, 2);
+        let _ = make(&mut disks, Call::Read(disk, 0));
+        let _ = make(&mut disks, Call::Read(disk, 1));
         let _ = file.taken();
-        expect_byte(&rt, &mut disks, disk, 2, 3);
-        assert_eq!(rt; file.taken(), [0, 0, 0]);
-        assert_eq!(rt; make(&mut disks, Call::Write(other, 2, 9)), Ok(0));
-        expect_byte(&rt, &mut disks, disk, 2, 9);
+        let rows = [
+            (Call::Read(disk, 2), Ok(3), [0, 0, 0]),
+            (Call::Write(other, 2, 9), Ok(0), [1, 0, 1]),
+            (Call::Read(disk, 2), Ok(9), [1, 1, 0]),
+        ];
+        expect_taken(&rt, &mut disks, &file, &rows);
     }
     Ok(())
 }
@@ -276,8 +292,11 @@ fn files_that_are_short_or_fail(rt: HostRuntime) -> Result<(), Fail> {
     assert_eq!(rt; first.taken(), [1, 3, 3]);
     // A file that takes nothing, or ends within a sector, fails.
     first.most.set(0);
-    assert_eq!(rt; make(&mut disks, Call::Write(0, 1, 6)), FAILED);
-    assert_eq!(rt; make(&mut disks, Call::Read(0, 1)), FAILED);
+    expect_calls(
+        &rt,
+        &mut disks,
+        &[(Call::Write(0, 1, 6), FAILED), (Call::Read(0, 1), FAILED)],
+    );
     Ok(())
 }
 

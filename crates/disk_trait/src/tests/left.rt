@@ -61,9 +61,7 @@ fn first_bytes<D: Disks>(disks: &mut D) -> Result<[u8; 3], DiskFault> {
 #[test]
 fn a_stop_leaves_the_kept_writes(rt: HostRuntime) -> Result<(), Fail> {
     let mut disks = two_disks(rt.alloc(), 10, &FAILING)?;
-    for (call, answer) in RUN {
-        assert_eq!(rt; make(&mut disks, call), answer, "{call:?}");
-    }
+    expect_calls(&rt, &mut disks, &RUN);
     for (prefix, (count, images)) in (0..).zip(LEFT) {
         assert!(rt; prefix <= disks.events());
         let unflushed = disks.unflushed(prefix);

@@ -93,59 +93,47 @@ fn set_with(
     Ok(set)
 }
 
-#[derive(Debug, Drop, PartialEq)]
-enum Found {
-    Zones(Vec<u32>),
-    Fault(BitFault),
-}
-
-// What `find_free` answers on a volume of 40 zones.
-fn free_zones(
+// Expects what `find_free` answers on a volume of 40 zones.
+fn expect_zones(
     rt: &impl Abort,
     alloc: Global,
     map: Sector,
     need: u32,
     avoid: &[u32],
-) -> Result<Found, Fail> {
+    found: Result<&[u32], BitFault>,
+) -> Result<(), Fail> {
     let mut disks = disks_with(alloc, 40, &[(6, map)], &[])?;
     let mut volume = attach(rt, &mut disks, 80)?;
     let avoid = set_with(rt, alloc, 40, avoid)?;
     assert!(rt; volume.layout().zones == 40 && avoid.below() == 40);
     match find_free(alloc, &mut volume, need, &avoid) {
-        Ok(list) => Ok(Found::Zones(Vec::from_slice(alloc, list.items())?)),
-        Err(fault) => Ok(Found::Fault(fault)),
+        Ok(list) => assert!(rt; found == Ok(list.items())),
+        Err(fault) => assert!(rt; found == Err(fault)),
     }
-}
-
-// Zones 5, 6 and 8 are marked, and 12 to 19.
-#[test]
-fn lowest_free_zones(rt: HostRuntime) -> Result<(), Fail> {
-    let map = bytes([0b0001_0111, 0xFF, 0, 0, 0]);
-    let alloc = rt.alloc();
-    assert_eq!(rt;
-        free_zones(&rt, alloc, map, 3, &[7, 10])?,
-        Found::Zones(vec![in alloc; 9, 11, 20]?)
-    );
-    assert_eq!(rt;
-        free_zones(&rt, alloc, map, 0, &[])?,
-        Found::Zones(Vec::new(alloc))
-    );
     Ok(())
 }
 
-// Zones 37 and 39 alone are free; no bit after that of zone 39 counts.
 #[test]
-fn too_few_free_zones(rt: HostRuntime) -> Result<(), Fail> {
-    let map = bytes([0xFF, 0xFF, 0xFF, 0xFF, 0b0000_0101]);
-    let alloc = rt.alloc();
-    let short = Found::Fault(BitFault::NoSpace { need: 3, found: 2 });
-    assert_eq!(rt; free_zones(&rt, alloc, map, 3, &[])?, short);
-    assert_eq!(rt;
-        free_zones(&rt, alloc, map, 2, &[])?,
-        Found::Zones(vec![in alloc; 37, 39]?)
-    );
-    let none = Found::Fault(BitFault::NoSpace { need: 1, found: 0 });
-    assert_eq!(rt; free_zones(&rt, alloc, map, 1, &[39, 37])?, none);
+fn lowest_free_zones(rt: HostRuntime) -> Result<(), Fail> {
+    // Zones 5, 6 and 8 have their bits set, and 12 to 19.
+    let some = bytes([0b0001_0111, 0xFF, 0, 0, 0]);
+    // Zones 37 and 39 alone are free; no bit after that of zone 39 counts.
+    let last = bytes([0xFF, 0xFF, 0xFF, 0xFF, 0b0000_0101]);
+    let rows: [(Sector, u32, &[u32], Result<&[u32], BitFault>); 5] = [
+        (some, 3, &[7, 10], Ok(&[9, 11, 20])),
+        (some, 0, &[], Ok(&[])),
+        (last, 3, &[], Err(BitFault::NoSpace { need: 3, found: 2 })),
+        (last, 2, &[], Ok(&[37, 39])),
+        (
+            last,
+            1,
+            &[39, 37],
+            Err(BitFault::NoSpace { need: 1, found: 0 }),
+        ),
+    ];
+    for (map, need, avoid, found) in rows {
+        expect_zones(&rt, rt.alloc(), map, need, avoid, found)?;
+    }
     Ok(())
 }
 
@@ -165,14 +153,18 @@ fn inode(
 
 #[test]
 fn lowest_free_inode(rt: HostRuntime) -> Result<(), Fail> {
-    let alloc = rt.alloc();
     let full = bytes([0xFE, 0xFF, 1, 0, 0]);
     let last = bytes([0xFE, 0xBF, 0, 0, 0]);
-    assert_eq!(rt; inode(&rt, alloc, full, &[])?, Ok(None));
-    assert_eq!(rt; inode(&rt, alloc, last, &[])?, Ok(Some(14)));
-    assert_eq!(rt; inode(&rt, alloc, last, &[14])?, Ok(Some(16)));
-    assert_eq!(rt; inode(&rt, alloc, last, &[14, 16])?, Ok(None));
-    assert_eq!(rt; inode(&rt, alloc, [0; 512], &[])?, Ok(Some(1)));
+    let rows: [(Sector, &[u32], Option<u32>); 5] = [
+        (full, &[], None),
+        (last, &[], Some(14)),
+        (last, &[14], Some(16)),
+        (last, &[14, 16], None),
+        ([0; 512], &[], Some(1)),
+    ];
+    for (map, avoid, found) in rows {
+        assert_eq!(rt; inode(&rt, rt.alloc(), map, avoid)?, Ok(found));
+    }
     Ok(())
 }
 
@@ -187,49 +179,78 @@ fn sector<D: Disks>(
     Ok(bytes)
 }
 
-// Zone 12 has bit 8 and zone 13 bit 9; inodes 3 and 5 have bits 3 and 5.
-#[test]
-fn mark_leaves_its_neighbours(rt: HostRuntime) -> Result<(), Fail> {
-    let map = bytes([0xA5, 0x5A, 0xC3, 0, 0]);
-    let mut disks = disks_with(rt.alloc(), 40, &[(4, map), (6, map)], &[])?;
-    let mut volume = attach(&rt, &mut disks, 80)?;
+#[derive(Clone, Copy)]
+enum Change {
+    MarkZone(u32),
+    ClearZone(u32),
+    MarkInode(u32),
+    ClearInode(u32),
+}
+
+// Changes a bit. The superblock stays as it is.
+fn make<D: Disks>(
+    rt: &impl Abort,
+    volume: &mut Volume<'_, D>,
+    change: Change,
+) -> Result<(), BitFault> {
     let layout = *volume.layout();
-    assert!(rt; layout.first == 5 && layout.zones == 40 && layout.inodes == 16);
-    assert_eq!(rt; mark_zone(&mut volume, 12), Ok(()));
-    assert!(rt; sector(&rt, &mut volume, 6)? == bytes([0xA5, 0x5B, 0xC3, 0, 0]));
+    let changed = match change {
+        Change::MarkZone(n) => {
+            assert!(rt; layout.first <= n && n < layout.zones);
+            mark_zone(volume, n)
+        }
+        Change::ClearZone(n) => {
+            assert!(rt; layout.first <= n && n < layout.zones);
+            clear_zone(volume, n)
+        }
+        Change::MarkInode(n) => {
+            assert!(rt; 1 <= n && n <= u32::from(layout.inodes));
+            mark_inode(volume, n)
+        }
+        Change::ClearInode(n) => {
+            assert!(rt; 1 <= n && n <= u32::from(layout.inodes));
+            clear_inode(volume, n)
+        }
+    };
     assert!(rt; *volume.layout() == layout);
-    Ok(())
+    changed
 }
 
-// Zone 13 has bit 9, which is set, and inode 5 bit 5.
+// Zone 12 has bit 8, zone 13 bit 9, and zone 39 bit 35; inodes 3 and 5 have bits 3 and 5. Both bitmaps begin with the
+// bytes A5, 5A and C3. Bits are set that are set, and cleared that are clear.
 #[test]
-fn cleared_mark_leaves_its_neighbours(rt: HostRuntime) -> Result<(), Fail> {
+fn one_bit_changes_no_other(rt: HostRuntime) -> Result<(), Fail> {
     let map = bytes([0xA5, 0x5A, 0xC3, 0, 0]);
-    let mut disks = disks_with(rt.alloc(), 40, &[(4, map), (6, map)], &[])?;
-    let mut volume = attach(&rt, &mut disks, 80)?;
-    assert!(rt; volume.layout().first == 5 && volume.layout().zones == 40);
-    assert_eq!(rt; clear_zone(&mut volume, 13), Ok(()));
-    assert!(rt; volume.layout().inodes == 16);
-    assert_eq!(rt; clear_inode(&mut volume, 5), Ok(()));
-    assert!(rt; sector(&rt, &mut volume, 6)? == bytes([0xA5, 0x58, 0xC3, 0, 0]));
-    assert!(rt; sector(&rt, &mut volume, 4)? == bytes([0x85, 0x5A, 0xC3, 0, 0]));
-    Ok(())
-}
-
-// Inode 3 has bit 3; it is marked twice. Zone 39 has bit 35, which isn't set.
-#[test]
-fn mark_that_stands_stays(rt: HostRuntime) -> Result<(), Fail> {
-    let map = bytes([0xA5, 0x5A, 0xC3, 0, 0]);
-    let mut disks = disks_with(rt.alloc(), 40, &[(4, map), (6, map)], &[])?;
-    let mut volume = attach(&rt, &mut disks, 80)?;
-    assert!(rt; volume.layout().inodes == 16);
-    assert_eq!(rt; mark_inode(&mut volume, 3), Ok(()));
-    assert!(rt; volume.layout().inodes == 16);
-    assert_eq!(rt; mark_inode(&mut volume, 3), Ok(()));
-    assert!(rt; volume.layout().first == 5 && volume.layout().zones == 40);
-    assert_eq!(rt; clear_zone(&mut volume, 39), Ok(()));
-    assert!(rt; sector(&rt, &mut volume, 4)? == bytes([0xAD, 0x5A, 0xC3, 0, 0]));
-    assert!(rt; sector(&rt, &mut volume, 6)? == map);
+    let rows: [(&[Change], [u8; 5], [u8; 5]); 3] = [
+        (
+            &[Change::MarkZone(12)],
+            [0xA5, 0x5A, 0xC3, 0, 0],
+            [0xA5, 0x5B, 0xC3, 0, 0],
+        ),
+        (
+            &[Change::ClearZone(13), Change::ClearInode(5)],
+            [0x85, 0x5A, 0xC3, 0, 0],
+            [0xA5, 0x58, 0xC3, 0, 0],
+        ),
+        (
+            &[
+                Change::MarkInode(3),
+                Change::MarkInode(3),
+                Change::ClearZone(39),
+            ],
+            [0xAD, 0x5A, 0xC3, 0, 0],
+            [0xA5, 0x5A, 0xC3, 0, 0],
+        ),
+    ];
+    for (changes, inodes, zones) in rows {
+        let mut disks = disks_with(rt.alloc(), 40, &[(4, map), (6, map)], &[])?;
+        let mut volume = attach(&rt, &mut disks, 80)?;
+        for one in changes {
+            assert_eq!(rt; make(&rt, &mut volume, *one), Ok(()));
+        }
+        assert!(rt; sector(&rt, &mut volume, 4)? == bytes(inodes));
+        assert!(rt; sector(&rt, &mut volume, 6)? == bytes(zones));
+    }
     Ok(())
 }
 
@@ -243,10 +264,10 @@ fn second_sector_of_a_bitmap(rt: HostRuntime) -> Result<(), Fail> {
     assert!(rt; volume.layout().zones == 4200 && avoid.below() == 4200);
     let list = find_free(alloc, &mut volume, 2, &avoid)?;
     assert!(rt; list.items() == [4100, 4102].as_slice());
-    assert!(rt; volume.layout().first == 5 && volume.layout().zones == 4200);
-    assert_eq!(rt; mark_zone(&mut volume, 4100), Ok(()));
-    assert!(rt; sector(&rt, &mut volume, 6)? == [0xFF; 512]);
-    assert!(rt; sector(&rt, &mut volume, 7)? == bytes([1, 0, 0, 0, 0]));
+    assert_eq!(rt; make(&rt, &mut volume, Change::MarkZone(4100)), Ok(()));
+    for (at, map) in [(6, [0xFF; 512]), (7, bytes([1, 0, 0, 0, 0]))] {
+        assert!(rt; sector(&rt, &mut volume, at)? == map);
+    }
     Ok(())
 }
 
@@ -261,10 +282,10 @@ fn failed_calls(rt: HostRuntime) -> Result<(), Fail> {
     assert!(rt; find_free(rt.alloc(), &mut volume, 1, &avoid).is_err());
     assert!(rt; volume.layout().inodes == 16);
     assert_eq!(rt; find_inode(&mut volume, &avoid), Err(BitFault::Device));
-    assert!(rt; volume.layout().inodes == 16);
-    assert_eq!(rt; mark_inode(&mut volume, 7), Err(BitFault::Device));
-    assert!(rt; volume.layout().inodes == 16);
-    assert_eq!(rt; mark_inode(&mut volume, 7), Err(BitFault::Device));
+    for inode in [7, 7] {
+        let marked = make(&rt, &mut volume, Change::MarkInode(inode));
+        assert_eq!(rt; marked, Err(BitFault::Device));
+    }
     assert!(rt; sector(&rt, &mut volume, 4)? == [0; 512]);
     Ok(())
 }
@@ -273,7 +294,8 @@ fn failed_calls(rt: HostRuntime) -> Result<(), Fail> {
 fn numbers_of_a_set(rt: HostRuntime) -> Result<(), Fail> {
     let set = set_with(&rt, rt.alloc(), 20, &[19, 0, 7, 7])?;
     assert!(rt; set.below() == 20);
-    assert!(rt; set.has(0) && set.has(7) && set.has(19));
-    assert!(rt; !set.has(1) && !set.has(6) && !set.has(8) && !set.has(18));
+    for n in 0..20 {
+        assert!(rt; set.has(n) == [0, 7, 19].contains(&n), "{n}");
+    }
     Ok(())
 }

@@ -1,4 +1,4 @@
-use crate::{MemSink, MemSource, Next, Sink, SinkFailed, Source, StdSink, StdSource, Words};
+use crate::{MemSink, MemSource, Next, Shown, Sink, SinkFailed, Source, StdSink, StdSource, Words};
 use std::alloc::{AllocError, Global};
 use std::io::{ErrorKind, Read, Write};
 use std::path::PathBuf;
@@ -110,6 +110,20 @@ fn mem_sink_takes_what_it_has_room_for(rt: HostRuntime) -> Result<(), Fail> {
     assert_eq!(rt; put_both(&mut sink, b"cde", b""), Ok(()));
     assert_eq!(rt; sink.put(b"f"), Err(SinkFailed));
     assert_eq!(rt; sink.bytes(), b"abcde".as_slice());
+    Ok(())
+}
+
+// A refused text counts though it is empty, and after it nothing is put.
+#[test]
+fn an_empty_text_may_be_refused(rt: HostRuntime) -> Result<(), Fail> {
+    let mut sink = MemSink::new(rt.alloc(), 8, &[1])?;
+    let mut shown = Shown::new(&mut sink);
+    shown.put(b"ab");
+    assert!(rt; !shown.failed());
+    shown.put(b"");
+    assert!(rt; shown.failed());
+    shown.put(b"cd");
+    assert_eq!(rt; sink.bytes(), b"ab".as_slice());
     Ok(())
 }
 

@@ -1,3 +1,7 @@
+ghost use Rattle.std.specs.Prelude.{IfOk};
+ghost use Rattle.minix_create.specs.Chosen.{Suits, new_inode};
+ghost use Rattle.minix_fill.specs.Fill.{IsOfFile};
+
 use crate::{Chosen, choose, create};
 use disk_trait::{DiskFault, Disks, Geometry, MemDisks};
 use minix_layout::FsKind;
@@ -84,11 +88,16 @@ fn make_place(rt: &impl Abort, volume: &mut Volume<'_, Untold>) -> Result<(), Wr
     Ok(())
 }
 
+#[tactic(auto, using(crate::proofs::OpenLemmas::suits_kept, minix_zones::proofs::WriteLemmas::keeps_same))]
 fn choose_new(
     rt: &impl Abort,
     alloc: Global,
     volume: &mut Volume<'_, Untold>,
-) -> Result<Chosen, WriteFault> {
+) -> Result<Chosen, WriteFault>
+    ensures suits { IfOk result (Suits volume.new.layout volume.new.span) }
+    ensures of_file { IfOk result (λ chosen. IsOfFile (new_inode chosen)) }
+{
+    assert!(rt; volume.layout().inodes == 16);
     let mut taken = Taken::new(alloc, volume)?;
     let chosen = choose(alloc, volume, &WISH, &mut taken)?;
     assert_eq!(rt; chosen.inode(), 2);
@@ -105,7 +114,7 @@ fn make(rt: &impl Abort, alloc: Global, disks: &mut Untold) -> Result<(u64, u64)
     };
     make_place(rt, &mut volume)?;
     let chosen = choose_new(rt, alloc, &mut volume)?;
-    assert!(rt; chosen.blocks() == [6, 0, 7].as_slice());
+    assert!(rt; chosen.blocks() == [6, 0, 7].as_slice() && chosen.start == SMALL_SPAN.start);
     let ends = (chosen.sector_of(0), chosen.sector_of(5));
     match create(volume, chosen, &BLOCKS) {
         Ok((_, linked)) => {
@@ -113,6 +122,26 @@ fn make(rt: &impl Abort, alloc: Global, disks: &mut Untold) -> Result<(u64, u64)
             Ok(ends)
         }
         Err(halt) => Err(halt.fault),
+    }
+}
+
+fn is_whole(bytes: &[u8]) -> bool {
+    for (at, byte) in bytes.iter().enumerate() {
+        if *byte != byte_at(at) {
+            return false;
+        }
+    }
+    bytes.len() == 3000
+}
+
+// The byte at a place of the blocks, the second of which is a hole.
+fn byte_at(at: usize) -> u8 {
+    if at < 1024 {
+        b'a'
+    } else if at < 2048 {
+        0
+    } else {
+        b'c'
     }
 }
 
@@ -135,12 +164,11 @@ fn is_there(alloc: Global, image: &mut MemDisks) -> Option<bool> {
     let Ok(text) = read_file(alloc, &mut volume, b"/new") else {
         return None;
     };
-    let bytes = text.bytes();
-    let whole = bytes.len() == 3000
-        && bytes[..1024].iter().all(|byte| *byte == b'a')
-        && bytes[1024..2048].iter().all(|byte| *byte == 0)
-        && bytes[2048..].iter().all(|byte| *byte == b'c');
-    if whole { Some(true) } else { None }
+    if is_whole(text.bytes()) {
+        Some(true)
+    } else {
+        None
+    }
 }
 
 // Says of each unflushed write whether it was made, by the bits of a number, the lowest first.

@@ -24,7 +24,7 @@ use Rattle.loader_core.specs.Report.{LineWrite, image_with}
 use Rattle.lilo_model.specs.Faults.{Rose}
 use Rattle.loader_core.specs.Leaves.{HasPut, KeepsDisks}
 use Rattle.loader_core.proofs.LeavesLemmas.{same_self, same_join, leaves_after}
-use Rattle.lilo_run.specs.Run.{State, IsDone, Does, Carries, CarriedOut, LostBefore, LostAtCommit, LostAfter, Starved, Unheard, EndsAt, IsPassed, IsOver, Runs, IsLost, is_part_status}
+use Rattle.lilo_run.specs.Run.{State, IsDone, Does, Carries, CarriedOut, LostBefore, LostAtCommit, LostAfter, Starved, Unheard, EndsAt, IsPassed, IsOver, Runs, IsLost, IsWriteLost, is_part_status}
 use Rattle.lilo_run.specs.Verdict.{Effect, keeping, early_status, early_parts, parts_effects, effects_of, is_boot, has_boot}
 
 -- how many turns are left at most
@@ -173,10 +173,13 @@ own_status own known failed is other = by (own == 0) failed refl is
     by false failed zero is = let plain : answer_of own failed ≡ own = rw zero refl in sym plain ∙ is
 
 -- nor does it that of a disk that failed
+pub own_write_lost : (own status : ℕ) (failed : Bool) → status ≡ answer_of own failed → IsWriteLost status → IsWriteLost own
+own_write_lost own status failed answer (inl is) = inl (own_status own 9 failed (sym answer ∙ is) (λ same. omega (arith, same)))
+own_write_lost own status failed answer (inr is) = inr (own_status own 10 failed (sym answer ∙ is) (λ same. omega (arith, same)))
+
 pub own_lost : (own status : ℕ) (failed : Bool) → status ≡ answer_of own failed → IsLost status → IsLost own
 own_lost own status failed answer (inl is) = inl (own_status own 8 failed (sym answer ∙ is) (λ same. omega (arith, same)))
-own_lost own status failed answer (inr (inl is)) = inr (inl (own_status own 9 failed (sym answer ∙ is) (λ same. omega (arith, same))))
-own_lost own status failed answer (inr (inr is)) = inr (inr (own_status own 10 failed (sym answer ∙ is) (λ same. omega (arith, same))))
+own_lost own status failed answer (inr lost) = inr (own_write_lost own status failed answer lost)
 
 -- a count that rose after it stayed or rose
 pub rose_after : (a b c : ℕ) → a ≤ b → Rose b c → Rose a c
@@ -251,6 +254,26 @@ begun_last size_of all behind part from own failed (inr later) is early = rw lat
 abbrev pub Stays : {D I : Type 0} → Ghosts D → List Part → List Part → D × I × List ℕ → D × I × List ℕ → Type 0
 Stays g all rest (d0, k0, old) (d1, k1, new) =
     has_boot all ≡ false → ((new ≡ old) × (k1 ≡ k0)) × (SameOf g d0 d1 × (has_boot rest ≡ false))
+
+-- parts of which none boots but where others do
+abbrev pub AreBoots : List Part → List Part → Type 0
+AreBoots all rest = has_boot rest ≡ true → has_boot all ≡ true
+
+some_by : (first rest : Bool) → first ≡ true → (first || rest) ≡ true
+some_by true rest is = refl
+some_by false rest is = absurd cc
+
+some_later : (first rest : Bool) → rest ≡ true → (first || rest) ≡ true
+some_later true rest is = refl
+some_later false rest is = is
+
+pub boot_first : (all rest behind : List Part) (part : Part) → AreBoots all rest → rest ≡ part ∷ behind → is_boot part.command ≡ true → has_boot all ≡ true
+unfolding has_boot
+boot_first all rest behind part are is boots = are (rw is (some_by (is_boot part.command) (has_boot behind) boots))
+
+pub boot_more : (all rest behind : List Part) (part : Part) → AreBoots all rest → rest ≡ part ∷ behind → AreBoots all behind
+unfolding has_boot
+boot_more all rest behind part are is boots = are (rw is (some_later (is_boot part.command) (has_boot behind) boots))
 
 none_by : (first rest : Bool) → (first || rest) ≡ false → (first ≡ false) × (rest ≡ false)
 none_by true rest is = absurd cc

@@ -140,9 +140,13 @@ abbrev pub CarriesOn : {D I O : Type 0} → Ghosts D → sources.Ghosts I → si
 CarriesOn g i o status old new effect =
     OnDisks g old.0 (λ now machine. CarriesBy g i o status (effect now machine (length old.2)) old new)
 
+-- a disk failed in a write or after it, by the status
+abbrev pub IsWriteLost : ℕ → Type 0
+IsWriteLost status = (status ≡ 9) ⊎ (status ≡ 10)
+
 -- a disk failed, by the status
 abbrev pub IsLost : ℕ → Type 0
-IsLost status = (status ≡ 8) ⊎ ((status ≡ 9) ⊎ (status ≡ 10))
+IsLost status = (status ≡ 8) ⊎ IsWriteLost status
 
 -- ---- a run
 
@@ -210,7 +214,7 @@ pub record Scene (D : Type 0) : Type 0 where
   pub taken : Option (List ℕ)
   pub faults : ℕ
 
--- A part's text was taken whole, or the sink's faults rose; with 12 in the place of 0 a prefix of it.
+-- a text was taken whole, or the sink's faults rose and a prefix of it was
 abbrev pub TellsText : {D : Type 0} → List ℕ → Scene D → Scene D → Type 0
 TellsText text old new = Prints old.taken text new.taken old.faults new.faults
 

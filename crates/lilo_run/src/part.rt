@@ -3,7 +3,7 @@ ghost use Rattle.std.specs.Prelude.{◌≡◌, ℕ, List, true, false, length, I
 ghost use Rattle.lilo_words.specs.View.{command_view, part_view};
 ghost use Rattle.disk_trait.specs.Calls.{SameOf};
 ghost use Rattle.loader_core.specs.Leaves.{WritesAndAsks};
-ghost use Rattle.lilo_run.specs.Run.{is_part_status, CarriesOn, IsLost};
+ghost use Rattle.lilo_run.specs.Run.{is_part_status, CarriesOn, IsLost, IsWriteLost};
 ghost use Rattle.lilo_run.specs.Verdict.{part_effect, early_status, is_boot, reads_conf};
 
 use crate::boot::boot_device;
@@ -35,6 +35,8 @@ pub(crate) fn carry_out<D: Disks, I: Source, O: Sink>(
     ensures known { IsTrue (is_part_status result) }
     ensures starved { (words : List (List ℕ)) → result ≡ 13
         → reads_conf (command_view words part.entry.command) ≡ true }
+    ensures written { (words : List (List ℕ)) → IsWriteLost result
+        → is_boot (command_view words part.entry.command) ≡ true }
     ensures memory { length ram.new ≡ length ram.old }
     ensures quiet { (words : List (List ℕ)) → is_boot (command_view words part.entry.command) ≡ false
         → ram.new ≡ ram.old }

@@ -11,7 +11,7 @@ ghost use Rattle.sector_address.specs.Machine.{OnDisks};
 ghost use Rattle.bios_model.specs.Memory.{memory_of};
 ghost use Rattle.lilo_words.specs.Run.{run_behind, parts_behind};
 ghost use Rattle.stream_trait.specs.Shows.{Shows, sink_of, Prints};
-ghost use Rattle.lilo_run.specs.Run.{Answers, is_run_status, is_status, IsLost, RunsAll, OnParts, TellsAll};
+ghost use Rattle.lilo_run.specs.Run.{Answers, is_run_status, is_status, IsLost, IsWriteLost, RunsAll, OnParts, TellsAll};
 ghost use Rattle.lilo_run.specs.Run.{HoldsWritten, LeavesWritten, LeavesOthers};
 ghost use Rattle.loader_core.specs.Start.{OnKeys};
 ghost use Rattle.lilo_model.specs.ConfVerdict.{place_at};
@@ -74,6 +74,7 @@ pub fn lilo<D: Disks, I: Source, O: Sink>(
     ensures device { result ≡ 8 → Rose (D.faults disks.old) (D.faults disks.new) }
     ensures at_commit { result ≡ 9 → Rose (D.faults disks.old) (D.faults disks.new) }
     ensures after_commit { result ≡ 10 → Rose (D.faults disks.old) (D.faults disks.new) }
+    ensures written { IsWriteLost result → IfOk (run_at words.now) (λ parts. has_boot parts ≡ true) }
     ensures unheard { result ≡ 11 → Rose (I.faults keys.old) (I.faults keys.new) }
     ensures sink { result ≡ 12 → Rose (O.faults out.old) (O.faults out.new) }
     ensures starved { result ≡ 13 → IfOk (run_at words.now) (λ parts. has_conf parts ≡ true) }
@@ -149,6 +150,7 @@ fn run_words<D: Disks, I: Source, O: Sink>(
     ensures early { IfSome (early_answer (D.size_of bios.old.disks.now) (run_at words.now))
         (λ status. result ≡ status) }
     ensures known { IsTrue (is_status result) }
+    ensures written { IsWriteLost result → IfOk (run_at words.now) (λ parts. has_boot parts ≡ true) }
     ensures starved { result ≡ 13 → IfOk (run_at words.now) (λ parts. has_conf parts ≡ true) }
     ensures unshown { result ≡ 12 → out.new.failed ≡ true }
     ensures memory { length ram.new ≡ length ram.old }
@@ -186,6 +188,7 @@ fn run_parts<D: Disks, I: Source, O: Sink>(
     ensures early { IfSome (early_parts (D.size_of bios.old.disks.now) (parts_behind words.now 0))
         (λ status. result ≡ status) }
     ensures known { IsTrue (is_run_status result) }
+    ensures written { IsWriteLost result → has_boot (parts_behind words.now 0) ≡ true }
     ensures starved { result ≡ 13 → has_conf (parts_behind words.now 0) ≡ true }
     ensures unshown { result ≡ 12 → out.new.failed ≡ true }
     ensures memory { length ram.new ≡ length ram.old }

@@ -14,7 +14,7 @@ use Rattle.lilo_run.specs.Verdict.{part_effect, early_status}
 use Rattle.lilo_run.proofs.ConfLemmas.{read_first, read_more}
 use Rattle.lilo_model.specs.ConfVerdict.{conf_path}
 use Rattle.lilo_run.proofs.MemoryLemmas.{boots_by}
-use Rattle.lilo_run.proofs.RunLemmas.{Begun, place_within, continues_more, continues_end, continues_last, own_status, own_lost, begun_more, begun_last, stays_more, told_here, told_from, keeps_twice, rose_after}
+use Rattle.lilo_run.proofs.RunLemmas.{Begun, place_within, continues_more, continues_end, continues_last, own_status, own_lost, own_write_lost, boot_first, boot_more, begun_more, begun_last, stays_more, told_here, told_from, keeps_twice, rose_after}
 use Rattle.lilo_run.proofs.run.run_parts.Goals as goal
 
 pub returns-in_default-answer-clause-does : goal.returns-in_default-answer-clause-does
@@ -86,6 +86,16 @@ returns-in_default-answer-clause-starved g c =
     own_status c.carry_out-own.result 13 c.failed.result (sym c.answer.ensures ∙ starved) (λ is. omega (arith, is)) in
     read_first (parts_behind words 0) _ behind part c.loop-next.invariant.conf rest (c.carry_out-own.ensures.starved words own)
 
+pub returns-in_default-answer-clause-written : goal.returns-in_default-answer-clause-written
+returns-in_default-answer-clause-written g c =
+    let words = c.args.words.now in
+    let part = part_view words c.part_at-read.result.part in
+    let behind = parts_of_next words c.part_at-read.result.next in
+    let rest : parts_of_next words c.loop-next.next ≡ part ∷ behind = rw c.in-Some.is c.part_at-read.ensures.part in
+    λ lost.
+    boot_first (parts_behind words 0) _ behind part c.loop-next.invariant.boots rest
+    (c.carry_out-own.ensures.written words (own_write_lost c.carry_out-own.result c.answer.result c.failed.result c.answer.ensures lost))
+
 pub returns-in_default-answer-clause-asks : goal.returns-in_default-answer-clause-asks
 returns-in_default-answer-clause-asks g c =
     let invariant = c.loop-next.invariant in
@@ -149,6 +159,7 @@ loop-next-preserved g c =
       sink = has_failed_twice _ old new invariant.sink run.ensures.asks.sink;
       memory = run.ensures.memory ∙ invariant.memory;
       conf = read_more (parts_behind words 0) _ behind part invariant.conf rest;
+      boots = boot_more (parts_behind words 0) _ behind part invariant.boots rest;
       stays =
           stays_more g.D.Disks (parts_behind words 0) _ behind part c.args.bios.now.disks.now c.loop-next.bios.disks.now run.new.bios.disks.now
           c.args.bios.now.keys.now c.loop-next.bios.keys.now run.new.bios.keys.now c.args.ram.now c.loop-next.ram run.new.ram

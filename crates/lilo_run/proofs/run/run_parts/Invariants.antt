@@ -8,7 +8,7 @@ use Rattle.stream_trait.specs.Shows.{sink_of, HasFailed}
 use Rattle.lilo_run.specs.Run.{state_of}
 use Rattle.lilo_run.specs.Verdict.{part_effect}
 use Rattle.lilo_run.proofs.ConfLemmas.{AreRead}
-use Rattle.lilo_run.proofs.RunLemmas.{turns_left, Continues, Begun, Stays}
+use Rattle.lilo_run.proofs.RunLemmas.{turns_left, Continues, Begun, AreBoots, Stays}
 use Rattle.lilo_run.proofs.run.run_parts.Given as goal
 
 abbrev pub invariant-loop-next : goal.invariant-loop-next
@@ -28,6 +28,7 @@ invariant-loop-next g l = record {
       (sink_of g.O.Sink l.out);
   memory : length l.ram ≡ length l.fn.ram;
   conf : AreRead (parts_behind l.words 0) (parts_of_next l.words l.next);
+  boots : AreBoots (parts_behind l.words 0) (parts_of_next l.words l.next);
   stays :
       Stays g.D.Disks (parts_behind l.words 0) (parts_of_next l.words l.next) (l.fn.bios.disks.now, l.fn.bios.keys.now, l.fn.ram)
       (l.bios.disks.now, l.bios.keys.now, l.ram);

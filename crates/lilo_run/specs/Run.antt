@@ -1,4 +1,4 @@
--- How what was done stands to what the definitions give.
+-- How what was done relates to what the definitions give.
 use Rattle.std.specs.Prelude.{◌≡◌, ◌≢◌, ◌⊎◌, ℕ, ◌==◌, Bool, false, List, [], ◌∷◌, ◌++◌, length, All, Option, None, Some, Result, Ok, Err}
 use Rattle.std.specs.List.{list_any}
 use Rattle.std.specs.Option.{option_map}
@@ -222,7 +222,7 @@ TellsText text old new = Prints old.taken text new.taken old.faults new.faults
 abbrev pub TellsOne : {D : Type 0} → List (List ℕ) → Scene D → Scene D → Type 0
 TellsOne texts old new = PrintsOne old.taken texts new.taken old.faults new.faults
 
--- A part told its text, as far as the sink took it: the verdict's with its status, a text of a failure with 8 to 11, one
+-- A part showed its text, as far as the sink took it: the verdict's with its status, a text of a failure with 8 to 11, one
 -- of want of memory with 13, and with 12 in the place of 0 a prefix of the verdict's. Where it wasn't a failure's, these
 -- keys are left, and what is to be written was; a failure before the write left the disks, one in it has written it or
 -- hasn't, and one after it left it written.
@@ -256,7 +256,7 @@ pub record TellsPassed {D : Type 0} (g : Ghosts D) (part : Effect) (old new : Sc
   pub taken : new.taken ≡ taken_behind old.taken part.verdict.text
   pub counted : new.faults ≡ old.faults
 
--- no part more told a text
+-- no part more showed a text
 pub record TellsNone {D : Type 0} (status : ℕ) (keys left : List Key) (old new : Scene D) : Type 0 where
   pub zero : status ≡ 0
   pub memory : new.memory ≡ old.memory
@@ -264,7 +264,7 @@ pub record TellsNone {D : Type 0} (status : ℕ) (keys left : List Key) (old new
   pub taken : new.taken ≡ old.taken
   pub disks : new.disks ≡ old.disks
 
--- Parts in order told their texts: those that answer 0 whole, and then the one that answers otherwise, at which the run
+-- Parts in order showed their texts: those that answer 0 whole, and then the one that answers otherwise, at which the run
 -- ends. Memory has what they put there where the status is 0 or 12, and what the parts before it put there where the
 -- part at which the run ended doesn't boot. Each part that answers 0 wrote its default line, where that is another.
 abbrev pub TellsRun : {D : Type 0} → Ghosts D → List Effect → ℕ → List Key → List Key → Scene D → Scene D → Type 0

@@ -69,7 +69,7 @@ regions_text dump regions = if dump then flat_map region_text regions else []
 abbrev pub told_text : Bool → Ending → List ℕ
 told_text dump ending = regions_text dump (told_regions ending.outcome ending.written)
 
--- what is answered at the end of a boot, and printed behind what it showed
+-- what is answered at the end of a boot, and printed after what it showed
 abbrev pub end_verdict : Bool → Result Ending Reason → Verdict
 end_verdict dump (Ok ending) = verdict_of (start_check ending.outcome >>= λ a. Ok (told_text dump ending))
 end_verdict dump (Err reason) = reason_verdict reason
@@ -147,7 +147,7 @@ parts_effects effect now [] keys = []
 parts_effects effect now (part ∷ parts) keys =
     effect now part keys ∷ parts_effects effect (image_with now (effect now part keys).write) parts (effect now part keys).left
 
--- what the parts of a run do; words that are none are as one part, which tells the usage
+-- what the parts of a run do; words that are none are as one part, which shows the usage
 abbrev pub words_effects : (Image → Part → List Key → Effect) → Image → List (List ℕ) → List Key → Result (List Part) (Option ℕ) → List Effect
 words_effects effect now words keys (Ok parts) = parts_effects effect now parts keys
 words_effects effect now words keys (Err wrong) = keeping keys (plain_effect (record { status = 1; text = usage_text words }) []) ∷ []

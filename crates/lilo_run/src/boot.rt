@@ -89,7 +89,7 @@ fn say_keys<O: Sink>(out: &mut Shown<'_, O>) -> u8
     11
 }
 
-/// Shows the line that tells in which phase a disk failed, and gives its status.
+/// Shows the line that says in which phase a disk failed, and gives its status.
 fn say_failed<O: Sink>(out: &mut Shown<'_, O>, phase: Phase) -> u8
     ensures status { result ≡ (phase_verdict phase).status }
     ensures lost { IsLost result }

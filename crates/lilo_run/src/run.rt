@@ -34,8 +34,8 @@ use stream_trait::{Sink, Source, Words, answer};
 ///
 /// `-q DEVICE` prints the names in the map of a device, a line each, with ` *` after the default's.
 /// Without a device it is that of `boot=` in the configuration, or the volume's: the file `/etc/lilo.conf`, or that
-/// behind `-C`, on the volume of the device behind `--root`, or on the first that is found.
-/// `boot DEVICE` boots it, by [`loader_core::boot`], and with `--dump` tells what was put into memory. Where the boot
+/// after `-C`, on the volume of the device after `--root`, or on the first that is found.
+/// `boot DEVICE` boots it, by [`loader_core::boot`], and with `--dump` prints what was put into memory. Where the boot
 /// makes the default line another, that line's sector is written and made durable. The options `-C`, `--root` and `-v`
 /// before these two have no effect. An installation and `-t` read their configuration so far. What else the grammar has
 /// isn't built yet.
@@ -122,7 +122,7 @@ pub fn lilo<D: Disks, I: Source, O: Sink>(
     ensures no_run { IsErr (run_at words.now) → (ram.new ≡ ram.old) × (keys.new ≡ keys.old) }
     ensures size { length ram.new ≡ length ram.old }
 
-    // Without a boot no disk is written, whatever the disks tell; and their sizes and shapes always stay.
+    // Without a boot no disk is written, whatever the disks report; and their sizes and shapes always stay.
     ensures same { IfOk (run_at words.now) (λ parts. has_boot parts ≡ false → SameOf D.Disks disks.old disks.new) }
     ensures same_no_run { IsErr (run_at words.now) → SameOf D.Disks disks.old disks.new }
     ensures keeps { KeepsDisks D.Disks disks.old disks.new }

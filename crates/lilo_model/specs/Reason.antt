@@ -14,7 +14,7 @@ pub data Reason : Type 0 where
   BadLine : Reason
   -- a place of a section, 64 a section sector
   BadSlot : (place : ℕ) → Reason
-  -- more links than this
+  -- a link lies after so many section sectors, which is as many as a section has
   ChainTooLong : (chain : ℕ) → Reason
   -- an end after so many sectors
   ShortChain : (sectors : ℕ) → Reason

@@ -9,8 +9,6 @@
 mod bios;
 mod key;
 mod ram;
-#[cfg(test)]
-mod tests;
 
 pub use bios::{Bios, BiosFault, read_slot, read_slots, write_sector};
 pub use key::Key;

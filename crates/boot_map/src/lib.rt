@@ -10,15 +10,11 @@ mod boot_sector;
 mod default_line;
 mod descriptor;
 mod extra;
-#[cfg(test)]
-mod fixture;
 pub mod flags;
 mod map_fault;
 mod one_slot;
 mod options;
 mod table;
-#[cfg(test)]
-mod tests;
 mod text;
 
 pub use boot_sector::{BootSector, restore};

@@ -5,8 +5,6 @@
 
 mod conf_file;
 mod file_fault;
-#[cfg(test)]
-mod tests;
 
 pub use conf_file::{ConfFile, read_conf_file};
 pub use file_fault::FileFault;

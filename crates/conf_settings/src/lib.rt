@@ -9,8 +9,6 @@ mod option;
 mod reader;
 mod reason;
 mod setting;
-#[cfg(test)]
-mod tests;
 mod value;
 
 pub use line::config_line;

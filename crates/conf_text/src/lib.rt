@@ -8,8 +8,6 @@
 mod laws;
 mod meaning;
 mod scan;
-#[cfg(test)]
-mod tests;
 mod text;
 mod token;
 mod tokens;

@@ -21,8 +21,6 @@ mod mem_disk;
 mod mem_disks;
 mod range;
 mod sector_file;
-#[cfg(test)]
-mod tests;
 
 pub use disks::{DiskFault, Disks, Phase, Span};
 pub use event::Event;

@@ -19,6 +19,3 @@ pub use laws::{
     get_prints_the_file, ls_prints_the_lines_of_the_entries, words_ask_as_the_grammar_says,
 };
 pub use run::ldisk;
-
-#[cfg(test)]
-mod tests;

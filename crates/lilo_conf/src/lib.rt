@@ -11,8 +11,6 @@ mod section;
 mod tell_config;
 mod tell_disk;
 mod tell_section;
-#[cfg(test)]
-mod tests;
 mod value;
 
 pub use conf_settings::{ConfFault, ConfReason, Opt};

@@ -19,6 +19,3 @@ mod run;
 pub use laws::{first_wrong_word, runs_of_words, unfinished_words};
 pub use part::{Command, Part, Wrong};
 pub use run::{PartAt, check, part_at};
-
-#[cfg(test)]
-mod tests;

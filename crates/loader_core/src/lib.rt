@@ -2,16 +2,12 @@
 #![tactic(auto)]
 
 mod entry;
-#[cfg(test)]
-mod fixture;
 mod kernel;
 mod laws;
 mod line;
 mod loader;
 mod map;
 mod outcome;
-#[cfg(test)]
-mod tests;
 
 pub use laws::boots_as_the_model;
 pub use loader::boot;

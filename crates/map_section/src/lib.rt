@@ -8,8 +8,6 @@
 mod laws;
 mod section_reader;
 mod sectors;
-#[cfg(test)]
-mod tests;
 
 pub use laws::{done_again, enough_turns, reads_the_section, refused_again, takes_turns};
 pub use section_reader::{Ask, SectionFault, SectionReader};

@@ -11,8 +11,6 @@ mod partition;
 mod place;
 mod table;
 mod table_fault;
-#[cfg(test)]
-mod tests;
 
 pub use device::{Device, device_of, number_of};
 pub use laws::{chain_ends, names};

@@ -14,8 +14,6 @@ mod marked;
 mod number_list;
 mod number_set;
 mod scan;
-#[cfg(test)]
-mod tests;
 mod zone_bits;
 
 pub use bit_fault::BitFault;

@@ -11,8 +11,6 @@ mod laws;
 mod layout_fault;
 mod place;
 mod superblock;
-#[cfg(test)]
-mod tests;
 
 pub use inode::Inode;
 pub use kind::FsKind;

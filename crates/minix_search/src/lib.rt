@@ -4,8 +4,6 @@
 #![tactic(auto)]
 
 mod search;
-#[cfg(test)]
-mod tests;
 mod volume_fault;
 
 pub use search::{Located, find_volume};

@@ -13,8 +13,6 @@ mod findings;
 mod spot;
 mod survey_fault;
 mod tables;
-#[cfg(test)]
-mod tests;
 mod walk;
 
 pub use findings::Findings;

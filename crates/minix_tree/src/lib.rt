@@ -14,8 +14,6 @@ mod file;
 mod find;
 mod laws;
 mod stat;
-#[cfg(test)]
-mod tests;
 mod tree_fault;
 mod walk;
 

@@ -8,8 +8,6 @@
 mod held;
 mod held_sectors;
 mod laws;
-#[cfg(test)]
-mod tests;
 mod visit;
 mod volume;
 mod walk;

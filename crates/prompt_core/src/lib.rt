@@ -14,8 +14,6 @@ mod prompt;
 mod reply;
 mod state;
 mod step;
-#[cfg(test)]
-mod tests;
 mod text;
 mod word;
 

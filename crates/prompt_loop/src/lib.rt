@@ -9,8 +9,6 @@ mod asking;
 mod laws;
 mod message;
 mod reply;
-#[cfg(test)]
-mod tests;
 
 pub use asking::{Stop, ask};
 pub use laws::asking_comes_to_the_choice;

@@ -7,8 +7,6 @@
 mod file;
 mod load;
 mod reason;
-#[cfg(test)]
-mod tests;
 
 pub use file::{FileReader, read_one};
 pub use load::{load_bytes, place, read_cut};

@@ -6,8 +6,6 @@
 
 mod laws;
 mod slot;
-#[cfg(test)]
-mod tests;
 mod track;
 
 pub use laws::{

@@ -9,8 +9,6 @@ mod field_ref;
 mod halves;
 mod lent_part;
 mod sector;
-#[cfg(test)]
-mod tests;
 
 pub use field_mut::FieldMut;
 pub use field_ref::FieldRef;

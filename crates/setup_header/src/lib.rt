@@ -10,8 +10,6 @@ mod fields;
 mod header;
 mod layout;
 mod refusal;
-#[cfg(test)]
-mod tests;
 
 pub use fields::patch;
 pub use header::Header;

@@ -19,6 +19,3 @@ pub use source::{Next, Source};
 pub use std_sink::StdSink;
 pub use std_source::StdSource;
 pub use words::Words;
-
-#[cfg(test)]
-mod tests;

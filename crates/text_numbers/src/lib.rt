@@ -4,9 +4,6 @@
 //! LILO's manners.
 #![tactic(auto)]
 
-#[cfg(test)]
-mod tests;
-
 ghost use Rattle.std.specs.Prelude.{◌≡◌, ℕ, ◌≤◌, min};
 ghost use Rattle.std.specs.Option.{option_map};
 ghost use Rattle.lilo_model.specs.VideoMode as model;

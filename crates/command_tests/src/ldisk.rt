@@ -1,0 +1,169 @@
+// `ls` and `get` over disks in memory: what is printed, and which call fails.
+use disk_trait::{Disks, Failing, Geometry, MemDisk, MemDisks};
+use ldisk_run::{Asked, Command, ask, ldisk};
+use mbr_table::Device;
+use sector_parts::{Sector, put_part, put_u16, put_u32};
+use std::alloc::{AllocError, Global};
+use std::test::Fail;
+use stream_trait::{MemSink, MemSource, Words};
+
+fn words_of(alloc: Global, line: &[&str]) -> Result<Words, AllocError> {
+    let mut words = Words::new(alloc);
+    for word in line {
+        words.push(alloc, word)?;
+    }
+    Ok(words)
+}
+
+// The superblock of 32 zones and 16 inodes, version 1 with names of 14 bytes; the first data zone is 5.
+fn superblock() -> Sector {
+    let mut sector: Sector = [0; 512];
+    put_u16(&mut sector, 0, 16);
+    put_u16(&mut sector, 2, 32);
+    put_u16(&mut sector, 4, 1);
+    put_u16(&mut sector, 6, 1);
+    put_u16(&mut sector, 8, 5);
+    put_u16(&mut sector, 16, 0x137F);
+    sector
+}
+
+// The root, of four places, in zone 5, and the file 2, of three bytes, in zone 6.
+fn inodes() -> Sector {
+    let mut sector: Sector = [0; 512];
+    put_u16(&mut sector, 0, 0o040755);
+    put_u32(&mut sector, 4, 64);
+    put_u16(&mut sector, 14, 5);
+    put_u16(&mut sector, 32, 0o100644);
+    put_u32(&mut sector, 36, 3);
+    put_u16(&mut sector, 46, 6);
+    sector
+}
+
+// `.`, `..`, a free place and `a`.
+fn listing() -> Sector {
+    let mut sector: Sector = [0; 512];
+    put_part(&mut sector, 0, b"\x01\0.");
+    put_part(&mut sector, 16, b"\x01\0..");
+    put_part(&mut sector, 32, b"\0\0gone");
+    put_part(&mut sector, 48, b"\x02\0a");
+    sector
+}
+
+// A disk with that volume from its start, of which some calls fail.
+fn disk_with(alloc: Global, failing: &[Failing]) -> Result<MemDisks, AllocError> {
+    let Ok(geometry) = Geometry::new(16, 63) else {
+        return Err(AllocError);
+    };
+    let disk = MemDisk {
+        sectors: 64,
+        geometry,
+    };
+    let mut disks = MemDisks::new(alloc, &[disk], 2, failing)?;
+    let mut text: Sector = [0; 512];
+    put_part(&mut text, 0, b"abc");
+    let sectors = [
+        (2, superblock()),
+        (8, inodes()),
+        (10, listing()),
+        (12, text),
+    ];
+    for (sector, bytes) in sectors.iter() {
+        if disks.events() == 0 && u64::from(*sector) < disks.size(0) {
+            disks.set(0, *sector, bytes);
+        }
+    }
+    Ok(disks)
+}
+
+// The status and text of arguments over such a disk, with a call of the disk or of the sink that fails.
+fn run(
+    alloc: Global,
+    line: &[&str],
+    failing: &[Failing],
+    refused: &[u64],
+) -> Result<(u8, String), Fail> {
+    let words = words_of(alloc, line)?;
+    let mut disks = disk_with(alloc, failing)?;
+    let mut source = MemSource::new(alloc, b"", &[])?;
+    let mut sink = MemSink::new(alloc, 4096, refused)?;
+    let status = ldisk(alloc, &words, &mut disks, &mut source, &mut sink, 0);
+    let Ok(text) = str::from_utf8(sink.bytes()) else {
+        return Err(Fail::from("no text"));
+    };
+    Ok((status, String::from_str(alloc, text)?))
+}
+
+const LS: &[&str] = &["ls", "x.img", "/dev/hda", "/"];
+
+const GET: &[&str] = &["get", "x.img", "/dev/hda", "/a"];
+
+#[test]
+fn lists_and_prints(rt: HostRuntime) -> Result<(), Fail> {
+    let listed = run(rt.alloc(), LS, &[], &[])?;
+    assert_eq!(rt; listed.0, 0);
+    assert_eq!(rt; listed.1.as_str(), "f 3 a\n");
+    let printed = run(rt.alloc(), GET, &[], &[])?;
+    assert_eq!(rt; printed.0, 0);
+    assert_eq!(rt; printed.1.as_str(), "abc");
+    Ok(())
+}
+
+#[test]
+fn each_read_that_fails(rt: HostRuntime) -> Result<(), Fail> {
+    // The superblock, the root, a block of the root, the entry's inode; and of the file its block as well.
+    for (line, reads) in [(LS, 5), (GET, 7)] {
+        for call in 0..reads {
+            let failing = [Failing { call, made: false }];
+            assert_eq!(rt; run(rt.alloc(), line, &failing, &[])?.0, 8, "{call}");
+        }
+        let failing = [Failing {
+            call: reads,
+            made: false,
+        }];
+        assert_eq!(rt; run(rt.alloc(), line, &failing, &[])?.0, 0);
+    }
+    Ok(())
+}
+
+#[test]
+fn a_sink_that_fails(rt: HostRuntime) -> Result<(), Fail> {
+    let listed = run(rt.alloc(), LS, &[], &[0])?;
+    assert_eq!(rt; listed.0, 12);
+    assert_eq!(rt; listed.1.as_str(), "");
+    let kind = run(rt.alloc(), &["get", "x.img", "/dev/hda", "/"], &[], &[0])?;
+    assert_eq!(rt; kind.0, 3);
+    Ok(())
+}
+
+#[test]
+fn words_that_ask(rt: HostRuntime) -> Result<(), Fail> {
+    let words = words_of(rt.alloc(), &["ls", "a b", "/dev/sdb15", "/"])?;
+    let device = Device {
+        disk: 3,
+        partition: 15,
+    };
+    assert_eq!(rt;
+        ask(&words),
+        Some(Asked {
+            image: "a b",
+            sectors: 0,
+            command: Command::Ls { device, path: b"/" }
+        })
+    );
+    let none: [&[&str]; 8] = [
+        &[],
+        &["ls", "x", "/dev/hda"],
+        &["ls", "x", "/dev/hda", "a"],
+        &["ls", "x", "/dev/hda", ""],
+        &["ls", "x", "/dev/hda64", "/"],
+        &["get", "x", "/dev/hda", "/a\0"],
+        &["get", "x", "/dev/hda", "/a", "/b"],
+        &["rm", "x", "/dev/hda", "/a"],
+    ];
+    for line in none {
+        let words = words_of(rt.alloc(), line)?;
+        assert_eq!(rt; ask(&words), None, "{line:?}");
+        assert_eq!(rt; run(rt.alloc(), line, &[], &[])?.0, 1);
+    }
+    Ok(())
+}

@@ -1,5 +1,5 @@
 -- What the bits of many zones change of the parts of a volume.
-use Rattle.std.proofs.Common.{◌≡◌, ◌+◌, ◌%◌, ◌||◌, ◌==◌, ℕ, suc, Bool, true, false, List, [], ◌∷◌, ◌++◌, length, All, refl, sym, ap, ap₂, ◌∙◌, subst, arith, ⊎_elim}
+use Rattle.std.proofs.Common.{◌≡◌, ◌≢◌, ◌≤◌, ◌<◌, ◌⊎◌, ◌+◌, ◌%◌, ◌||◌, ◌==◌, ℕ, suc, Bool, true, false, List, [], ◌∷◌, ◌++◌, length, All, refl, sym, ap, ap₂, ◌∙◌, subst, arith, ⊎_elim}
 use Rattle.std.proofs.lemmas.Bool.{cases_Bool, cases_eq}
 use Rattle.std.proofs.lemmas.Bool.Decides.{nat_tests}
 use Rattle.std.proofs.lemmas.List.{length-set}
@@ -7,12 +7,13 @@ use Rattle.disk_trait.specs.Past.{with_sector}
 use Rattle.disk_trait.proofs.MomentLemmas.{here, here_true, here_is, with_same, with_other}
 use Rattle.lilo_model.specs.Disks.{Image}
 use Rattle.lilo_model.specs.MinixLayout.{Super, IsSuper}
-use Rattle.lilo_model.specs.MinixParts.{Parts, Volume, sector_of, parts_of, zone_bit, zone_mark_sector, with_bit}
+use Rattle.lilo_model.specs.MinixParts.{Parts, Volume, sector_of, parts_of, zone_bit, zone_mark_sector, bit, with_bit}
 use Rattle.minix_beside_laws.specs.Beside.{IsDataZone, IsOfBitmaps, Harmless}
 use Rattle.minix_beside_laws.proofs.Harmless.{set_bit_law}
 use Rattle.lilo_model.specs.MinixNames.{IsSound}
 use Rattle.minix_bits.specs.Laws.{OneZoneMark, with_mark}
 use Rattle.minix_bits.specs.Numbers.{has_number}
+use Rattle.minix_bits.proofs.BitLemmas.{bit_elsewhere}
 use Rattle.minix_bits.proofs.MarkLaws.{one_zone_mark}
 use Rattle.minix_steps.specs.Written.{with_sector_of}
 use Rattle.minix_fill.specs.Marks.{with_marks, ZonesMarked}
@@ -76,6 +77,7 @@ pub marked_none : (volume : Volume) (parts : Parts) → ZonesMarked volume parts
 unfolding has_number
 marked_none volume parts = record {
   marks = λ zone data_zone. or_false (parts.has_zone zone);
+  others = λ zone out. refl;
   inodes = λ number there. refl;
   nodes = λ number. refl;
   bytes = λ zone from. refl;
@@ -88,13 +90,20 @@ marked_join volume old mid new xs ys one two = record {
       ∙ ap (λ b. b || has_number ys zone) (one.marks zone data_zone)
       ∙ or_assoc (old.has_zone zone) (has_number xs zone) (has_number ys zone)
       ∙ ap (λ b. old.has_zone zone || b) (sym (has_append xs ys zone));
+  others = λ zone out. two.others zone out ∙ one.others zone out;
   inodes = λ number there. two.inodes number there ∙ one.inodes number there;
   nodes = λ number. two.nodes number ∙ one.nodes number;
   bytes = λ zone from. two.bytes zone from ∙ one.bytes zone from;
 }
 
-marked_first : (volume : Volume) (old mid new : Parts) (zone : ℕ) (zones : List ℕ) → OneZoneMark volume old mid zone true → ZonesMarked volume mid new zones → ZonesMarked volume old new (zone ∷ zones)
-marked_first volume old mid new zone zones one two = record {
+-- bit 0 and those past the last zone stay
+abbrev KeepsOthers : Volume → Parts → Parts → Type 0
+KeepsOthers volume old new =
+    (zone : ℕ) → (zone < volume.layout.first) ⊎ (volume.layout.zones ≤ zone) → new.has_zone zone ≡ old.has_zone zone
+
+marked_first : (volume : Volume) (old mid new : Parts) (zone : ℕ) (zones : List ℕ) → OneZoneMark volume old mid zone true → KeepsOthers volume old mid → ZonesMarked volume mid new zones → ZonesMarked volume old new (zone ∷ zones)
+marked_first volume old mid new zone zones one keeps two = record {
+  others = λ other out. two.others other out ∙ keeps other out;
   marks = λ other data_zone. two.marks other data_zone ∙ ⊎_elim
       (λ is.
       let t : (other == zone) ≡ true = grind (arith, nat_tests) in
@@ -119,6 +128,44 @@ marked_first volume old mid new zone zones one two = record {
 abbrev pub AreIn : Super → ℕ → List ℕ → Type 0
 AreIn super sector zones = All (λ zone. IsDataZone super zone × (zone_mark_sector super zone ≡ sector)) zones
 
+-- another bit than a zone's stays where that one is set
+module _ (volume : Volume) (image : Image) (zone other : ℕ) (apart : zone_bit volume.layout other ≢ zone_bit volume.layout zone)
+    (long : length (sector_of volume image (zone_mark_sector volume.layout zone)) ≡ 512) where
+  abbrev sector : ℕ
+  sector = zone_mark_sector volume.layout zone
+
+  abbrev marked : Image
+  marked = with_mark volume image (zone_mark_sector volume.layout zone) (zone_bit volume.layout zone % 4096) true
+
+  beside : zone_mark_sector volume.layout other ≡ zone_mark_sector volume.layout zone → (parts_of volume marked).has_zone other ≡ (parts_of volume image).has_zone other
+  unfolding parts_of
+  beside same =
+      let k : ℕ = zone_bit volume.layout other % 4096 in
+      let differ : k ≢ zone_bit volume.layout zone % 4096 = λ e. apart (omega arith) in
+      let bytes : List ℕ = sector_of volume image sector in
+      ap (λ (s : ℕ). bit (sector_of volume marked s) k) same
+      ∙ (ap (λ (b : List ℕ). bit b k) (sector_written volume image sector (with_bit bytes (zone_bit volume.layout zone % 4096) true))
+      ∙ (bit_elsewhere bytes (zone_bit volume.layout zone % 4096) k true (omega (arith, long)) differ
+      ∙ sym (ap (λ (s : ℕ). bit (sector_of volume image s) k) same)))
+
+  elsewhere : zone_mark_sector volume.layout other ≢ zone_mark_sector volume.layout zone → (parts_of volume marked).has_zone other ≡ (parts_of volume image).has_zone other
+  unfolding parts_of
+  elsewhere differ =
+      let isnt : here volume.span.disk (volume.span.start + sector) volume.span.disk (volume.span.start + zone_mark_sector volume.layout other) ≡ false =
+      (let start : volume.span.start + sector ≢ volume.span.start + zone_mark_sector volume.layout other = λ e. differ (omega arith) in grind (arith, nat_tests)) in
+      ap (λ (b : List ℕ). bit b (zone_bit volume.layout other % 4096))
+      (with_other image volume.span.disk (volume.span.start + sector) (with_bit (sector_of volume image sector) (zone_bit volume.layout zone % 4096) true) volume.span.disk (volume.span.start + zone_mark_sector volume.layout other) isnt)
+
+  other_bit : (parts_of volume marked).has_zone other ≡ (parts_of volume image).has_zone other
+  other_bit = ⊎_elim beside elsewhere (cases_eq (zone_mark_sector volume.layout other) (zone_mark_sector volume.layout zone))
+
+others_kept : (volume : Volume) (image : Image) (zone : ℕ) → IsDataZone volume.layout zone → length (sector_of volume image (zone_mark_sector volume.layout zone)) ≡ 512
+    → KeepsOthers volume (parts_of volume image) (parts_of volume (with_mark volume image (zone_mark_sector volume.layout zone) (zone_bit volume.layout zone % 4096) true))
+others_kept volume image zone range long other out =
+    other_bit volume image zone other
+    (⊎_elim (λ low. λ e. let r = range.0 in omega (arith, low, e, r)) (λ high. λ e. let r = range.0 in let b = range.1 in omega (arith, high, e, r, b)) out)
+    long
+
 pub bit_length : (bytes : List ℕ) (at : ℕ) → length (with_bit bytes at true) ≡ length bytes
 unfolding with_bit
 bit_length bytes at = length-set bytes _ _
@@ -139,13 +186,15 @@ module _ (volume : Volume) (is : IsSuper volume.layout volume.span.count) (secto
       let O : ℕ → Type 0 = λ s. OneZoneMark volume (parts_of volume image) (parts_of volume (with_mark volume image s at true)) zone true in
       let L : ℕ → Type 0 = λ s. length (sector_of volume image s) ≡ 512 in
       let one = subst O head.1 (one_zone_mark volume image zone true is head.0.0 head.0.1 (subst L (sym head.1) long)) in
+      let K : ℕ → Type 0 = λ s. KeepsOthers volume (parts_of volume image) (parts_of volume (with_mark volume image s at true)) in
+      let keeps = subst K head.1 (others_kept volume image zone head.0 (subst L (sym head.1) long)) in
       let rest = marked_here zones mid (λ k d inside. within (suc k) d (omega (arith, inside)))
       (ap (λ (b : List ℕ). length b) held ∙ bit_length (sector_of volume image sector) at ∙ long) in
       let same : with_sector_of volume mid sector (with_marks volume.layout (sector_of volume mid sector) zones)
       ≡ with_sector_of volume image sector (with_marks volume.layout bytes zones) =
       ap (λ (b : List ℕ). with_sector_of volume mid sector (with_marks volume.layout b zones)) held
       ∙ twice_written image volume.span.disk (volume.span.start + sector) bytes (with_marks volume.layout bytes zones) in
-      marked_first volume (parts_of volume image) (parts_of volume mid) _ zone zones one
+      marked_first volume (parts_of volume image) (parts_of volume mid) _ zone zones one keeps
       (subst (λ (i : Image). ZonesMarked volume (parts_of volume mid) (parts_of volume i) zones) same rest)
 
 -- ---- bits may be set

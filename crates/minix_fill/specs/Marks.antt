@@ -1,5 +1,5 @@
 -- The bits of many zones, and what a call leaves that sets them.
-use Rattle.std.specs.Prelude.{◌≡◌, ◌≤◌, ℕ, ◌+◌, ◌*◌, ◌%◌, ◌||◌, true, All, List, [], ◌∷◌, slice_index, Result, OnOk}
+use Rattle.std.specs.Prelude.{◌≡◌, ◌≤◌, ◌<◌, ◌⊎◌, ℕ, ◌+◌, ◌*◌, ◌%◌, ◌||◌, true, All, List, [], ◌∷◌, slice_index, Result, OnOk}
 use Rattle.disk_trait.specs.declared.disks.Disks.{Ghosts}
 use Rattle.disk_trait.specs.Moments.{IsTold, begun}
 use Rattle.disk_trait.specs.NotWritten.{NotWritten}
@@ -28,6 +28,8 @@ AreTogether super zones = All (λ zone. zone_mark_sector super zone ≡ zone_mar
 -- of the parts of a volume the bits of some zones are set, and all else is as before
 pub record ZonesMarked (volume : model.Volume) (old new : Parts) (zones : List ℕ) : Type 0 where
   pub marks : (zone : ℕ) → IsDataZone volume.layout zone → new.has_zone zone ≡ (old.has_zone zone || has_number zones zone)
+  -- bit 0 and those past the last zone too
+  pub others : (zone : ℕ) → (zone < volume.layout.first) ⊎ (volume.layout.zones ≤ zone) → new.has_zone zone ≡ old.has_zone zone
   pub inodes : (number : ℕ) → number ≤ volume.layout.inodes → new.has_inode number ≡ old.has_inode number
   pub nodes : (number : ℕ) → new.node number ≡ old.node number
   pub bytes : (zone : ℕ) → volume.layout.first ≤ zone → new.zone zone ≡ old.zone zone

@@ -1,12 +1,12 @@
 // The bits of many zones.
-ghost use Rattle.std.specs.Prelude.{◌≡◌, ◌≤◌, ◌<◌, ◌*◌, All, length, take, true};
-ghost use Rattle.lilo_model.specs.MinixParts.{zone_bit, zone_mark_sector, with_bit};
+ghost use Rattle.std.specs.Prelude.{◌≡◌, ◌≤◌, ◌<◌, All, length, take};
 ghost use Rattle.minix_layout.specs.View.{super_view};
 ghost use Rattle.minix_zones.specs.View.{IsDataZone};
 ghost use Rattle.minix_steps.specs.Steps.{IsReady};
 ghost use Rattle.minix_fill.specs.Marks.{with_marks, AreTogether, MarksZones};
 
 use disk_trait::Disks;
+use minix_bits::{put_bit, zone_bit, zone_bit_sector};
 use minix_layout::Super;
 use minix_steps::write_beside;
 use minix_zones::{Volume, ZoneFault};
@@ -44,9 +44,9 @@ fn count_together(layout: &Super, zones: &[u32]) -> usize
     ensures few { result ≤ length zones.now }
     ensures together { AreTogether (super_view layout.now) (take result zones.now) }
 {
-    let sector = mark_sector(layout, zones[0]);
+    let sector = zone_bit_sector(layout, zones[0]);
     let mut many = 1;
-    while many < zones.len() && mark_sector(layout, zones[many]) == sector {
+    while many < zones.len() && zone_bit_sector(layout, zones[many]) == sector {
         many += 1;
     }
     many
@@ -60,7 +60,7 @@ fn mark_together<D: Disks>(volume: &mut Volume<'_, D>, zones: &[u32]) -> Result<
     requires ready { IsReady volume.old }
     ensures { MarksZones volume.old volume.new zones.now result }
 {
-    let sector = mark_sector(volume.layout(), zones[0]);
+    let sector = zone_bit_sector(volume.layout(), zones[0]);
     let mut bytes = [0; 512];
     volume.read_sector(sector, &mut bytes)?;
     set_marks(volume.layout(), zones, &mut bytes);
@@ -74,31 +74,6 @@ fn set_marks(layout: &Super, zones: &[u32], bytes: &mut Sector)
 {
     for zone in zones {
         let at = zone_bit(layout, *zone) % SECTOR_BITS;
-        set_bit(bytes, at as usize);
+        put_bit(bytes, at as usize, true);
     }
-}
-
-// Sets a bit, the lowest of a byte first.
-#[tactic(auto, unfolding(lilo_model::specs::MinixParts::with_bit))]
-fn set_bit(bytes: &mut Sector, at: usize)
-    requires { at < 4096 }
-    ensures { bytes.new ≡ with_bit bytes.old at true }
-{
-    bytes[at / 8] |= 1 << (at % 8);
-}
-
-// The number of a zone's bit: the first data zone has bit 1.
-fn zone_bit(layout: &Super, zone: u32) -> u64
-    requires { layout.now.first ≤ zone }
-    ensures { result ≡ zone_bit (super_view layout.now) zone }
-{
-    u64::from(zone) + 1 - u64::from(layout.first)
-}
-
-// The sector with a zone's bit, counted from the start of the volume.
-fn mark_sector(layout: &Super, zone: u32) -> u64
-    requires { layout.now.first ≤ zone }
-    ensures { result ≡ zone_mark_sector (super_view layout.now) zone }
-{
-    2 * (2 + u64::from(layout.imap)) + zone_bit(layout, zone) / SECTOR_BITS
 }

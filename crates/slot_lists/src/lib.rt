@@ -12,4 +12,4 @@ mod tests;
 pub use cursor::SlotCursor;
 pub use laws::{checked_places_are_the_maps, cursor_gives_all_slots};
 pub use runs::{Run, RunList};
-pub use slots::{CompactFault, DiskSector, check_places, compact, plain_slots};
+pub use slots::{CompactFault, DiskSector, check_places, compact, could_be_one, plain_slots};

@@ -122,9 +122,9 @@ fn joined(alloc: Global, slots: &[Slot], geometry: Geometry) -> Result<Vec<Slot>
     Ok(all)
 }
 
-// Whether one slot could name the sectors of two neighbours.
+/// Whether one slot could name the sectors of two neighbours.
 #[tactic(auto, unfolding(lilo_model::specs::Slots::could_be_one))]
-pub(crate) fn could_be_one(geometry: Geometry, slot: &Slot, other: &Slot) -> bool
+pub fn could_be_one(geometry: Geometry, slot: &Slot, other: &Slot) -> bool
     ensures { result ≡ could_be_one (geometry_view geometry) (slot_view slot.now) (slot_view other.now) }
 {
     slot.disk == other.disk

@@ -1,9 +1,9 @@
 -- The entry at a place past a directory's size, once its bytes were written.
-use Rattle.std.proofs.Common.{◌≡◌, ◌≢◌, ◌≤◌, ◌<◌, ◌+◌, ◌*◌, ◌/◌, ◌%◌, ◌==◌, ℕ, Bool, true, false, List, length, refl, sym, ◌∙◌, ap, subst, arith}
+use Rattle.std.proofs.Common.{◌≡◌, ◌≤◌, ◌+◌, ◌*◌, ◌/◌, ◌%◌, ◌==◌, ℕ, Bool, true, false, List, length, refl, sym, ◌∙◌, ap, arith}
 use Rattle.std.proofs.lemmas.Bool.{eqb-true}
 use Rattle.lilo_model.specs.Bytes.{part_of, with_part}
 use Rattle.lilo_model.specs.Disks.{Image}
-use Rattle.lilo_model.specs.MinixEntries.{Entry, entry_of, entry_in, entries_per_block}
+use Rattle.lilo_model.specs.MinixEntries.{entry_of, entry_in, entries_per_block}
 use Rattle.lilo_model.specs.MinixLayout.{entry_size}
 use Rattle.lilo_model.specs.MinixNames.{zone_number, block, entry, Refers, IsSound}
 use Rattle.lilo_model.specs.MinixParts.{Parts, Volume, block_pointer, zone_bytes, parts_of}

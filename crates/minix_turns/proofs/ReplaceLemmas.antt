@@ -1,6 +1,8 @@
 -- Two turns of entries that put one name in the place of another.
 use Rattle.std.proofs.Common.{◌≡◌, ◌≢◌, ◌⊎◌, ◌<◌, ◌+◌, ◌*◌, ◌/◌, ◌%◌, ◌^◌, ℕ, true, List, ◌∷◌, length, Some, Result, Ok, OnOk, refl, sym, ◌∙◌, ap, subst, arith, inl, inr, ⊎_elim}
 use Rattle.disk_trait.specs.declared.disks.Disks.{Ghosts}
+use Rattle.disk_trait.specs.declared.disks.Span.{Span}
+use Rattle.disk_trait.specs.NotWritten.{IsOther}
 use Rattle.disk_trait.specs.Past.{Image}
 use Rattle.disk_trait.specs.Moments.{IsTold, now, LeavesOnly}
 use Rattle.disk_trait.proofs.CallLemmas.{goes_on_join}
@@ -18,20 +20,21 @@ use Rattle.minix_entry_laws.specs.Enter.{MayStand, MayRemove}
 use Rattle.minix_entry_laws.specs.Only.{zone_of_entry}
 use Rattle.minix_entry_laws.proofs.Only.{directory-refers}
 use Rattle.minix_layout.specs.View.{kind_view, super_view}
+use Rattle.minix_layout.specs.declared.superblock.Super as layout
 use Rattle.minix_sees_laws.specs.Tree.{KeepsNamed, HasTreeWith}
 use Rattle.minix_steps.specs.Written.{with_sector_of, parts_now}
 use Rattle.minix_steps.proofs.StepLemmas.{leaves_told, same_view}
 use Rattle.minix_turns.specs.Joined.{LeadsPath}
 use Rattle.minix_turns.specs.Names.{RedirectsName}
 use Rattle.minix_turns.specs.Part.{TurnsEntry, HasEntryPart}
-use Rattle.minix_turns.specs.Replace.{MayReplaceAt, IsReplaced, IsReplacing, Replaces}
+use Rattle.minix_turns.specs.Replace.{MayReplaceAt, IsReplaced, IsReplacing, Replaces, IsOffEntry}
 use Rattle.minix_turns.specs.declared.replace.EntryPlace.{EntryPlace}
 use Rattle.minix_turns.proofs.EntryLemmas.{free-long, free-inode}
 use Rattle.minix_turns.proofs.PartLemmas.{entry_fits}
 use Rattle.minix_turns.proofs.NameLemmas.{entry_at}
 use Rattle.minix_zone_bytes_laws.specs.Part.{HasZonePart, free_bytes}
 use Rattle.minix_zone_bytes_laws.proofs.Part.{write_part_law}
-use Rattle.minix_zones.specs.Volume.{volume_view, past_of}
+use Rattle.minix_zones.specs.Volume.{volume_view, past_of, KeepsVolume}
 use Rattle.minix_zones.proofs.WriteLemmas.{keeps_join}
 use Rattle.minix_zones.specs.declared.volume.Volume.{Volume}
 
@@ -157,3 +160,10 @@ module _ {D : Type 0} {disks : Ghosts D} (old : Volume D disks) (to from : Entry
       goes_on = goes_on_join disks old.disks.now mid.disks.now new.disks.now leads.goes_on turns.goes_on;
       kept = keeps_join old mid new leads.kept turns.kept;
     }
+
+-- a sector that isn't the one with an entry isn't so of the same volume later
+pub off_entry_stays : {D : Type 0} {disks : Ghosts D} (old mid : Volume D disks) (place : EntryPlace) (d s : ℕ) → KeepsVolume old mid → IsOffEntry old place d s → IsOffEntry mid place d s
+off_entry_stays old mid place d s kept off =
+    let B : layout.Super → Type 0 = λ l. IsOther mid.span.disk (mid.span.start + (zone_sector place.zone + entry_size (kind_view l.kind) * place.index / 512)) d s in
+    let P : Span → Type 0 = λ p. IsOther p.disk (p.start + (zone_sector place.zone + entry_size (kind_view old.layout.kind) * place.index / 512)) d s in
+    subst B (sym kept.same_layout) (subst P (sym kept.same_span) off)

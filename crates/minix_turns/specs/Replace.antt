@@ -1,10 +1,12 @@
 -- One name in the place of another in the same directory, by two turns of entries: in between both lead to the one inode.
-use Rattle.std.specs.Prelude.{◌≢◌, ◌≤◌, ◌<◌, ◌⊎◌, ℕ, List, ◌∷◌, Some, Result, OnOk}
+use Rattle.std.specs.Prelude.{◌≢◌, ◌≤◌, ◌<◌, ◌+◌, ◌*◌, ◌/◌, ◌⊎◌, ℕ, List, ◌∷◌, Some, Result, OnOk}
 use Rattle.disk_trait.specs.declared.disks.Disks.{Ghosts}
 use Rattle.disk_trait.specs.Calls.{GoesOn}
 use Rattle.disk_trait.specs.Moments.{IsTold, now, LeavesOnly}
+use Rattle.disk_trait.specs.NotWritten.{IsOther, NotWritten}
 use Rattle.disk_trait.specs.Past.{Image}
 use Rattle.lilo_model.specs.MinixEntries.{entries_per_block}
+use Rattle.lilo_model.specs.MinixLayout.{entry_size, zone_sector}
 use Rattle.lilo_model.specs.MinixNames.{thing}
 use Rattle.lilo_model.specs.MinixParts as model
 use Rattle.minix_entry_bytes_laws.specs.Replaced.{ReplacedIn}
@@ -63,3 +65,15 @@ ReplacesName old new to from number name result =
     (outer : List (List ℕ)) (directory to_place from_place former : ℕ) (gone : List ℕ)
     → (IsTold (past_of old) → MayReplaceAt old outer directory to_place from_place former number to from name gone)
     → Replaces old new outer former number name gone result
+
+-- ---- what isn't written
+
+-- a sector of a disk isn't the one with an entry
+abbrev pub IsOffEntry : {D : Type 0} {disks : Ghosts D} → Volume D disks → EntryPlace → ℕ → ℕ → Type 0
+IsOffEntry volume place d s =
+    IsOther volume.span.disk (volume.span.start + (zone_sector place.zone + entry_size (kind_view volume.layout.kind) * place.index / 512)) d s
+
+-- a call wrote nothing but the sectors with two entries
+abbrev pub WritesEntriesAlone : {D : Type 0} {disks : Ghosts D} → Volume D disks → Volume D disks → EntryPlace → EntryPlace → Type 0
+WritesEntriesAlone old new to from =
+    (d s : ℕ) → IsOffEntry old to d s → IsOffEntry old from d s → NotWritten (past_of old) (past_of new) d s

@@ -41,6 +41,7 @@ pub fn runs_of<D: Disks>(
     ensures places { Told (past_of volume.old) (λ now. Gives (λ runs. places_in runs) result (with_fault Zone
         (file_places (volume_view volume.old) (parts_of (volume_view volume.old) now) (inode_view inode.now)))) }
     ensures least { IfOk result (λ runs. length runs ≡ runs_needed (places_in runs)) }
+    ensures few { IfOk result (λ runs. length (places_in runs) ≤ 2 * blocks_for inode.now.size) }
     ensures runs { volume.old.span.disk ≤ 3 → IfOk result (λ runs. All IsRun runs) }
 
     // When it is refused.

@@ -1,7 +1,7 @@
 // Files by their paths.
-ghost use Rattle.std.specs.Prelude.{◌≡◌, ◌≤◌, All, IfOk, IfErr, length};
+ghost use Rattle.std.specs.Prelude.{◌≡◌, ◌≤◌, ◌*◌, All, IfOk, IfErr, length};
 ghost use Rattle.disk_trait.specs.Past.{Told};
-ghost use Rattle.lilo_model.specs.MinixParts.{parts_of};
+ghost use Rattle.lilo_model.specs.MinixParts.{parts_of, blocks_for};
 ghost use Rattle.minix_zones.specs.Volume.{volume_view, past_of, faults_of, SameVolume};
 ghost use Rattle.minix_tree.specs.View.{Gives, HasFileCause};
 ghost use Rattle.slot_lists.specs.Runs.{IsRun, places_in};
@@ -36,6 +36,7 @@ pub fn map_file<D: Disks>(
     ensures file { Told (past_of volume.old) (λ now. Gives file_view result
         (file_mapped (volume_view volume.old) (parts_of (volume_view volume.old) now) path.now)) }
     ensures least { IfOk result (λ file. length file.runs ≡ runs_needed (places_in file.runs)) }
+    ensures few { IfOk result (λ file. length (places_in file.runs) ≤ 2 * blocks_for file.size) }
     ensures runs { volume.old.span.disk ≤ 3 → IfOk result (λ file. All IsRun file.runs) }
 
     // When it is refused.

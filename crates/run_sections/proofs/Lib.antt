@@ -1,2 +1,4 @@
+pub mod CountLemmas
 pub mod LeftLemmas
+pub mod PassLemmas
 pub mod SectorLemmas

@@ -18,7 +18,7 @@ made-with : (disk count : ℕ) (address : Result Address AddressFault) (slot : S
 made-with disk count (Ok address) slot is = cc
 made-with disk count (Err fault) slot is = cc
 
-made-disk : (mode : Mode) (geometry : Geometry) (disk sector : ℕ) (slot : Slot) → slot_make mode geometry disk sector 1 ≡ Ok slot → slot.disk ≡ disk
+pub made-disk : (mode : Mode) (geometry : Geometry) (disk sector : ℕ) (slot : Slot) → slot_make mode geometry disk sector 1 ≡ Ok slot → slot.disk ≡ disk
 unfolding slot_make
 made-disk mode geometry disk sector slot is =
     by (has_cylinders mode && nat_lt last_cylinder (cylinder_of geometry (sector + 1 - 1))) (nat_lt 0xFFFFFFFF (sector + 1 - 1)) is

@@ -2,10 +2,15 @@
 //! taken.
 #![tactic(auto)]
 
+mod count;
 mod laws;
 mod section;
 #[cfg(test)]
 mod tests;
 
-pub use laws::{section_sectors_are_the_plans, slots_are_the_plans};
+pub use count::count_slots;
+pub use laws::{
+    counted_slots_are_planned, counting_asks_what_the_plan_asks, section_sectors_are_the_plans,
+    slots_are_the_plans,
+};
 pub use section::{Naming, write_section_at};

@@ -1,9 +1,9 @@
-ghost use Rattle.std.specs.Prelude.{All, IfOk};
-ghost use Rattle.slot_lists.specs.Runs.{IsRun};
+ghost use Rattle.std.specs.Prelude.{◌<◌, ◌≤◌, ◌^◌, All, IfOk, length};
+ghost use Rattle.slot_lists.specs.Runs.{IsRun, places_in};
 
-use crate::{Naming, write_section_at};
+use crate::{Naming, count_slots, write_section_at};
 use disk_trait::Geometry;
-use sector_address::{Address, Mode, Slot};
+use sector_address::{Address, AddressFault, Mode, Slot};
 use sector_parts::Sector;
 use slot_lists::{DiskSector, Run, RunList};
 use std::alloc::{AllocError, Global};
@@ -25,7 +25,8 @@ fn naming(mode: Mode, compact: bool) -> Naming {
 
 // Four sectors, two of a hole, and three more.
 fn holed(alloc: Global) -> Result<RunList, AllocError>
-    ensures { IfOk result (λ runs. All IsRun runs) }
+    ensures runs { IfOk result (λ runs. All IsRun runs) }
+    ensures few { IfOk result (λ runs. length (places_in runs) < 2 ^ 32) }
 {
     let mut runs = Vec::new(alloc);
     runs.push(Run::Stretch {
@@ -42,14 +43,16 @@ fn holed(alloc: Global) -> Result<RunList, AllocError>
     Ok(RunList::new(runs))
 }
 
-// So many sectors from 1000 on.
-fn long(alloc: Global, count: u32) -> Result<RunList, AllocError>
-    ensures { IfOk result (λ runs. All IsRun runs) }
+// So many sectors from a number on.
+fn long(alloc: Global, start: u64, count: u32) -> Result<RunList, AllocError>
+    requires { start ≤ 2 ^ 32 }
+    ensures runs { IfOk result (λ runs. All IsRun runs) }
+    ensures few { IfOk result (λ runs. length (places_in runs) < 2 ^ 32) }
 {
     let mut runs = Vec::new(alloc);
     runs.push(Run::Stretch {
         disk: 0,
-        start: 1000,
+        start,
         count,
     })?;
     Ok(RunList::new(runs))
@@ -104,7 +107,7 @@ fn neighbours_are_joined_up_to_a_track(rt: HostRuntime) -> Result<(), Fail> {
 // 64 sectors: 63 in the first section sector, with the link, and one in the second.
 #[test]
 fn the_sixty_fourth_is_in_the_next_sector(rt: HostRuntime) -> Result<(), Fail> {
-    let runs = long(rt.alloc(), 64)?;
+    let runs = long(rt.alloc(), 1000, 64)?;
     let link = Slot {
         disk: 0,
         count: 1,
@@ -147,10 +150,33 @@ fn the_sixty_fourth_is_in_the_next_sector(rt: HostRuntime) -> Result<(), Fail> {
 // 63 slots of 127 sectors each fill a section sector, and the one after it has what is left.
 #[test]
 fn joined_slots_are_passed_whole(rt: HostRuntime) -> Result<(), Fail> {
-    let runs = long(rt.alloc(), 8003)?;
+    let runs = long(rt.alloc(), 1000, 8003)?;
     let mut sector: Sector = [9; 512];
     write_section_at(naming(Mode::Lba32, true), &runs, ZERO, 1, None, &mut sector);
     assert!(rt; has(&sector, 0, &by_number(9001, 2)));
     assert!(rt; &sector[8..] == [0; 504].as_slice());
+    Ok(())
+}
+
+// What `count_slots` counts of the runs with a hole: 4, 2 and 3 sectors, or 1 slot, 2 and 2 by a track's end.
+#[test]
+fn slots_are_counted(rt: HostRuntime) -> Result<(), Fail> {
+    let holed = holed(rt.alloc())?;
+    assert!(rt; count_slots(naming(Mode::Lba32, false), &holed) == Ok(9));
+    assert!(rt; count_slots(naming(Mode::Lba32, true), &holed) == Ok(4));
+    assert!(rt; count_slots(naming(Mode::Chs, true), &holed) == Ok(5));
+    let long = long(rt.alloc(), 1000, 8003)?;
+    assert!(rt; count_slots(naming(Mode::Lba32, true), &long) == Ok(64));
+    Ok(())
+}
+
+// 1024 cylinders of 16 heads and 63 sectors end before sector 1,032,192.
+#[test]
+fn the_first_sector_without_a_slot_is_refused(rt: HostRuntime) -> Result<(), Fail> {
+    let runs = long(rt.alloc(), 1_032_190, 3)?;
+    let refused = Err(AddressFault::Cylinder(1024));
+    assert!(rt; count_slots(naming(Mode::Chs, false), &runs) == refused);
+    assert!(rt; count_slots(naming(Mode::Linear, true), &runs) == refused);
+    assert!(rt; count_slots(naming(Mode::Lba32, false), &runs) == Ok(3));
     Ok(())
 }

@@ -68,3 +68,9 @@ returns-clause-places g c =
 pub returns-clause-least : goal.returns-clause-least
 returns-clause-least g c =
     subst (λ runs. length runs ≡ runs_needed (places_in runs)) (sym c.new.ensures) (joined-needed c.loop-index.runs.items c.loop-index.invariant.joined)
+
+pub returns-clause-few : goal.returns-clause-few
+returns-clause-few g c =
+    let whole = ap (λ runs. length (places_in runs)) c.new.ensures in
+    let end = rw c.blocks_for-index-end.ensures at c.loop-index.auto.index-end in
+    omega (arith, whole, c.loop-index.invariant.long, end)

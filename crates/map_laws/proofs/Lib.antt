@@ -23,3 +23,4 @@ pub mod AcceptedSections
 pub mod AcceptedWhole
 pub mod Laid
 pub mod Holder
+pub mod Fit

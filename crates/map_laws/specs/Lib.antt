@@ -1,6 +1,7 @@
 pub mod Accepted
 pub mod Compact
 pub mod Files
+pub mod Fit
 pub mod Lies
 pub mod Lines
 pub mod MapLays

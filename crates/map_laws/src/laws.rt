@@ -8,6 +8,7 @@ ghost use Rattle.map_laws.specs.Accepted.{
 };
 ghost use Rattle.map_laws.specs.Compact.{CompactLaw};
 ghost use Rattle.map_laws.specs.Files.{FileLaw, OptionalFileLaw};
+ghost use Rattle.map_laws.specs.Fit.{FitLaw};
 ghost use Rattle.map_laws.specs.Lies.{MapLaw};
 ghost use Rattle.map_laws.specs.Lines.{LinesLaw};
 ghost use Rattle.map_laws.specs.MapLays.{AcceptedLaysLaw, LaysHeldLaw, LaysLaw, LaysStaysLaw, PlannedLaysLaw};
@@ -76,6 +77,11 @@ pub fn accepted_file_lies()
 /// So does one that may be absent or empty.
 pub fn accepted_optional_file_lies()
     ensures { AcceptedOptionalLaw }
+{}
+
+/// A kernel, an initrd and a line that fit are refused by a boot for the memory alone, and others always are.
+pub fn fitting_kernel_is_loaded()
+    ensures { FitLaw }
 {}
 
 /// And what they accept lies as planned, so that the other laws hold of it too.

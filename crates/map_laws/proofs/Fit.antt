@@ -3,9 +3,8 @@ use Rattle.std.proofs.Common.{◌≡◌, ◌↔◌, ℕ, ◌+◌, ◌-◌, ◌==
 use Rattle.std.specs.Prelude.{◌||◌, nat_le, not, is_some, is_none, option_map, IsOk}
 use Rattle.lilo_model.specs.Bytes.{number16}
 use Rattle.lilo_model.specs.Checks.{◌>>=◌, require}
-use Rattle.lilo_model.specs.Header.{Header, Region, Layout, SetupFault, TooShort, NoBootFlag, SetupTooLarge, LowTooLarge, NoInitrd, LineTooLong, NoRoom, setup_of, real_size, header_of, header_at, fit_checks, plan_memory, protected_size, protected_address, protected_end, initrd_region, initrd_between, initrd_least, initrd_end, page_below}
+use Rattle.lilo_model.specs.Header.{Header, Layout, SetupFault, TooShort, NoBootFlag, SetupTooLarge, LowTooLarge, NoInitrd, LineTooLong, NoRoom, setup_of, real_size, header_of, header_at, fit_checks, plan_memory, protected_size, protected_end, initrd_region, initrd_least, initrd_end, page_below}
 use Rattle.lilo_model.specs.Place.{Loading, first_two, kernel_fit, place, written_by}
-use Rattle.lilo_model.specs.Reason as reasons
 use Rattle.lilo_model.proofs.PlaceLaws.{ending_of, loaded_ending-place}
 use Rattle.map_laws.specs.Fit.{IsLoadedOrTooLarge, FitLaw}
 

@@ -32,17 +32,12 @@ use Rattle.minix_grow.specs.Hook.{MayHookTopNow}
 use Rattle.minix_grow.specs.Places.{IsFreePlace, IsFreePlaceNow}
 use Rattle.minix_grow.specs.Way.{depth_of, pointer_above, index_above, number_above, zones_below, grown_bytes, AreGrown}
 use Rattle.minix_grow.specs.Zones.{AreData, AreGrownNow}
-use Rattle.minix_grow.proofs.ChainLemmas.{holds, chain}
+use Rattle.minix_grow.proofs.CompleteLemmas.{may_hook_high, some_zone, entry_free}
 use Rattle.minix_grow.proofs.ExtendLemmas.{view_after}
-use Rattle.minix_grow.proofs.WayLemmas.{pointer_below, pointer_highest, pointer_lowest, down_below}
+use Rattle.minix_grow.proofs.WayLemmas.{pointer_highest}
 use Rattle.minix_grow.proofs.ZoneLemmas.{zones_fit}
 
-per_some : (kind : Kind) → 0 < numbers_in_zone kind
-per_some V1Short = omega arith
-per_some V1Long = omega arith
-per_some V2Short = omega arith
-per_some V2Long = omega arith
-
+-- the way begins with a number of the inode
 module _ (super : Super) (parts : Parts) (directory place-block : ℕ) (growth : List ℕ) (grown : AreGrown super parts place-block growth (suc (depth_of super.kind place-block)))
     (small : (level : ℕ) → level < suc (depth_of super.kind place-block) → slice_index growth level < 256 ^ number_size super.kind) where
   abbrev Depth : ℕ
@@ -51,71 +46,11 @@ module _ (super : Super) (parts : Parts) (directory place-block : ℕ) (growth :
   abbrev Top : Pointer
   Top = pointer_at (branch_of (numbers_in_zone super.kind) place-block).top []
 
-  down-top : down Top (zones_below super.kind place-block growth Depth) ≡ block_pointer super.kind place-block
-  down-top =
-      ap (λ at. down at (zones_below super.kind place-block growth Depth)) (sym (pointer_highest super.kind place-block))
-      ∙ (down_below super.kind place-block growth Depth (omega arith) ∙ pointer_lowest super.kind place-block)
-
-  -- the way begins with a number of the inode
   pub may_hook_top : Named super parts directory → is_directory (parts.node directory) ≡ true → number_above super parts directory place-block Depth ≡ 0
       → MayHook super parts directory Top (slice_index growth Depth) (zones_below super.kind place-block growth Depth)
-  may_hook_top named is hole = record {
-    named = named;
-    is = is;
-    place = subst (IsPointer super.kind) (sym down-top) ((pointer_law super.kind).is place-block);
-    hole = ap (pointer super parts directory) (sym (pointer_highest super.kind place-block)) ∙ hole;
-    some = grown.some Depth (omega arith);
-    fresh = grown.fresh Depth (omega arith);
-    chain = chain super parts place-block growth (suc Depth) grown small (per_some super.kind) Depth (omega arith);
-  }
-
-  -- in parts where these zones stay and the number of the highest one is found, that of each is
-  module _ (new : Parts) (zones : (level : ℕ) → level < suc Depth → new.zone (slice_index growth level) ≡ parts.zone (slice_index growth level)) where
-    below-by : (zone index : ℕ) → zone ≢ 0 → (hole : Bool) → (zone == 0) ≡ hole → number_below super.kind new.zone zone index ≡ number_in super.kind (new.zone zone) index
-    below-by zone index some true hole = absurd (some (eqb-true zone 0 hole))
-    below-by zone index some false hole = rw hole refl
-
-    step : (level : ℕ) → suc level < suc Depth → pointer super new directory (pointer_above super.kind place-block (suc level)) ≡ slice_index growth (suc level)
-        → pointer super new directory (below (pointer_above super.kind place-block (suc level)) (index_above super.kind place-block level)) ≡ slice_index growth level
-    unfolding follow
-    step level low upper =
-        let index : ℕ = index_above super.kind place-block level in
-        ap (λ z. number_below super.kind new.zone z index) upper
-        ∙ (below-by (slice_index growth (suc level)) index (grown.some (suc level) low) _ refl
-        ∙ (ap (λ b. number_in super.kind b index) (zones (suc level) low) ∙ (holds super parts place-block growth (suc Depth) grown small (per_some super.kind) level low).here))
-
-    leads : (level more : ℕ) → level + more ≡ Depth → pointer super new directory (pointer_above super.kind place-block Depth) ≡ slice_index growth Depth
-        → pointer super new directory (pointer_above super.kind place-block level) ≡ slice_index growth level
-    leads level zero same top =
-        let e : Depth ≡ level = omega (arith, same) in
-        let P : ℕ → Type 0 = λ l. pointer super new directory (pointer_above super.kind place-block l) ≡ slice_index growth l in
-        subst P e top
-    leads level (suc more) same top =
-        let upper = leads (suc level) more (omega (arith, same)) top in
-        let low : level < Depth = omega (arith, same) in
-        ap (pointer super new directory) (pointer_below super.kind place-block level low) ∙ step level (omega (arith, low)) upper
-
-    module _ (place : ℕ) (here : place / entries_per_block super.kind ≡ place-block) (top : pointer super new directory Top ≡ slice_index growth Depth) where
-      lowest : zone_number super new directory place-block ≡ slice_index growth 0
-      unfolding zone_number
-      lowest =
-          ap (pointer super new directory) (sym (pointer_lowest super.kind place-block))
-          ∙ leads 0 Depth (omega arith) (ap (pointer super new directory) (pointer_highest super.kind place-block) ∙ top)
-
-      pub some_zone : zone_number super new directory (place / entries_per_block super.kind) ≢ 0
-      some_zone none = grown.some 0 (omega arith) (sym lowest ∙ (ap (zone_number super new directory) (sym here) ∙ none))
-
-      bytes-by : (hole : Bool) → (slice_index growth 0 == 0) ≡ hole → zone_bytes new (slice_index growth 0) ≡ replicate 1024 0
-      unfolding grown_bytes
-      bytes-by true hole = absurd (grown.some 0 (omega arith) (eqb-true (slice_index growth 0) 0 hole))
-      bytes-by false hole = rw hole (zones 0 (omega arith) ∙ grown.bytes 0 (omega arith))
-
-      pub entry_free : (entry super new directory place).inode ≡ 0
-      unfolding entry block
-      entry_free =
-          let E : List ℕ → ℕ = λ bytes. (entry_in super.kind bytes (place % entries_per_block super.kind)).inode in
-          let B : ℕ → List ℕ = λ index. zone_bytes new (zone_number super new directory index) in
-          ap E (ap B here ∙ (ap (zone_bytes new) lowest ∙ bytes-by _ refl)) ∙ entry-zeros super.kind (place % entries_per_block super.kind)
+  may_hook_top named is hole =
+      let P : Pointer → Type 0 = λ at. MayHook super parts directory at (slice_index growth Depth) (zones_below super.kind place-block growth Depth) in
+      subst P (pointer_highest super.kind place-block) (may_hook_high super parts directory place-block growth Depth (omega arith) grown small named is hole)
 
 -- an inode that was written with another number and size is so
 module _ {D E : Type 0} {disks : Ghosts D} (old new : Volume D disks) (directory top zone size : ℕ) (node : Inode) (error : E) (fits : FitsInode (super_view old.layout).kind node) (fit : FitsTop (super_view old.layout).kind top zone)
@@ -150,6 +85,9 @@ module _ (view : model.Volume) (old image : Image) (directory place-block size :
   unfolding follow
   top-is = ap (λ (i : Inode). slice_index i.zones (branch_of (numbers_in_zone view.layout.kind) place-block).top) change.here ∙ rw get_or-set_same refl
 
+  high-is : number_above view.layout Is directory place-block (depth_of view.layout.kind place-block) ≡ slice_index growth (depth_of view.layout.kind place-block)
+  high-is = ap (pointer view.layout Is directory) (pointer_highest view.layout.kind place-block) ∙ top-is
+
   zones-stay : (level : ℕ) → level < suc (depth_of view.layout.kind place-block) → Is.zone (slice_index growth level) ≡ (model.parts_of view old).zone (slice_index growth level)
   zones-stay level low = change.zones (slice_index growth level) (grown.fresh level low).range
 
@@ -162,9 +100,10 @@ module _ (view : model.Volume) (old image : Image) (directory place-block size :
           is = directory-same view.layout (model.parts_of view old) Is seen.sees directory named ∙ is;
           reached = rw size-is (blocks_reached view.layout.kind size small sized);
           below = rw size-is below;
-          some = some_zone view.layout (model.parts_of view old) directory place-block growth grown fit Is zones-stay place here top-is;
+          some = λ none. some_zone view.layout (model.parts_of view old) directory place-block growth (depth_of view.layout.kind place-block) (omega arith) grown fit Is zones-stay high-is
+              (sym (ap (zone_number view.layout Is directory) here) ∙ none);
         };
-        free = entry_free view.layout (model.parts_of view old) directory place-block growth grown fit Is zones-stay place here top-is;
+        free = entry_free view.layout (model.parts_of view old) directory place-block growth (depth_of view.layout.kind place-block) (omega arith) grown fit Is zones-stay high-is place here;
       }
 
 -- ---- on a volume, with the branch of the block as it was found

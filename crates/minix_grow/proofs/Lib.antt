@@ -3,6 +3,11 @@ pub mod ChainLemmas
 pub mod PlaceLemmas
 pub mod ExtendLemmas
 pub mod ZoneLemmas
+pub mod CompleteLemmas
 pub mod HookLemmas
+pub mod BelowLemmas
+pub mod RaiseLemmas
+pub mod LowestLemmas
+pub mod GrowLemmas
 pub mod OtherLemmas
 pub mod AfterLemmas

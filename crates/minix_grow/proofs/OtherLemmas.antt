@@ -1,5 +1,5 @@
 -- What a directory's growth writes, and what it doesn't.
-use Rattle.std.proofs.Common.{◌≡◌, ◌+◌, ℕ, List, Result, sym, subst}
+use Rattle.std.proofs.Common.{◌≡◌, ◌+◌, ◌-◌, ◌/◌, ℕ, List, Result, sym, subst}
 use Rattle.std.specs.Prelude.{slice_index}
 use Rattle.disk_trait.specs.declared.disks.Disks.{Ghosts}
 use Rattle.disk_trait.specs.declared.disks.Span.{Span}
@@ -16,7 +16,10 @@ use Rattle.minix_zones.specs.Volume.{KeepsVolume}
 use Rattle.minix_zones.specs.declared.volume.Volume.{Volume}
 use Rattle.minix_zones.specs.declared.zone_fault.ZoneFault.{ZoneFault}
 use Rattle.minix_zones.specs.declared.zone_fault.ZoneFault.TheVariants.{Device}
+use Rattle.minix_zone_bytes_laws.specs.Part.{offset_of_number}
+use Rattle.minix_grow.specs.Below.{IsOffNumber}
 use Rattle.minix_grow.specs.Hook.{IsOffInode, hooked}
+use Rattle.minix_grow.specs.Way.{index_above}
 use Rattle.minix_grow.specs.Zones.{IsOffZone, IsOffZones}
 
 module _ {D : Type 0} {disks : Ghosts D} (old mid : Volume D disks) (kept : KeepsVolume old mid) where
@@ -40,6 +43,15 @@ module _ {D : Type 0} {disks : Ghosts D} (old mid : Volume D disks) (kept : Keep
       let B : Super → Type 0 = λ l. IsOther mid.span.disk (mid.span.start + (inode_place (super_view l) number).sector) d s in
       let P : Span → Type 0 = λ p. IsOther p.disk (p.start + (inode_place (super_view old.layout) number).sector) d s in
       subst B (sym kept.same_layout) (subst P (sym kept.same_span) other)
+
+  -- and one that isn't that of a number in an indirect zone
+  pub off_number_stays : (place-block count zone d s : ℕ) → IsOffNumber old place-block count zone d s → IsOffNumber mid place-block count zone d s
+  off_number_stays place-block count zone d s off =
+      let B : Super → Type 0 = λ l.
+      IsOther mid.span.disk (mid.span.start + (zone_sector zone + offset_of_number (kind_view l.kind) (index_above (kind_view l.kind) place-block (count - 1)) / 512)) d s in
+      let P : Span → Type 0 = λ p.
+      IsOther p.disk (p.start + (zone_sector zone + offset_of_number (kind_view old.layout.kind) (index_above (kind_view old.layout.kind) place-block (count - 1)) / 512)) d s in
+      subst B (sym kept.same_layout) (subst P (sym kept.same_span) off)
 
 -- a turn of the number where a block's branch begins is that of the highest zone on the way to it
 pub turns_hooked : {D : Type 0} {disks : Ghosts D} (old new : Volume D disks) (directory place-block size top first depth : ℕ) (node : Inode) (growth : List ℕ)

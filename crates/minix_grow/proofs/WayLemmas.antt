@@ -65,3 +65,14 @@ down_below kind block growth zero low = refl
 down_below kind block growth (suc level) low =
     let D : Pointer → Pointer = λ at. down at (zones_below kind block growth level) in
     ap D (sym (pointer_below kind block level low)) ∙ down_below kind block growth level (omega (arith, low))
+
+-- no more than three levels lead to a block
+few-by : (per block : ℕ) (one two three : Bool) → nat_lt block 7 ≡ one → nat_lt block (7 + per) ≡ two → nat_lt block (7 + per + per * per) ≡ three → (branch_of per block).depth ≤ 3
+unfolding branch_of
+few-by per block true two three is is' is'' = rw is (omega arith)
+few-by per block false true three is is' is'' = rw (is, is') (omega arith)
+few-by per block false false true is is' is'' = rw (is, is', is'') (omega arith)
+few-by per block false false false is is' is'' = rw (is, is', is'') (omega arith)
+
+pub depth_few : (kind : Kind) (block : ℕ) → depth_of kind block ≤ 3
+depth_few kind block = few-by (numbers_in_zone kind) block _ _ _ refl refl refl

@@ -33,3 +33,7 @@ IsOffInode volume number d s = IsOther volume.span.disk (volume.span.start + (in
 abbrev pub WritesGrowthAlone : {D : Type 0} {disks : Ghosts D} → Volume D disks → Volume D disks → ℕ → List ℕ → Type 0
 WritesGrowthAlone old new directory growth =
     (d s : ℕ) → IsOffZones old growth d s → IsOffInode old directory d s → NotWritten (past_of old) (past_of new) d s
+
+-- a call wrote nothing but the sector with an inode
+abbrev pub WritesInodeAlone : {D : Type 0} {disks : Ghosts D} → Volume D disks → Volume D disks → ℕ → Type 0
+WritesInodeAlone old new directory = (d s : ℕ) → IsOffInode old directory d s → NotWritten (past_of old) (past_of new) d s

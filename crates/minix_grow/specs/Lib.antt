@@ -2,3 +2,5 @@ pub mod Way
 pub mod Places
 pub mod Zones
 pub mod Hook
+pub mod Below
+pub mod Grow

@@ -1,11 +1,11 @@
 -- The way to a block of a directory, from the block up: at level 0 is the block's own number, and each level more is
 -- that of the indirect zone above (Minix file system, versions 1 and 2). What zones hold by which a way is completed is
 -- this project's own.
-use Rattle.std.specs.Prelude.{◌≡◌, ◌≢◌, ◌<◌, ℕ, zero, suc, ◌/◌, ◌%◌, ◌^◌, List, [], ◌∷◌, replicate, slice_index}
+use Rattle.std.specs.Prelude.{◌≡◌, ◌≢◌, ◌≤◌, ◌<◌, ℕ, zero, suc, ◌/◌, ◌%◌, ◌^◌, List, [], ◌∷◌, replicate, slice_index}
 use Rattle.lilo_model.specs.Bytes.{with_part}
-use Rattle.lilo_model.specs.MinixLayout.{Kind, Super, numbers_in_zone}
+use Rattle.lilo_model.specs.MinixLayout.{Kind, Super, Inode, numbers_in_zone}
 use Rattle.lilo_model.specs.MinixNames.{pointer}
-use Rattle.lilo_model.specs.MinixParts.{Parts, Pointer}
+use Rattle.lilo_model.specs.MinixParts.{Parts, Pointer, zone_at_pointer}
 use Rattle.lilo_model.specs.MinixWalk.{branch_of, place_in_branch, stop_pointer}
 use Rattle.minix_growth_laws.specs.Grows.{Deeper}
 use Rattle.minix_sees_laws.specs.Sees.{IsFresh}
@@ -25,9 +25,19 @@ pointer_above kind block level = stop_pointer (numbers_in_zone kind) (record { i
 abbrev pub index_above : Kind → ℕ → ℕ → ℕ
 index_above kind block level = place_in_branch (numbers_in_zone kind) block / numbers_in_zone kind ^ level % numbers_in_zone kind
 
--- that number
+-- that number, by an inode
+abbrev pub number_on_way : Super → Parts → Inode → ℕ → ℕ → ℕ
+number_on_way super parts node block level = zone_at_pointer super parts node (pointer_above super.kind block level)
+
+-- and by the number of the inode
 abbrev pub number_above : Super → Parts → ℕ → ℕ → ℕ → ℕ
 number_above super parts directory block level = pointer super parts directory (pointer_above super.kind block level)
+
+-- The way of an inode to a block is there down to a level: there it has the number of a zone, or it has none at all, and
+-- below that there is a hole.
+pub record ReachesDown (super : Super) (parts : Parts) (node : Inode) (block level zone : ℕ) : Type 0 where
+  pub number : level ≤ depth_of super.kind block → number_on_way super parts node block level ≡ zone
+  pub hole : (lower : ℕ) → level ≡ suc lower → number_on_way super parts node block lower ≡ 0
 
 -- ---- zones by which the way is completed, the lowest first
 

@@ -1,5 +1,5 @@
 -- What a directory may get it may get after steps, which touch nothing with a name.
-use Rattle.std.proofs.Common.{◌≡◌, ◌≤◌, ◌<◌, ◌-◌, ℕ, true, sym, ◌∙◌, ap, subst, arith}
+use Rattle.std.proofs.Common.{◌≡◌, ◌≤◌, ◌-◌, ℕ, true, sym, ◌∙◌, ap, subst, arith}
 use Rattle.disk_trait.specs.declared.disks.Disks.{Ghosts}
 use Rattle.disk_trait.specs.Past.{Image}
 use Rattle.disk_trait.specs.Moments.{IsTold, now, IsQuiet}

@@ -1,5 +1,5 @@
 -- A directory that gets new zones by a number in an indirect zone that it has.
-use Rattle.std.proofs.Common.{◌≡◌, ◌≢◌, ◌≤◌, ◌<◌, ◌+◌, ◌-◌, ◌/◌, ◌^◌, ℕ, suc, true, List, length, Result, OnOk, refl, sym, ◌∙◌, ap, subst, subst₂, arith}
+use Rattle.std.proofs.Common.{◌≡◌, ◌≢◌, ◌<◌, ◌-◌, ◌^◌, ℕ, suc, true, List, length, Result, OnOk, sym, ◌∙◌, ap, subst, arith}
 use Rattle.std.specs.Prelude.{slice_index}
 use Rattle.disk_trait.specs.declared.disks.Disks.{Ghosts}
 use Rattle.disk_trait.specs.Past.{Image}
@@ -10,15 +10,12 @@ use Rattle.lilo_model.specs.MinixNames.{Named, Refers, IsSound}
 use Rattle.lilo_model.specs.MinixParts as model
 use Rattle.lilo_model.specs.MinixParts.{Parts, is_directory, number_below, number_in}
 use Rattle.minix_beside_laws.specs.Beside.{IsDataZone}
-use Rattle.minix_growth_laws.specs.Changes.{HasNumber}
-use Rattle.minix_growth_laws.specs.Grows.{below}
 use Rattle.minix_layout.specs.View.{kind_view, super_view}
 use Rattle.minix_sees_laws.specs.Sees.{SeenAsIn}
 use Rattle.minix_sees_laws.proofs.Inode.{directory-zones}
 use Rattle.minix_sees_laws.proofs.Seen.{opened}
 use Rattle.minix_sees_laws.proofs.Sees.{directory-same, named-new}
 use Rattle.minix_steps.specs.Written.{parts_now}
-use Rattle.minix_turns.specs.Joined.{Unseen}
 use Rattle.minix_turns.specs.Names.{MayHookAt, HooksUnseen}
 use Rattle.minix_turns.specs.Part.{HasNumberPart}
 use Rattle.minix_zone_bytes_laws.specs.Part.{HasZonePart, PartIsWritten, number_bytes, offset_of_number}
@@ -27,7 +24,7 @@ use Rattle.minix_zone_bytes_laws.proofs.Part.{part_law}
 use Rattle.minix_zones.specs.Volume.{volume_view, past_of}
 use Rattle.minix_zones.specs.declared.volume.Volume.{Volume}
 use Rattle.minix_zones.specs.declared.zone_fault.ZoneFault.{ZoneFault}
-use Rattle.minix_grow.specs.Below.{MayHookBelowNow, HasFreeBlock, HasFreeBlockNow, HooksBelowUnseen, HooksFreeBlock}
+use Rattle.minix_grow.specs.Below.{MayHookBelowNow, HasFreeBlock, HooksBelowUnseen, HooksFreeBlock}
 use Rattle.minix_grow.specs.Way.{depth_of, pointer_above, index_above, number_above, zones_below, AreGrown}
 use Rattle.minix_grow.specs.Zones.{AreData, AreGrownNow}
 use Rattle.minix_grow.proofs.CompleteLemmas.{way_is_pointer, number_there, number_step, may_hook_high, some_zone, entry_free}

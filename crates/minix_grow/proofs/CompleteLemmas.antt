@@ -7,7 +7,7 @@ use Rattle.lilo_model.specs.MinixLayout.{Kind, Super, Inode, number_size}
 use Rattle.lilo_model.specs.MinixNames.{pointer, zone_number, block, entry, Named}
 use Rattle.lilo_model.specs.MinixParts.{Parts, Pointer, IsPointer, block_pointer, follow, number_below, number_in, zone_at_pointer, zone_bytes, is_directory}
 use Rattle.minix_growth_laws.specs.Changes.{MayHook}
-use Rattle.minix_growth_laws.specs.Grows.{below, down}
+use Rattle.minix_growth_laws.specs.Grows.{down}
 use Rattle.minix_growth_laws.proofs.Zeros.{entry-zeros}
 use Rattle.minix_laws.proofs.Inside.{some_numbers}
 use Rattle.minix_laws.proofs.Pointers.{pointer_law}

@@ -1,21 +1,18 @@
 -- A directory that gets new zones by a number in its inode.
-use Rattle.std.proofs.Common.{◌≡◌, ◌≢◌, ◌<◌, ◌+◌, ◌/◌, ◌%◌, ◌^◌, ◌==◌, ℕ, zero, suc, Bool, true, false, List, [], length, replicate, Result, OnOk, refl, sym, ◌∙◌, ap, subst, subst₂, arith, get_or-set_same}
+use Rattle.std.proofs.Common.{◌≡◌, ◌<◌, ◌+◌, ◌/◌, ◌^◌, ℕ, suc, true, List, [], length, Result, OnOk, refl, sym, ◌∙◌, ap, subst, subst₂, arith, get_or-set_same}
 use Rattle.std.specs.Prelude.{slice_index}
-use Rattle.std.proofs.lemmas.Bool.{eqb-true}
 use Rattle.disk_trait.specs.declared.disks.Disks.{Ghosts}
 use Rattle.disk_trait.specs.Past.{Image}
 use Rattle.disk_trait.specs.Moments.{IsTold, now}
 use Rattle.disk_trait.proofs.MomentLemmas.{on_ok}
-use Rattle.lilo_model.specs.MinixEntries.{entry_in, entries_per_block, places}
-use Rattle.lilo_model.specs.MinixLayout.{Kind, V1Short, V1Long, V2Short, V2Long, Super, Inode, FitsInode, inode_place, is_size, numbers_in_zone, number_size}
-use Rattle.lilo_model.specs.MinixNames.{pointer, zone_number, block, entry, Named}
+use Rattle.lilo_model.specs.MinixEntries.{entries_per_block, places}
+use Rattle.lilo_model.specs.MinixLayout.{Super, Inode, FitsInode, inode_place, is_size, numbers_in_zone, number_size}
+use Rattle.lilo_model.specs.MinixNames.{pointer, zone_number, Named}
 use Rattle.lilo_model.specs.MinixParts as model
 use Rattle.lilo_model.specs.MinixParts.{Parts, Pointer, IsPointer, block_pointer, follow, number_below, number_in, zone_bytes, is_directory}
 use Rattle.lilo_model.specs.MinixWalk.{Branch, branch_of}
 use Rattle.minix_growth_laws.specs.Changes.{ChangesNode, MayHook, with_top}
-use Rattle.minix_growth_laws.specs.Grows.{pointer_at, below, down}
-use Rattle.minix_growth_laws.proofs.Zeros.{entry-zeros}
-use Rattle.minix_laws.proofs.Pointers.{pointer_law}
+use Rattle.minix_growth_laws.specs.Grows.{pointer_at, below}
 use Rattle.minix_layout.specs.View.{kind_view, super_view}
 use Rattle.minix_sees_laws.specs.Sees.{SeenAsIn}
 use Rattle.minix_sees_laws.proofs.Sees.{directory-same, named-new}
@@ -30,7 +27,7 @@ use Rattle.minix_zones.specs.declared.zone_fault.ZoneFault.{ZoneFault}
 use Rattle.minix_zones.specs.declared.zone_fault.ZoneFault.TheVariants.{Device}
 use Rattle.minix_grow.specs.Hook.{MayHookTopNow}
 use Rattle.minix_grow.specs.Places.{IsFreePlace, IsFreePlaceNow}
-use Rattle.minix_grow.specs.Way.{depth_of, pointer_above, index_above, number_above, zones_below, grown_bytes, AreGrown}
+use Rattle.minix_grow.specs.Way.{depth_of, number_above, zones_below, AreGrown}
 use Rattle.minix_grow.specs.Zones.{AreData, AreGrownNow}
 use Rattle.minix_grow.proofs.CompleteLemmas.{may_hook_high, some_zone, entry_free}
 use Rattle.minix_grow.proofs.ExtendLemmas.{view_after}

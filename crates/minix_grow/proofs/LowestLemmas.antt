@@ -1,9 +1,9 @@
 -- The lowest zone that is there on the way to a block.
-use Rattle.std.proofs.Common.{◌≡◌, ◌≢◌, ◌≤◌, ◌<◌, ◌-◌, ◌+◌, ◌==◌, ◌||◌, ◌&&◌, ℕ, suc, Bool, true, false, nat_le, nat_lt, Ok, refl, sym, ◌∙◌, ap, subst, subst₂, arith, inl, inr}
+use Rattle.std.proofs.Common.{◌≡◌, ◌≢◌, ◌≤◌, ◌<◌, ◌+◌, ◌==◌, ◌||◌, ◌&&◌, ℕ, suc, Bool, true, false, nat_le, nat_lt, Ok, refl, sym, ◌∙◌, ap, subst, subst₂, arith, inl, inr}
 use Rattle.std.specs.Prelude.{slice_index}
 use Rattle.disk_trait.specs.declared.disks.Disks.{Ghosts}
 use Rattle.disk_trait.specs.Past.{Image, Told}
-use Rattle.disk_trait.specs.Moments.{IsTold, now}
+use Rattle.disk_trait.specs.Moments.{IsTold}
 use Rattle.disk_trait.proofs.MomentLemmas.{told_now}
 use Rattle.lilo_model.specs.MinixLayout.{Super, Inode, numbers_in_zone}
 use Rattle.lilo_model.specs.MinixParts as model
@@ -18,7 +18,7 @@ use Rattle.minix_zones.proofs.SameLemmas.{told_back}
 use Rattle.minix_zones.specs.declared.volume.Volume.{Volume}
 use Rattle.minix_zones.specs.declared.zone_fault.ZoneFault.{ZoneFault}
 use Rattle.minix_grow.specs.Grow.{IsRefusedOnWay, IsLowest, ReachesDownNow}
-use Rattle.minix_grow.specs.Way.{depth_of, index_above, number_on_way, ReachesDown}
+use Rattle.minix_grow.specs.Way.{depth_of, index_above, number_on_way}
 use Rattle.minix_grow.proofs.CompleteLemmas.{way_step}
 use Rattle.minix_grow.proofs.WayLemmas.{pointer_highest}
 

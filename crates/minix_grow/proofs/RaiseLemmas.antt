@@ -1,5 +1,5 @@
 -- A place of a block with free entries, once it lies below the size.
-use Rattle.std.proofs.Common.{◌≡◌, ◌≢◌, ◌≤◌, ◌<◌, ◌*◌, ◌+◌, ◌/◌, ◌^◌, ℕ, true, Result, OnOk, refl, sym, ◌∙◌, ap, subst, arith}
+use Rattle.std.proofs.Common.{◌≡◌, ◌≢◌, ◌≤◌, ◌<◌, ◌/◌, ◌^◌, ℕ, true, Result, OnOk, refl, sym, ◌∙◌, ap, subst, arith}
 use Rattle.disk_trait.specs.declared.disks.Disks.{Ghosts}
 use Rattle.disk_trait.specs.Past.{Image}
 use Rattle.disk_trait.specs.Moments.{IsTold, now, IsQuiet}
@@ -26,7 +26,7 @@ use Rattle.minix_zones.specs.declared.zone_fault.ZoneFault.{ZoneFault}
 use Rattle.minix_zones.specs.declared.zone_fault.ZoneFault.TheVariants.{Device}
 use Rattle.minix_grow.specs.Below.{HasFreeBlock, HasFreeBlockNow}
 use Rattle.minix_grow.specs.Places.{size_to, IsFreePlace, IsFreePlaceNow}
-use Rattle.minix_grow.proofs.ExtendLemmas.{view_after, view_was, size_is}
+use Rattle.minix_grow.proofs.ExtendLemmas.{view_after, size_is}
 use Rattle.minix_grow.proofs.PlaceLemmas.{places_to, past_is_free}
 use Rattle.minix_grow.proofs.ZoneLemmas.{no_steps}
 

@@ -1,5 +1,5 @@
 -- A directory that may get new zones by a number in an indirect zone that it has (a rule of this project's own).
-use Rattle.std.specs.Prelude.{◌≡◌, ◌≢◌, ◌+◌, ◌-◌, ◌/◌, ℕ, true, List, length, slice_index, Result, OnOk}
+use Rattle.std.specs.Prelude.{◌≡◌, ◌≢◌, ◌+◌, ◌-◌, ◌/◌, ℕ, true, List, length, Result, OnOk}
 use Rattle.disk_trait.specs.declared.disks.Disks.{Ghosts}
 use Rattle.disk_trait.specs.Moments.{IsTold, now}
 use Rattle.disk_trait.specs.NotWritten.{IsOther, NotWritten}

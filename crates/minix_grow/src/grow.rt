@@ -148,7 +148,14 @@ fn grow_from<D: Disks>(
     if growth.len() < level {
         return Err(ZoneFault::ZoneOutside(0));
     }
-    grow_by(volume, directory, node, place, &growth[..level], lowest.zone)
+    grow_by(
+        volume,
+        directory,
+        node,
+        place,
+        &growth[..level],
+        lowest.zone,
+    )
 }
 
 /// Brings a place below a directory's size, so that it is free and lies in a zone of the directory, in whichever way is

@@ -1,4 +1,4 @@
-use Rattle.std.proofs.Common.{◌≡◌, ◌≤◌, ◌/◌, ℕ, length, sym, ◌∙◌, ap, subst, arith}
+use Rattle.std.proofs.Common.{◌≡◌, ◌≤◌, ◌/◌, ℕ, length, sym, ◌∙◌, subst, arith}
 use Rattle.disk_trait.specs.Moments.{IsTold, now}
 use Rattle.disk_trait.proofs.NotWrittenLemmas.{not_written_join}
 use Rattle.lilo_model.specs.MinixEntries.{entries_per_block}

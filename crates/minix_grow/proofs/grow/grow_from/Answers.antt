@@ -1,6 +1,5 @@
 use Rattle.std.proofs.Common.{◌≡◌, ◌≤◌, ◌-◌, ◌/◌, ℕ, suc, length, sym, subst, arith}
 use Rattle.std.proofs.lemmas.List.{length-take-le}
-use Rattle.disk_trait.specs.Moments.{IsTold}
 use Rattle.disk_trait.proofs.NotWrittenLemmas.{not_written_none}
 use Rattle.lilo_model.specs.MinixEntries.{entries_per_block}
 use Rattle.minix_layout.specs.View.{kind_view, inode_view}

@@ -1,13 +1,11 @@
-use Rattle.std.proofs.Common.{rules, ◌≡◌, ◌≢◌, ◌≤◌, ◌<◌, ◌-◌, ℕ, suc, Err, sym, ◌∙◌, ap, subst, refl, arith}
+use Rattle.std.proofs.Common.{rules, ◌≡◌, ◌-◌, ℕ, suc, Err, sym, ap, subst, refl, arith}
 use Rattle.std.specs.Prelude.{slice_index}
-use Rattle.disk_trait.specs.Moments.{IsTold}
 use Rattle.lilo_model.specs.MinixLayout.{numbers_in_zone}
 use Rattle.lilo_model.specs.MinixWalk.{Branch, branch_of}
 use Rattle.minix_layout.specs.View.{kind_view, super_view, inode_view}
 use Rattle.minix_layout.specs.declared.superblock.Super.{Super}
 use Rattle.minix_steps.specs.Written.{parts_now}
 use Rattle.minix_zones.specs.View.{IsInside}
-use Rattle.minix_zones.specs.Volume.{past_of}
 use Rattle.minix_grow.specs.Way.{depth_of, index_above, number_on_way}
 use Rattle.minix_grow.proofs.LowestLemmas.{first_number, first_refused, lower_number, lower_refused, data_of, same_self, same_join}
 use Rattle.minix_grow.proofs.way.lowest_on_way.Goals as goal

@@ -5,4 +5,5 @@ pub mod LawLemmas
 pub mod MemoryLemmas
 pub mod LineLemmas
 pub mod RunLemmas
+pub mod ShotLemmas
 pub mod TellLemmas

@@ -25,7 +25,7 @@ use Rattle.lilo_model.specs.Faults.{Rose}
 use Rattle.loader_core.specs.Leaves.{HasPut, KeepsDisks}
 use Rattle.loader_core.proofs.LeavesLemmas.{same_self, same_join, leaves_after}
 use Rattle.lilo_run.specs.Run.{State, IsDone, Does, Carries, CarriedOut, LostBefore, LostAtCommit, LostAfter, Starved, Unheard, EndsAt, IsPassed, IsOver, Runs, IsLost, IsWriteLost, is_part_status}
-use Rattle.lilo_run.specs.Verdict.{Effect, keeping, early_status, early_parts, parts_effects, effects_of, is_boot, has_boot}
+use Rattle.lilo_run.specs.Verdict.{Effect, keeping, early_status, early_parts, parts_effects, effects_of, is_boot, has_boot, is_write, has_write}
 
 -- how many turns are left at most
 abbrev pub turns_left : Option ℕ → ℕ → ℕ
@@ -208,7 +208,7 @@ zero_status size_of words.Install is = refl
 zero_status size_of words.Test is = refl
 zero_status size_of (words.Query None) is = refl
 zero_status size_of (words.Query (Some device)) is = zero_at (size_of device.disk == 0) is
-zero_status size_of (words.SetLine line) is = absurd (omega (arith, is))
+zero_status size_of (words.SetLine line) is = refl
 zero_status size_of (words.Restore device) is = absurd (omega (arith, is))
 zero_status size_of (words.Boot device dump) is = zero_at (size_of device.disk == 0) is
 
@@ -248,16 +248,23 @@ begun_last size_of all behind part from own failed (inl first) is early =
     let zero : from ≡ 0 = cc in rw (is zero) (early_answered_by (own == 0) failed size_of part.command own refl early)
 begun_last size_of all behind part from own failed (inr later) is early = rw later tt
 
--- ---- memory
+-- ---- memory and disks
 
--- without a boot the memory, the keys and the disks stay, and no part is left that boots
-abbrev pub Stays : {D I : Type 0} → Ghosts D → List Part → List Part → D × I × List ℕ → D × I × List ℕ → Type 0
-Stays g all rest (d0, k0, old) (d1, k1, new) =
-    has_boot all ≡ false → ((new ≡ old) × (k1 ≡ k0)) × (SameOf g d0 d1 × (has_boot rest ≡ false))
+-- without a boot the memory and the keys stay, and no part is left that boots
+abbrev pub Stays : {I : Type 0} → List Part → List Part → I × List ℕ → I × List ℕ → Type 0
+Stays all rest (k0, old) (k1, new) = has_boot all ≡ false → ((new ≡ old) × (k1 ≡ k0)) × (has_boot rest ≡ false)
+
+-- without a part that may write the disks stay, and no such part is left
+abbrev pub StaysUnwritten : {D : Type 0} → Ghosts D → List Part → List Part → D → D → Type 0
+StaysUnwritten g all rest d0 d1 = has_write all ≡ false → SameOf g d0 d1 × (has_write rest ≡ false)
 
 -- parts of which none boots but where others do
 abbrev pub AreBoots : List Part → List Part → Type 0
 AreBoots all rest = has_boot rest ≡ true → has_boot all ≡ true
+
+-- parts of which none may write but where others may
+abbrev pub AreWrites : List Part → List Part → Type 0
+AreWrites all rest = has_write rest ≡ true → has_write all ≡ true
 
 some_by : (first rest : Bool) → first ≡ true → (first || rest) ≡ true
 some_by true rest is = refl
@@ -275,6 +282,14 @@ pub boot_more : (all rest behind : List Part) (part : Part) → AreBoots all res
 unfolding has_boot
 boot_more all rest behind part are is boots = are (rw is (some_later (is_boot part.command) (has_boot behind) boots))
 
+pub write_first : (all rest behind : List Part) (part : Part) → AreWrites all rest → rest ≡ part ∷ behind → is_write part.command ≡ true → has_write all ≡ true
+unfolding has_write
+write_first all rest behind part are is writes = are (rw is (some_by (is_write part.command) (has_write behind) writes))
+
+pub write_more : (all rest behind : List Part) (part : Part) → AreWrites all rest → rest ≡ part ∷ behind → AreWrites all behind
+unfolding has_write
+write_more all rest behind part are is writes = are (rw is (some_later (is_write part.command) (has_write behind) writes))
+
 none_by : (first rest : Bool) → (first || rest) ≡ false → (first ≡ false) × (rest ≡ false)
 none_by true rest is = absurd cc
 none_by false rest is = (refl, is)
@@ -283,14 +298,26 @@ pub no_boot_first : (part : Part) (parts : List Part) → has_boot (part ∷ par
 unfolding has_boot
 no_boot_first part parts is = none_by (is_boot part.command) (has_boot parts) is
 
+no_write_first : (part : Part) (parts : List Part) → has_write (part ∷ parts) ≡ false → (is_write part.command ≡ false) × (has_write parts ≡ false)
+unfolding has_write
+no_write_first part parts is = none_by (is_write part.command) (has_write parts) is
+
 pub stays_more :
-    {D I : Type 0} → (g : Ghosts D) (all rest behind : List Part) (part : Part) (d0 d1 d2 : D) (k0 k1 k2 : I) (old mid new : List ℕ)
-    → Stays g all rest (d0, k0, old) (d1, k1, mid) → rest ≡ part ∷ behind → (is_boot part.command ≡ false → new ≡ mid) → (is_boot part.command ≡ false → k2 ≡ k1)
-    → (is_boot part.command ≡ false → SameOf g d1 d2) → Stays g all behind (d0, k0, old) (d2, k2, new)
-stays_more g all rest behind part d0 d1 d2 k0 k1 k2 old mid new stays is quiet kept same none =
+    {I : Type 0} → (all rest behind : List Part) (part : Part) (k0 k1 k2 : I) (old mid new : List ℕ)
+    → Stays all rest (k0, old) (k1, mid) → rest ≡ part ∷ behind → (is_boot part.command ≡ false → new ≡ mid) → (is_boot part.command ≡ false → k2 ≡ k1)
+    → Stays all behind (k0, old) (k2, new)
+stays_more all rest behind part k0 k1 k2 old mid new stays is quiet kept none =
     let before = stays none in
-    let first = no_boot_first part behind (subst (λ parts. has_boot parts ≡ false) is before.1.1) in
-    ((quiet first.0 ∙ before.0.0, kept first.0 ∙ before.0.1), (same_join g d0 d1 d2 before.1.0 (same first.0), first.1))
+    let first = no_boot_first part behind (subst (λ parts. has_boot parts ≡ false) is before.1) in
+    ((quiet first.0 ∙ before.0.0, kept first.0 ∙ before.0.1), first.1)
+
+pub unwritten_more :
+    {D : Type 0} → (g : Ghosts D) (all rest behind : List Part) (part : Part) (d0 d1 d2 : D)
+    → StaysUnwritten g all rest d0 d1 → rest ≡ part ∷ behind → (is_write part.command ≡ false → SameOf g d1 d2) → StaysUnwritten g all behind d0 d2
+unwritten_more g all rest behind part d0 d1 d2 stays is same none =
+    let before = stays none in
+    let first = no_write_first part behind (subst (λ parts. has_write parts ≡ false) is before.1) in
+    (same_join g d0 d1 d2 before.0 (same first.0), first.1)
 
 -- ---- arguments that are no run
 

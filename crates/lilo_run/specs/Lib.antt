@@ -1,5 +1,6 @@
 pub mod Dump
 pub mod Laws
+pub mod Line
 pub mod Refusal
 pub mod Run
 pub mod Verdict

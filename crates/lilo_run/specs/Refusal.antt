@@ -1,5 +1,5 @@
 -- Which of the model's refusals each reason why a command ends represents, and what is answered and printed.
-use Rattle.std.specs.Prelude.{◌≡◌, ℕ, List, Option, None, Some, Result, Ok, Err, codes}
+use Rattle.std.specs.Prelude.{◌≡◌, ℕ, List, ◌++◌, Option, None, Some, Result, Ok, Err, codes, decimal}
 use Rattle.conf_file.specs.View.{Refuses, HasCause}
 use Rattle.conf_file.specs.declared.file_fault.FileFault.{FileFault}
 use Rattle.conf_file.specs.declared.file_fault.FileFault.TheVariants as files
@@ -16,8 +16,12 @@ use Rattle.minix_search.specs.View.{told_fault}
 use Rattle.lilo_run.specs.declared.conf.ConfHalt.{ConfHalt}
 use Rattle.lilo_run.specs.declared.conf.ConfHalt.TheVariants.{File, Text}
 use Rattle.lilo_model.specs.Refusal as model
+use Rattle.lilo_model.specs.LineShots as model_shots
+use Rattle.lilo_model.specs.Reason as reasons
 use Rattle.lilo_model.specs.Reason.{Reason}
 use Rattle.lilo_model.specs.Verdict.{Verdict, verdict_of}
+use Rattle.one_shot.specs.declared.shot.ShotFault.{ShotFault}
+use Rattle.one_shot.specs.declared.shot.ShotFault.TheVariants as shots
 use Rattle.section_loader.specs.View.{reason_view}
 use Rattle.lilo_run.specs.declared.refusal.PlaceFault.{PlaceFault}
 use Rattle.lilo_run.specs.declared.refusal.PlaceFault.TheVariants.{NoDisk, NoPartition, BadTable}
@@ -71,6 +75,33 @@ halt_verdict halts.NotBuilt = not_built
 halt_verdict (halts.NoPlace fault) = verdict_of (Err (model.Device (place_fault_view fault)))
 halt_verdict halts.NotOurs = verdict_of (Err model.NotOurs)
 halt_verdict (halts.Boot reason) = reason_verdict (reason_view reason)
+
+-- ---- default lines
+
+-- what is answered and printed of a default line of so many bytes, which are too many
+abbrev pub too_long : ℕ → Verdict
+too_long size = record { status = 4; text = codes "lilo: address: line " ++ decimal size ++ codes " over 255\n" }
+
+-- what is answered and printed where a default line has no place
+abbrev pub line_refused : model_shots.ShotFault → Verdict
+line_refused model_shots.NotOurs = verdict_of (Err model.NotOurs)
+line_refused (model_shots.LineTooLong size) = too_long size
+line_refused (model_shots.BadTable entry) = reason_verdict (reasons.BadTable entry)
+line_refused model_shots.NotFound = reason_verdict reasons.NotFound
+
+-- what is answered and printed where a disk failed in a phase of a write after which nothing comes
+abbrev pub shot_phase_verdict : Phase → Verdict
+shot_phase_verdict Before = device_failed
+shot_phase_verdict Commit = failed_at_commit
+shot_phase_verdict After = failed_at_commit
+
+-- what is answered and printed where one wasn't written
+abbrev pub shot_verdict : ShotFault → Verdict
+shot_verdict (shots.LineTooLong size) = too_long size
+shot_verdict shots.NotOurs = verdict_of (Err model.NotOurs)
+shot_verdict (shots.BadTable entry) = reason_verdict (reasons.BadTable entry)
+shot_verdict shots.NotFound = reason_verdict reasons.NotFound
+shot_verdict (shots.Device phase) = shot_phase_verdict phase
 
 -- ---- configurations
 

@@ -36,7 +36,7 @@ use Rattle.disk_trait.specs.NotWritten.{IsOther, NotWritten}
 use Rattle.loader_core.specs.Leaves.{HasPut, CameTo}
 use Rattle.loader_core.specs.Report.{LineWrite, image_with}
 use Rattle.lilo_model.specs.Disks.{Image}
-use Rattle.lilo_run.specs.Verdict.{Effect, effects_of, run_verdict, run_image}
+use Rattle.lilo_run.specs.Verdict.{Effect, leaving, effects_of, run_verdict, run_image}
 
 -- ---- a reader
 
@@ -139,6 +139,12 @@ CarriesBy g i o status effect (disks, keys, ram, out) (disks', keys', ram', out'
 abbrev pub CarriesOn : {D I O : Type 0} → Ghosts D → sources.Ghosts I → sinks.Ghosts O → ℕ → D × I × List ℕ × Shown O → D × I × List ℕ × Shown O → (disks.Image → disks.Machine → ℕ → List Key → Effect) → Type 0
 CarriesOn g i o status old new effect =
     OnDisks g old.0 (λ now machine. CarriesBy g i o status (effect now machine (length old.2)) old new)
+
+-- the same of a command that leaves this memory and all keys alone, by the disks and the sink before it and after it
+abbrev pub CarriesBeside : {D O : Type 0} → Ghosts D → sinks.Ghosts O → Memory → ℕ → D × Shown O → D × Shown O → (disks.Image → disks.Machine → Effect) → Type 0
+CarriesBeside g o memory status old new effect =
+    OnDisks g old.0 (λ now machine. (keys : List Key) → Carries g (leaving keys (effect now machine)) status keys
+    (record { disks = old.0; memory = memory; sink = sink_of o old.1 }) (record { disks = new.0; memory = memory; sink = sink_of o new.1 }))
 
 -- a disk failed in a write or after it, by the status
 abbrev pub IsWriteLost : ℕ → Type 0
@@ -315,18 +321,22 @@ is_plain_status status = list_any (λ known. known == status) (0 ∷ 3 ∷ 6 ∷
 abbrev pub is_conf_status : ℕ → Bool
 is_conf_status status = list_any (λ known. known == status) (0 ∷ 2 ∷ 3 ∷ 6 ∷ 7 ∷ 8 ∷ 13 ∷ 15 ∷ [])
 
+-- whether `-R` may
+abbrev pub is_line_status : ℕ → Bool
+is_line_status status = list_any (λ known. known == status) (0 ∷ 2 ∷ 3 ∷ 4 ∷ 6 ∷ 7 ∷ 8 ∷ 9 ∷ 13 ∷ 15 ∷ [])
+
 -- whether a boot may
 abbrev pub is_boot_status : ℕ → Bool
 is_boot_status status = list_any (λ known. known == status) (0 ∷ 3 ∷ 6 ∷ 7 ∷ 8 ∷ 9 ∷ 10 ∷ 11 ∷ 15 ∷ [])
 
 -- whether a part may
 abbrev pub is_part_status : ℕ → Bool
-is_part_status status = list_any (λ known. known == status) (0 ∷ 2 ∷ 3 ∷ 6 ∷ 7 ∷ 8 ∷ 9 ∷ 10 ∷ 11 ∷ 13 ∷ 15 ∷ [])
+is_part_status status = list_any (λ known. known == status) (0 ∷ 2 ∷ 3 ∷ 4 ∷ 6 ∷ 7 ∷ 8 ∷ 9 ∷ 10 ∷ 11 ∷ 13 ∷ 15 ∷ [])
 
 -- whether parts in order may
 abbrev pub is_run_status : ℕ → Bool
-is_run_status status = list_any (λ known. known == status) (0 ∷ 2 ∷ 3 ∷ 6 ∷ 7 ∷ 8 ∷ 9 ∷ 10 ∷ 11 ∷ 12 ∷ 13 ∷ 15 ∷ [])
+is_run_status status = list_any (λ known. known == status) (0 ∷ 2 ∷ 3 ∷ 4 ∷ 6 ∷ 7 ∷ 8 ∷ 9 ∷ 10 ∷ 11 ∷ 12 ∷ 13 ∷ 15 ∷ [])
 
 -- whether arguments may
 abbrev pub is_status : ℕ → Bool
-is_status status = list_any (λ known. known == status) (0 ∷ 1 ∷ 2 ∷ 3 ∷ 6 ∷ 7 ∷ 8 ∷ 9 ∷ 10 ∷ 11 ∷ 12 ∷ 13 ∷ 15 ∷ [])
+is_status status = list_any (λ known. known == status) (0 ∷ 1 ∷ 2 ∷ 3 ∷ 4 ∷ 6 ∷ 7 ∷ 8 ∷ 9 ∷ 10 ∷ 11 ∷ 12 ∷ 13 ∷ 15 ∷ [])

@@ -5,10 +5,13 @@ use Rattle.std.specs.Prelude.{ℕ, ◌==◌, Bool, true, false, if◌then◌else
 use Rattle.std.specs.List.{list_any}
 use Rattle.lilo_model.specs.Boot.{Ending}
 use Rattle.lilo_model.specs.Reason.{Reason}
-use Rattle.lilo_model.specs.Checks.{◌>>=◌}
+use Rattle.lilo_model.specs.Checks.{◌>>=◌, with_fault}
 use Rattle.lilo_model.specs.ConfVerdict.{conf_path, conf_device, place_at, conf_query_verdict}
 use Rattle.lilo_model.specs.Devices.{Device}
-use Rattle.lilo_model.specs.Disks.{Image, Machine, Span}
+use Rattle.lilo_model.specs.Disks.{Image, Machine, Span, DiskSector}
+use Rattle.lilo_model.specs.LineSector.{line_bytes}
+use Rattle.lilo_model.specs.LineShots.{shot_line, shot_place}
+use Rattle.lilo_model.specs.LineWords.{joined_words}
 use Rattle.lilo_model.specs.Place.{Written}
 use Rattle.lilo_model.specs.Prompt.{Key}
 use Rattle.lilo_model.specs.Refusal as refusals
@@ -16,7 +19,7 @@ use Rattle.lilo_model.specs.Verdict.{Verdict, verdict_of, verdict_behind, query_
 use Rattle.lilo_model.specs.Words as words
 use Rattle.lilo_model.specs.Words.{Command, Part, run_at, usage_text}
 use Rattle.loader_core.specs.Report.{LineWrite, Report, boot_report, image_with}
-use Rattle.lilo_run.specs.Refusal.{not_built, device_failed, failed_at_commit, failed_after_commit, keys_failed, no_memory, reason_verdict}
+use Rattle.lilo_run.specs.Refusal.{not_built, device_failed, failed_at_commit, failed_after_commit, keys_failed, no_memory, reason_verdict, line_refused}
 
 -- what a command does
 pub record Effect : Type 0 where
@@ -38,7 +41,7 @@ pub record Effect : Type 0 where
   pub left : List Key
   -- what it writes of a default line
   pub write : Option LineWrite
-  -- whether it boots: no other command changes memory or writes
+  -- whether it boots: no other command changes memory
   pub boots : Bool
 
 -- a command that only answers and prints
@@ -51,7 +54,11 @@ abbrev pub conf_effect : Verdict → Effect
 conf_effect verdict =
     record (plain_effect verdict (device_failed.text ∷ [])) { starved = no_memory.text ∷ [] }
 
--- a command that takes no key of these, and writes nothing
+-- a command that takes no key of these
+abbrev pub leaving : List Key → Effect → Effect
+leaving keys effect = record effect { left = keys }
+
+-- the same of one that writes nothing
 abbrev pub keeping : List Key → Effect → Effect
 keeping keys effect = record effect { left = keys; write = None }
 
@@ -117,7 +124,39 @@ install_effect now machine root path = conf_effect (unbuilt_behind (conf_device 
 unfoldable pub conf_query_effect : Image → Machine → Option Device → List ℕ → Effect
 conf_query_effect now machine root path = conf_effect (conf_query_verdict now machine root path)
 
--- a command that doesn't boot, whose volume lies on this device, where one is named, and has its configuration at this
+-- where the default line of a text goes on a device, or what is answered and printed of the first refusal
+abbrev pub line_on : Image → Machine → List ℕ → Result Span refusals.DeviceFault → Result DiskSector Verdict
+line_on now machine text place = do
+  span ← with_fault (λ fault. verdict_of (Err (refusals.Device fault))) place
+  with_fault line_refused (shot_place now machine span text)
+
+-- the same on the device that a configuration boots
+abbrev pub line_by : Image → Machine → List ℕ → Result Device refusals.Refusal → Result DiskSector Verdict
+line_by now machine text device = do
+  found ← with_fault (λ refusal. verdict_of (Err refusal)) device
+  line_on now machine text (place_at now machine found)
+
+-- what is answered and printed of a line that goes there: nothing is printed of one that is written
+abbrev pub line_verdict : Result DiskSector Verdict → Verdict
+line_verdict (Ok place) = verdict_of (Ok [])
+line_verdict (Err verdict) = verdict
+
+-- what is written there
+abbrev pub shot_write : List ℕ → Result DiskSector Verdict → Option LineWrite
+shot_write text (Ok place) = Some (record { place = place; bytes = line_bytes (shot_line text) })
+shot_write text (Err verdict) = None
+
+-- a command that writes the default line of a text there; nothing comes after the write that may fail
+abbrev pub shot_effect : List ℕ → Result DiskSector Verdict → Effect
+shot_effect text place =
+    record (conf_effect (line_verdict place)) { at_commit = failed_at_commit.text ∷ []; write = shot_write text place }
+
+-- `-R` with a text, which the words after it are with a space between each two: it sets the default line for one boot, or
+-- without words it clears it
+unfoldable pub line_effect : Image → Machine → Option Device → List ℕ → List ℕ → Effect
+line_effect now machine root path text = shot_effect text (line_by now machine text (conf_device now machine root path))
+
+-- a command that writes no disk, whose volume lies on this device, where one is named, and has its configuration at this
 -- path
 abbrev pub plain_command : Image → Machine → Option Device → List ℕ → Command → Effect
 plain_command now machine root path (words.Query (Some device)) = query_effect now machine (place_at now machine device)
@@ -132,7 +171,7 @@ command_effect now machine memory root path (words.Boot device dump) keys = boot
 command_effect now machine memory root path words.Install keys = keeping keys (plain_command now machine root path words.Install)
 command_effect now machine memory root path words.Test keys = keeping keys (plain_command now machine root path words.Test)
 command_effect now machine memory root path (words.Query device) keys = keeping keys (plain_command now machine root path (words.Query device))
-command_effect now machine memory root path (words.SetLine line) keys = keeping keys (plain_command now machine root path (words.SetLine line))
+command_effect now machine memory root path (words.SetLine line) keys = leaving keys (line_effect now machine root path (joined_words line))
 command_effect now machine memory root path (words.Restore device) keys = keeping keys (plain_command now machine root path (words.Restore device))
 
 -- a part
@@ -178,15 +217,13 @@ run_image now (part ∷ parts) = run_image (image_with now part.write) parts
 
 -- ---- what is known of words, whatever disks hold
 
--- what is answered whatever a disk holds: 15 for `-R` and `-u`, which aren't built, and 3 for a device of a disk
--- without sectors
+-- what is answered whatever a disk holds: 15 for `-u`, which isn't built, and 3 for a device of a disk without sectors
 abbrev pub early_at : (ℕ → ℕ) → Device → Option ℕ
 early_at size_of device = if size_of device.disk == 0 then Some 3 else None
 
 unfoldable pub early_status : (ℕ → ℕ) → Command → Option ℕ
 early_status size_of (words.Query (Some device)) = early_at size_of device
 early_status size_of (words.Boot device dump) = early_at size_of device
-early_status size_of (words.SetLine line) = Some 15
 early_status size_of (words.Restore device) = Some 15
 early_status size_of _ = None
 
@@ -209,6 +246,16 @@ is_boot _ = false
 unfoldable pub has_boot : List Part → Bool
 has_boot parts = list_any (λ part. is_boot part.command) parts
 
+-- whether a command may write a disk
+abbrev pub is_write : Command → Bool
+is_write (words.Boot device dump) = true
+is_write (words.SetLine line) = true
+is_write _ = false
+
+-- whether one of some parts may
+unfoldable pub has_write : List Part → Bool
+has_write parts = list_any (λ part. is_write part.command) parts
+
 -- whether arguments are a run of which a part boots
 abbrev pub run_boots : Result (List Part) (Option ℕ) → Bool
 run_boots (Ok parts) = has_boot parts
@@ -219,6 +266,7 @@ abbrev pub reads_conf : Command → Bool
 reads_conf words.Install = true
 reads_conf words.Test = true
 reads_conf (words.Query None) = true
+reads_conf (words.SetLine line) = true
 reads_conf _ = false
 
 -- whether one of some parts does

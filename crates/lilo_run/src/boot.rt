@@ -90,7 +90,7 @@ fn say_keys<O: Sink>(out: &mut Shown<'_, O>) -> u8
 }
 
 /// Shows the line that says in which phase a disk failed, and gives its status.
-fn say_failed<O: Sink>(out: &mut Shown<'_, O>, phase: Phase) -> u8
+pub(crate) fn say_failed<O: Sink>(out: &mut Shown<'_, O>, phase: Phase) -> u8
     ensures status { result ≡ (phase_verdict phase).status }
     ensures lost { IsLost result }
     ensures shown { Shows (sink_of O.Sink out.old) (phase_verdict phase).text (sink_of O.Sink out.new) }

@@ -112,9 +112,9 @@ pub(crate) fn install<D: Disks, O: Sink>(
     }
 }
 
-// The device that the configuration of a part boots: the volume's, where it names none.
+/// The device that the configuration of a part boots: the volume's, where it names none.
 #[tactic(auto, unfolding(lilo_model::specs::ConfVerdict::conf_device))]
-fn boot_device<D: Disks>(
+pub(crate) fn boot_device<D: Disks>(
     alloc: Global,
     disks: &mut D,
     root: Option<Device>,
@@ -135,8 +135,8 @@ fn boot_device<D: Disks>(
     }
 }
 
-// Shows the line that reports why a configuration can't be used, whose path is this one, and gives its status.
-fn say_conf<O: Sink>(out: &mut Shown<'_, O>, halt: ConfHalt, path: &[u8]) -> u8
+/// Shows the line that reports why a configuration can't be used, whose path is this one, and gives its status.
+pub(crate) fn say_conf<O: Sink>(out: &mut Shown<'_, O>, halt: ConfHalt, path: &[u8]) -> u8
     ensures status { result ≡ (conf_verdict path.now halt).status }
     ensures known { IsTrue (is_conf_status result) }
     ensures some { 1 ≤ result }
@@ -191,8 +191,8 @@ fn say_path<O: Sink>(out: &mut Shown<'_, O>, text: &[u8], path: &[u8])
     out.put(b"\n");
 }
 
-// Shows that memory doesn't suffice, and gives the status.
-fn say_memory<O: Sink>(out: &mut Shown<'_, O>) -> u8
+/// Shows that memory doesn't suffice, and gives the status.
+pub(crate) fn say_memory<O: Sink>(out: &mut Shown<'_, O>) -> u8
     ensures status { result ≡ 13 }
     ensures shown { Shows (sink_of O.Sink out.old) (codes "lilo: memory\n") (sink_of O.Sink out.new) }
     ensures same_reference { out.new.out.ghost_name ≡ out.old.out.ghost_name }

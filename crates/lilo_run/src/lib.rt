@@ -9,6 +9,7 @@ mod dump;
 #[cfg(test)]
 mod fixture;
 mod laws;
+mod line;
 mod memory;
 mod part;
 mod place;

@@ -5,7 +5,7 @@ ghost use Rattle.stream_trait.specs.Shows.{Shows, sink_of};
 ghost use Rattle.section_loader.specs.View.{reason_view};
 ghost use Rattle.setup_header.specs.View.{setup_fault_view};
 ghost use Rattle.lilo_model.specs.Reason.{setup_text};
-ghost use Rattle.lilo_run.specs.Refusal.{place_fault_view, halt_verdict, reason_verdict};
+ghost use Rattle.lilo_run.specs.Refusal.{place_fault_view, halt_verdict, reason_verdict, too_long};
 ghost use Rattle.lilo_run.specs.Run.{is_plain_status};
 
 use arrayvec::ArrayVec;
@@ -164,6 +164,17 @@ fn numbered_line(text: &[u8], number: u64) -> Line
     let mut digits = Buffer::new();
     let _ = line.try_extend_from_slice(digits.format(number).as_bytes());
     line.push(b'\n');
+    line
+}
+
+/// The line of a default line of so many bytes, which are too many.
+pub(crate) fn long_line(size: u32) -> Line
+    ensures { result.items ≡ (too_long size).text }
+{
+    let mut line = line(b"lilo: address: line ");
+    let mut digits = Buffer::new();
+    let _ = line.try_extend_from_slice(digits.format(size).as_bytes());
+    let _ = line.try_extend_from_slice(b" over 255\n");
     line
 }
 

@@ -16,7 +16,7 @@ ghost use Rattle.lilo_run.specs.Run.{HoldsWritten, LeavesWritten, LeavesOthers};
 ghost use Rattle.loader_core.specs.Start.{OnKeys};
 ghost use Rattle.lilo_model.specs.ConfVerdict.{place_at};
 ghost use Rattle.lilo_run.specs.Verdict.{part_effect, parts_effects, run_verdict, run_left, run_written};
-ghost use Rattle.lilo_run.specs.Verdict.{early_answer, early_parts, has_boot, has_conf};
+ghost use Rattle.lilo_run.specs.Verdict.{early_answer, early_parts, has_boot, has_write, has_conf};
 ghost use Rattle.lilo_run.specs.Laws.{IsBootRun, TellsBoot};
 ghost use Rattle.loader_core.specs.Leaves.{KeepsDisks, WritesAndAsks};
 
@@ -35,10 +35,12 @@ use stream_trait::{Sink, Source, Words, answer};
 /// `-q DEVICE` prints the names in the map of a device, a line each, with ` *` after the default's.
 /// Without a device it is that of `boot=` in the configuration, or the volume's: the file `/etc/lilo.conf`, or that
 /// after `-C`, on the volume of the device after `--root`, or on the first that is found.
+/// `-R WORD..` makes the words, with a space between each two, the default line of that device for one boot, by
+/// [`one_shot::set_line`], and without words clears it; it prints nothing.
 /// `boot DEVICE` boots it, by [`loader_core::boot`], and with `--dump` prints what was put into memory. Where the boot
 /// makes the default line another, that line's sector is written and made durable. The options `-C`, `--root` and `-v`
-/// before these two have no effect. An installation and `-t` read their configuration so far. What else the grammar has
-/// isn't built yet.
+/// before `-q DEVICE` and `boot` have no effect. An installation and `-t` read their configuration so far. What else the
+/// grammar has isn't built yet.
 ///
 /// | status | comes | text |
 /// |---|---|---|
@@ -47,18 +49,20 @@ use stream_trait::{Sink, Source, Words, answer};
 /// | 2 | the configuration's text is refused | `lilo: config: OPTION: REASON at line N` |
 /// | 3 | the device isn't found | `lilo: volume: no disk`, `no partition` or `table` |
 /// | 3 | the volume or the configuration's file isn't | `lilo: volume: no volume`, `layout`, `missing PATH`, `path PATH` |
-/// | 6 | `-q` finds a foreign boot sector, or one of another version | `lilo: not ours` |
+/// | 4 | the words after `-R` make N bytes, which are too many | `lilo: address: line N over 255` |
+/// | 6 | `-q` or `-R` finds a foreign boot sector, or one of another version | `lilo: not ours` |
 /// | 7 | the boot is refused, or the map is | `lilo: boot: REASON` |
 /// | 8 | a disk failed before the part wrote | `lilo: device` |
 /// | 9 | a disk failed in the write of the default line or the flush of it | `lilo: device at commit` |
 /// | 10 | a disk failed after that | `lilo: device after commit` |
 /// | 11 | the source of keys failed | `lilo: keys` |
 /// | 12 | the sink failed at a part that would answer 0 | |
-/// | 13 | there is no memory for a configuration | `lilo: memory` |
+/// | 13 | there is no memory for a configuration, or for the words after `-R` | `lilo: memory` |
 /// | 15 | the part isn't built yet | `lilo: not built` |
 ///
-/// After the sink failed nothing is put, and the part that runs is the last. Only boots take keys, and only they write:
-/// the sector of the default line, and no other. Memory is allocated for a configuration alone.
+/// After the sink failed nothing is put, and the part that runs is the last. Only boots take keys. Only boots and `-R`
+/// write: the sector of the default line, and no other. Memory is allocated for a configuration and the words after `-R`
+/// alone.
 pub fn lilo<D: Disks, I: Source, O: Sink>(
     alloc: Global,
     words: &Words,
@@ -74,7 +78,8 @@ pub fn lilo<D: Disks, I: Source, O: Sink>(
     ensures device { result ≡ 8 → Rose (D.faults disks.old) (D.faults disks.new) }
     ensures at_commit { result ≡ 9 → Rose (D.faults disks.old) (D.faults disks.new) }
     ensures after_commit { result ≡ 10 → Rose (D.faults disks.old) (D.faults disks.new) }
-    ensures written { IsWriteLost result → IfOk (run_at words.now) (λ parts. has_boot parts ≡ true) }
+    ensures written { IsWriteLost result → IfOk (run_at words.now) (λ parts. has_write parts ≡ true) }
+    ensures after { result ≡ 10 → IfOk (run_at words.now) (λ parts. has_boot parts ≡ true) }
     ensures unheard { result ≡ 11 → Rose (I.faults keys.old) (I.faults keys.new) }
     ensures sink { result ≡ 12 → Rose (O.faults out.old) (O.faults out.new) }
     ensures starved { result ≡ 13 → IfOk (run_at words.now) (λ parts. has_conf parts ≡ true) }
@@ -96,8 +101,8 @@ pub fn lilo<D: Disks, I: Source, O: Sink>(
         TellsBoot D.Disks O.Sink now machine (length ram.old) (place_at now machine device) dump all left result
         (disks.old, ram.old, out.old) (disks.new, ram.new, out.new))) }
 
-    // Each boot that answers 0 wrote its default line, and a stop at any moment leaves what the disks held before one of
-    // the boots or after it: the sector of a default line has its old bytes or its new ones, and no other is written.
+    // Each part that answers 0 wrote its default line, and a stop at any moment leaves what the disks held before one of
+    // the parts or after it: the sector of a default line has its old bytes or its new ones, and no other is written.
     ensures lines { result ≡ 0 → OnParts D.Disks I.Source disks.old (keys.old, keys.new) (length ram.old) words.now
         (λ parts _ _. HoldsWritten D.Disks parts disks.old disks.new) }
     ensures moments { OnParts D.Disks I.Source disks.old (keys.old, keys.new) (length ram.old) words.now
@@ -122,8 +127,8 @@ pub fn lilo<D: Disks, I: Source, O: Sink>(
     ensures no_run { IsErr (run_at words.now) → (ram.new ≡ ram.old) × (keys.new ≡ keys.old) }
     ensures size { length ram.new ≡ length ram.old }
 
-    // Without a boot no disk is written, whatever the disks report; and their sizes and shapes always stay.
-    ensures same { IfOk (run_at words.now) (λ parts. has_boot parts ≡ false → SameOf D.Disks disks.old disks.new) }
+    // Without a boot and `-R` no disk is written, whatever the disks report; and their sizes and shapes always stay.
+    ensures same { IfOk (run_at words.now) (λ parts. has_write parts ≡ false → SameOf D.Disks disks.old disks.new) }
     ensures same_no_run { IsErr (run_at words.now) → SameOf D.Disks disks.old disks.new }
     ensures keeps { KeepsDisks D.Disks disks.old disks.new }
 {
@@ -150,14 +155,15 @@ fn run_words<D: Disks, I: Source, O: Sink>(
     ensures early { IfSome (early_answer (D.size_of bios.old.disks.now) (run_at words.now))
         (λ status. result ≡ status) }
     ensures known { IsTrue (is_status result) }
-    ensures written { IsWriteLost result → IfOk (run_at words.now) (λ parts. has_boot parts ≡ true) }
+    ensures written { IsWriteLost result → IfOk (run_at words.now) (λ parts. has_write parts ≡ true) }
+    ensures after { result ≡ 10 → IfOk (run_at words.now) (λ parts. has_boot parts ≡ true) }
     ensures starved { result ≡ 13 → IfOk (run_at words.now) (λ parts. has_conf parts ≡ true) }
     ensures unshown { result ≡ 12 → out.new.failed ≡ true }
     ensures memory { length ram.new ≡ length ram.old }
     ensures no_boot { IfOk (run_at words.now) (λ parts. has_boot parts ≡ false
         → (ram.new ≡ ram.old) × (bios.new.keys.now ≡ bios.old.keys.now)) }
     ensures no_run { IsErr (run_at words.now) → (ram.new ≡ ram.old) × (bios.new.keys.now ≡ bios.old.keys.now) }
-    ensures same { IfOk (run_at words.now) (λ parts. has_boot parts ≡ false
+    ensures same { IfOk (run_at words.now) (λ parts. has_write parts ≡ false
         → SameOf D.Disks bios.old.disks.now bios.new.disks.now) }
     ensures same_no_run { IsErr (run_at words.now) → SameOf D.Disks bios.old.disks.now bios.new.disks.now }
     ensures asks { WritesAndAsks D.Disks I.Source O.Sink (bios.old, out.old) (bios.new, out.new)
@@ -188,13 +194,14 @@ fn run_parts<D: Disks, I: Source, O: Sink>(
     ensures early { IfSome (early_parts (D.size_of bios.old.disks.now) (parts_behind words.now 0))
         (λ status. result ≡ status) }
     ensures known { IsTrue (is_run_status result) }
-    ensures written { IsWriteLost result → has_boot (parts_behind words.now 0) ≡ true }
+    ensures written { IsWriteLost result → has_write (parts_behind words.now 0) ≡ true }
+    ensures after { result ≡ 10 → has_boot (parts_behind words.now 0) ≡ true }
     ensures starved { result ≡ 13 → has_conf (parts_behind words.now 0) ≡ true }
     ensures unshown { result ≡ 12 → out.new.failed ≡ true }
     ensures memory { length ram.new ≡ length ram.old }
     ensures no_boot { has_boot (parts_behind words.now 0) ≡ false
         → (ram.new ≡ ram.old) × (bios.new.keys.now ≡ bios.old.keys.now) }
-    ensures same { has_boot (parts_behind words.now 0) ≡ false
+    ensures same { has_write (parts_behind words.now 0) ≡ false
         → SameOf D.Disks bios.old.disks.now bios.new.disks.now }
     ensures asks { WritesAndAsks D.Disks I.Source O.Sink (bios.old, out.old) (bios.new, out.new)
         (IsLost result) (result ≡ 11) }
@@ -202,7 +209,7 @@ fn run_parts<D: Disks, I: Source, O: Sink>(
     let mut next = Some(0);
     while let Some(from) = next {
         let read = part_at(words, from);
-        let own = carry_out(alloc, read.part, bios, ram, out);
+        let own = carry_out(alloc, words, read.part, bios, ram, out);
         match answer(own, out.failed()) {
             0 => next = read.next,
             status => return status,

@@ -20,6 +20,8 @@ struct Case<'a> {
     line: &'a [u8],
     // Whether the name has a fallback, which is itself.
     falls_back: bool,
+    // The text of the file `/c` on a volume from the disk's first sector on, where one lies there.
+    conf: &'a [u8],
     // Whether memory has more than a mebibyte.
     is_large: bool,
     keys: &'a [u8],
@@ -67,7 +69,34 @@ fn installation(alloc: Global, case: &Case<'_>) -> Result<MemDisks, AllocError> 
     put_text(&mut disks, case, 84, b"HELLO");
     put_sector(&mut disks, case, 600, &logical_table());
     put_sector(&mut disks, case, 610, &boot_sector());
+    put_volume(&mut disks, case);
     Ok(disks)
+}
+
+// A volume of version 1 with names of 14 bytes: 16 inodes, 32 zones, the first data zone 5. The root in zone 5 has the
+// file, whose text lies in zone 6.
+fn put_volume(disks: &mut MemDisks, case: &Case<'_>)
+    requires { disks.old.events ≡ [] }
+    ensures { disks.new.events ≡ [] }
+{
+    if case.conf.is_empty() || case.conf.len() > 255 {
+        return;
+    }
+    let mut inodes = [0; 512];
+    put_part(&mut inodes, 0, b"\xED\x41\0\0\x30\0\0\0");
+    put_part(&mut inodes, 14, b"\x05");
+    put_part(&mut inodes, 32, b"\xA4\x81");
+    inodes[36] = case.conf.len() as u8;
+    put_part(&mut inodes, 46, b"\x06");
+    put_text(disks, case, 2, b"\x10\0\x20\0\x01\0\x01\0\x05\0\0\0\0\0\0\0\x7F\x13");
+    put_sector(disks, case, 8, &inodes);
+    put_text(
+        disks,
+        case,
+        10,
+        b"\x01\0.\0\0\0\0\0\0\0\0\0\0\0\0\0\x01\0..\0\0\0\0\0\0\0\0\0\0\0\0\x02\0c",
+    );
+    put_text(disks, case, 12, case.conf);
 }
 
 // A table with a partition of 20 sectors from its tenth on. Its second entry is a link to this very table, of no
@@ -184,6 +213,7 @@ const WHOLE: Case<'static> = Case {
     byte: 0,
     line: b"LINE",
     falls_back: false,
+    conf: b"",
     is_large: true,
     keys: b"",
     failing_keys: &[],
@@ -361,8 +391,8 @@ const RUNS: [Case<'static>; 12] = [
     },
     Case {
         words: &["-R", "linux"],
-        status: 15,
-        text: b"lilo: not built\n",
+        status: 3,
+        text: b"lilo: volume: no volume\n",
         ..WHOLE
     },
     Case {
@@ -691,6 +721,199 @@ fn a_write_of_a_line_may_fail(rt: HostRuntime) -> Result<(), Fail> {
             failing_calls: &[call],
             is_made,
             ..WHOLE
+        };
+        let end = end_of(rt.alloc(), &case)?;
+        assert_eq!(rt; end.status, status, "call {call}");
+        assert!(rt; end.text.as_slice() == text, "call {call}");
+        assert!(rt; end.line == line_sector(line), "call {call}");
+    }
+    Ok(())
+}
+
+const SET: &[&str] = &["-C", "/c", "-R", "linux", "single"];
+
+const CLEAR: &[&str] = &["-C", "/c", "-R"];
+
+const CONF: &[u8] = b"image=/k\nlabel=linux\n";
+
+// A line is set on the device of a configuration, which is the volume's.
+const SHOT: Case<'static> = Case {
+    words: SET,
+    conf: CONF,
+    line: KEPT,
+    text: b"",
+    ..WHOLE
+};
+
+// Runs of `-R`, and the default line's sector after them: where there is a refusal it stays.
+const SHOTS: [(Case<'static>, &[u8]); 13] = [
+    (SHOT, ONCE),
+    (
+        Case {
+            words: CLEAR,
+            ..SHOT
+        },
+        NO_LINE,
+    ),
+    // The boot after it asks: `linux single` was for one.
+    (
+        Case {
+            words: &[
+                "boot", "/dev/hda", "--then", "-C", "/c", "-R", "linux", "single", "--then", "boot", "/dev/hda",
+                "--then", "boot", "/dev/hda",
+            ],
+            line: NO_LINE,
+            at: 0x0C,
+            byte: 1,
+            keys: b"linux\nlinux\n",
+            text: b"LILO\nboot: linux\nLoading linux\nLILO\nLoading linux\nLILO\nboot: linux\nLoading linux\n",
+            ..SHOT
+        },
+        NO_LINE,
+    ),
+    // The device that the configuration names, which may be elsewhere.
+    (
+        Case {
+            conf: b"boot=/dev/hda5\nimage=/k\nlabel=linux\n",
+            ..SHOT
+        },
+        ONCE,
+    ),
+    (
+        Case {
+            conf: b"boot=/dev/hda9\nimage=/k\nlabel=linux\n",
+            status: 3,
+            text: b"lilo: volume: no partition\n",
+            ..SHOT
+        },
+        KEPT,
+    ),
+    // Each refusal comes before those after it.
+    (
+        Case {
+            words: &["-C", "/d", "-R", "linux"],
+            status: 3,
+            text: b"lilo: volume: missing /d\n",
+            ..SHOT
+        },
+        KEPT,
+    ),
+    (
+        Case {
+            conf: b"boot=/dev/hda9\nimage=/k\nserial=0\n",
+            status: 2,
+            text: b"lilo: config: serial: left out at line 3\n",
+            ..SHOT
+        },
+        KEPT,
+    ),
+    (
+        Case {
+            words: LONG,
+            byte: 0,
+            at: 0,
+            status: 6,
+            text: b"lilo: not ours\n",
+            ..SHOT
+        },
+        KEPT,
+    ),
+    (
+        Case {
+            words: LONG,
+            byte: 20,
+            at: 0x12,
+            status: 4,
+            text: b"lilo: address: line 256 over 255\n",
+            ..SHOT
+        },
+        KEPT,
+    ),
+    (
+        Case {
+            byte: 20,
+            at: 0x12,
+            status: 7,
+            text: b"lilo: boot: bad table 255\n",
+            ..SHOT
+        },
+        KEPT,
+    ),
+    (
+        Case {
+            byte: 16,
+            at: 0x1D,
+            status: 7,
+            text: b"lilo: boot: not found\n",
+            ..SHOT
+        },
+        KEPT,
+    ),
+    // Nothing is printed, so a sink that fails isn't asked.
+    (
+        Case {
+            failing_puts: &[0],
+            ..SHOT
+        },
+        ONCE,
+    ),
+    // The part after a refusal doesn't run.
+    (
+        Case {
+            words: &["-C", "/d", "-R", "--then", "-C", "/c", "-R"],
+            status: 3,
+            text: b"lilo: volume: missing /d\n",
+            ..SHOT
+        },
+        KEPT,
+    ),
+];
+
+// Seven words of 31 bytes and one of 32: 256 bytes, with a space between each two.
+const LONG: &[&str] = &[
+    "-C", "/c", "-R", WORD, WORD, WORD, WORD, WORD, WORD, WORD, "aaaaaaaaaaaaaaaaaaaaaaaaaaaaaaa1",
+];
+
+const WORD: &str = "aaaaaaaaaaaaaaaaaaaaaaaaaaaaaaa";
+
+#[test]
+fn lines_are_set_and_cleared(rt: HostRuntime) -> Result<(), Fail> {
+    for (case, line) in SHOTS {
+        let end = end_of(rt.alloc(), &case)?;
+        assert_eq!(rt; end.status, case.status, "{:?}, {:?}", case.words, case.conf);
+        assert!(rt;
+            end.text.as_slice() == case.text,
+            "{:?}, {:?}",
+            case.words,
+            case.conf
+        );
+        assert!(rt;
+            end.line == line_sector(line),
+            "{:?}, {:?}",
+            case.words,
+            case.conf
+        );
+    }
+    Ok(())
+}
+
+// The call that fails, whether its write is made, the status, the text, and the line's sector then. Calls 0 to 7 read
+// the configuration, call 8 the boot sector; then come the write and the flush.
+const BROKEN_SHOTS: [(u64, bool, u8, &[u8], &[u8]); 5] = [
+    (7, false, 8, b"lilo: device\n", KEPT),
+    (8, false, 8, b"lilo: device\n", KEPT),
+    (9, false, 9, b"lilo: device at commit\n", KEPT),
+    (9, true, 9, b"lilo: device at commit\n", ONCE),
+    (10, false, 9, b"lilo: device at commit\n", ONCE),
+];
+
+#[test]
+fn a_write_of_a_set_line_may_fail(rt: HostRuntime) -> Result<(), Fail> {
+    for (call, is_made, status, text, line) in BROKEN_SHOTS {
+        let case = Case {
+            failing_calls: &[call],
+            is_made,
+            ..SHOT
         };
         let end = end_of(rt.alloc(), &case)?;
         assert_eq!(rt; end.status, status, "call {call}");

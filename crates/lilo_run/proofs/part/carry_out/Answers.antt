@@ -4,16 +4,17 @@ use Rattle.std.specs.Prelude.{option_map}
 use Rattle.lilo_model.specs.Words.{Query}
 use Rattle.mbr_table.specs.View.{device_view}
 use Rattle.sector_address.specs.Machine.{machine_of}
-use Rattle.lilo_run.specs.Run.{DoesBeside, state_of}
-use Rattle.lilo_run.specs.Verdict.{plain_command, command_effect}
+use Rattle.lilo_run.specs.Run.{Starved, DoesBeside, CarriesBeside, state_of}
+use Rattle.lilo_run.specs.Verdict.{plain_command, line_effect, command_effect}
 use Rattle.bios_model.specs.Memory.{memory_of}
-use Rattle.disk_trait.proofs.ToldLemmas.{told_map}
+use Rattle.disk_trait.proofs.ToldLemmas.{told_map, told_all}
 use Rattle.lilo_run.proofs.ConfLemmas.{queries, installs, would_install}
 use Rattle.loader_core.proofs.BootLemmas.{keys_still}
+use Rattle.loader_core.proofs.LeavesLemmas.{same_self}
 use Rattle.lilo_run.proofs.part.carry_out.Goals as goal
 
 pub returns-in-Query-clause-does : goal.returns-in-Query-clause-does
-returns-in-Query-clause-does g c = λ words.
+returns-in-Query-clause-does g c =
     let past = g.D.Disks.past c.args.bios.now.disks.now in
     let machine = machine_of g.D.Disks c.args.bios.now.disks.now in
     let old = state_of g.O.Sink c.args.bios.now.disks.now c.args.ram.now c.args.out.now in
@@ -29,10 +30,10 @@ returns-in-Query-clause-does g c = λ words.
 
 pub returns-in-Boot-clause-does : goal.returns-in-Boot-clause-does
 unfolding command_effect
-returns-in-Boot-clause-does g c = λ words. rw c.in-Boot.is c.boot_device.ensures.does
+returns-in-Boot-clause-does g c = rw c.in-Boot.is c.boot_device.ensures.does
 
 pub returns-in-Install-clause-does : goal.returns-in-Install-clause-does
-returns-in-Install-clause-does g c = λ words.
+returns-in-Install-clause-does g c =
     let past = g.D.Disks.past c.args.bios.now.disks.now in
     let machine = machine_of g.D.Disks c.args.bios.now.disks.now in
     let old = state_of g.O.Sink c.args.bios.now.disks.now c.args.ram.now c.args.out.now in
@@ -43,3 +44,22 @@ returns-in-Install-clause-does g c = λ words.
       | inl is ↦ rw is (told_map past _ _ (λ now does. keys_still g.I.Source c.args.bios.now.keys.now _ (λ keys. installs g.D.Disks now machine (length c.args.ram.now) _ _ c.install.result keys old new same does)) does)
       | inr is ↦ rw is (told_map past _ _ (λ now does. keys_still g.I.Source c.args.bios.now.keys.now _ (λ keys. would_install g.D.Disks now machine (length c.args.ram.now) _ _ c.install.result keys old new same does)) does)
     ]
+
+pub returns-in-Ok-clause-does : goal.returns-in-Ok-clause-does
+unfolding command_effect
+returns-in-Ok-clause-does g c =
+    let same = c.as_bytes-path.ensures.value ∙ c.conf_path.ensures in
+    let does = subst
+    (λ path. CarriesBeside g.D.Disks g.O.Sink (memory_of c.args.ram.now) c.put_line.result (c.args.bios.now.disks.now, c.args.out.now) (c.put_line.new.disks, c.put_line.new.out)
+    (λ now machine. line_effect now machine (option_map device_view c.args.part.root) path c.in-Ok.text.items))
+    same (rw c.as_slice.ensures.value at (c.put_line.ensures.does (memory_of c.args.ram.now))) in
+    rw (c.in-SetLine.is, ← c.in-Ok.ensures)
+    (told_map (g.D.Disks.past c.args.bios.now.disks.now) _ _ (λ now carries. keys_still g.I.Source c.args.bios.now.keys.now _ carries) does)
+
+pub returns-in-Err-clause-does : goal.returns-in-Err-clause-does
+unfolding command_effect line_effect
+returns-in-Err-clause-does g c =
+    let disks = c.args.bios.now.disks.now in
+    rw c.in-SetLine.is
+    (told_all (g.D.Disks.past disks) _ (λ now. keys_still g.I.Source c.args.bios.now.keys.now _
+    (λ keys. Starved (record { answer = c.say_memory.ensures.status; shown = inl c.say_memory.ensures.shown }) (same_self g.D.Disks disks))))

@@ -14,7 +14,7 @@ use Rattle.lilo_run.specs.Verdict.{part_effect, early_status}
 use Rattle.lilo_run.proofs.ConfLemmas.{read_first, read_more}
 use Rattle.lilo_model.specs.ConfVerdict.{conf_path}
 use Rattle.lilo_run.proofs.MemoryLemmas.{boots_by}
-use Rattle.lilo_run.proofs.RunLemmas.{Begun, place_within, continues_more, continues_end, continues_last, own_status, own_lost, own_write_lost, boot_first, boot_more, begun_more, begun_last, stays_more, told_here, told_from, keeps_twice, rose_after}
+use Rattle.lilo_run.proofs.RunLemmas.{Begun, place_within, continues_more, continues_end, continues_last, own_status, own_lost, own_write_lost, boot_first, boot_more, write_first, write_more, begun_more, begun_last, stays_more, unwritten_more, told_here, told_from, keeps_twice, rose_after}
 use Rattle.lilo_run.proofs.run.run_parts.Goals as goal
 
 pub returns-in_default-answer-clause-does : goal.returns-in_default-answer-clause-does
@@ -35,7 +35,7 @@ returns-in_default-answer-clause-does g c =
     let told = told_here g.D.Disks c.args.bios.now.disks.now c.loop-next.bios.disks.now invariant.keeps.size invariant.keeps.geometry
     (λ image machine. OnKeys g.I.Source (c.loop-next.bios.keys.now, run.new.bios.keys.now) (λ keys left.
     Carries g.D.Disks (part_effect machine (length c.loop-next.ram) image part keys) run.result left here there))
-    (run.ensures.does words) (invariant.keeps.told is) in
+    run.ensures.does (invariant.keeps.told is) in
     let done = subst
     (λ size. OnKeys g.I.Source (c.loop-next.bios.keys.now, run.new.bios.keys.now) (λ keys left.
     Carries g.D.Disks (part_effect machine size (now (g.D.Disks.past c.loop-next.bios.disks.now)) part keys) run.result left here there))
@@ -61,9 +61,9 @@ returns-in_default-answer-clause-no_boot g c =
     let part = part_view words c.part_at-read.result.part in
     let behind = parts_of_next words c.part_at-read.result.next in
     let rest : parts_of_next words c.loop-next.next ≡ part ∷ behind = rw c.in-Some.is c.part_at-read.ensures.part in
-    λ none. (stays_more g.D.Disks (parts_behind words 0) _ behind part c.args.bios.now.disks.now c.loop-next.bios.disks.now c.carry_out-own.new.bios.disks.now
+    λ none. (stays_more (parts_behind words 0) _ behind part
     c.args.bios.now.keys.now c.loop-next.bios.keys.now c.carry_out-own.new.bios.keys.now c.args.ram.now c.loop-next.ram c.carry_out-own.new.ram c.loop-next.invariant.stays rest
-    (c.carry_out-own.ensures.quiet words) (c.carry_out-own.ensures.keys words) (c.carry_out-own.ensures.same words) none).0
+    (c.carry_out-own.ensures.quiet words) (c.carry_out-own.ensures.keys words) none).0
 
 pub returns-in_default-answer-clause-same : goal.returns-in_default-answer-clause-same
 returns-in_default-answer-clause-same g c =
@@ -71,9 +71,8 @@ returns-in_default-answer-clause-same g c =
     let part = part_view words c.part_at-read.result.part in
     let behind = parts_of_next words c.part_at-read.result.next in
     let rest : parts_of_next words c.loop-next.next ≡ part ∷ behind = rw c.in-Some.is c.part_at-read.ensures.part in
-    λ none. (stays_more g.D.Disks (parts_behind words 0) _ behind part c.args.bios.now.disks.now c.loop-next.bios.disks.now c.carry_out-own.new.bios.disks.now
-    c.args.bios.now.keys.now c.loop-next.bios.keys.now c.carry_out-own.new.bios.keys.now c.args.ram.now c.loop-next.ram c.carry_out-own.new.ram c.loop-next.invariant.stays rest
-    (c.carry_out-own.ensures.quiet words) (c.carry_out-own.ensures.keys words) (c.carry_out-own.ensures.same words) none).1.0
+    λ none. (unwritten_more g.D.Disks (parts_behind words 0) _ behind part c.args.bios.now.disks.now c.loop-next.bios.disks.now c.carry_out-own.new.bios.disks.now
+    c.loop-next.invariant.unwritten rest (c.carry_out-own.ensures.same words) none).0
 
 pub returns-in_default-answer-clause-starved : goal.returns-in_default-answer-clause-starved
 returns-in_default-answer-clause-starved g c =
@@ -93,8 +92,19 @@ returns-in_default-answer-clause-written g c =
     let behind = parts_of_next words c.part_at-read.result.next in
     let rest : parts_of_next words c.loop-next.next ≡ part ∷ behind = rw c.in-Some.is c.part_at-read.ensures.part in
     λ lost.
-    boot_first (parts_behind words 0) _ behind part c.loop-next.invariant.boots rest
+    write_first (parts_behind words 0) _ behind part c.loop-next.invariant.writes rest
     (c.carry_out-own.ensures.written words (own_write_lost c.carry_out-own.result c.answer.result c.failed.result c.answer.ensures lost))
+
+pub returns-in_default-answer-clause-after : goal.returns-in_default-answer-clause-after
+returns-in_default-answer-clause-after g c =
+    let words = c.args.words.now in
+    let part = part_view words c.part_at-read.result.part in
+    let behind = parts_of_next words c.part_at-read.result.next in
+    let rest : parts_of_next words c.loop-next.next ≡ part ∷ behind = rw c.in-Some.is c.part_at-read.ensures.part in
+    λ lost.
+    let own : c.carry_out-own.result ≡ 10 =
+    own_status c.carry_out-own.result 10 c.failed.result (sym c.answer.ensures ∙ lost) (λ is. omega (arith, is)) in
+    boot_first (parts_behind words 0) _ behind part c.loop-next.invariant.boots rest (c.carry_out-own.ensures.after words own)
 
 pub returns-in_default-answer-clause-asks : goal.returns-in_default-answer-clause-asks
 returns-in_default-answer-clause-asks g c =
@@ -144,7 +154,7 @@ loop-next-preserved g c =
           let told = told_here g.D.Disks c.args.bios.now.disks.now c.loop-next.bios.disks.now invariant.keeps.size invariant.keeps.geometry
           (λ image machine. OnKeys g.I.Source (c.loop-next.bios.keys.now, run.new.bios.keys.now) (λ keys left.
           Carries g.D.Disks (part_effect machine (length c.loop-next.ram) image part keys) run.result left here there))
-          (run.ensures.does words) (invariant.keeps.told is) in
+          run.ensures.does (invariant.keeps.told is) in
           let done = subst
           (λ size. OnKeys g.I.Source (c.loop-next.bios.keys.now, run.new.bios.keys.now) (λ keys left.
           Carries g.D.Disks (part_effect machine size (now (g.D.Disks.past c.loop-next.bios.disks.now)) part keys) run.result left here there))
@@ -160,10 +170,14 @@ loop-next-preserved g c =
       memory = run.ensures.memory ∙ invariant.memory;
       conf = read_more (parts_behind words 0) _ behind part invariant.conf rest;
       boots = boot_more (parts_behind words 0) _ behind part invariant.boots rest;
+      writes = write_more (parts_behind words 0) _ behind part invariant.writes rest;
       stays =
-          stays_more g.D.Disks (parts_behind words 0) _ behind part c.args.bios.now.disks.now c.loop-next.bios.disks.now run.new.bios.disks.now
+          stays_more (parts_behind words 0) _ behind part
           c.args.bios.now.keys.now c.loop-next.bios.keys.now run.new.bios.keys.now c.args.ram.now c.loop-next.ram run.new.ram
-          invariant.stays rest (run.ensures.quiet words) (run.ensures.keys words) (run.ensures.same words);
+          invariant.stays rest (run.ensures.quiet words) (run.ensures.keys words);
+      unwritten =
+          unwritten_more g.D.Disks (parts_behind words 0) _ behind part c.args.bios.now.disks.now c.loop-next.bios.disks.now run.new.bios.disks.now
+          invariant.unwritten rest (run.ensures.same words);
       disks_reference = run.ensures.asks.same_disks_reference ∙ invariant.disks_reference;
       keys_reference = run.ensures.asks.same_keys_reference ∙ invariant.keys_reference;
       out_reference = run.ensures.asks.same_reference ∙ invariant.out_reference;

@@ -8,7 +8,7 @@ use Rattle.stream_trait.specs.Shows.{sink_of, HasFailed}
 use Rattle.lilo_run.specs.Run.{state_of}
 use Rattle.lilo_run.specs.Verdict.{part_effect}
 use Rattle.lilo_run.proofs.ConfLemmas.{AreRead}
-use Rattle.lilo_run.proofs.RunLemmas.{turns_left, Continues, Begun, AreBoots, Stays}
+use Rattle.lilo_run.proofs.RunLemmas.{turns_left, Continues, Begun, AreBoots, AreWrites, Stays, StaysUnwritten}
 use Rattle.lilo_run.proofs.run.run_parts.Given as goal
 
 abbrev pub invariant-loop-next : goal.invariant-loop-next
@@ -29,9 +29,11 @@ invariant-loop-next g l = record {
   memory : length l.ram ≡ length l.fn.ram;
   conf : AreRead (parts_behind l.words 0) (parts_of_next l.words l.next);
   boots : AreBoots (parts_behind l.words 0) (parts_of_next l.words l.next);
+  writes : AreWrites (parts_behind l.words 0) (parts_of_next l.words l.next);
   stays :
-      Stays g.D.Disks (parts_behind l.words 0) (parts_of_next l.words l.next) (l.fn.bios.disks.now, l.fn.bios.keys.now, l.fn.ram)
-      (l.bios.disks.now, l.bios.keys.now, l.ram);
+      Stays (parts_behind l.words 0) (parts_of_next l.words l.next) (l.fn.bios.keys.now, l.fn.ram)
+      (l.bios.keys.now, l.ram);
+  unwritten : StaysUnwritten g.D.Disks (parts_behind l.words 0) (parts_of_next l.words l.next) l.fn.bios.disks.now l.bios.disks.now;
   disks_reference : l.bios.disks.ghost_name ≡ l.fn.bios.disks.ghost_name;
   keys_reference : l.bios.keys.ghost_name ≡ l.fn.bios.keys.ghost_name;
   out_reference : l.out.out.ghost_name ≡ l.fn.out.out.ghost_name;

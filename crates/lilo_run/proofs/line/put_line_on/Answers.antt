@@ -1,0 +1,22 @@
+use Rattle.mbr_table.specs.View.{device_view, span_view}
+use Rattle.lilo_model.specs.ConfVerdict.{place_at}
+use Rattle.sector_address.specs.Machine.{machine_of}
+use Rattle.disk_trait.proofs.ToldLemmas.{told_map, told_both}
+use Rattle.lilo_run.proofs.ShotLemmas.{shot_unplaced, shot_placed}
+use Rattle.lilo_run.proofs.line.put_line_on.Goals as goal
+
+pub returns-in-Ok-clause-does : goal.returns-in-Ok-clause-does
+returns-in-Ok-clause-does g c =
+    let machine = machine_of g.D.Disks c.args.disks.now in
+    let same = c.in-Ok.ensures.reads.same in λ memory.
+    told_both (g.D.Disks.past c.args.disks.now) _ _ _
+    (λ now is carries keys. shot_placed g.D.Disks c.args.text.now c.put_line_in.result keys _ _ now machine (place_at now machine (device_view c.args.device)) (span_view c.in-Ok.span) c.args.disks.now is same c.in-Ok.ensures.reads.later (carries keys))
+    c.in-Ok.ensures.place (rw (same.same_past, same.same_size, same.same_geometry) at (c.put_line_in.ensures.does memory))
+
+pub returns-in-Err-clause-does : goal.returns-in-Err-clause-does
+returns-in-Err-clause-does g c =
+    let machine = machine_of g.D.Disks c.args.disks.now in λ memory.
+    told_map (g.D.Disks.past c.args.disks.now) _ _
+    (λ now halts keys. shot_unplaced g.D.Disks c.args.text.now c.say.result keys _ _ now machine (place_at now machine (device_view c.args.device)) c.in-Err.halt halts c.in-Err.ensures.reads.same
+    c.say.ensures.status c.say.ensures.some c.say.ensures.shown)
+    c.in-Err.ensures.place

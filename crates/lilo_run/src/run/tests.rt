@@ -88,7 +88,12 @@ fn put_volume(disks: &mut MemDisks, case: &Case<'_>)
     put_part(&mut inodes, 32, b"\xA4\x81");
     inodes[36] = case.conf.len() as u8;
     put_part(&mut inodes, 46, b"\x06");
-    put_text(disks, case, 2, b"\x10\0\x20\0\x01\0\x01\0\x05\0\0\0\0\0\0\0\x7F\x13");
+    put_text(
+        disks,
+        case,
+        2,
+        b"\x10\0\x20\0\x01\0\x01\0\x05\0\0\0\0\0\0\0\x7F\x13",
+    );
     put_sector(disks, case, 8, &inodes);
     put_text(
         disks,
@@ -759,8 +764,8 @@ const SHOTS: [(Case<'static>, &[u8]); 13] = [
     (
         Case {
             words: &[
-                "boot", "/dev/hda", "--then", "-C", "/c", "-R", "linux", "single", "--then", "boot", "/dev/hda",
-                "--then", "boot", "/dev/hda",
+                "boot", "/dev/hda", "--then", "-C", "/c", "-R", "linux", "single", "--then",
+                "boot", "/dev/hda", "--then", "boot", "/dev/hda",
             ],
             line: NO_LINE,
             at: 0x0C,
@@ -871,7 +876,17 @@ const SHOTS: [(Case<'static>, &[u8]); 13] = [
 
 // Seven words of 31 bytes and one of 32: 256 bytes, with a space between each two.
 const LONG: &[&str] = &[
-    "-C", "/c", "-R", WORD, WORD, WORD, WORD, WORD, WORD, WORD, "aaaaaaaaaaaaaaaaaaaaaaaaaaaaaaa1",
+    "-C",
+    "/c",
+    "-R",
+    WORD,
+    WORD,
+    WORD,
+    WORD,
+    WORD,
+    WORD,
+    WORD,
+    "aaaaaaaaaaaaaaaaaaaaaaaaaaaaaaa1",
 ];
 
 const WORD: &str = "aaaaaaaaaaaaaaaaaaaaaaaaaaaaaaa";
@@ -880,7 +895,12 @@ const WORD: &str = "aaaaaaaaaaaaaaaaaaaaaaaaaaaaaaa";
 fn lines_are_set_and_cleared(rt: HostRuntime) -> Result<(), Fail> {
     for (case, line) in SHOTS {
         let end = end_of(rt.alloc(), &case)?;
-        assert_eq!(rt; end.status, case.status, "{:?}, {:?}", case.words, case.conf);
+        assert_eq!(rt;
+            end.status,
+            case.status,
+            "{:?}, {:?}",
+            case.words, case.conf
+        );
         assert!(rt;
             end.text.as_slice() == case.text,
             "{:?}, {:?}",

@@ -1,5 +1,6 @@
 -- Which way a directory grows, by the lowest zone that is there on the way to the block of a place.
-use Rattle.std.proofs.Common.{◌≡◌, ◌≢◌, ◌≤◌, ◌<◌, ◌+◌, ◌-◌, ◌*◌, ◌/◌, ◌%◌, ◌^◌, ◌==◌, ◌⊎◌, ℕ, zero, suc, Bool, true, false, List, length, take, Option, Result, Ok, refl, sym, ◌∙◌, ap, subst, arith, eq-eqb, inl, inr}
+use Rattle.std.proofs.Common.{◌≡◌, ◌≢◌, ◌≤◌, ◌<◌, ◌+◌, ◌-◌, ◌*◌, ◌/◌, ◌%◌, ◌^◌, ◌==◌, ◌⊎◌, ℕ, zero, suc, Bool, true, false, List, length, take, Option, Result, Ok, Err, refl, sym, ◌∙◌, ap, subst, arith, eq-eqb, inl, inr}
+use Rattle.std.specs.Prelude.{slice_index}
 use Rattle.std.proofs.lemmas.Bool.{eqb-true, cases_lt}
 use Rattle.std.proofs.lemmas.Nat.{mod_below}
 use Rattle.std.proofs.lemmas.List.{get_or-take, length-take-le}
@@ -32,12 +33,12 @@ use Rattle.minix_turns.specs.Joined.{Unseen}
 use Rattle.minix_turns.proofs.JoinedLemmas.{steps_unseen}
 use Rattle.minix_zone_bytes_laws.specs.Part.{offset_of_number}
 use Rattle.minix_zones.specs.View.{Refuses, IsDataZone, span_view}
-use Rattle.minix_zones.specs.Volume.{volume_view, past_of, faults_of, SameVolume}
+use Rattle.minix_zones.specs.Volume.{volume_view, past_of, faults_of, SameVolume, HasDeviceCause}
 use Rattle.minix_zones.specs.declared.volume.Volume.{Volume}
 use Rattle.minix_zones.specs.declared.zone_fault.ZoneFault.{ZoneFault}
 use Rattle.minix_zones.specs.declared.zone_fault.ZoneFault.TheVariants as faults
 use Rattle.minix_grow.specs.Below.{MayHookBelowNow, IsOffNumber}
-use Rattle.minix_grow.specs.Grow.{IsLowest, IsOffWay, IsRefusedOnWay, IsSizeOver, MayGrowNow, MayGrowByNow, ReachesDownNow}
+use Rattle.minix_grow.specs.Grow.{AreUnusedWhereMissing, IsLowest, IsOffWay, IsRefusedOnWay, IsSizeOver, MayGrowNow, MayGrowByNow, ReachesDownNow}
 use Rattle.minix_grow.specs.Hook.{MayHookTopNow}
 use Rattle.minix_grow.specs.Places.{size_to, IsFreePlaceNow, IsNextPlaceNow, IsOffPlace}
 use Rattle.minix_grow.specs.Way.{depth_of, pointer_above, number_on_way, index_above}
@@ -138,16 +139,6 @@ pub read_unseen : {D : Type 0} {disks : Ghosts D} (old mid : Volume D disks) →
     → Unseen old mid
 read_unseen old mid quiet sound same later = steps_unseen old mid quiet sound (no_step old mid (quiet_ready old quiet sound) same later)
 
-pub off_way_same : {D : Type 0} {disks : Ghosts D} (old mid : Volume D disks) → SameVolume old mid → (directory block d s : ℕ) → IsOffWay old directory block d s → IsOffWay mid directory block d s
-off_way_same old mid same directory block d s off =
-    let W : Span → layouts.Super → Option Past → Type 0 = λ span layout past.
-    (level : ℕ) → level ≤ depth_of (kind_view layout.kind) block
-    → pointer (super_view layout) (model.parts_of (record { span = span_view span; layout = super_view layout }) (now past)) directory (pointer_above (kind_view layout.kind) block level) ≢ 0
-    → IsOutside span.disk (span.start + zone_sector (pointer (super_view layout) (model.parts_of (record { span = span_view span; layout = super_view layout }) (now past)) directory (pointer_above (kind_view layout.kind) block level))) 2 d s in
-    let one : W old.span old.layout (past_of mid) = subst (W old.span old.layout) (sym same.same_disks.same_past) off in
-    let two : W old.span mid.layout (past_of mid) = subst (λ l. W old.span l (past_of mid)) (sym same.same_layout) one in
-    subst (λ p. W p mid.layout (past_of mid)) (sym same.same_span) two
-
 -- ---- on a volume
 
 module _ {D : Type 0} {disks : Ghosts D} (volume : Volume D disks) (directory place : ℕ) (node : Inode) (growth : List ℕ) (fits : FitsInode (kind_view volume.layout.kind) node)
@@ -239,7 +230,7 @@ module _ {D : Type 0} {disks : Ghosts D} (volume : Volume D disks) (directory pl
       holes lower order = holes_below (super_view volume.layout) Is (Is.node directory) Block high lower (high - lower) low (omega (arith, order)) hole
 
       pub are_enough : level ≤ length growth
-      are_enough = let e = ((may told).enough high low hole).0 in omega (arith, e, one)
+      are_enough = let e = (may told).enough high low hole in omega (arith, e, one)
 
       -- a place past the size is free
       block-hole : zone_number (super_view volume.layout) Is directory Block ≡ 0
@@ -309,18 +300,89 @@ module _ {D : Type 0} {disks : Ghosts D} (volume : Volume D disks) (directory pl
 
       pub may_grow_by : MayGrowByNow volume directory node place level zone
       may_grow_by = record {
-        sound = (may told).lies.sound;
         in_zone = may_hook_below;
         in_inode = λ over size is. may_hook_top_with over size (may_size_over size is);
       }
 
-  -- the zones that are missing are unused
-  pub are_unused : (level zone high : ℕ) → level ≡ suc high → high ≤ depth_of (kind_view volume.layout.kind) Block → (IsTold (past_of volume) → ReachesDownNow volume node Block level zone)
-      → level ≤ length growth → AreUnused volume (take level growth)
-  are_unused level zone high one low way few lower order = record {
-    unused = λ told.
-        let long : length (take level growth) ≡ level = length-take-le level growth few in
-        let below : lower < level = omega (arith, order, long) in
-        let hole = holes told level zone high one low (way told) lower (omega (arith, below, one)) in
-        rw (get_or-take level growth lower _ below) (((may told).enough lower (omega (arith, below, one, low)) hole).1.unused told);
+-- the zones that are missing are unused
+pub are_unused : {D : Type 0} {disks : Ghosts D} (volume : Volume D disks) (node : Inode) (block : ℕ) (growth : List ℕ) (level zone high : ℕ) → AreUnusedWhereMissing volume node block growth
+    → level ≡ suc high → high ≤ depth_of (kind_view volume.layout.kind) block → (IsTold (past_of volume) → ReachesDownNow volume node block level zone) → level ≤ length growth → AreUnused volume (take level growth)
+are_unused volume node block growth level zone high unused one low way few lower order =
+    let long : length (take level growth) ≡ level = length-take-le level growth few in
+    let below : lower < level = omega (arith, order, long) in
+    rw (get_or-take level growth lower _ below)
+    (unused lower (omega (arith, below, few)) (λ told. holes_below (super_view volume.layout) (parts_now volume) node block high lower (high - lower) low (omega (arith, below, one)) ((way told).hole high one)))
+
+-- a place lies below the size that is over it
+pub over_below : (kind : Kind) (size place over : ℕ) → IsSizeOver kind size place over → place < places kind over
+over_below kind size place over (inl below) = rw below.1 (place_below kind place size below.0)
+over_below kind size place over (inr past) = let e = places_to kind place in rw past.1 (omega (arith, e))
+
+-- where a zone on the way is there not all of it is missing
+pub some_there : (layout : layouts.Super) (block level zone : ℕ) → IsLowest layout block level zone → zone ≢ 0 → level ≤ depth_of (kind_view layout.kind) block
+some_there layout block level zone lowest some = by (cases_lt (depth_of (kind_view layout.kind) block) level)
+  where
+    by : (depth_of (kind_view layout.kind) block < level) ⊎ (level ≤ depth_of (kind_view layout.kind) block) → level ≤ depth_of (kind_view layout.kind) block
+    by (inl over) = absurd (some (lowest.none over))
+    by (inr there) = there
+
+-- ---- the same volume, once it was read
+
+module _ {D : Type 0} {disks : Ghosts D} (old mid : Volume D disks) (same : SameVolume old mid) where
+  same_fact : (W : Span → layouts.Super → Option Past → Type 0) → W old.span old.layout (past_of old) → W mid.span mid.layout (past_of mid)
+  same_fact W holds =
+      let one : W old.span old.layout (past_of mid) = subst (W old.span old.layout) (sym same.same_disks.same_past) holds in
+      let two : W old.span mid.layout (past_of mid) = subst (λ l. W old.span l (past_of mid)) (sym same.same_layout) one in
+      subst (λ p. W p mid.layout (past_of mid)) (sym same.same_span) two
+
+  back_fact : (W : Span → layouts.Super → Option Past → Type 0) → W mid.span mid.layout (past_of mid) → W old.span old.layout (past_of old)
+  back_fact W holds =
+      let one : W mid.span mid.layout (past_of old) = subst (W mid.span mid.layout) same.same_disks.same_past holds in
+      let two : W mid.span old.layout (past_of old) = subst (λ l. W mid.span l (past_of old)) same.same_layout one in
+      subst (λ p. W p old.layout (past_of old)) same.same_span two
+
+  pub told_mid : IsTold (past_of old) → IsTold (past_of mid)
+  told_mid told = subst IsTold (sym same.same_disks.same_past) told
+
+  pub told_old : IsTold (past_of mid) → IsTold (past_of old)
+  told_old told = subst IsTold same.same_disks.same_past told
+
+  abbrev PartsAt : Span → layouts.Super → Option Past → Parts
+  PartsAt span layout past = model.parts_of (record { span = span_view span; layout = super_view layout }) (now past)
+
+  pub may_grow_same : (directory place : ℕ) (node : Inode) (growth : List ℕ) → MayGrowNow old directory node place growth → MayGrowNow mid directory node place growth
+  may_grow_same directory place node growth may = record {
+    lies = record {
+      sound = same_fact (λ span layout past. IsSound (record { span = span_view span; layout = super_view layout }) (now past)) may.lies.sound;
+      is = same_fact (λ span layout past. (PartsAt span layout past).node directory ≡ node) may.lies.is;
+      named = same_fact (λ span layout past. Named (super_view layout) (PartsAt span layout past) directory) may.lies.named;
+    };
+    is = same_fact (λ span layout past. is_directory ((PartsAt span layout past).node directory) ≡ true) may.is;
+    free = same_fact (λ span layout past. place < places (kind_view layout.kind) node.size → (entry (super_view layout) (PartsAt span layout past) directory place).inode ≡ 0) may.free;
+    enough = let W : Span → layouts.Super → Option Past → Type 0 = λ span layout past. ((level : ℕ) → level ≤ depth_of (kind_view layout.kind) (place / entries_per_block (kind_view layout.kind))
+        → pointer (super_view layout) (PartsAt span layout past) directory (pointer_above (kind_view layout.kind) (place / entries_per_block (kind_view layout.kind)) level) ≡ 0 → level < length growth) in
+        same_fact W may.enough;
   }
+
+  pub sound_same : (IsTold (past_of old) → IsSound (volume_view old) (now (past_of old))) → IsTold (past_of mid) → IsSound (volume_view mid) (now (past_of mid))
+  sound_same sound told = same_fact (λ span layout past. IsSound (record { span = span_view span; layout = super_view layout }) (now past)) (sound (told_old told))
+
+  pub unused_same : IsQuiet (past_of old) → (IsTold (past_of old) → IsSound (volume_view old) (now (past_of old))) → faults_of old ≤ faults_of mid → (node : Inode) (place : ℕ) (growth : List ℕ)
+      → AreUnusedWhereMissing old node (place / entries_per_block (kind_view old.layout.kind)) growth → AreUnusedWhereMissing mid node (place / entries_per_block (kind_view mid.layout.kind)) growth
+  unused_same quiet sound later node place growth unused level low missing =
+      let N : Span → layouts.Super → Option Past → Type 0 = λ span layout past.
+      number_on_way (super_view layout) (PartsAt span layout past) node (place / entries_per_block (kind_view layout.kind)) level ≡ 0 in
+      (no_step old mid (quiet_ready old quiet sound) same later).unused (slice_index growth level)
+      (unused level low (λ told. back_fact N (missing (told_mid told))))
+
+  pub off_way_same : (directory place d s : ℕ) → IsOffWay old directory (place / entries_per_block (kind_view old.layout.kind)) d s → IsOffWay mid directory (place / entries_per_block (kind_view mid.layout.kind)) d s
+  off_way_same directory place d s off =
+      let W : Span → layouts.Super → Option Past → Type 0 = λ span layout past. ((level : ℕ) → level ≤ depth_of (kind_view layout.kind) (place / entries_per_block (kind_view layout.kind))
+      → pointer (super_view layout) (PartsAt span layout past) directory (pointer_above (kind_view layout.kind) (place / entries_per_block (kind_view layout.kind)) level) ≢ 0
+      → IsOutside span.disk (span.start + zone_sector (pointer (super_view layout) (PartsAt span layout past) directory (pointer_above (kind_view layout.kind) (place / entries_per_block (kind_view layout.kind)) level))) 2 d s) in
+      same_fact W off
+
+  -- a later refusal is one since the volume was read
+  pub device_since : (new : Volume D disks) → faults_of old ≤ faults_of mid → (result : Result (Unit {0}) ZoneFault) → HasDeviceCause mid new faults.Device result → HasDeviceCause old new faults.Device result
+  device_since new later (Ok value) cause = tt
+  device_since new later (Err fault) cause = (cause.0, λ below. let rose = cause.1 below in omega (arith, rose, later))

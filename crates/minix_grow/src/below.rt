@@ -1,8 +1,9 @@
 // New zones that a directory gets by a number in an indirect zone.
 ghost use Rattle.std.specs.Prelude.{◌≡◌, ◌-◌, ◌/◌, ◌≤◌, ◌<◌, ◌^◌, true, length, slice_index, OnOk};
-ghost use Rattle.disk_trait.specs.Moments.{IsTold, IsQuiet};
+ghost use Rattle.disk_trait.specs.Moments.{IsTold, now, IsQuiet};
 ghost use Rattle.lilo_model.specs.MinixEntries.{entries_per_block, places};
 ghost use Rattle.lilo_model.specs.MinixLayout.{FitsInode, is_size};
+ghost use Rattle.lilo_model.specs.MinixNames.{IsSound};
 ghost use Rattle.minix_grow.specs.Below.{MayHookBelowNow, HasFreeBlockNow, HooksBelowUnseen, HooksFreeBlock, WritesBelowAlone};
 ghost use Rattle.minix_grow.specs.Hook.{WritesInodeAlone};
 ghost use Rattle.minix_grow.specs.Places.{IsFreePlaceNow, size_to};
@@ -11,7 +12,7 @@ ghost use Rattle.minix_grow.specs.Zones.{AreData, AreUnused, AreGrownNow};
 ghost use Rattle.minix_layout.specs.View.{kind_view, inode_view};
 ghost use Rattle.minix_turns.specs.Joined.{Unseen};
 ghost use Rattle.minix_turns.specs.Part.{TurnsNumber};
-ghost use Rattle.minix_zones.specs.Volume.{past_of, HasDeviceCause};
+ghost use Rattle.minix_zones.specs.Volume.{volume_view, past_of, HasDeviceCause};
 
 use crate::places::{block_of, size_to};
 use crate::way::index_above;
@@ -69,11 +70,12 @@ fn raise_over<D: Disks>(
     requires small { size_to (kind_view volume.old.layout.kind) place < 2 ^ 32 }
     requires next { place ≤ places (kind_view volume.old.layout.kind) node.now.size }
     requires quiet { IsQuiet (past_of volume.old) }
-    requires block { IsTold (past_of volume.old) → HasFreeBlockNow volume.old directory (inode_view node.now)
-        (place / entries_per_block (kind_view volume.old.layout.kind)) }
-    ensures unseen { Unseen volume.old volume.new }
+    ensures unseen { (IsTold (past_of volume.old) → HasFreeBlockNow volume.old directory (inode_view node.now)
+        (place / entries_per_block (kind_view volume.old.layout.kind))) → Unseen volume.old volume.new }
     ensures others { WritesInodeAlone volume.old volume.new directory }
-    ensures place { IsTold (past_of volume.old) → OnOk result (IsFreePlaceNow volume.new directory place) }
+    ensures place { (IsTold (past_of volume.old) → HasFreeBlockNow volume.old directory (inode_view node.now)
+        (place / entries_per_block (kind_view volume.old.layout.kind)))
+        → IsTold (past_of volume.old) → OnOk result (IsFreePlaceNow volume.new directory place) }
     ensures quiet { OnOk result (IsQuiet (past_of volume.new)) }
     ensures device { HasDeviceCause volume.old volume.new ZoneFault.Device result }
 {
@@ -114,12 +116,15 @@ pub fn grow_in_zone<D: Disks>(
     requires next { place ≤ places (kind_view volume.old.layout.kind) node.now.size }
     requires quiet { IsQuiet (past_of volume.old) }
     requires unused { AreUnused volume.old growth.now }
-    requires may { IsTold (past_of volume.old) → MayHookBelowNow volume.old directory (inode_view node.now)
-        (place / entries_per_block (kind_view volume.old.layout.kind)) (length growth.now) zone }
-    ensures unseen { Unseen volume.old volume.new }
+    requires sound { IsTold (past_of volume.old) → IsSound (volume_view volume.old) (now (past_of volume.old)) }
+    ensures unseen { (IsTold (past_of volume.old) → MayHookBelowNow volume.old directory (inode_view node.now)
+        (place / entries_per_block (kind_view volume.old.layout.kind)) (length growth.now) zone)
+        → Unseen volume.old volume.new }
     ensures others { WritesBelowAlone volume.old volume.new directory
         (place / entries_per_block (kind_view volume.old.layout.kind)) growth.now zone }
-    ensures place { IsTold (past_of volume.old) → OnOk result (IsFreePlaceNow volume.new directory place) }
+    ensures place { (IsTold (past_of volume.old) → MayHookBelowNow volume.old directory (inode_view node.now)
+        (place / entries_per_block (kind_view volume.old.layout.kind)) (length growth.now) zone)
+        → IsTold (past_of volume.old) → OnOk result (IsFreePlaceNow volume.new directory place) }
     ensures quiet { OnOk result (IsQuiet (past_of volume.new)) }
     ensures device { HasDeviceCause volume.old volume.new ZoneFault.Device result }
 {

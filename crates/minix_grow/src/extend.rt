@@ -35,11 +35,12 @@ pub fn extend_in_zone<D: Disks>(
         (size_to (kind_view volume.old.layout.kind) place) ≡ true }
     requires small { size_to (kind_view volume.old.layout.kind) place < 2 ^ 32 }
     requires quiet { IsQuiet (past_of volume.old) }
-    requires next { IsTold (past_of volume.old)
-        → IsNextPlaceNow volume.old directory (inode_view node.now) place zone }
-    ensures unseen { Unseen volume.old volume.new }
+    ensures unseen { (IsTold (past_of volume.old)
+        → IsNextPlaceNow volume.old directory (inode_view node.now) place zone) → Unseen volume.old volume.new }
     ensures others { WritesPlaceAlone volume.old volume.new directory place zone }
-    ensures place { IsTold (past_of volume.old) → OnOk result (IsFreePlaceNow volume.new directory place) }
+    ensures place { (IsTold (past_of volume.old)
+        → IsNextPlaceNow volume.old directory (inode_view node.now) place zone)
+        → IsTold (past_of volume.old) → OnOk result (IsFreePlaceNow volume.new directory place) }
     ensures quiet { OnOk result (IsQuiet (past_of volume.new)) }
     ensures device { HasDeviceCause volume.old volume.new ZoneFault.Device result }
 {

@@ -4,7 +4,8 @@ ghost use Rattle.disk_trait.specs.Moments.{IsTold, now, IsQuiet};
 ghost use Rattle.lilo_model.specs.MinixEntries.{entries_per_block, places};
 ghost use Rattle.lilo_model.specs.MinixLayout.{FitsInode, is_size};
 ghost use Rattle.lilo_model.specs.MinixNames.{IsSound};
-ghost use Rattle.minix_grow.specs.Grow.{MayGrowNow, MayGrowByNow, IsLowest, ReachesDownNow, IsSizeOver, GrowsAlone, GrowsByAlone};
+ghost use Rattle.minix_grow.specs.Grow.{AreUnusedWhereMissing, IsLowest, IsSizeOver, ReachesDownNow};
+ghost use Rattle.minix_grow.specs.Grow.{MayGrowByNow, MayGrowNow, MayReachNow, GrowsByAlone, GrowsTo};
 ghost use Rattle.minix_grow.specs.Places.{IsFreePlaceNow, IsNextPlaceNow, WritesPlaceAlone, size_to};
 ghost use Rattle.minix_grow.specs.Way.{depth_of};
 ghost use Rattle.minix_grow.specs.Zones.{AreData, AreUnused};
@@ -49,13 +50,11 @@ fn grow_in_block<D: Disks>(
     requires small { size_to (kind_view volume.old.layout.kind) place < 2 ^ 32 }
     requires quiet { IsQuiet (past_of volume.old) }
     requires sound { IsTold (past_of volume.old) → IsSound (volume_view volume.old) (now (past_of volume.old)) }
-    requires free { IsTold (past_of volume.old) → size_to (kind_view volume.old.layout.kind) place ≤ node.now.size
-        → IsFreePlaceNow volume.old directory place }
-    requires next { IsTold (past_of volume.old) → node.now.size < size_to (kind_view volume.old.layout.kind) place
-        → IsNextPlaceNow volume.old directory (inode_view node.now) place zone }
-    ensures unseen { Unseen volume.old volume.new }
+    ensures unseen { (IsTold (past_of volume.old) → MayReachNow volume.old directory (inode_view node.now) place zone)
+        → Unseen volume.old volume.new }
     ensures others { WritesPlaceAlone volume.old volume.new directory place zone }
-    ensures place { IsTold (past_of volume.old) → OnOk result (IsFreePlaceNow volume.new directory place) }
+    ensures place { (IsTold (past_of volume.old) → MayReachNow volume.old directory (inode_view node.now) place zone)
+        → IsTold (past_of volume.old) → OnOk result (IsFreePlaceNow volume.new directory place) }
     ensures quiet { OnOk result (IsQuiet (past_of volume.new)) }
     ensures device { HasDeviceCause volume.old volume.new ZoneFault.Device result }
 {
@@ -90,12 +89,14 @@ fn grow_by<D: Disks>(
     requires data { AreData volume.old.layout growth.now }
     requires quiet { IsQuiet (past_of volume.old) }
     requires unused { AreUnused volume.old growth.now }
-    requires may { IsTold (past_of volume.old) → MayGrowByNow volume.old directory (inode_view node.now) place
-        (length growth.now) zone }
-    ensures unseen { Unseen volume.old volume.new }
+    requires sound { IsTold (past_of volume.old) → IsSound (volume_view volume.old) (now (past_of volume.old)) }
+    ensures unseen { (IsTold (past_of volume.old) → MayGrowByNow volume.old directory (inode_view node.now) place
+        (length growth.now) zone) → Unseen volume.old volume.new }
     ensures others { GrowsByAlone volume.old volume.new directory
         (place / entries_per_block (kind_view volume.old.layout.kind)) growth.now zone }
-    ensures place { IsTold (past_of volume.old) → OnOk result (IsFreePlaceNow volume.new directory place) }
+    ensures place { (IsTold (past_of volume.old) → MayGrowByNow volume.old directory (inode_view node.now) place
+        (length growth.now) zone) → IsTold (past_of volume.old)
+        → OnOk result (IsFreePlaceNow volume.new directory place) }
     ensures quiet { OnOk result (IsQuiet (past_of volume.new)) }
     ensures device { HasDeviceCause volume.old volume.new ZoneFault.Device result }
 {
@@ -127,18 +128,17 @@ fn grow_from<D: Disks>(
     requires next { place ≤ places (kind_view volume.old.layout.kind) node.now.size }
     requires data { AreData volume.old.layout growth.now }
     requires quiet { IsQuiet (past_of volume.old) }
-    requires may { IsTold (past_of volume.old)
-        → MayGrowNow volume.old directory (inode_view node.now) place growth.now }
+    requires sound { IsTold (past_of volume.old) → IsSound (volume_view volume.old) (now (past_of volume.old)) }
+    requires unused { AreUnusedWhereMissing volume.old (inode_view node.now)
+        (place / entries_per_block (kind_view volume.old.layout.kind)) growth.now }
     requires lowest { IsLowest volume.old.layout (place / entries_per_block (kind_view volume.old.layout.kind))
         lowest.level lowest.zone }
     requires way { IsTold (past_of volume.old) → ReachesDownNow volume.old (inode_view node.now)
         (place / entries_per_block (kind_view volume.old.layout.kind)) lowest.level lowest.zone }
-    ensures unseen { Unseen volume.old volume.new }
-    ensures others { IsTold (past_of volume.old) → GrowsAlone volume.old volume.new directory
-        (place / entries_per_block (kind_view volume.old.layout.kind)) growth.now }
-    ensures place { IsTold (past_of volume.old) → OnOk result (IsFreePlaceNow volume.new directory place) }
+    ensures grows { (IsTold (past_of volume.old)
+        → MayGrowNow volume.old directory (inode_view node.now) place growth.now)
+        → GrowsTo volume.old volume.new directory place growth.now result }
     ensures quiet { OnOk result (IsQuiet (past_of volume.new)) }
-    ensures device { IsTold (past_of volume.old) → HasDeviceCause volume.old volume.new ZoneFault.Device result }
     ensures cause { IfErr result (HasZoneCause (faults_of volume.old) (faults_of volume.new)) }
 {
     let level = lowest.level as usize;
@@ -183,16 +183,15 @@ pub fn grow_directory<D: Disks>(
     requires next { place ≤ places (kind_view volume.old.layout.kind) node.now.size }
     requires data { AreData volume.old.layout growth.now }
     requires quiet { IsQuiet (past_of volume.old) }
-    requires may { IsTold (past_of volume.old)
-        → MayGrowNow volume.old directory (inode_view node.now) place growth.now }
-    ensures unseen { Unseen volume.old volume.new }
-    ensures others { IsTold (past_of volume.old) → GrowsAlone volume.old volume.new directory
+    requires sound { IsTold (past_of volume.old) → IsSound (volume_view volume.old) (now (past_of volume.old)) }
+    requires unused { AreUnusedWhereMissing volume.old (inode_view node.now)
         (place / entries_per_block (kind_view volume.old.layout.kind)) growth.now }
-    ensures place { IsTold (past_of volume.old) → OnOk result (IsFreePlaceNow volume.new directory place) }
+    ensures grows { (IsTold (past_of volume.old)
+        → MayGrowNow volume.old directory (inode_view node.now) place growth.now)
+        → GrowsTo volume.old volume.new directory place growth.now result }
     ensures quiet { OnOk result (IsQuiet (past_of volume.new)) }
 
     // When it is refused.
-    ensures device { IsTold (past_of volume.old) → HasDeviceCause volume.old volume.new ZoneFault.Device result }
     ensures cause { IfErr result (HasZoneCause (faults_of volume.old) (faults_of volume.new)) }
 {
     let block = block_of(volume.layout().kind, place);

@@ -1,8 +1,9 @@
 // New zones that a directory gets by a number in its inode.
 ghost use Rattle.std.specs.Prelude.{◌≡◌, ◌+◌, ◌/◌, ◌≤◌, ◌<◌, ◌^◌, true, length, OnOk};
-ghost use Rattle.disk_trait.specs.Moments.{IsTold, IsQuiet};
+ghost use Rattle.disk_trait.specs.Moments.{IsTold, now, IsQuiet};
 ghost use Rattle.lilo_model.specs.MinixEntries.{entries_per_block, places};
 ghost use Rattle.lilo_model.specs.MinixLayout.{FitsInode, is_size, reach};
+ghost use Rattle.lilo_model.specs.MinixNames.{IsSound};
 ghost use Rattle.minix_grow.specs.Hook.{MayHookTopNow, WritesGrowthAlone, hooked};
 ghost use Rattle.minix_grow.specs.Places.{IsFreePlaceNow};
 ghost use Rattle.minix_grow.specs.Way.{depth_of};
@@ -10,7 +11,7 @@ ghost use Rattle.minix_grow.specs.Zones.{AreData, AreUnused, AreGrownNow};
 ghost use Rattle.minix_layout.specs.View.{kind_view, inode_view};
 ghost use Rattle.minix_turns.specs.Inode.{TurnsInode};
 ghost use Rattle.minix_turns.specs.Joined.{Unseen};
-ghost use Rattle.minix_zones.specs.Volume.{past_of, HasDeviceCause};
+ghost use Rattle.minix_zones.specs.Volume.{volume_view, past_of, HasDeviceCause};
 
 use crate::way::branch_of;
 use crate::zones::make_zones;
@@ -42,11 +43,12 @@ pub fn hook_in_inode<D: Disks>(
     requires sized { is_size (kind_view volume.old.layout.kind) size ≡ true }
     requires quiet { IsQuiet (past_of volume.old) }
     requires grown { IsTold (past_of volume.old) → AreGrownNow volume.old block growth.now }
-    requires may { IsTold (past_of volume.old) → MayHookTopNow volume.old directory (inode_view node.now) block size }
     ensures turns { TurnsInode volume.old volume.new directory (hooked (kind_view volume.old.layout.kind)
         (inode_view node.now) block growth.now size) ZoneFault.Device result }
-    ensures unseen { Unseen volume.old volume.new }
-    ensures places { (place : _) → IsTold (past_of volume.old)
+    ensures unseen { (IsTold (past_of volume.old)
+        → MayHookTopNow volume.old directory (inode_view node.now) block size) → Unseen volume.old volume.new }
+    ensures places { (place : _) → (IsTold (past_of volume.old)
+        → MayHookTopNow volume.old directory (inode_view node.now) block size) → IsTold (past_of volume.old)
         → place / entries_per_block (kind_view volume.old.layout.kind) ≡ block
         → place < places (kind_view volume.old.layout.kind) size
         → OnOk result (IsFreePlaceNow volume.new directory place) }
@@ -82,10 +84,12 @@ pub fn grow_in_inode<D: Disks>(
     requires sized { is_size (kind_view volume.old.layout.kind) size ≡ true }
     requires quiet { IsQuiet (past_of volume.old) }
     requires unused { AreUnused volume.old growth.now }
-    requires may { IsTold (past_of volume.old) → MayHookTopNow volume.old directory (inode_view node.now) block size }
-    ensures unseen { Unseen volume.old volume.new }
+    requires sound { IsTold (past_of volume.old) → IsSound (volume_view volume.old) (now (past_of volume.old)) }
+    ensures unseen { (IsTold (past_of volume.old)
+        → MayHookTopNow volume.old directory (inode_view node.now) block size) → Unseen volume.old volume.new }
     ensures others { WritesGrowthAlone volume.old volume.new directory growth.now }
-    ensures places { (place : _) → IsTold (past_of volume.old)
+    ensures places { (place : _) → (IsTold (past_of volume.old)
+        → MayHookTopNow volume.old directory (inode_view node.now) block size) → IsTold (past_of volume.old)
         → place / entries_per_block (kind_view volume.old.layout.kind) ≡ block
         → place < places (kind_view volume.old.layout.kind) size
         → OnOk result (IsFreePlaceNow volume.new directory place) }

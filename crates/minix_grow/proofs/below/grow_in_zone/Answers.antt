@@ -2,7 +2,6 @@ use Rattle.std.proofs.Common.{◌≡◌, ◌≤◌, ◌/◌, ℕ, length, sym, �
 use Rattle.disk_trait.specs.Moments.{IsTold, now}
 use Rattle.disk_trait.proofs.NotWrittenLemmas.{not_written_join}
 use Rattle.lilo_model.specs.MinixEntries.{entries_per_block}
-use Rattle.lilo_model.specs.MinixNames.{IsSound}
 use Rattle.minix_layout.specs.View.{kind_view, inode_view}
 use Rattle.minix_layout.specs.declared.superblock.Super.{Super}
 use Rattle.minix_steps.proofs.ReadyLemmas.{quiet_ready}
@@ -23,27 +22,26 @@ make_zones-requires-clause-few g c =
     omega (arith, few, three)
 
 pub make_zones-requires-clause-ready : goal.make_zones-requires-clause-ready
-make_zones-requires-clause-ready g c = quiet_ready c.args.volume.now c.requires.quiet (λ told. (c.requires.may told).lies.sound)
+make_zones-requires-clause-ready g c = quiet_ready c.args.volume.now c.requires.quiet c.requires.sound
 
 pub returns-in_err-make_zones-clause-unseen : goal.returns-in_err-make_zones-clause-unseen
-returns-in_err-make_zones-clause-unseen g c =
-    steps_unseen c.args.volume.now c.make_zones.new.volume c.requires.quiet (λ told. (c.requires.may told).lies.sound) c.make_zones.ensures.steps
+returns-in_err-make_zones-clause-unseen g c may =
+    steps_unseen c.args.volume.now c.make_zones.new.volume c.requires.quiet c.requires.sound c.make_zones.ensures.steps
 
 pub returns-in_err-hook_in_zone-clause-unseen : goal.returns-in_err-hook_in_zone-clause-unseen
-returns-in_err-hook_in_zone-clause-unseen g c =
+returns-in_err-hook_in_zone-clause-unseen g c may =
     let old = c.args.volume.now in
     let mid = c.make_zones.new.volume in
     let node = inode_view c.args.node.now in
     let kind = kind_view old.layout.kind in
-    let sound : IsTold (past_of old) → IsSound (volume_view old) (now (past_of old)) = λ told. (c.requires.may told).lies.sound in
     let block : c.block_of-block.result ≡ c.args.place / entries_per_block kind = rw c.layout.ensures.value at c.block_of-block.ensures in
     let M : ℕ → Type 0 = λ b. IsTold (past_of old) → MayHookBelowNow old c.args.directory node b (length c.args.growth.now) c.args.zone in
     let F : ℕ → Type 0 = λ b. length c.args.growth.now ≤ depth_of kind b in
     unseen_join old mid c.hook_in_zone.new.volume
-    (steps_unseen old mid c.requires.quiet sound c.make_zones.ensures.steps)
+    (steps_unseen old mid c.requires.quiet c.requires.sound c.make_zones.ensures.steps)
     (c.hook_in_zone.ensures.unseen c.args.directory node
-    (below_after old mid c.args.directory c.block_of-block.result (length c.args.growth.now) c.args.zone node (quiet_ready old c.requires.quiet sound) c.requires.quiet c.make_zones.ensures.steps
-    (subst F (sym block) c.requires.few) (subst M (sym block) c.requires.may)))
+    (below_after old mid c.args.directory c.block_of-block.result (length c.args.growth.now) c.args.zone node (quiet_ready old c.requires.quiet c.requires.sound) c.requires.quiet c.make_zones.ensures.steps
+    (subst F (sym block) c.requires.few) (subst M (sym block) may)))
 
 pub returns-in_err-hook_in_zone-clause-others : goal.returns-in_err-hook_in_zone-clause-others
 returns-in_err-hook_in_zone-clause-others g c d s off number other =
@@ -55,43 +53,49 @@ returns-in_err-hook_in_zone-clause-others g c d s off number other =
     (c.make_zones.ensures.others d s off)
     (c.hook_in_zone.ensures.turns.others d s (subst N (sym block) (off_number_stays old mid c.make_zones.ensures.steps.kept _ (length c.args.growth.now) c.args.zone d s number)))
 
-pub raise_over-requires-clause-block : goal.raise_over-requires-clause-block
-raise_over-requires-clause-block g c told =
+pub returns-clause-unseen : goal.returns-clause-unseen
+returns-clause-unseen g c may =
     let old = c.args.volume.now in
     let mid = c.make_zones.new.volume in
     let new = c.hook_in_zone.new.volume in
     let node = inode_view c.args.node.now in
     let kind = kind_view old.layout.kind in
-    let sound : IsTold (past_of old) → IsSound (volume_view old) (now (past_of old)) = λ told'. (c.requires.may told').lies.sound in
     let block : c.block_of-block.result ≡ c.args.place / entries_per_block kind = rw c.layout.ensures.value at c.block_of-block.ensures in
     let M : ℕ → Type 0 = λ b. IsTold (past_of old) → MayHookBelowNow old c.args.directory node b (length c.args.growth.now) c.args.zone in
     let F : ℕ → Type 0 = λ b. length c.args.growth.now ≤ depth_of kind b in
     let B : Super → Type 0 = λ l. c.block_of-block.result ≡ c.args.place / entries_per_block (kind_view l.kind) in
     let layout = c.hook_in_zone.ensures.turns.kept.same_layout ∙ c.make_zones.ensures.steps.kept.same_layout in
     let H : ℕ → Type 0 = λ b. HasFreeBlock (volume_view new) (now (past_of new)) c.args.directory node b in
-    let there = c.in_ok-hook_in_zone.ensures.block c.args.directory node
-    (below_after old mid c.args.directory c.block_of-block.result (length c.args.growth.now) c.args.zone node (quiet_ready old c.requires.quiet sound) c.requires.quiet c.make_zones.ensures.steps
-    (subst F (sym block) c.requires.few) (subst M (sym block) c.requires.may))
-    (c.hook_in_zone.ensures.turns.goes_on.told_before told) in
-    subst H (subst B (sym layout) block) there
+    let may_mid : IsTold (past_of mid) → MayHookBelowNow mid c.args.directory node c.block_of-block.result (length c.args.growth.now) c.args.zone =
+    below_after old mid c.args.directory c.block_of-block.result (length c.args.growth.now) c.args.zone node (quiet_ready old c.requires.quiet c.requires.sound) c.requires.quiet c.make_zones.ensures.steps
+    (subst F (sym block) c.requires.few) (subst M (sym block) may) in
+    let there : IsTold (past_of new) → HasFreeBlock (volume_view new) (now (past_of new)) c.args.directory node (c.args.place / entries_per_block (kind_view new.layout.kind)) =
+    λ told'. subst H (subst B (sym layout) block) (c.in_ok-hook_in_zone.ensures.block c.args.directory node may_mid (c.hook_in_zone.ensures.turns.goes_on.told_before told')) in
+    unseen_join old new c.raise_over.new.volume
+    (unseen_join old mid new
+    (steps_unseen old mid c.requires.quiet c.requires.sound c.make_zones.ensures.steps)
+    (c.hook_in_zone.ensures.unseen c.args.directory node may_mid))
+    (c.raise_over.ensures.unseen there)
 
-pub returns-clause-unseen : goal.returns-clause-unseen
-returns-clause-unseen g c =
+pub returns-clause-place : goal.returns-clause-place
+returns-clause-place g c may told =
     let old = c.args.volume.now in
     let mid = c.make_zones.new.volume in
+    let new = c.hook_in_zone.new.volume in
     let node = inode_view c.args.node.now in
     let kind = kind_view old.layout.kind in
-    let sound : IsTold (past_of old) → IsSound (volume_view old) (now (past_of old)) = λ told. (c.requires.may told).lies.sound in
     let block : c.block_of-block.result ≡ c.args.place / entries_per_block kind = rw c.layout.ensures.value at c.block_of-block.ensures in
     let M : ℕ → Type 0 = λ b. IsTold (past_of old) → MayHookBelowNow old c.args.directory node b (length c.args.growth.now) c.args.zone in
     let F : ℕ → Type 0 = λ b. length c.args.growth.now ≤ depth_of kind b in
-    unseen_join old c.hook_in_zone.new.volume c.raise_over.new.volume
-    (unseen_join old mid c.hook_in_zone.new.volume
-    (steps_unseen old mid c.requires.quiet sound c.make_zones.ensures.steps)
-    (c.hook_in_zone.ensures.unseen c.args.directory node
-    (below_after old mid c.args.directory c.block_of-block.result (length c.args.growth.now) c.args.zone node (quiet_ready old c.requires.quiet sound) c.requires.quiet c.make_zones.ensures.steps
-    (subst F (sym block) c.requires.few) (subst M (sym block) c.requires.may))))
-    c.raise_over.ensures.unseen
+    let B : Super → Type 0 = λ l. c.block_of-block.result ≡ c.args.place / entries_per_block (kind_view l.kind) in
+    let layout = c.hook_in_zone.ensures.turns.kept.same_layout ∙ c.make_zones.ensures.steps.kept.same_layout in
+    let H : ℕ → Type 0 = λ b. HasFreeBlock (volume_view new) (now (past_of new)) c.args.directory node b in
+    let may_mid : IsTold (past_of mid) → MayHookBelowNow mid c.args.directory node c.block_of-block.result (length c.args.growth.now) c.args.zone =
+    below_after old mid c.args.directory c.block_of-block.result (length c.args.growth.now) c.args.zone node (quiet_ready old c.requires.quiet c.requires.sound) c.requires.quiet c.make_zones.ensures.steps
+    (subst F (sym block) c.requires.few) (subst M (sym block) may) in
+    let there : IsTold (past_of new) → HasFreeBlock (volume_view new) (now (past_of new)) c.args.directory node (c.args.place / entries_per_block (kind_view new.layout.kind)) =
+    λ told'. subst H (subst B (sym layout) block) (c.in_ok-hook_in_zone.ensures.block c.args.directory node may_mid (c.hook_in_zone.ensures.turns.goes_on.told_before told')) in
+    c.raise_over.ensures.place there (c.hook_in_zone.ensures.turns.goes_on.told (c.make_zones.ensures.steps.goes_on.told told))
 
 pub returns-clause-others : goal.returns-clause-others
 returns-clause-others g c d s off number other =

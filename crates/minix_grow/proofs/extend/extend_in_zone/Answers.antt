@@ -12,13 +12,13 @@ use Rattle.minix_zones.specs.Volume.{past_of}
 use Rattle.minix_grow.proofs.extend.extend_in_zone.Goals as goal
 
 pub returns-in_err-turn_free-clause-unseen : goal.returns-in_err-turn_free-clause-unseen
-returns-in_err-turn_free-clause-unseen g c =
+returns-in_err-turn_free-clause-unseen g c next =
     let slot : c.slot_of-index.result ≡ c.args.place % entries_per_block (kind_view c.args.volume.now.layout.kind) = rw c.layout.ensures.value at c.slot_of-index.ensures.is in
     c.turn_free.ensures.past c.args.directory c.args.place
-    (past_at c.args.volume.now c.turn_free.new.volume c.args.directory c.args.place c.args.zone c.slot_of-index.result 0 (inode_view c.args.node.now) c.requires.from c.requires.below c.requires.fits c.requires.next slot)
+    (past_at c.args.volume.now c.turn_free.new.volume c.args.directory c.args.place c.args.zone c.slot_of-index.result 0 (inode_view c.args.node.now) c.requires.from c.requires.below c.requires.fits next slot)
 
 pub returns-clause-unseen : goal.returns-clause-unseen
-returns-clause-unseen g c =
+returns-clause-unseen g c next =
     let slot : c.slot_of-index.result ≡ c.args.place % entries_per_block (kind_view c.args.volume.now.layout.kind) = rw c.layout.ensures.value at c.slot_of-index.ensures.is in
     let size : c.size_to-size.result ≡ size_to (kind_view c.args.volume.now.layout.kind) c.args.place = rw c.layout.ensures.value at c.size_to-size.ensures in
     let old = c.args.volume.now in
@@ -26,22 +26,22 @@ returns-clause-unseen g c =
     let node = inode_view c.args.node.now in
     let e = c.in_ok-turn_free.ensures in
     unseen_join old mid c.turn_size.new.volume
-    (first old mid c.args.directory c.args.place c.args.zone c.slot_of-index.result c.size_to-size.result node c.requires.from c.requires.below c.requires.fits c.requires.next slot size c.requires.sized c.requires.small e.past e.past_free e.entry)
+    (first old mid c.args.directory c.args.place c.args.zone c.slot_of-index.result c.size_to-size.result node c.requires.from c.requires.below c.requires.fits next slot size c.requires.sized c.requires.small e.past e.past_free e.entry)
     (c.turn_size.ensures.unseen
-    (may_have_size old mid c.args.directory c.args.place c.args.zone c.slot_of-index.result c.size_to-size.result node c.requires.from c.requires.below c.requires.fits c.requires.next slot size c.requires.sized c.requires.small e.past e.past_free e.entry))
+    (may_have_size old mid c.args.directory c.args.place c.args.zone c.slot_of-index.result c.size_to-size.result node c.requires.from c.requires.below c.requires.fits next slot size c.requires.sized c.requires.small e.past e.past_free e.entry))
 
 pub returns-clause-place : goal.returns-clause-place
-returns-clause-place g c =
+returns-clause-place g c next =
     let slot : c.slot_of-index.result ≡ c.args.place % entries_per_block (kind_view c.args.volume.now.layout.kind) = rw c.layout.ensures.value at c.slot_of-index.ensures.is in
     let size : c.size_to-size.result ≡ size_to (kind_view c.args.volume.now.layout.kind) c.args.place = rw c.layout.ensures.value at c.size_to-size.ensures in
     let old = c.args.volume.now in
     let mid = c.turn_free.new.volume in
     let node = inode_view c.args.node.now in
     let e = c.in_ok-turn_free.ensures in
-    next_is_free old mid c.args.directory c.args.place c.args.zone c.slot_of-index.result c.size_to-size.result node c.requires.from c.requires.below c.requires.fits c.requires.next slot size c.requires.sized c.requires.small e.past e.past_free e.entry
+    next_is_free old mid c.args.directory c.args.place c.args.zone c.slot_of-index.result c.size_to-size.result node c.requires.from c.requires.below c.requires.fits next slot size c.requires.sized c.requires.small e.past e.past_free e.entry
     c.turn_size.new.volume c.turn_size.result
     (c.turn_size.ensures.unseen
-    (may_have_size old mid c.args.directory c.args.place c.args.zone c.slot_of-index.result c.size_to-size.result node c.requires.from c.requires.below c.requires.fits c.requires.next slot size c.requires.sized c.requires.small e.past e.past_free e.entry))
+    (may_have_size old mid c.args.directory c.args.place c.args.zone c.slot_of-index.result c.size_to-size.result node c.requires.from c.requires.below c.requires.fits next slot size c.requires.sized c.requires.small e.past e.past_free e.entry))
     c.turn_size.ensures.turns (let small = c.requires.small in omega (arith, size, small))
 
 pub returns-in_err-turn_free-clause-others : goal.returns-in_err-turn_free-clause-others

@@ -14,11 +14,11 @@ use Rattle.minix_zones.specs.Volume.{past_of}
 use Rattle.minix_grow.proofs.hook.grow_in_inode.Goals as goal
 
 pub make_zones-requires-clause-ready : goal.make_zones-requires-clause-ready
-make_zones-requires-clause-ready g c = quiet_ready c.args.volume.now c.requires.quiet (λ told. (c.requires.may told).lies.sound)
+make_zones-requires-clause-ready g c = quiet_ready c.args.volume.now c.requires.quiet c.requires.sound
 
 pub returns-in_err-make_zones-clause-unseen : goal.returns-in_err-make_zones-clause-unseen
-returns-in_err-make_zones-clause-unseen g c =
-    steps_unseen c.args.volume.now c.make_zones.new.volume c.requires.quiet (λ told. (c.requires.may told).lies.sound) c.make_zones.ensures.steps
+returns-in_err-make_zones-clause-unseen g c may =
+    steps_unseen c.args.volume.now c.make_zones.new.volume c.requires.quiet c.requires.sound c.make_zones.ensures.steps
 
 pub hook_in_inode-requires-clause-there : goal.hook_in_inode-requires-clause-there
 hook_in_inode-requires-clause-there g c =
@@ -51,23 +51,23 @@ hook_in_inode-requires-clause-sized g c =
 pub hook_in_inode-requires-clause-grown : goal.hook_in_inode-requires-clause-grown
 hook_in_inode-requires-clause-grown g c = λ told. c.in_ok-make_zones.ensures.grown (c.make_zones.ensures.steps.goes_on.told_before told)
 
-pub hook_in_inode-requires-clause-may : goal.hook_in_inode-requires-clause-may
-hook_in_inode-requires-clause-may g c =
-    hook_after c.args.volume.now c.make_zones.new.volume c.args.directory c.args.block c.args.size (inode_view c.args.node.now)
-    (quiet_ready c.args.volume.now c.requires.quiet (λ told. (c.requires.may told).lies.sound)) c.requires.quiet c.make_zones.ensures.steps c.requires.may
-
 pub returns-clause-unseen : goal.returns-clause-unseen
-returns-clause-unseen g c =
+returns-clause-unseen g c may =
     unseen_join c.args.volume.now c.make_zones.new.volume c.hook_in_inode.new.volume
-    (steps_unseen c.args.volume.now c.make_zones.new.volume c.requires.quiet (λ told. (c.requires.may told).lies.sound) c.make_zones.ensures.steps)
-    c.hook_in_inode.ensures.unseen
+    (steps_unseen c.args.volume.now c.make_zones.new.volume c.requires.quiet c.requires.sound c.make_zones.ensures.steps)
+    (c.hook_in_inode.ensures.unseen
+    (hook_after c.args.volume.now c.make_zones.new.volume c.args.directory c.args.block c.args.size (inode_view c.args.node.now)
+    (quiet_ready c.args.volume.now c.requires.quiet c.requires.sound) c.requires.quiet c.make_zones.ensures.steps may))
 
 pub returns-clause-places : goal.returns-clause-places
-returns-clause-places g c place told here below =
+returns-clause-places g c place may told here below =
     let e = c.make_zones.ensures.steps.kept.same_layout in
     let H : Super → Type 0 = λ l. place / entries_per_block (kind_view l.kind) ≡ c.args.block in
     let B : Super → Type 0 = λ l. place < places (kind_view l.kind) c.args.size in
-    c.hook_in_inode.ensures.places place (c.make_zones.ensures.steps.goes_on.told told) (subst H (sym e) here) (subst B (sym e) below)
+    c.hook_in_inode.ensures.places place
+    (hook_after c.args.volume.now c.make_zones.new.volume c.args.directory c.args.block c.args.size (inode_view c.args.node.now)
+    (quiet_ready c.args.volume.now c.requires.quiet c.requires.sound) c.requires.quiet c.make_zones.ensures.steps may)
+    (c.make_zones.ensures.steps.goes_on.told told) (subst H (sym e) here) (subst B (sym e) below)
 
 pub returns-in_err-make_zones-clause-others : goal.returns-in_err-make_zones-clause-others
 returns-in_err-make_zones-clause-others g c d s off other = c.make_zones.ensures.others d s off

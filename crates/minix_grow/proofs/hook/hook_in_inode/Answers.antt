@@ -8,24 +8,24 @@ use Rattle.minix_grow.proofs.OtherLemmas.{turns_hooked}
 use Rattle.minix_grow.proofs.hook.hook_in_inode.Goals as goal
 
 pub returns-clause-unseen : goal.returns-clause-unseen
-returns-clause-unseen g c =
+returns-clause-unseen g c may =
     let branch : branch_of (numbers_in_zone (kind_view c.args.volume.now.layout.kind)) c.args.block ≡ record { top = c.branch_of-branch.result.top; first = c.branch_of-branch.result.first; depth = c.branch_of-branch.result.depth } =
     rw c.layout.ensures.value at c.branch_of-branch.ensures.branch in
     c.turn_pointer.ensures.unseen _
     (may_have_top c.args.volume.now c.turn_pointer.new.volume c.args.directory c.args.block c.args.size c.branch_of-branch.result.top c.branch_of-branch.result.first c.branch_of-branch.result.depth (inode_view c.args.node.now) c.args.growth.now
-    branch c.requires.all c.requires.data c.requires.grown c.requires.may)
+    branch c.requires.all c.requires.data c.requires.grown may)
 
 pub returns-clause-places : goal.returns-clause-places
-returns-clause-places g c =
+returns-clause-places g c place may =
     let branch : branch_of (numbers_in_zone (kind_view c.args.volume.now.layout.kind)) c.args.block ≡ record { top = c.branch_of-branch.result.top; first = c.branch_of-branch.result.first; depth = c.branch_of-branch.result.depth } =
     rw c.layout.ensures.value at c.branch_of-branch.ensures.branch in
     let reached : c.args.block < reach (kind_view c.args.volume.now.layout.kind) → c.branch_of-branch.result.top < tops (kind_view c.args.volume.now.layout.kind) = rw c.layout.ensures.value at c.branch_of-branch.ensures.reached in
     places_are_free c.args.volume.now c.turn_pointer.new.volume c.args.directory c.args.block c.args.size c.branch_of-branch.result.top c.branch_of-branch.result.first c.branch_of-branch.result.depth (inode_view c.args.node.now) c.args.growth.now
-    branch c.requires.all c.requires.data c.requires.grown c.requires.may
+    branch c.requires.all c.requires.data c.requires.grown may
     c.requires.fits c.branch_of-branch.ensures.ten (reached c.requires.near) c.ranges.size.fits c.requires.sized c.turn_pointer.result c.turn_pointer.ensures.turns
     (c.turn_pointer.ensures.unseen _
     (may_have_top c.args.volume.now c.turn_pointer.new.volume c.args.directory c.args.block c.args.size c.branch_of-branch.result.top c.branch_of-branch.result.first c.branch_of-branch.result.depth (inode_view c.args.node.now) c.args.growth.now
-    branch c.requires.all c.requires.data c.requires.grown c.requires.may))
+    branch c.requires.all c.requires.data c.requires.grown may)) place
 
 pub returns-clause-turns : goal.returns-clause-turns
 returns-clause-turns g c =

@@ -3,6 +3,7 @@ use Rattle.std.proofs.Common.{◌≡◌, ◌≢◌, ◌≤◌, ◌<◌, ◌+◌,
 use Rattle.std.specs.Prelude.{slice_index}
 use Rattle.std.specs.List.{list_any}
 use Rattle.std.proofs.lemmas.Bool.{cases_lt, eqb-true, ne_eqb}
+use Rattle.std.proofs.lemmas.Bool.Decides.{nat_tests}
 use Rattle.std.proofs.lemmas.Slice.Eq.{bytes_eq-Decides}
 use Rattle.lilo_model.specs.MinixLayout.{Super}
 use Rattle.lilo_model.specs.MinixParts.{Parts, ZoneFault, inside, number_below, follow, block_pointer, is_directory}
@@ -176,6 +177,17 @@ from_on promised place (suc more) = by (from_on promised (suc place) more) (prom
     by later true e = rw e (omega (arith, later))
     by later false e = rw e (omega arith)
 
+within_below : (most place found : ℕ) → within most place ≡ Some found → found < most
+within_below most place found is = by (nat_lt place most) refl
+  where
+    by : (test : Bool) → nat_lt place most ≡ test → found < most
+    by true e =
+        let t = rw e at is in
+        let same : place ≡ found = cc in
+        let low : place < most = grind (arith, nat_tests) in
+        omega (arith, low, same)
+    by false e = let t = rw e at is in cc
+
 within_is : (most place found : ℕ) → within most (place) ≡ Some found → place ≡ found
 within_is most place found is = by (nat_lt place most) refl
   where
@@ -279,6 +291,20 @@ module _ (super : Super) (parts : Parts) (taken : Taken) (wish : Wish) (choice :
           let low = from_on (is_promised taken.promises wish.directory) count (length taken.promises) in
           absurd (omega (arith, here, low, below))
 
+  near_past : count ≤ choice.place → choice.place < most_places super.kind
+  unfolding new_place
+  near_past past = by (first_free (is_promised taken.promises wish.directory) 0 made.entries) refl
+    where
+      by : (found : Option ℕ) → first_free (is_promised taken.promises wish.directory) 0 made.entries ≡ found → choice.place < most_places super.kind
+      by (Some place) e =
+          let t = rw e at made.place in
+          let here : place ≡ choice.place = cc in
+          let low = (free_place at plain same (is_promised taken.promises wish.directory) count made.entries choice.place entries_are (e ∙ ap Some here)).0 in
+          absurd (omega (arith, low, past))
+      by None e =
+          let t = rw e at made.place in
+          within_below (most_places super.kind) (first_from (is_promised taken.promises wish.directory) count (length taken.promises)) choice.place t
+
   some_zone : length made.promised ≡ 0 → zone_of_entry super parts wish.directory choice.place ≢ 0
   some_zone none =
       let many : length made.promised ≡ made.count = ap length made.are_promised ∙ length-map-range_with_len (promised_zone super.kind taken.promises wish.directory (choice.place / entries_per_block super.kind)) 0 made.count in
@@ -292,5 +318,6 @@ place_law super parts taken wish choice sound named is seen chosen =
       plain = plain_name super parts taken wish choice sound named is seen m;
       absent = absent_name super parts taken wish choice sound named is seen m;
       free = free_below super parts taken wish choice sound named is seen m;
+      near = near_past super parts taken wish choice sound named is seen m;
       some = λ none. some_zone super parts taken wish choice sound named is seen m (none_promised super parts taken wish choice m none);
     }

@@ -9,7 +9,7 @@ use Rattle.minix_fill_laws.specs.Laws.{MayBeFile}
 use Rattle.write_model.specs.Choice.{Choice, choose}
 use Rattle.write_model.specs.Places.{is_overlooked}
 use Rattle.write_model.specs.Wish.{Wish, Taken}
-use Rattle.minix_choice_laws.specs.Choice.{file_of, IsFreeChoice, IsFreeName, HasNamePlace}
+use Rattle.minix_choice_laws.specs.Choice.{file_of, IsFreeChoice, IsFreeName, MayHavePlace, LiesThere, HasNamePlace}
 
 -- it is free
 abbrev pub ChoiceLaw : Type 0
@@ -38,3 +38,17 @@ PlaceStaysLaw =
     (volume : Volume) (old new : Image) (outer : List (List ℕ)) (directory place : ℕ) (name : List ℕ)
     → IsSound volume old → SeenAsIn volume old new
     → HasNamePlace volume old outer directory place name → HasNamePlace volume new outer directory place name
+
+-- so it is of a place that the name may have
+abbrev pub MayHaveStaysLaw : Type 0
+MayHaveStaysLaw =
+    (volume : Volume) (old new : Image) (outer : List (List ℕ)) (directory place : ℕ) (name : List ℕ)
+    → IsSound volume old → SeenAsIn volume old new
+    → MayHavePlace volume old outer directory place name → MayHavePlace volume new outer directory place name
+
+-- once it lies there the name may be made
+abbrev pub PlaceLiesLaw : Type 0
+PlaceLiesLaw =
+    (volume : Volume) (image : Image) (outer : List (List ℕ)) (directory place : ℕ) (name : List ℕ)
+    → MayHavePlace volume image outer directory place name → LiesThere volume image directory place
+    → HasNamePlace volume image outer directory place name

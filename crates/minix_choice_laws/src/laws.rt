@@ -1,5 +1,5 @@
 // What holds of a choice.
-ghost use Rattle.minix_choice_laws.specs.Laws.{ChoiceLaw, FileLaw, PlaceLaw, PlaceStaysLaw};
+ghost use Rattle.minix_choice_laws.specs.Laws.{ChoiceLaw, FileLaw, PlaceLaw, PlaceStaysLaw, MayHaveStaysLaw, PlaceLiesLaw};
 
 /// What is chosen is free, and it is enough.
 pub fn choice_is_free()
@@ -19,4 +19,14 @@ pub fn place_may_get_the_name()
 /// And it may be made there still after what no name sees.
 pub fn place_stays()
     ensures { PlaceStaysLaw }
+{}
+
+/// So it is of a place that needn't lie below the size yet.
+pub fn place_still_may_be_had()
+    ensures { MayHaveStaysLaw }
+{}
+
+/// Once that lies below the size and in a zone, the name may be made.
+pub fn place_lies_there()
+    ensures { PlaceLiesLaw }
 {}

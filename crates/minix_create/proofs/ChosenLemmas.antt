@@ -5,12 +5,11 @@ use Rattle.disk_trait.specs.declared.disks.Disks.{Ghosts}
 use Rattle.disk_trait.specs.Past.{Told}
 use Rattle.disk_trait.specs.Moments.{IsTold, now}
 use Rattle.disk_trait.proofs.MomentLemmas.{told_now}
-use Rattle.lilo_model.specs.MinixEntries.{places}
 use Rattle.lilo_model.specs.MinixNames.{Named, reached, IsSound}
 use Rattle.lilo_model.specs.MinixLayout.{Kind, V1Short, V1Long, V2Short, V2Long, Inode, FitsInode, is_size, most_links, number_size, numbers_in_zone, reach}
 use Rattle.lilo_model.specs.MinixParts.{blocks_for, is_directory, parts_of}
 use Rattle.minix_bits.proofs.BitmapLemmas.{fits}
-use Rattle.minix_choice_laws.specs.Choice.{HasNamePlace}
+use Rattle.minix_choice_laws.specs.Choice.{MayHavePlace}
 use Rattle.minix_choice_laws.proofs.Choose.{blocks_length, choice_law, file_law}
 use Rattle.minix_choice_laws.proofs.Place.{place_law}
 use Rattle.minix_fill_laws.proofs.Chosen.{few_by}
@@ -21,6 +20,7 @@ use Rattle.minix_steps.specs.Written.{parts_now}
 use Rattle.minix_layout.specs.declared.superblock.Super.{Super}
 use Rattle.minix_tree.proofs.StatLemmas.{blocks_reached}
 use Rattle.minix_entry_bytes_laws.specs.Written.{FitsEntry}
+use Rattle.minix_entry_laws.specs.Only.{zone_of_entry}
 use Rattle.minix_write.specs.Suits.{SuitsWish}
 use Rattle.minix_write.specs.declared.wish.Wish.{Wish}
 use Rattle.minix_write.specs.View.{Promised, taken_view}
@@ -31,7 +31,7 @@ use Rattle.write_model.specs.Choice.{choose}
 use Rattle.write_model.specs.FileZones.{count_made, data_blocks, made_indirect}
 use Rattle.write_model.specs.Places.{is_overlooked}
 use Rattle.write_model.specs.Wish as model
-use Rattle.minix_create.specs.Chosen.{Suits, IsFreeWhereSound, LinksWithoutGrowth}
+use Rattle.minix_create.specs.Chosen.{Suits, IsFreeWhereSound, LinksWithoutZones}
 use Rattle.minix_create.specs.declared.chosen.Chosen.{Chosen}
 
 -- an inode can name the blocks
@@ -69,26 +69,29 @@ module _ {D : Type 0} {disks : Ghosts D} (volume : Volume D disks) (taken : Prom
         zones = λ i inside. (free.free i inside).unmarked;
       }
 
-  pub links : chosen.directory ≡ wish.directory → chosen.name ≡ wish.name → LinksWithoutGrowth volume taken.overlooked chosen
+  pub links : chosen.directory ≡ wish.directory → chosen.name ≡ wish.name → LinksWithoutZones volume taken.overlooked chosen
   links in_it named outer told needs =
       let D : ℕ → Type 0 = λ d. (reached (super_view volume.layout) (parts_now volume) outer ≡ Some d) × (is_directory ((parts_now volume).node d) ≡ true)
-      × (is_overlooked taken.overlooked d chosen.name ≡ false) × (chosen.choice.place < places (kind_view volume.layout.kind) ((parts_now volume).node d).size) × (blocks_for ((parts_now volume).node d).size ≤ reach (kind_view volume.layout.kind)) in
-      let there = subst D in_it (needs.leads, needs.is, needs.seen, needs.below, needs.reached) in
+      × (is_overlooked taken.overlooked d chosen.name ≡ false) × (blocks_for ((parts_now volume).node d).size ≤ reach (kind_view volume.layout.kind)) in
+      let there = subst D in_it (needs.leads, needs.is, needs.seen, needs.reached) in
       let O : List ℕ → Type 0 = λ n. is_overlooked taken.overlooked wish.directory n ≡ false in
       let has : Named (super_view volume.layout) (parts_now volume) wish.directory = record { path = outer; leads = there.0 } in
       let parts = (opened (volume_view volume) (now (past_of volume)) needs.sound).parts in
       let name = place_law (super_view volume.layout) (parts_now volume) (taken_view taken) wish chosen.choice parts has there.1 (subst O named there.2) (chosen_now told) in
-      let P : ℕ → List ℕ → Type 0 = λ d n. HasNamePlace (volume_view volume) (now (past_of volume)) outer d chosen.choice.place n in
-      subst₂ P (sym in_it) (sym named) (record {
-        enters = record { leads = there.0; plain = name.plain; absent = name.absent; free = name.free there.3 };
-        placed = record {
-          named = has;
-          is = there.1;
-          reached = there.4;
-          below = there.3;
-          some = name.some needs.no_growth;
-        };
-      })
+      let P : ℕ → List ℕ → Type 0 = λ d n. MayHavePlace (volume_view volume) (now (past_of volume)) outer d chosen.choice.place n in
+      let Z : ℕ → Type 0 = λ d. zone_of_entry (super_view volume.layout) (parts_now volume) d chosen.choice.place ≢ 0 in
+      record {
+        may = subst₂ P (sym in_it) (sym named) (record {
+            leads = there.0;
+            is = there.1;
+            reaches = there.3;
+            plain = name.plain;
+            absent = name.absent;
+            free = name.free;
+            near = name.near;
+          });
+        some = subst Z (sym in_it) (name.some needs.no_growth);
+      }
 
 -- what is answered suits the volume
 pub suits_made : (layout : Super) (span : Span) (wish : Wish) (chosen : Chosen) → chosen.name ≡ wish.name.now → chosen.length ≡ wish.length → chosen.directory ≡ wish.directory → chosen.start ≡ span.start

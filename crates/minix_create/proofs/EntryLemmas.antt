@@ -1,22 +1,20 @@
--- The zone of an entry is found on a sound volume, unless the disk fails.
-use Rattle.std.proofs.Common.{◌≡◌, ◌≢◌, ◌≤◌, ◌<◌, ◌/◌, ℕ, true, false, List, Option, Some, None, Result, Ok, Err, refl, sym, ap, ◌∙◌, subst, arith}
+-- A directory's inode and the zone with a place are found on a sound volume, unless the disk fails.
+use Rattle.std.proofs.Common.{◌≡◌, ◌≢◌, ◌≤◌, ◌<◌, ◌/◌, ℕ, Result, Ok, Err, refl, sym, ap, ◌∙◌, subst, arith}
 use Rattle.disk_trait.specs.declared.disks.Disks.{Ghosts}
-use Rattle.disk_trait.specs.Past.{Image, Past, Told}
+use Rattle.disk_trait.specs.Past.{Image, Told}
 use Rattle.disk_trait.specs.Moments.{IsTold, now}
 use Rattle.disk_trait.proofs.MomentLemmas.{told_now}
-use Rattle.lilo_model.specs.Checks.{◌>>=◌, require}
 use Rattle.lilo_model.specs.MinixEntries.{entries_per_block}
 use Rattle.lilo_model.specs.MinixFind as TreeFaults
 use Rattle.lilo_model.specs.MinixFind.{readable}
-use Rattle.lilo_model.specs.MinixLayout.{Inode, reach}
-use Rattle.lilo_model.specs.MinixNames.{zone_number, IsSound}
+use Rattle.lilo_model.specs.MinixLayout.{reach}
+use Rattle.lilo_model.specs.MinixLayout as layout
 use Rattle.lilo_model.specs.MinixParts as model
 use Rattle.lilo_model.specs.MinixParts.{Parts, zone_at}
-use Rattle.minix_choice_laws.specs.Choice.{HasNamePlace}
 use Rattle.minix_entry_laws.specs.Only.{zone_of_entry}
-use Rattle.minix_entry_laws.proofs.Blocks.{block-below}
 use Rattle.minix_laws.proofs.Inside.{sound_law}
 use Rattle.minix_layout.specs.View.{kind_view, super_view, inode_view}
+use Rattle.minix_layout.specs.declared.inode.Inode.{Inode}
 use Rattle.minix_sees_laws.proofs.Inode.{directory-zones}
 use Rattle.minix_sees_laws.proofs.Seen.{opened}
 use Rattle.minix_tree.specs.View as trees
@@ -28,10 +26,10 @@ use Rattle.minix_write.specs.declared.write_fault.WriteFault.TheVariants.{Device
 use Rattle.minix_zones.specs.View as zones
 use Rattle.minix_zones.specs.Volume.{volume_view, past_of}
 use Rattle.minix_zones.specs.declared.volume.Volume.{Volume}
-use Rattle.minix_zones.specs.declared.zone.ZoneAt.{ZoneAt}
 use Rattle.minix_zones.specs.declared.zone_fault.ZoneFault.{ZoneFault}
 use Rattle.minix_zones.specs.declared.zone_fault.ZoneFault.TheVariants as faults
-use Rattle.minix_create.specs.Linked.{FindsZone, GivesEntryZone}
+use Rattle.minix_create.specs.Brought.{IsInDirectory, GivesPlace}
+use Rattle.minix_create.specs.declared.place_at.PlaceAt.{PlaceAt}
 
 -- ---- refusals of what isn't refused
 
@@ -61,57 +59,43 @@ module _ {D : Type 0} {disks : Ghosts D} (volume : Volume D disks) (directory pl
   abbrev Is : Parts
   Is = model.parts_of (volume_view volume) (now (past_of volume))
 
-  module _ (told : IsTold (past_of volume)) (sound : IsSound (volume_view volume) (now (past_of volume))) (outer : List (List ℕ)) (name : List ℕ)
-      (has : HasNamePlace (volume_view volume) (now (past_of volume)) outer directory place name) where
+  module _ (has : IsInDirectory volume directory place) where
     can_read : readable (super_view volume.layout) Is directory ≡ Ok directory
-    can_read = rw ((opened View (now (past_of volume)) sound).parts.size directory has.placed.named) refl
-
-    near : place / entries_per_block (kind_view volume.layout.kind) < reach (kind_view volume.layout.kind)
-    near =
-        let low = block-below (kind_view volume.layout.kind) (Is.node directory).size place has.placed.below in
-        let few = has.placed.reached in
-        omega (arith, low, few)
+    can_read = rw ((opened View (now (past_of volume)) has.sound).parts.size directory has.named) refl
 
     zone_there : zone_at (super_view volume.layout) Is (Is.node directory) (place / entries_per_block (kind_view volume.layout.kind)) ≡ Ok (zone_of_entry (super_view volume.layout) Is directory place)
-    zone_there = (sound_law (super_view volume.layout) Is directory (opened View (now (past_of volume)) sound).parts has.placed.named (directory-zones Is directory has.placed.is)).zone (place / entries_per_block (kind_view volume.layout.kind))
+    zone_there = (sound_law (super_view volume.layout) Is directory (opened View (now (past_of volume)) has.sound).parts has.named (directory-zones Is directory has.is)).zone (place / entries_per_block (kind_view volume.layout.kind))
 
   pub no_inode : (before after : ℕ) (fault : TreeFault) → Told (past_of volume) (λ image. trees.Refuses fault (readable (super_view volume.layout) (model.parts_of (volume_view volume) image) directory))
-      → trees.HasTreeCause before after fault → GivesEntryZone volume directory place (Err (tree_refusal fault))
-  no_inode before after fault refused cause told sound outer name has =
+      → trees.HasTreeCause before after fault → GivesPlace volume directory place (Err (tree_refusal fault))
+  no_inode before after fault refused cause told has =
       let R : Image → Type 0 = λ image. trees.Refuses fault (readable (super_view volume.layout) (model.parts_of (volume_view volume) image) directory) in
       let S : Result ℕ TreeFaults.TreeFault → Type 0 = λ found. trees.Refuses fault found in
-      tree_device before after fault directory (subst S (can_read told sound outer name has) (told_now (past_of volume) R refused told)) cause
+      tree_device before after fault directory (subst S (can_read has) (told_now (past_of volume) R refused told)) cause
 
-  pub too_far : reach (kind_view volume.layout.kind) ≤ place / entries_per_block (kind_view volume.layout.kind) → (result : Result ℕ WriteFault) → GivesEntryZone volume directory place result
-  too_far far result told sound outer name has = absurd (let n = near told sound outer name has in omega (arith, n, far))
+  pub too_far : reach (kind_view volume.layout.kind) ≤ place / entries_per_block (kind_view volume.layout.kind) → (result : Result PlaceAt WriteFault) → GivesPlace volume directory place result
+  too_far far result told has = absurd (let n = has.near in omega (arith, n, far))
 
-  module _ (node : Inode) (is : Told (past_of volume) (λ image. node ≡ (model.parts_of (volume_view volume) image).node directory)) where
-    node_is : IsTold (past_of volume) → node ≡ Is.node directory
-    node_is told = told_now (past_of volume) (λ image. node ≡ (model.parts_of (volume_view volume) image).node directory) is told
+  module _ (node : Inode) (is : Told (past_of volume) (λ image. inode_view node ≡ (model.parts_of (volume_view volume) image).node directory)) where
+    node_is : IsTold (past_of volume) → inode_view node ≡ Is.node directory
+    node_is told = told_now (past_of volume) (λ image. inode_view node ≡ (model.parts_of (volume_view volume) image).node directory) is told
 
     abbrev Found : Image → Result ℕ model.ZoneFault
-    Found image = zone_at (super_view volume.layout) (model.parts_of (volume_view volume) image) node (place / entries_per_block (kind_view volume.layout.kind))
+    Found image = zone_at (super_view volume.layout) (model.parts_of (volume_view volume) image) (inode_view node) (place / entries_per_block (kind_view volume.layout.kind))
 
-    found_is : (told : IsTold (past_of volume)) → IsSound (volume_view volume) (now (past_of volume)) → (outer : List (List ℕ)) (name : List ℕ)
-        → HasNamePlace (volume_view volume) (now (past_of volume)) outer directory place name → Found (now (past_of volume)) ≡ Ok (zone_of_entry (super_view volume.layout) Is directory place)
-    found_is told sound outer name has =
-        let Z : Inode → Result ℕ model.ZoneFault = λ i. zone_at (super_view volume.layout) Is i (place / entries_per_block (kind_view volume.layout.kind)) in
-        ap Z (node_is told) ∙ zone_there told sound outer name has
+    found_is : IsTold (past_of volume) → IsInDirectory volume directory place → Found (now (past_of volume)) ≡ Ok (zone_of_entry (super_view volume.layout) Is directory place)
+    found_is told has =
+        let Z : layout.Inode → Result ℕ model.ZoneFault = λ i. zone_at (super_view volume.layout) Is i (place / entries_per_block (kind_view volume.layout.kind)) in
+        ap Z (node_is told) ∙ zone_there has
 
-    pub no_zone : (fault : ZoneFault) → Told (past_of volume) (λ image. zones.Refuses fault (Found image)) → GivesEntryZone volume directory place (Err (zone_refusal fault))
-    no_zone fault refused told sound outer name has =
+    pub no_zone : (fault : ZoneFault) → Told (past_of volume) (λ image. zones.Refuses fault (Found image)) → GivesPlace volume directory place (Err (zone_refusal fault))
+    no_zone fault refused told has =
         let R : Image → Type 0 = λ image. zones.Refuses fault (Found image) in
         let S : Result ℕ model.ZoneFault → Type 0 = λ found. zones.Refuses fault found in
-        zone_device fault (zone_of_entry (super_view volume.layout) Is directory place) (subst S (found_is told sound outer name has) (told_now (past_of volume) R refused told))
+        zone_device fault (zone_of_entry (super_view volume.layout) Is directory place) (subst S (found_is told has) (told_now (past_of volume) R refused told))
 
-    pub hole : (result : Result ℕ WriteFault) → Told (past_of volume) (λ image. Found image ≡ Ok 0) → GivesEntryZone volume directory place result
-    hole result found told sound outer name has =
-        let F : Image → Type 0 = λ image. Found image ≡ Ok 0 in
-        let both : Ok (zone_of_entry (super_view volume.layout) Is directory place) ≡ Ok 0 = sym (found_is told sound outer name has) ∙ told_now (past_of volume) F found told in
-        absurd (has.placed.some (cc))
-
-    pub zone_found : (zone : ℕ) → Told (past_of volume) (λ image. Found image ≡ Ok zone) → GivesEntryZone volume directory place (Ok zone)
-    zone_found zone found told sound outer name has =
+    pub zone_found : (zone : ℕ) → Told (past_of volume) (λ image. Found image ≡ Ok zone) → GivesPlace volume directory place (Ok (record { node = node; zone = zone }))
+    zone_found zone found told has =
         let F : Image → Type 0 = λ image. Found image ≡ Ok zone in
-        let both : Ok (zone_of_entry (super_view volume.layout) Is directory place) ≡ Ok zone = sym (found_is told sound outer name has) ∙ told_now (past_of volume) F found told in
-        cc
+        let both : Ok (zone_of_entry (super_view volume.layout) Is directory place) ≡ Ok zone = sym (found_is told has) ∙ told_now (past_of volume) F found told in
+        (node_is told, cc)

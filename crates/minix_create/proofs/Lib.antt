@@ -1,3 +1,4 @@
+pub mod BroughtLemmas
 pub mod ChosenLemmas
 pub mod EntryLemmas
 pub mod FillLemmas
@@ -6,4 +7,5 @@ pub mod LinkLemmas
 pub mod MarkLemmas
 pub mod NextLemmas
 pub mod OpenLemmas
+pub mod StandLemmas
 pub mod StateLemmas

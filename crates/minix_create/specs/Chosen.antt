@@ -3,12 +3,12 @@ use Rattle.std.specs.Prelude.{◌≡◌, ◌≢◌, ◌≤◌, ◌<◌, ◌+◌,
 use Rattle.disk_trait.specs.declared.disks.Disks.{Ghosts}
 use Rattle.disk_trait.specs.declared.disks.Span.{Span}
 use Rattle.disk_trait.specs.Moments.{IsTold, now}
-use Rattle.lilo_model.specs.MinixEntries.{places}
 use Rattle.lilo_model.specs.MinixLayout.{Inode, is_size, reach}
 use Rattle.lilo_model.specs.MinixNames.{Thing, File, Link, Directory, Other, blocks, reached, IsSound}
 use Rattle.lilo_model.specs.MinixParts.{Parts, blocks_for, is_directory, is_file, is_link}
-use Rattle.minix_choice_laws.specs.Choice.{file_of, HasNamePlace}
+use Rattle.minix_choice_laws.specs.Choice.{file_of, MayHavePlace}
 use Rattle.minix_entry_bytes_laws.specs.Written.{FitsEntry}
+use Rattle.minix_entry_laws.specs.Only.{zone_of_entry}
 use Rattle.minix_fill_laws.specs.Laws.{MayBeFile}
 use Rattle.minix_layout.specs.View.{kind_view, super_view}
 use Rattle.minix_layout.specs.declared.superblock.Super.{Super}
@@ -61,25 +61,24 @@ pub record IsFreeNow {D : Type 0} {disks : Ghosts D} (volume : Volume D disks) (
 abbrev pub IsFreeWhereSound : {D : Type 0} {disks : Ghosts D} → Volume D disks → Chosen → Type 0
 IsFreeWhereSound volume chosen = IsTold (past_of volume) → IsSound (volume_view volume) (now (past_of volume)) → IsFreeNow volume chosen
 
--- its name may be made now at its place in the directory that a path leads to
-abbrev pub MayLinkNow : {D : Type 0} {disks : Ghosts D} → Volume D disks → List (List ℕ) → Chosen → Type 0
-MayLinkNow volume outer chosen =
-    HasNamePlace (volume_view volume) (now (past_of volume)) outer chosen.directory chosen.choice.place chosen.name
+-- its name may be made now at its place in the directory that a path leads to, which lies in a zone that this has
+pub record MayLinkNow {D : Type 0} {disks : Ghosts D} (volume : Volume D disks) (outer : List (List ℕ)) (chosen : Chosen) : Type 0 where
+  pub may : MayHavePlace (volume_view volume) (now (past_of volume)) outer chosen.directory chosen.choice.place chosen.name
+  pub some : zone_of_entry (super_view volume.layout) (parts_now volume) chosen.directory chosen.choice.place ≢ 0
 
--- the place lies below the size of a directory that a path leads to, which needn't grow, and the name isn't overlooked
-pub record NeedsNoGrowth {D : Type 0} {disks : Ghosts D} (volume : Volume D disks) (overlooked : List Overlooked) (outer : List (List ℕ)) (chosen : Chosen) : Type 0 where
+-- a path leads to the directory, which needs no new zones, and the name isn't overlooked
+pub record NeedsNoZones {D : Type 0} {disks : Ghosts D} (volume : Volume D disks) (overlooked : List Overlooked) (outer : List (List ℕ)) (chosen : Chosen) : Type 0 where
   pub sound : IsSound (volume_view volume) (now (past_of volume))
   pub leads : reached (super_view volume.layout) (parts_now volume) outer ≡ Some chosen.directory
   pub is : is_directory ((parts_now volume).node chosen.directory) ≡ true
   pub reached : blocks_for ((parts_now volume).node chosen.directory).size ≤ reach (kind_view volume.layout.kind)
   pub seen : is_overlooked overlooked chosen.directory chosen.name ≡ false
-  pub below : chosen.choice.place < places (kind_view volume.layout.kind) ((parts_now volume).node chosen.directory).size
   pub no_growth : chosen.choice.growth ≡ []
 
 -- then its name may be made there
-abbrev pub LinksWithoutGrowth : {D : Type 0} {disks : Ghosts D} → Volume D disks → List Overlooked → Chosen → Type 0
-LinksWithoutGrowth volume overlooked chosen =
-    (outer : List (List ℕ)) → IsTold (past_of volume) → NeedsNoGrowth volume overlooked outer chosen → MayLinkNow volume outer chosen
+abbrev pub LinksWithoutZones : {D : Type 0} {disks : Ghosts D} → Volume D disks → List Overlooked → Chosen → Type 0
+LinksWithoutZones volume overlooked chosen =
+    (outer : List (List ℕ)) → IsTold (past_of volume) → NeedsNoZones volume overlooked outer chosen → MayLinkNow volume outer chosen
 
 -- ---- content
 

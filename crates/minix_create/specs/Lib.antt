@@ -1,3 +1,4 @@
+pub mod Brought
 pub mod Chosen
 pub mod Created
 pub mod Linked

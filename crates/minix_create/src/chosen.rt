@@ -3,7 +3,7 @@ ghost use Rattle.std.specs.Prelude.{◌≡◌, ◌≢◌, ◌+◌, ◌≤◌, �
 ghost use Rattle.disk_trait.specs.Past.{Told};
 ghost use Rattle.lilo_model.specs.MinixLayout.{is_size};
 ghost use Rattle.lilo_model.specs.MinixParts.{parts_of, blocks_for};
-ghost use Rattle.minix_create.specs.Chosen.{IsMade, Suits, IsFreeWhereSound, LinksWithoutGrowth};
+ghost use Rattle.minix_create.specs.Chosen.{IsMade, Suits, IsFreeWhereSound, LinksWithoutZones};
 ghost use Rattle.minix_layout.specs.View.{kind_view, super_view};
 ghost use Rattle.minix_write.specs.Taken.{with_choice};
 ghost use Rattle.minix_write.specs.View.{taken_view, wish_view, Gives, HasWriteCause};
@@ -58,7 +58,7 @@ pub fn choose<D: Disks>(
 
     // What may be done with it.
     ensures free { IfOk result (IsFreeWhereSound volume.new) }
-    ensures name { IfOk result (LinksWithoutGrowth volume.new taken.old.overlooked) }
+    ensures name { IfOk result (LinksWithoutZones volume.new taken.old.overlooked) }
 
     // When it is refused.
     ensures refused { OnErr result (taken.new ≡ taken.old) }

@@ -3,11 +3,12 @@
 //! name.
 #![tactic(auto)]
 
+mod brought;
 mod chosen;
 mod creation;
-mod entry_zone;
 mod filled;
 mod halt;
+mod place_at;
 mod reserved;
 mod steps;
 #[cfg(test)]

@@ -10,13 +10,15 @@ ghost use Rattle.minix_layout.specs.View.{inode_view};
 ghost use Rattle.minix_steps.specs.Steps.{IsReady};
 ghost use Rattle.minix_zones.specs.Volume.{past_of};
 
+use crate::brought::bring;
 use crate::chosen::Chosen;
-use crate::entry_zone::entry_zone;
+use crate::place_at::place_at;
 use disk_trait::Disks;
 use minix_fill::{FileZones, fill_file, mark_zones};
 use minix_grow::slot_of;
 use minix_layout::{Inode, Super};
 use minix_steps::{put_inode_mark, settle};
+use minix_tree::places;
 use minix_turns::turn_entry;
 use minix_write::WriteFault;
 use minix_zones::{Volume, ZoneFault};
@@ -69,7 +71,7 @@ fn new_inode(chosen: &Chosen) -> Inode
     }
 }
 
-/// Writes the entry of a file that is filled, and makes that durable.
+/// Brings the place of a file that is filled below the directory's size, writes its entry, and makes that durable.
 pub(crate) fn link_chosen<D: Disks>(
     volume: &mut Volume<'_, D>,
     chosen: &Chosen,
@@ -80,10 +82,15 @@ pub(crate) fn link_chosen<D: Disks>(
     ensures quiet { OnOk result (IsQuiet (past_of volume.new)) }
 {
     let place = chosen.choice.place();
-    let zone = entry_zone(volume, chosen.directory, place)?;
+    let at = place_at(volume, chosen.directory, place)?;
+    if at.zone == 0 {
+        return Err(WriteFault::NoSpace { need: 1, found: 0 });
+    }
+    let have = places(&at.node, volume.layout().kind);
+    bring(volume, chosen.directory, have, place)?;
     let index = slot_of(volume.layout().kind, place);
     let number = number_of(volume.layout(), chosen);
-    match turn_entry(volume, zone, index, number, chosen.name.bytes()) {
+    match turn_entry(volume, at.zone, index, number, chosen.name.bytes()) {
         Ok(()) => Ok(()),
         Err(_) => Err(WriteFault::Device),
     }

@@ -114,10 +114,10 @@ brings_join start mid new directory low count error result named one two =
       brought = λ told.
           let next = subst V (same_view start mid one.unseen.kept) (two.brought (one.unseen.goes_on.told told)) in
           on_ok result _ _ next (λ brought. record {
-              room = brought.room;
-              keeps = keeps_join (super_view start.layout) (parts_now start) (model.parts_of (volume_view start) (now (past_of mid))) (model.parts_of (volume_view start) (now (past_of new)))
-                  (one.unseen.held told).sees (one.brought told).keeps brought.keeps;
-            });
+            room = brought.room;
+            keeps = keeps_join (super_view start.layout) (parts_now start) (model.parts_of (volume_view start) (now (past_of mid))) (model.parts_of (volume_view start) (now (past_of new)))
+                (one.unseen.held told).sees (one.brought told).keeps brought.keeps;
+          });
       others = λ told d s off.
           not_written_join (past_of start) (past_of mid) (past_of new) d s (one.others told d s off)
           (two.others (one.unseen.goes_on.told told) d s
@@ -189,10 +189,10 @@ module _ {D : Type 0} {disks : Ghosts D} (old new : Volume D disks) (directory s
   raised count low may unseen = record {
     unseen = unseen;
     brought = λ told. on_ok result _ _ (changes told (may told)) (λ change. record {
-        room = let R : ℕ → Type 0 = λ s. count ≤ places (kind_view old.layout.kind) s in subst R (sym (ap (λ (i : Inode). i.size) change.here)) low;
-        keeps = keeps_sized (super_view old.layout) (parts_now old) (model.parts_of (volume_view old) (now (past_of new))) directory size
-            (opened (volume_view old) (now (past_of old)) (may told).lies.sound).parts (may told).sized.is (unseen.held told).sees change;
-      });
+      room = let R : ℕ → Type 0 = λ s. count ≤ places (kind_view old.layout.kind) s in subst R (sym (ap (λ (i : Inode). i.size) change.here)) low;
+      keeps = keeps_sized (super_view old.layout) (parts_now old) (model.parts_of (volume_view old) (now (past_of new))) directory size
+          (opened (volume_view old) (now (past_of old)) (may told).lies.sound).parts (may told).sized.is (unseen.held told).sees change;
+    });
     others = λ told d s off. turns.others d s off.inode;
     device = λ told. turns.device;
   }

@@ -82,14 +82,14 @@ module _ {D : Type 0} {disks : Ghosts D} (volume : Volume D disks) (taken : Prom
       let Z : ℕ → Type 0 = λ d. zone_of_entry (super_view volume.layout) (parts_now volume) d chosen.choice.place ≢ 0 in
       record {
         may = subst₂ P (sym in_it) (sym named) (record {
-            leads = there.0;
-            is = there.1;
-            reaches = there.3;
-            plain = name.plain;
-            absent = name.absent;
-            free = name.free;
-            near = name.near;
-          });
+          leads = there.0;
+          is = there.1;
+          reaches = there.3;
+          plain = name.plain;
+          absent = name.absent;
+          free = name.free;
+          near = name.near;
+        });
         some = subst Z (sym in_it) (name.some needs.no_growth);
       }
 

@@ -83,11 +83,11 @@ module _ (super : Super) (old new : Parts) (directory size : ℕ) (sound : Sound
   keeps_sized = record {
     points = points-sized;
     files = λ number may. still super old new sees points-sized number (record {
-        node = change.others number may.fit.range (not-directory number may.file);
-        mark = change.marks number may.fit.range;
-        zones = λ at zone to. change.zones zone (may.fit.zone_range at zone to);
-        zone_marks = λ at zone to. change.zone_marks zone (may.fit.zone_range at zone to);
-      }) may;
+      node = change.others number may.fit.range (not-directory number may.file);
+      mark = change.marks number may.fit.range;
+      zones = λ at zone to. change.zones zone (may.fit.zone_range at zone to);
+      zone_marks = λ at zone to. change.zone_marks zone (may.fit.zone_range at zone to);
+    }) may;
   }
 
 -- ---- other bytes in the zone with a place
@@ -107,15 +107,15 @@ module _ (super : Super) (old new : Parts) (directory place : ℕ) (bytes : List
   keeps_filled = record {
     points = points-filled;
     files = λ number may. still super old new sees points-filled number (record {
-        node = change.nodes number may.fit.range;
-        mark = change.marks number may.fit.range;
-        zones = λ at zone to.
-            change.others zone (may.fit.zone_range at zone to)
-            (λ same.
-            let one : number ≡ directory = may.fit.apart directory at _ zone to (directory-refers super old directory place named is zone to.some same) in
-            let file = may.file in
-            let t = ap (λ n. is_directory (old.node n)) one ∙ is in
-            cc);
-        zone_marks = λ at zone to. change.zone_marks zone (may.fit.zone_range at zone to);
-      }) may;
+      node = change.nodes number may.fit.range;
+      mark = change.marks number may.fit.range;
+      zones = λ at zone to.
+          change.others zone (may.fit.zone_range at zone to)
+          (λ same.
+          let one : number ≡ directory = may.fit.apart directory at _ zone to (directory-refers super old directory place named is zone to.some same) in
+          let file = may.file in
+          let t = ap (λ n. is_directory (old.node n)) one ∙ is in
+          cc);
+      zone_marks = λ at zone to. change.zone_marks zone (may.fit.zone_range at zone to);
+    }) may;
   }

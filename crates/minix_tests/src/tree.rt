@@ -371,6 +371,29 @@ fn each_sector_is_read_once(rt: HostRuntime) -> Result<(), Fail> {
     Ok(())
 }
 
+// The superblock is read by call 0 and the way to `/boot` by calls 1 to 4. Its second block has two sectors.
+#[test]
+fn a_block_of_entries_is_read_once(rt: HostRuntime) -> Result<(), Fail> {
+    for call in 5..8 {
+        let failing = Failing { call, made: false };
+        let mut disks = tree(rt.alloc(), &[failing])?;
+        let mut volume = attach(&rt, &mut disks)?;
+        let boot = lookup(&mut volume, b"/boot")?;
+        let mut block = [0; 1024];
+        assert!(rt; 1 < reach(volume.layout().kind));
+        let answer = if call == 7 {
+            Ok(5)
+        } else {
+            Err(TreeFault::Zone(ZoneFault::Device))
+        };
+        assert_eq!(rt;
+            read_entries(&mut volume, &boot.node, 1, &mut block),
+            answer
+        );
+    }
+    Ok(())
+}
+
 // A volume of 500 zones, the first data zone 6, with the root in zone 6. The file 2 has 300,000 bytes: its block with
 // an index is in the zone 20 + index, which begins with that index. Numbers of zones from 400 on are indirect ones.
 const LARGE: Span = Span {

@@ -147,6 +147,47 @@ fn holes_and_slots_of_all_modes(rt: HostRuntime) -> Result<(), Fail> {
     Ok(())
 }
 
+// The memory's bytes are those of another boot.
+fn expect_same(rt: &impl Abort, booted: &Booted, other: &Booted) {
+    assert_eq!(rt; booted.ram.size(), 2_097_152);
+    assert_eq!(rt; other.ram.size(), 2_097_152);
+    assert!(rt; booted.bytes(0, 2_097_152) == other.bytes(0, 2_097_152));
+}
+
+// Slots of more sectors load what slots of one load: with sectors by number, up to a track's end, and over a
+// cylinder's end. A cylinder has 42 sectors, and the kernel's third one begins the next.
+#[test]
+fn slots_of_more_sectors(rt: HostRuntime) -> Result<(), Fail> {
+    for section in [
+        b"\x03\x80\x03\0\x52\0\0\0\0\0\0\0\0\0\0\0\0\0\0\0\0\0\0\0",
+        b"\x01\x80\x02\0\x0D\x01\x02\0\x01\x80\x01\0\x01\x02\0\0\0\0\0\0\0\0\0\0",
+        b"\x02\x80\x03\0\x52\0\0\0\0\0\0\0\0\0\0\0\0\0\0\0\0\0\0\0",
+    ] {
+        let edits = [(100, 0, section.as_slice())];
+        let compact = Case {
+            geometry: (3, 14),
+            ..changed(&edits)
+        };
+        let single = Case {
+            geometry: (3, 14),
+            ..changed(&[])
+        };
+        let booted = boot_case(rt.alloc(), &compact)?;
+        let other = boot_case(rt.alloc(), &single)?;
+        for it in [&booted, &other] {
+            expect_end(&rt, it, Outcome::Loaded(layout(0x10_0000, None)), LOADING);
+            expect_kernel(
+                &rt,
+                it,
+                b"\x02\x81\0\0\0\0\0\0\0\0\0\0\0\0\0\0\0\0\0\0\0\x96\0\0\0\x98\x09\0",
+            );
+            expect_line(&rt, it);
+        }
+        expect_same(&rt, &booted, &other);
+    }
+    Ok(())
+}
+
 // An initrd lies as high as it can.
 #[test]
 fn an_initrd(rt: HostRuntime) -> Result<(), Fail> {

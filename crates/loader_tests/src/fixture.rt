@@ -18,6 +18,8 @@ pub struct Case<'a> {
     pub edits: &'a [Edit<'a>],
     pub start: u64,
     pub memory: u32,
+    // The disk's heads and sectors per track.
+    pub geometry: (u16, u8),
     pub keys: &'a [u8],
     pub failing_reads: &'a [u64],
     // Whether a write that fails is made all the same.
@@ -32,6 +34,7 @@ pub fn changed<'a>(edits: &'a [Edit<'a>]) -> Case<'a> {
         edits,
         start: 0,
         memory: 2_097_152,
+        geometry: (16, 63),
         keys: b"",
         failing_reads: &[],
         made: false,
@@ -113,7 +116,7 @@ fn full_memory(alloc: Global, size: u32) -> Result<Ram, AllocError> {
     Ok(ram)
 }
 
-// A disk of 4096 sectors with 16 heads and 63 sectors per track, which fails where the case says.
+// A disk of 4096 sectors with the case's geometry, which fails where the case says.
 fn installation(alloc: Global, case: &Case<'_>) -> Result<MemDisks, AllocError> {
     let mut failing = Vec::new(alloc);
     for call in case.failing_reads {
@@ -122,7 +125,7 @@ fn installation(alloc: Global, case: &Case<'_>) -> Result<MemDisks, AllocError> 
             made: case.made,
         })?;
     }
-    let Ok(geometry) = Geometry::new(16, 63) else {
+    let Ok(geometry) = Geometry::new(case.geometry.0, case.geometry.1) else {
         return Err(AllocError);
     };
     let disk = MemDisk {

@@ -188,6 +188,45 @@ fn slots_of_more_sectors(rt: HostRuntime) -> Result<(), Fail> {
     Ok(())
 }
 
+// A kernel of 256 sectors by a slot of 2 and two of 127, and by five section sectors.
+#[test]
+fn slots_of_127_sectors(rt: HostRuntime) -> Result<(), Fail> {
+    let length = (95, 20, b"\0\0\x02\0".as_slice());
+    let section = b"\x03\x80\x02\0\x52\0\0\0\x03\x80\x7F\0\x80\0\0\0\x03\x80\x7F\0\xFF\0\0\0";
+    let compact = [length, (100, 0, section.as_slice())];
+    let single = [
+        length,
+        (95, 40, b"\x6E".as_slice()),
+        (95, 52, b"\x05".as_slice()),
+    ];
+    let compact = Case {
+        is_long: true,
+        ..changed(&compact)
+    };
+    let single = Case {
+        is_long: true,
+        ..changed(&single)
+    };
+    let booted = boot_case(rt.alloc(), &compact)?;
+    let other = boot_case(rt.alloc(), &single)?;
+    let long = Layout {
+        protected: region(0x10_0000, 130_048),
+        ..layout(0x10_0000, None)
+    };
+    for it in [&booted, &other] {
+        expect_end(&rt, it, Outcome::Loaded(long), LOADING);
+        expect_bytes(&rt, it, 0xF_FFFF, b"\xEE\x80");
+        for index in 0..254_u32 {
+            let sector = [((index + 128) % 256) as u8; 512];
+            expect_bytes(&rt, it, 0x10_0000 + 512 * index, &sector);
+        }
+        expect_bytes(&rt, it, 0x11_FBFF, b"\x7D\xEE");
+        expect_line(&rt, it);
+    }
+    expect_same(&rt, &booted, &other);
+    Ok(())
+}
+
 // An initrd lies as high as it can.
 #[test]
 fn an_initrd(rt: HostRuntime) -> Result<(), Fail> {

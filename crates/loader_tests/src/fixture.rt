@@ -20,6 +20,8 @@ pub struct Case<'a> {
     pub memory: u32,
     // The disk's heads and sectors per track.
     pub geometry: (u16, u8),
+    // Whether sectors are there for a kernel of 256.
+    pub is_long: bool,
     pub keys: &'a [u8],
     pub failing_reads: &'a [u64],
     // Whether a write that fails is made all the same.
@@ -35,6 +37,7 @@ pub fn changed<'a>(edits: &'a [Edit<'a>]) -> Case<'a> {
         start: 0,
         memory: 2_097_152,
         geometry: (16, 63),
+        is_long: false,
         keys: b"",
         failing_reads: &[],
         made: false,
@@ -133,14 +136,14 @@ fn installation(alloc: Global, case: &Case<'_>) -> Result<MemDisks, AllocError> 
         geometry,
     };
     let mut disks = MemDisks::new(alloc, &[disk], 8, failing.as_slice())?;
-    put_sectors(&mut disks, sectors_of(alloc, case.edits)?.as_slice());
+    put_sectors(&mut disks, sectors_of(alloc, case)?.as_slice());
     Ok(disks)
 }
 
 fn put_sectors(disks: &mut MemDisks, sectors: &[Sector])
     requires { disks.old.events ≡ [] }
 {
-    for number in 0..128_u32 {
+    for number in 0..384_u32 {
         if let Some(bytes) = sectors.get(number as usize) {
             put_sector(disks, number, bytes);
         }
@@ -156,13 +159,16 @@ fn put_sector(disks: &mut MemDisks, number: u32, bytes: &Sector)
     }
 }
 
-// The first 128 sectors of the plain installation with some changes. All others are zeros.
-fn sectors_of(alloc: Global, edits: &[Edit<'_>]) -> Result<Vec<Sector>, AllocError> {
+// The first sectors of the plain installation with some changes: 128, or 384 for a long kernel. All others are zeros.
+fn sectors_of(alloc: Global, case: &Case<'_>) -> Result<Vec<Sector>, AllocError> {
     let mut sectors = Vec::new(alloc);
-    sectors.resize(128, [0; 512])?;
+    sectors.resize(if case.is_long { 384 } else { 128 }, [0; 512])?;
     put_map(sectors.as_mut_slice());
     put_kernel(sectors.as_mut_slice());
-    for (number, at, bytes) in edits {
+    if case.is_long {
+        put_long_kernel(sectors.as_mut_slice());
+    }
+    for (number, at, bytes) in case.edits {
         put(sectors.as_mut_slice(), *number, *at, bytes);
     }
     Ok(sectors)
@@ -219,4 +225,33 @@ fn put_kernel(sectors: &mut [Sector]) {
     put(sectors, 83, 0x2C, b"\xFF\xFF\xFF\x37");
     put(sectors, 83, 0x38, b"\xFF\0\0\0");
     put(sectors, 84, 0, b"HELLO");
+}
+
+// The rest of a kernel of 256 sectors: each sector from 128 on is full of its number's low byte. The sectors from 110 on
+// are this kernel's section with a slot for each sector, 63 in each of them before the slot of the next.
+fn put_long_kernel(sectors: &mut [Sector]) {
+    for index in 0..256_usize {
+        let number = if index < 2 { 82 + index } else { 126 + index };
+        if number >= 128 {
+            put(sectors, number, 0, &[(number % 256) as u8; 512]);
+        }
+        put(sectors, 110 + index / 63, index % 63 * 8, &slot(number));
+    }
+    for number in 110..114_usize {
+        put(sectors, number, 504, &slot(number + 1));
+    }
+}
+
+// The slot of one sector, by its number below 65536.
+fn slot(number: usize) -> [u8; 8] {
+    [
+        3,
+        0x80,
+        1,
+        0,
+        (number % 256) as u8,
+        (number / 256 % 256) as u8,
+        0,
+        0,
+    ]
 }

@@ -1,0 +1,5 @@
+pub mod ChangeLemmas
+pub mod FileLemmas
+pub mod FreedLemmas
+pub mod LoopLemmas
+pub mod WalkLemmas

@@ -1,0 +1,10 @@
+//! Freeing an inode without a name on a sound Minix volume, versions 1 and 2, with its zones and no others.
+//!
+//! Nothing here touches what had a name at the last flush. So whatever a stop leaves, at any moment, the volume is
+//! sound, with the same Names as then.
+#![tactic(auto)]
+
+mod clear;
+mod free;
+
+pub use free::free_file;

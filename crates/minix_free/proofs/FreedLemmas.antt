@@ -17,9 +17,6 @@ use Rattle.minix_free.proofs.WalkLemmas.{visits_same, zones_in, has_in, in_has, 
 
 -- ---- the inode of zeros
 
-
-
-
 abbrev AreZeros : List ℕ → Type 0
 AreZeros [] = Unit {0}
 AreZeros (x ∷ xs) = (x ≡ 0) × AreZeros xs

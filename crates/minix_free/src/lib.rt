@@ -6,5 +6,7 @@
 
 mod clear;
 mod free;
+#[cfg(test)]
+mod tests;
 
 pub use free::free_file;

@@ -49,7 +49,7 @@ use Rattle.minix_grow.proofs.RaiseLemmas.{place_below, place_past}
 use Rattle.minix_grow.proofs.WayLemmas.{pointer_lowest}
 
 -- below a hole the way is missing
-holes_below : (super : Super) (parts : Parts) (node : Inode) (block high level more : ℕ) → high ≤ depth_of super.kind block → level + more ≡ high → number_on_way super parts node block high ≡ 0
+pub holes_below : (super : Super) (parts : Parts) (node : Inode) (block high level more : ℕ) → high ≤ depth_of super.kind block → level + more ≡ high → number_on_way super parts node block high ≡ 0
     → number_on_way super parts node block level ≡ 0
 holes_below super parts node block high level zero few same hole =
     let e : high ≡ level = omega (arith, same) in

@@ -11,3 +11,4 @@ pub mod LowestLemmas
 pub mod GrowLemmas
 pub mod OtherLemmas
 pub mod AfterLemmas
+pub mod MissingLemmas

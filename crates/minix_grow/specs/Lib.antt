@@ -4,3 +4,4 @@ pub mod Zones
 pub mod Hook
 pub mod Below
 pub mod Grow
+pub mod Missing

@@ -1,19 +1,16 @@
 -- How many zones are missing on the way to a block.
-use Rattle.std.proofs.Common.{◌≡◌, ◌≤◌, ◌<◌, ◌+◌, ◌-◌, ◌/◌, ◌==◌, ℕ, zero, suc, List, [], ◌∷◌, length, Option, Some, None, Result, Ok, refl, sym, ◌∙◌, ap, subst, arith}
+use Rattle.std.proofs.Common.{◌≡◌, ◌≤◌, ◌<◌, ◌+◌, ◌/◌, ℕ, zero, suc, List, [], ◌∷◌, length, Option, Some, None, Ok, refl, sym, ◌∙◌, ap, subst, arith}
 use Rattle.std.specs.Prelude.{slice_index}
 use Rattle.lilo_model.specs.MinixEntries.{entries_per_block}
 use Rattle.lilo_model.specs.MinixLayout.{Super}
-use Rattle.lilo_model.specs.MinixNames.{pointer}
-use Rattle.lilo_model.specs.MinixParts.{Parts, Pointer, ZoneFault, inside, number_below, follow, block_pointer}
-use Rattle.minix_choice_laws.proofs.Choose.{passed, IsMadeOf, made_by}
+use Rattle.lilo_model.specs.MinixParts.{Parts, Pointer, inside, number_below, block_pointer}
+use Rattle.minix_choice_laws.proofs.Choose.{passed, made_by}
 use Rattle.minix_choice_laws.proofs.Place.{way_zone}
 use Rattle.std.proofs.lemmas.List.FromFn.{length-map-range_with_len}
-use Rattle.write_model.specs.Choice.{Choice, choice_with, file_need}
-use Rattle.write_model.specs.FileZones.{data_blocks}
+use Rattle.write_model.specs.Choice.{Choice, choice_with}
 use Rattle.write_model.specs.Growth.{Way, way_on, way_along, missing_on_way, promised_zone, completed}
-use Rattle.write_model.specs.Wish.{Wish, Taken}
 use Rattle.minix_grow.specs.Missing.{MissingLaw, GrowthLaw}
-use Rattle.minix_grow.specs.Way.{depth_of, pointer_above, index_above, number_above, number_on_way}
+use Rattle.minix_grow.specs.Way.{depth_of, pointer_above, index_above, number_above}
 use Rattle.minix_grow.proofs.GrowLemmas.{holes_below}
 use Rattle.minix_grow.proofs.WayLemmas.{pointer_below, pointer_lowest}
 

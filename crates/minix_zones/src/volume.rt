@@ -30,6 +30,7 @@ pub struct Volume<'d, D: Disks> {
 
 impl<'d, D: Disks> Volume<'d, D> {
     ghost use Rattle.std.specs.Prelude.{◌≡◌, ◌≢◌, ◌+◌, ◌≤◌, ◌<◌, ℕ, OnOk, OnErr, IfOk, IsErrOf};
+    ghost use Rattle.std.specs.Fn.{FnOnceReturnsAtMut};
     ghost use Rattle.disk_trait.specs.Past.{Told};
     ghost use Rattle.disk_trait.specs.Calls.{SameOf};
     ghost use Rattle.lilo_model.specs.Faults.{Rose};
@@ -116,6 +117,17 @@ impl<'d, D: Disks> Volume<'d, D> {
         ensures whole { IsSuper (super_view result.now) self.now.span.count }
     {
         &self.layout
+    }
+
+    /// What a work answers on the disks that are held, which changes none of them: one that reads what lies outside the
+    /// volume, as a partition table.
+    pub fn ask_disks<T, F: FnOnce(&mut D) -> T>(&mut self, work: F) -> T
+        requires may { F.IsAlwaysCallable work }
+        requires reads { (old new : D) (answer : T) → FnOnceReturnsAtMut F.FnOnce work old answer new → SameOf D.Disks old new }
+        ensures answer { FnOnceReturnsAtMut F.FnOnce work self.old.disks.now result self.new.disks.now }
+        ensures same { SameVolume self.old self.new }
+    {
+        work(self.disks)
     }
 
     /// Where it lies.

@@ -27,7 +27,7 @@ FILES = {'super': LAYOUTS, 'inode': LAYOUTS, 'place': LAYOUTS, 'zone': ZONES, 'c
          'entries': ZONES + ['MinixEntries'], 'names': ZONES + ['MinixEntries', 'MinixNames']}
 RUN = 24                # so many equal bytes in a row are written by their number
 TITLES = {
-    'super': 'superblocks', 'inode': 'the fields of inodes', 'place': 'where inodes stand',
+    'super': 'superblocks', 'inode': 'the fields of inodes', 'place': 'where inodes lie',
     'find': 'the inode that a path leads to', 'find_name': 'the same, where a last link stays',
     'content': 'the bytes of an inode', 'file': 'the bytes of a file', 'zone': 'the zone of a block',
     'block': 'the bytes of a block', 'names': 'what a name is', 'entries': 'the entries of a directory',

@@ -302,7 +302,7 @@ def lies_proof(case, image):
 
 
 def lies(case, name):
-    """The theorem that one case's map lies, and its proof; the line of what is unfolded stands between."""
+    """The theorem that one case's map lies, and its proof; the line of what is unfolded comes between."""
     fields, what, image = scenario(case), case['plan'], 'image_' + case['name']
     disks_there = '(disks_of %s)' % fields['disk']
     place = ['(record { disk = %d; sector = %d })' % tuple(one) for one in what['places']]

@@ -195,12 +195,12 @@ pub boot_sector_the_last_byte_of_the_unused_slots : boot_at (file 512 (piece 0 (
 unfolding number16 number32 is_zero has_ranges has_address is_slot is_one_slot chs_of address_of slot_of some_slot slot_at slot_bytes to_chs to_lba sector_at sectors_of place_at slot_make could_be_one is_bootable has_signature has_options has_names has_slots has_no_message has_whole_message has_message has_zeros is_whole timeout_of table_slots boot_of boot_at
 boot_sector_the_last_byte_of_the_unused_slots = refl
 
--- the first zero byte behind the default
-pub boot_sector_the_first_zero_byte_behind_the_default : boot_at (file 512 (piece 0 (hex 69 0xeb7e4c494c4f0100000000000100000032000600bc020200038001005e0000000380010062000000038001006e000000038001005f00000003800100600000000380010061) ∷ piece 98 (hex 1 0x01) ∷ piece 510 (hex 2 0x55aa) ∷ [])) ≡ Err (BadTable 255)
+-- the first zero byte after the default
+pub boot_sector_the_first_zero_byte_after_the_default : boot_at (file 512 (piece 0 (hex 69 0xeb7e4c494c4f0100000000000100000032000600bc020200038001005e0000000380010062000000038001006e000000038001005f00000003800100600000000380010061) ∷ piece 98 (hex 1 0x01) ∷ piece 510 (hex 2 0x55aa) ∷ [])) ≡ Err (BadTable 255)
 unfolding number16 number32 is_zero has_ranges has_address is_slot is_one_slot chs_of address_of slot_of some_slot slot_at slot_bytes to_chs to_lba sector_at sectors_of place_at slot_make could_be_one is_bootable has_signature has_options has_names has_slots has_no_message has_whole_message has_message has_zeros is_whole timeout_of table_slots boot_of boot_at
-boot_sector_the_first_zero_byte_behind_the_default = refl
+boot_sector_the_first_zero_byte_after_the_default = refl
 
--- the last zero byte behind the default
-pub boot_sector_the_last_zero_byte_behind_the_default : boot_at (file 512 (piece 0 (hex 69 0xeb7e4c494c4f0100000000000100000032000600bc020200038001005e0000000380010062000000038001006e000000038001005f00000003800100600000000380010061) ∷ piece 127 (hex 1 0x01) ∷ piece 510 (hex 2 0x55aa) ∷ [])) ≡ Err (BadTable 255)
+-- the last zero byte after the default
+pub boot_sector_the_last_zero_byte_after_the_default : boot_at (file 512 (piece 0 (hex 69 0xeb7e4c494c4f0100000000000100000032000600bc020200038001005e0000000380010062000000038001006e000000038001005f00000003800100600000000380010061) ∷ piece 127 (hex 1 0x01) ∷ piece 510 (hex 2 0x55aa) ∷ [])) ≡ Err (BadTable 255)
 unfolding number16 number32 is_zero has_ranges has_address is_slot is_one_slot chs_of address_of slot_of some_slot slot_at slot_bytes to_chs to_lba sector_at sectors_of place_at slot_make could_be_one is_bootable has_signature has_options has_names has_slots has_no_message has_whole_message has_message has_zeros is_whole timeout_of table_slots boot_of boot_at
-boot_sector_the_last_zero_byte_behind_the_default = refl
+boot_sector_the_last_zero_byte_after_the_default = refl

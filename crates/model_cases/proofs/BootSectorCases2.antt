@@ -5,10 +5,10 @@ use Rattle.lilo_model.specs.Bytes.{number16, number32, is_zero}
 use Rattle.lilo_model.specs.Slots.{has_ranges, has_address, is_slot, is_one_slot, chs_of, address_of, slot_of, some_slot, slot_at, slot_bytes, to_chs, to_lba, sector_at, sectors_of, place_at, slot_make, could_be_one, Chs, Linear, Lba32}
 use Rattle.model_cases.specs.Sparse.{hex, piece, file}
 
--- code behind the fields
-pub boot_sector_code_behind_the_fields : boot_at (file 512 (piece 0 (hex 69 0xeb7e4c494c4f0100000000000100000032000600bc020200038001005e0000000380010062000000038001006e000000038001005f00000003800100600000000380010061) ∷ piece 128 (replicate 8 144) ∷ piece 510 (hex 2 0x55aa) ∷ [])) ≡ Ok (record { version = 1; time = 0; prompt = true; delay = 0; timeout = (Some 50); names = 6; default_entry = 0; message_length = 700; message_chain = 2; line = (record { disk = 0; count = 1; address = Lba32 94 }); zero_sector = (record { disk = 0; count = 1; address = Lba32 98 }); message = (Some (record { disk = 0; count = 1; address = Lba32 110 })); table = ((record { disk = 0; count = 1; address = Lba32 95 }) ∷ (record { disk = 0; count = 1; address = Lba32 96 }) ∷ (record { disk = 0; count = 1; address = Lba32 97 }) ∷ []) })
+-- code after the fields
+pub boot_sector_code_after_the_fields : boot_at (file 512 (piece 0 (hex 69 0xeb7e4c494c4f0100000000000100000032000600bc020200038001005e0000000380010062000000038001006e000000038001005f00000003800100600000000380010061) ∷ piece 128 (replicate 8 144) ∷ piece 510 (hex 2 0x55aa) ∷ [])) ≡ Ok (record { version = 1; time = 0; prompt = true; delay = 0; timeout = (Some 50); names = 6; default_entry = 0; message_length = 700; message_chain = 2; line = (record { disk = 0; count = 1; address = Lba32 94 }); zero_sector = (record { disk = 0; count = 1; address = Lba32 98 }); message = (Some (record { disk = 0; count = 1; address = Lba32 110 })); table = ((record { disk = 0; count = 1; address = Lba32 95 }) ∷ (record { disk = 0; count = 1; address = Lba32 96 }) ∷ (record { disk = 0; count = 1; address = Lba32 97 }) ∷ []) })
 unfolding number16 number32 is_zero has_ranges has_address is_slot is_one_slot chs_of address_of slot_of some_slot slot_at slot_bytes to_chs to_lba sector_at sectors_of place_at slot_make could_be_one is_bootable has_signature has_options has_names has_slots has_no_message has_whole_message has_message has_zeros is_whole timeout_of table_slots boot_of boot_at
-boot_sector_code_behind_the_fields = refl
+boot_sector_code_after_the_fields = refl
 
 -- a partition table
 pub boot_sector_a_partition_table : boot_at (file 512 (piece 0 (hex 69 0xeb7e4c494c4f0100000000000100000032000600bc020200038001005e0000000380010062000000038001006e000000038001005f00000003800100600000000380010061) ∷ piece 446 (hex 1 0x80) ∷ piece 510 (hex 2 0x55aa) ∷ [])) ≡ Ok (record { version = 1; time = 0; prompt = true; delay = 0; timeout = (Some 50); names = 6; default_entry = 0; message_length = 700; message_chain = 2; line = (record { disk = 0; count = 1; address = Lba32 94 }); zero_sector = (record { disk = 0; count = 1; address = Lba32 98 }); message = (Some (record { disk = 0; count = 1; address = Lba32 110 })); table = ((record { disk = 0; count = 1; address = Lba32 95 }) ∷ (record { disk = 0; count = 1; address = Lba32 96 }) ∷ (record { disk = 0; count = 1; address = Lba32 97 }) ∷ []) })

@@ -377,7 +377,7 @@ delay_clearing_opens : answers (settings false 5 None 0 255)
 unfolding words_of meaning course_of
 delay_clearing_opens = refl
 
--- the message stands before the prompt that a byte shows
+-- the message is shown before the prompt that a byte shows
 delay_message : answers (settings false 5 None 0 255)
     (listed (codes "linux") None false false None ∷ listed (codes "dos") None false false None ∷ [])
     Empty (Some (codes "Hello" ++ newline))
@@ -545,7 +545,7 @@ prompt_timeout_last_moment : answers (settings true 0 (Some 3) 0 255)
 unfolding words_of meaning course_of
 prompt_timeout_last_moment = refl
 
--- the message stands before the first prompt alone
+-- the message is shown before the first prompt alone
 prompt_timeout_message : answers (settings true 0 (Some 3) 0 255)
     (listed (codes "linux") None false false None ∷ listed (codes "dos") None false false None ∷ [])
     Empty (Some (codes "Welcome" ++ newline))
@@ -689,7 +689,7 @@ prompt_name_is_case_sensitive : answers (settings true 0 None 0 255)
 unfolding words_of meaning course_of
 prompt_name_is_case_sensitive = refl
 
--- the front of a name is no name
+-- a prefix of a name is no name
 prompt_name_prefix_is_no_name : answers (settings true 0 None 0 255)
     (listed (codes "linux") None false false None ∷ listed (codes "dos") None false false None ∷ [])
     Empty None
@@ -713,7 +713,7 @@ prompt_many_wrong_names : answers (settings true 0 None 0 255)
 unfolding words_of meaning course_of
 prompt_many_wrong_names = refl
 
--- bytes that cannot stand in a line are ignored
+-- bytes that cannot be in a line are ignored
 prompt_ignored_bytes : answers (settings true 0 None 0 255)
     (listed (codes "linux") None false false None ∷ listed (codes "dos") None false false None ∷ [])
     Empty None

@@ -318,7 +318,7 @@ prompt_capacity_470 : answers (settings true 0 None 0 470)
 unfolding words_of meaning course_of
 prompt_capacity_470 = refl
 
--- the keys behind the deciding byte are not taken
+-- the keys after the deciding byte are not taken
 prompt_keys_behind_stay : answers (settings true 0 None 0 255)
     (listed (codes "linux") None false false None ∷ listed (codes "dos") None false false None ∷ [])
     Empty None
@@ -654,7 +654,7 @@ password_wrong_then_other : answers (settings true 0 None 0 255)
 unfolding words_of meaning course_of
 password_wrong_then_other = refl
 
--- the front of a password is wrong
+-- a prefix of a password is wrong
 password_prefix_is_wrong : answers (settings true 0 None 0 255)
     (listed (codes "secret") (Some (codes "abc")) false false None ∷ listed (codes "dos") None false false None ∷ [])
     Empty None

@@ -197,7 +197,7 @@ password_600_ticks_exactly : answers (settings true 0 None 0 255)
 unfolding words_of meaning course_of
 password_600_ticks_exactly = refl
 
--- the ticks behind the 600 are taken at the prompt
+-- the ticks after the 600 are taken at the prompt
 password_601_ticks : answers (settings true 0 None 0 255)
     (listed (codes "secret") (Some (codes "abc")) false false None ∷ listed (codes "dos") None false false None ∷ [])
     Empty None
@@ -317,7 +317,7 @@ password_automatic_none : answers (settings false 0 None 0 255)
 unfolding words_of meaning course_of
 password_automatic_none = refl
 
--- the message comes behind the wrong password of an automatic choice
+-- the message comes after the wrong password of an automatic choice
 password_automatic_wrong : answers (settings false 0 None 0 255)
     (listed (codes "secret") (Some (codes "abc")) false false None ∷ listed (codes "dos") None false false None ∷ [])
     Empty (Some (codes "Hi" ++ newline))
@@ -701,7 +701,7 @@ video_mode_capital : answers (settings true 0 None 0 255)
 unfolding words_of meaning course_of
 video_mode_capital = refl
 
--- a video mode: the front of a name is none
+-- a video mode: a prefix of a name is none
 video_mode_name_prefix : answers (settings true 0 None 0 255)
     (listed (codes "linux") None false false None ∷ listed (codes "dos") None false false None ∷ [])
     Empty None

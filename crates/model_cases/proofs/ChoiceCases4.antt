@@ -66,7 +66,7 @@ video_mode_wrong_last : answers (settings true 0 None 0 255)
 unfolding words_of meaning course_of
 video_mode_wrong_last = refl
 
--- a wrong video mode at the front leaves the one behind
+-- a wrong video mode at the start leaves the one after it
 video_mode_wrong_first : answers (settings true 0 None 0 255)
     (listed (codes "linux") None false false None ∷ listed (codes "dos") None false false None ∷ [])
     Empty None
@@ -390,7 +390,7 @@ fallback_not_with_idle : answers (settings true 0 None 0 255)
 unfolding words_of meaning course_of
 fallback_not_with_idle = refl
 
--- a fallback may be the line that stands
+-- a fallback may be the line that is there
 fallback_same_as_line : answers (settings false 0 None 0 255)
     (listed (codes "e") None false false (Some (codes "e")) ∷ listed (codes "dos") None false false None ∷ [])
     (Kept (codes "e")) None
@@ -402,7 +402,7 @@ fallback_same_as_line : answers (settings false 0 None 0 255)
 unfolding words_of meaning course_of
 fallback_same_as_line = refl
 
--- where a name stands twice the first entry counts
+-- where a name is there twice the first entry counts
 repeated_name_first_counts : answers (settings true 0 None 0 255)
     (listed (codes "a") None false false None ∷ listed (codes "a") (Some (codes "x")) false false None ∷ [])
     Empty None

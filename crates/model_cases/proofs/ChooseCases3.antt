@@ -139,10 +139,10 @@ pub minix_choose_growth_with_an_indirect_zone_in_version_1_with_short_names : ch
 unfolding number16 number32 number_in follow pointer_by inside follow_at zone_at block_at entry_of entry_at find_entry data_blocks made_above made_indirect all_entries has_name is_overlooked is_promised new_place way_along missing_on_way promised_zone free_inode left_zones name_check file_need choice_with zones_check choose_blocks choose taken_with branch_of
 minix_choose_growth_with_an_indirect_zone_in_version_1_with_short_names = refl
 
--- a second file behind that growth in version 1 with short names
-pub minix_choose_a_second_file_behind_that_growth_in_version_1_with_short_names : choose_on (volume_by (super_with V1Short 16 64 1 1 8) (node 16877 2 7168 (8 ∷ 8 ∷ 8 ∷ 8 ∷ 8 ∷ 8 ∷ 8 ∷ 0 ∷ 0 ∷ 0 ∷ []) ∷ []) (zone_with 8 (replicate 1024 1) ∷ []) (1 ∷ []) (8 ∷ [])) (taken_by (9 ∷ 10 ∷ 11 ∷ []) (2 ∷ []) (promise 1 448 (10 ∷ 11 ∷ []) ∷ []) []) (wish 1 [] 1 (codes "newer")) ≡ Ok (choice 3 449 (12 ∷ []) (12 ∷ []) [] (10 ∷ 11 ∷ []))
+-- a second file after that growth in version 1 with short names
+pub minix_choose_a_second_file_after_that_growth_in_version_1_with_short_names : choose_on (volume_by (super_with V1Short 16 64 1 1 8) (node 16877 2 7168 (8 ∷ 8 ∷ 8 ∷ 8 ∷ 8 ∷ 8 ∷ 8 ∷ 0 ∷ 0 ∷ 0 ∷ []) ∷ []) (zone_with 8 (replicate 1024 1) ∷ []) (1 ∷ []) (8 ∷ [])) (taken_by (9 ∷ 10 ∷ 11 ∷ []) (2 ∷ []) (promise 1 448 (10 ∷ 11 ∷ []) ∷ []) []) (wish 1 [] 1 (codes "newer")) ≡ Ok (choice 3 449 (12 ∷ []) (12 ∷ []) [] (10 ∷ 11 ∷ []))
 unfolding number16 number32 number_in follow pointer_by inside follow_at zone_at block_at entry_of entry_at find_entry data_blocks made_above made_indirect all_entries has_name is_overlooked is_promised new_place way_along missing_on_way promised_zone free_inode left_zones name_check file_need choice_with zones_check choose_blocks choose taken_with branch_of
-minix_choose_a_second_file_behind_that_growth_in_version_1_with_short_names = refl
+minix_choose_a_second_file_after_that_growth_in_version_1_with_short_names = refl
 
 -- growth where the indirect zone is there in version 1 with short names
 pub minix_choose_growth_where_the_indirect_zone_is_there_in_version_1_with_short_names : choose_on (volume_by (super_with V1Short 16 64 1 1 8) (node 16877 2 7168 (8 ∷ 8 ∷ 8 ∷ 8 ∷ 8 ∷ 8 ∷ 8 ∷ 9 ∷ 0 ∷ 0 ∷ []) ∷ []) (zone_with 8 (replicate 1024 1) ∷ []) (1 ∷ []) (8 ∷ 9 ∷ [])) (taken_by [] [] [] []) (wish 2000 [] 1 (codes "new")) ≡ Ok (choice 2 448 (10 ∷ 11 ∷ 12 ∷ []) (10 ∷ 11 ∷ []) [] (12 ∷ []))
@@ -159,10 +159,10 @@ pub minix_choose_growth_with_an_indirect_zone_in_version_1_with_long_names : cho
 unfolding number16 number32 number_in follow pointer_by inside follow_at zone_at block_at entry_of entry_at find_entry data_blocks made_above made_indirect all_entries has_name is_overlooked is_promised new_place way_along missing_on_way promised_zone free_inode left_zones name_check file_need choice_with zones_check choose_blocks choose taken_with branch_of
 minix_choose_growth_with_an_indirect_zone_in_version_1_with_long_names = refl
 
--- a second file behind that growth in version 1 with long names
-pub minix_choose_a_second_file_behind_that_growth_in_version_1_with_long_names : choose_on (volume_by (super_with V1Long 16 64 1 1 8) (node 16877 2 7168 (8 ∷ 8 ∷ 8 ∷ 8 ∷ 8 ∷ 8 ∷ 8 ∷ 0 ∷ 0 ∷ 0 ∷ []) ∷ []) (zone_with 8 (replicate 1024 1) ∷ []) (1 ∷ []) (8 ∷ [])) (taken_by (9 ∷ 10 ∷ 11 ∷ []) (2 ∷ []) (promise 1 224 (10 ∷ 11 ∷ []) ∷ []) []) (wish 1 [] 1 (codes "newer")) ≡ Ok (choice 3 225 (12 ∷ []) (12 ∷ []) [] (10 ∷ 11 ∷ []))
+-- a second file after that growth in version 1 with long names
+pub minix_choose_a_second_file_after_that_growth_in_version_1_with_long_names : choose_on (volume_by (super_with V1Long 16 64 1 1 8) (node 16877 2 7168 (8 ∷ 8 ∷ 8 ∷ 8 ∷ 8 ∷ 8 ∷ 8 ∷ 0 ∷ 0 ∷ 0 ∷ []) ∷ []) (zone_with 8 (replicate 1024 1) ∷ []) (1 ∷ []) (8 ∷ [])) (taken_by (9 ∷ 10 ∷ 11 ∷ []) (2 ∷ []) (promise 1 224 (10 ∷ 11 ∷ []) ∷ []) []) (wish 1 [] 1 (codes "newer")) ≡ Ok (choice 3 225 (12 ∷ []) (12 ∷ []) [] (10 ∷ 11 ∷ []))
 unfolding number16 number32 number_in follow pointer_by inside follow_at zone_at block_at entry_of entry_at find_entry data_blocks made_above made_indirect all_entries has_name is_overlooked is_promised new_place way_along missing_on_way promised_zone free_inode left_zones name_check file_need choice_with zones_check choose_blocks choose taken_with branch_of
-minix_choose_a_second_file_behind_that_growth_in_version_1_with_long_names = refl
+minix_choose_a_second_file_after_that_growth_in_version_1_with_long_names = refl
 
 -- growth where the indirect zone is there in version 1 with long names
 pub minix_choose_growth_where_the_indirect_zone_is_there_in_version_1_with_long_names : choose_on (volume_by (super_with V1Long 16 64 1 1 8) (node 16877 2 7168 (8 ∷ 8 ∷ 8 ∷ 8 ∷ 8 ∷ 8 ∷ 8 ∷ 9 ∷ 0 ∷ 0 ∷ []) ∷ []) (zone_with 8 (replicate 1024 1) ∷ []) (1 ∷ []) (8 ∷ 9 ∷ [])) (taken_by [] [] [] []) (wish 2000 [] 1 (codes "new")) ≡ Ok (choice 2 224 (10 ∷ 11 ∷ 12 ∷ []) (10 ∷ 11 ∷ []) [] (12 ∷ []))
@@ -179,10 +179,10 @@ pub minix_choose_growth_with_an_indirect_zone_in_version_2_with_short_names : ch
 unfolding number16 number32 number_in follow pointer_by inside follow_at zone_at block_at entry_of entry_at find_entry data_blocks made_above made_indirect all_entries has_name is_overlooked is_promised new_place way_along missing_on_way promised_zone free_inode left_zones name_check file_need choice_with zones_check choose_blocks choose taken_with branch_of
 minix_choose_growth_with_an_indirect_zone_in_version_2_with_short_names = refl
 
--- a second file behind that growth in version 2 with short names
-pub minix_choose_a_second_file_behind_that_growth_in_version_2_with_short_names : choose_on (volume_by (super_with V2Short 16 64 1 1 8) (node 16877 2 7168 (8 ∷ 8 ∷ 8 ∷ 8 ∷ 8 ∷ 8 ∷ 8 ∷ 0 ∷ 0 ∷ 0 ∷ []) ∷ []) (zone_with 8 (replicate 1024 1) ∷ []) (1 ∷ []) (8 ∷ [])) (taken_by (9 ∷ 10 ∷ 11 ∷ []) (2 ∷ []) (promise 1 448 (10 ∷ 11 ∷ []) ∷ []) []) (wish 1 [] 1 (codes "newer")) ≡ Ok (choice 3 449 (12 ∷ []) (12 ∷ []) [] (10 ∷ 11 ∷ []))
+-- a second file after that growth in version 2 with short names
+pub minix_choose_a_second_file_after_that_growth_in_version_2_with_short_names : choose_on (volume_by (super_with V2Short 16 64 1 1 8) (node 16877 2 7168 (8 ∷ 8 ∷ 8 ∷ 8 ∷ 8 ∷ 8 ∷ 8 ∷ 0 ∷ 0 ∷ 0 ∷ []) ∷ []) (zone_with 8 (replicate 1024 1) ∷ []) (1 ∷ []) (8 ∷ [])) (taken_by (9 ∷ 10 ∷ 11 ∷ []) (2 ∷ []) (promise 1 448 (10 ∷ 11 ∷ []) ∷ []) []) (wish 1 [] 1 (codes "newer")) ≡ Ok (choice 3 449 (12 ∷ []) (12 ∷ []) [] (10 ∷ 11 ∷ []))
 unfolding number16 number32 number_in follow pointer_by inside follow_at zone_at block_at entry_of entry_at find_entry data_blocks made_above made_indirect all_entries has_name is_overlooked is_promised new_place way_along missing_on_way promised_zone free_inode left_zones name_check file_need choice_with zones_check choose_blocks choose taken_with branch_of
-minix_choose_a_second_file_behind_that_growth_in_version_2_with_short_names = refl
+minix_choose_a_second_file_after_that_growth_in_version_2_with_short_names = refl
 
 -- growth where the indirect zone is there in version 2 with short names
 pub minix_choose_growth_where_the_indirect_zone_is_there_in_version_2_with_short_names : choose_on (volume_by (super_with V2Short 16 64 1 1 8) (node 16877 2 7168 (8 ∷ 8 ∷ 8 ∷ 8 ∷ 8 ∷ 8 ∷ 8 ∷ 9 ∷ 0 ∷ 0 ∷ []) ∷ []) (zone_with 8 (replicate 1024 1) ∷ []) (1 ∷ []) (8 ∷ 9 ∷ [])) (taken_by [] [] [] []) (wish 2000 [] 1 (codes "new")) ≡ Ok (choice 2 448 (10 ∷ 11 ∷ 12 ∷ []) (10 ∷ 11 ∷ []) [] (12 ∷ []))
@@ -199,10 +199,10 @@ pub minix_choose_growth_with_an_indirect_zone_in_version_2_with_long_names : cho
 unfolding number16 number32 number_in follow pointer_by inside follow_at zone_at block_at entry_of entry_at find_entry data_blocks made_above made_indirect all_entries has_name is_overlooked is_promised new_place way_along missing_on_way promised_zone free_inode left_zones name_check file_need choice_with zones_check choose_blocks choose taken_with branch_of
 minix_choose_growth_with_an_indirect_zone_in_version_2_with_long_names = refl
 
--- a second file behind that growth in version 2 with long names
-pub minix_choose_a_second_file_behind_that_growth_in_version_2_with_long_names : choose_on (volume_by (super_with V2Long 16 64 1 1 8) (node 16877 2 7168 (8 ∷ 8 ∷ 8 ∷ 8 ∷ 8 ∷ 8 ∷ 8 ∷ 0 ∷ 0 ∷ 0 ∷ []) ∷ []) (zone_with 8 (replicate 1024 1) ∷ []) (1 ∷ []) (8 ∷ [])) (taken_by (9 ∷ 10 ∷ 11 ∷ []) (2 ∷ []) (promise 1 224 (10 ∷ 11 ∷ []) ∷ []) []) (wish 1 [] 1 (codes "newer")) ≡ Ok (choice 3 225 (12 ∷ []) (12 ∷ []) [] (10 ∷ 11 ∷ []))
+-- a second file after that growth in version 2 with long names
+pub minix_choose_a_second_file_after_that_growth_in_version_2_with_long_names : choose_on (volume_by (super_with V2Long 16 64 1 1 8) (node 16877 2 7168 (8 ∷ 8 ∷ 8 ∷ 8 ∷ 8 ∷ 8 ∷ 8 ∷ 0 ∷ 0 ∷ 0 ∷ []) ∷ []) (zone_with 8 (replicate 1024 1) ∷ []) (1 ∷ []) (8 ∷ [])) (taken_by (9 ∷ 10 ∷ 11 ∷ []) (2 ∷ []) (promise 1 224 (10 ∷ 11 ∷ []) ∷ []) []) (wish 1 [] 1 (codes "newer")) ≡ Ok (choice 3 225 (12 ∷ []) (12 ∷ []) [] (10 ∷ 11 ∷ []))
 unfolding number16 number32 number_in follow pointer_by inside follow_at zone_at block_at entry_of entry_at find_entry data_blocks made_above made_indirect all_entries has_name is_overlooked is_promised new_place way_along missing_on_way promised_zone free_inode left_zones name_check file_need choice_with zones_check choose_blocks choose taken_with branch_of
-minix_choose_a_second_file_behind_that_growth_in_version_2_with_long_names = refl
+minix_choose_a_second_file_after_that_growth_in_version_2_with_long_names = refl
 
 -- growth where the indirect zone is there in version 2 with long names
 pub minix_choose_growth_where_the_indirect_zone_is_there_in_version_2_with_long_names : choose_on (volume_by (super_with V2Long 16 64 1 1 8) (node 16877 2 7168 (8 ∷ 8 ∷ 8 ∷ 8 ∷ 8 ∷ 8 ∷ 8 ∷ 9 ∷ 0 ∷ 0 ∷ []) ∷ []) (zone_with 8 (replicate 1024 1) ∷ []) (1 ∷ []) (8 ∷ 9 ∷ [])) (taken_by [] [] [] []) (wish 2000 [] 1 (codes "new")) ≡ Ok (choice 2 224 (10 ∷ 11 ∷ 12 ∷ []) (10 ∷ 11 ∷ []) [] (12 ∷ []))

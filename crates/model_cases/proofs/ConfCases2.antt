@@ -25,20 +25,20 @@ pub conf_an_open_quote : (conf_at (codes "label=" ++ (34 ∷ []) ++ codes "lin")
 unfolding digits with_front parts_of value_of line_of effect_value effect_flag opener_of opening_line section_path section_label label_reason excludes_line is_locked_fallback is_open_restricted section_refusal sections_refusal section_names many_refusal names_reason names_from default_refusal mount_of effect_mount section_device section_of number_of disk_of disks_of mode_of config_of whole_of conf_at given_text setting_of has_option opened_part part_kind setting_disk details_count details_of group_disk is_same_disk takes_nothing text_reason given_reason value_reason disk_reason detail_reason excluded_in part_reason setting_reason part_after settings_refusal opt_name all_options option_at opt_number takes_of places_of stands_in opens is_of_disk is_of_name excluded_by conf_reason_text config_line fault_place text_refusal flag_given flag_cut given_of signed_cut valued_cut taken_cut word_cut token_cut setting_cut with_setting settings_from text_settings is_separator is_bad_byte line_at in_comment is_blank blank_length is_of_word is_escape ends_quoted quoted_length unless_bad sound_token word_at closed quoted_at equals_at piece_at token_start next_piece is_equals pieces_from text_pieces unescaped_byte unescaped plain_bytes is_path is_name is_text is_shown number_between whole_disk_at root_at is_value last_length last_part disk_name last_partition partition_name device_name devices_of named_devices device_at disk_number device_number
 conf_an_open_quote = (refl, refl)
 
--- an open quote behind an option
-pub conf_an_open_quote_behind_an_option : (conf_at (codes "prompt\ndefault=" ++ (34 ∷ []) ++ codes "lin\n") ≡ Err (record { reason = (reasons.Text (tokens.OpenQuote 15)); option = options.Default; line = 2 })) × (config_line (record { reason = (reasons.Text (tokens.OpenQuote 15)); option = options.Default; line = 2 }) ≡ (codes "default: open quote at line 2"))
+-- an open quote after an option
+pub conf_an_open_quote_after_an_option : (conf_at (codes "prompt\ndefault=" ++ (34 ∷ []) ++ codes "lin\n") ≡ Err (record { reason = (reasons.Text (tokens.OpenQuote 15)); option = options.Default; line = 2 })) × (config_line (record { reason = (reasons.Text (tokens.OpenQuote 15)); option = options.Default; line = 2 }) ≡ (codes "default: open quote at line 2"))
 unfolding digits with_front parts_of value_of line_of effect_value effect_flag opener_of opening_line section_path section_label label_reason excludes_line is_locked_fallback is_open_restricted section_refusal sections_refusal section_names many_refusal names_reason names_from default_refusal mount_of effect_mount section_device section_of number_of disk_of disks_of mode_of config_of whole_of conf_at given_text setting_of has_option opened_part part_kind setting_disk details_count details_of group_disk is_same_disk takes_nothing text_reason given_reason value_reason disk_reason detail_reason excluded_in part_reason setting_reason part_after settings_refusal opt_name all_options option_at opt_number takes_of places_of stands_in opens is_of_disk is_of_name excluded_by conf_reason_text config_line fault_place text_refusal flag_given flag_cut given_of signed_cut valued_cut taken_cut word_cut token_cut setting_cut with_setting settings_from text_settings is_separator is_bad_byte line_at in_comment is_blank blank_length is_of_word is_escape ends_quoted quoted_length unless_bad sound_token word_at closed quoted_at equals_at piece_at token_start next_piece is_equals pieces_from text_pieces unescaped_byte unescaped plain_bytes is_path is_name is_text is_shown number_between whole_disk_at root_at is_value last_length last_part disk_name last_partition partition_name device_name devices_of named_devices device_at disk_number device_number
-conf_an_open_quote_behind_an_option = (refl, refl)
+conf_an_open_quote_after_an_option = (refl, refl)
 
 -- a bad byte
 pub conf_a_bad_byte : (conf_at ((0 ∷ [])) ≡ Err (record { reason = (reasons.Text (tokens.BadByte 0)); option = options.Other; line = 1 })) × (config_line (record { reason = (reasons.Text (tokens.BadByte 0)); option = options.Other; line = 1 }) ≡ (codes "text: bad byte at line 1"))
 unfolding digits with_front parts_of value_of line_of effect_value effect_flag opener_of opening_line section_path section_label label_reason excludes_line is_locked_fallback is_open_restricted section_refusal sections_refusal section_names many_refusal names_reason names_from default_refusal mount_of effect_mount section_device section_of number_of disk_of disks_of mode_of config_of whole_of conf_at given_text setting_of has_option opened_part part_kind setting_disk details_count details_of group_disk is_same_disk takes_nothing text_reason given_reason value_reason disk_reason detail_reason excluded_in part_reason setting_reason part_after settings_refusal opt_name all_options option_at opt_number takes_of places_of stands_in opens is_of_disk is_of_name excluded_by conf_reason_text config_line fault_place text_refusal flag_given flag_cut given_of signed_cut valued_cut taken_cut word_cut token_cut setting_cut with_setting settings_from text_settings is_separator is_bad_byte line_at in_comment is_blank blank_length is_of_word is_escape ends_quoted quoted_length unless_bad sound_token word_at closed quoted_at equals_at piece_at token_start next_piece is_equals pieces_from text_pieces unescaped_byte unescaped plain_bytes is_path is_name is_text is_shown number_between whole_disk_at root_at is_value last_length last_part disk_name last_partition partition_name device_name devices_of named_devices device_at disk_number device_number
 conf_a_bad_byte = (refl, refl)
 
--- a bad byte behind an option
-pub conf_a_bad_byte_behind_an_option : (conf_at (codes "map=/a" ++ (127 ∷ []) ++ codes "\n") ≡ Err (record { reason = (reasons.Text (tokens.BadByte 6)); option = options.Map; line = 1 })) × (config_line (record { reason = (reasons.Text (tokens.BadByte 6)); option = options.Map; line = 1 }) ≡ (codes "map: bad byte at line 1"))
+-- a bad byte after an option
+pub conf_a_bad_byte_after_an_option : (conf_at (codes "map=/a" ++ (127 ∷ []) ++ codes "\n") ≡ Err (record { reason = (reasons.Text (tokens.BadByte 6)); option = options.Map; line = 1 })) × (config_line (record { reason = (reasons.Text (tokens.BadByte 6)); option = options.Map; line = 1 }) ≡ (codes "map: bad byte at line 1"))
 unfolding digits with_front parts_of value_of line_of effect_value effect_flag opener_of opening_line section_path section_label label_reason excludes_line is_locked_fallback is_open_restricted section_refusal sections_refusal section_names many_refusal names_reason names_from default_refusal mount_of effect_mount section_device section_of number_of disk_of disks_of mode_of config_of whole_of conf_at given_text setting_of has_option opened_part part_kind setting_disk details_count details_of group_disk is_same_disk takes_nothing text_reason given_reason value_reason disk_reason detail_reason excluded_in part_reason setting_reason part_after settings_refusal opt_name all_options option_at opt_number takes_of places_of stands_in opens is_of_disk is_of_name excluded_by conf_reason_text config_line fault_place text_refusal flag_given flag_cut given_of signed_cut valued_cut taken_cut word_cut token_cut setting_cut with_setting settings_from text_settings is_separator is_bad_byte line_at in_comment is_blank blank_length is_of_word is_escape ends_quoted quoted_length unless_bad sound_token word_at closed quoted_at equals_at piece_at token_start next_piece is_equals pieces_from text_pieces unescaped_byte unescaped plain_bytes is_path is_name is_text is_shown number_between whole_disk_at root_at is_value last_length last_part disk_name last_partition partition_name device_name devices_of named_devices device_at disk_number device_number
-conf_a_bad_byte_behind_an_option = (refl, refl)
+conf_a_bad_byte_after_an_option = (refl, refl)
 
 -- a bad byte in a comment
 pub conf_a_bad_byte_in_a_comment : conf_at (codes "#" ++ (0 ∷ []) ++ codes "\nimage=/a\n") ≡ Ok (record { boot = None; map = (codes "/boot/map"); install = None; backup = None; force_backup = None; compact = false; mode = ChsMode; default_name = None; delay = 0; timeout = None; prompt = false; message = None; disks = []; sections = ((record { other = None; path = (codes "/a"); label = (codes "a"); alias = None; initrd = None; root = None; mount = Unsaid; append = None; literal = None; vga = None; password = None; restricted = false; optional = false; lock = false; fallback = None; table = None; line = 2 }) ∷ []) })
@@ -95,10 +95,10 @@ pub conf_two_signs : (conf_at (codes "map==/a\n") ≡ Err (record { reason = rea
 unfolding digits with_front parts_of value_of line_of effect_value effect_flag opener_of opening_line section_path section_label label_reason excludes_line is_locked_fallback is_open_restricted section_refusal sections_refusal section_names many_refusal names_reason names_from default_refusal mount_of effect_mount section_device section_of number_of disk_of disks_of mode_of config_of whole_of conf_at given_text setting_of has_option opened_part part_kind setting_disk details_count details_of group_disk is_same_disk takes_nothing text_reason given_reason value_reason disk_reason detail_reason excluded_in part_reason setting_reason part_after settings_refusal opt_name all_options option_at opt_number takes_of places_of stands_in opens is_of_disk is_of_name excluded_by conf_reason_text config_line fault_place text_refusal flag_given flag_cut given_of signed_cut valued_cut taken_cut word_cut token_cut setting_cut with_setting settings_from text_settings is_separator is_bad_byte line_at in_comment is_blank blank_length is_of_word is_escape ends_quoted quoted_length unless_bad sound_token word_at closed quoted_at equals_at piece_at token_start next_piece is_equals pieces_from text_pieces unescaped_byte unescaped plain_bytes is_path is_name is_text is_shown number_between whole_disk_at root_at is_value last_length last_part disk_name last_partition partition_name device_name devices_of named_devices device_at disk_number device_number
 conf_two_signs = (refl, refl)
 
--- a sign behind a flag
-pub conf_a_sign_behind_a_flag : (conf_at (codes "prompt = yes\n") ≡ Err (record { reason = reasons.BadValue; option = options.Prompt; line = 1 })) × (config_line (record { reason = reasons.BadValue; option = options.Prompt; line = 1 }) ≡ (codes "prompt: bad value at line 1"))
+-- a sign after a flag
+pub conf_a_sign_after_a_flag : (conf_at (codes "prompt = yes\n") ≡ Err (record { reason = reasons.BadValue; option = options.Prompt; line = 1 })) × (config_line (record { reason = reasons.BadValue; option = options.Prompt; line = 1 }) ≡ (codes "prompt: bad value at line 1"))
 unfolding digits with_front parts_of value_of line_of effect_value effect_flag opener_of opening_line section_path section_label label_reason excludes_line is_locked_fallback is_open_restricted section_refusal sections_refusal section_names many_refusal names_reason names_from default_refusal mount_of effect_mount section_device section_of number_of disk_of disks_of mode_of config_of whole_of conf_at given_text setting_of has_option opened_part part_kind setting_disk details_count details_of group_disk is_same_disk takes_nothing text_reason given_reason value_reason disk_reason detail_reason excluded_in part_reason setting_reason part_after settings_refusal opt_name all_options option_at opt_number takes_of places_of stands_in opens is_of_disk is_of_name excluded_by conf_reason_text config_line fault_place text_refusal flag_given flag_cut given_of signed_cut valued_cut taken_cut word_cut token_cut setting_cut with_setting settings_from text_settings is_separator is_bad_byte line_at in_comment is_blank blank_length is_of_word is_escape ends_quoted quoted_length unless_bad sound_token word_at closed quoted_at equals_at piece_at token_start next_piece is_equals pieces_from text_pieces unescaped_byte unescaped plain_bytes is_path is_name is_text is_shown number_between whole_disk_at root_at is_value last_length last_part disk_name last_partition partition_name device_name devices_of named_devices device_at disk_number device_number
-conf_a_sign_behind_a_flag = (refl, refl)
+conf_a_sign_after_a_flag = (refl, refl)
 
 -- a flag twice
 pub conf_a_flag_twice : (conf_at (codes "prompt prompt\n") ≡ Err (record { reason = reasons.Repeated; option = options.Prompt; line = 1 })) × (config_line (record { reason = reasons.Repeated; option = options.Prompt; line = 1 }) ≡ (codes "prompt: repeated at line 1"))

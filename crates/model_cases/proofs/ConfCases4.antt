@@ -79,10 +79,10 @@ pub conf_options_of_no_effect : conf_at (codes "compact\nnowarn\nignore-table fi
 unfolding digits with_front parts_of value_of line_of effect_value effect_flag opener_of opening_line section_path section_label label_reason excludes_line is_locked_fallback is_open_restricted section_refusal sections_refusal section_names many_refusal names_reason names_from default_refusal mount_of effect_mount section_device section_of number_of disk_of disks_of mode_of config_of whole_of conf_at given_text setting_of has_option opened_part part_kind setting_disk details_count details_of group_disk is_same_disk takes_nothing text_reason given_reason value_reason disk_reason detail_reason excluded_in part_reason setting_reason part_after settings_refusal opt_name all_options option_at opt_number takes_of places_of stands_in opens is_of_disk is_of_name excluded_by conf_reason_text config_line fault_place text_refusal flag_given flag_cut given_of signed_cut valued_cut taken_cut word_cut token_cut setting_cut with_setting settings_from text_settings is_separator is_bad_byte line_at in_comment is_blank blank_length is_of_word is_escape ends_quoted quoted_length unless_bad sound_token word_at closed quoted_at equals_at piece_at token_start next_piece is_equals pieces_from text_pieces unescaped_byte unescaped plain_bytes is_path is_name is_text is_shown number_between whole_disk_at root_at is_value last_length last_part disk_name last_partition partition_name device_name devices_of named_devices device_at disk_number device_number
 conf_options_of_no_effect = refl
 
--- an option behind its section
-pub conf_an_option_behind_its_section : (conf_at (codes "image=/a\nboot=/dev/hda\n") ≡ Err (record { reason = reasons.Misplaced; option = options.Boot; line = 2 })) × (config_line (record { reason = reasons.Misplaced; option = options.Boot; line = 2 }) ≡ (codes "boot: misplaced at line 2"))
+-- an option after its section
+pub conf_an_option_after_its_section : (conf_at (codes "image=/a\nboot=/dev/hda\n") ≡ Err (record { reason = reasons.Misplaced; option = options.Boot; line = 2 })) × (config_line (record { reason = reasons.Misplaced; option = options.Boot; line = 2 }) ≡ (codes "boot: misplaced at line 2"))
 unfolding digits with_front parts_of value_of line_of effect_value effect_flag opener_of opening_line section_path section_label label_reason excludes_line is_locked_fallback is_open_restricted section_refusal sections_refusal section_names many_refusal names_reason names_from default_refusal mount_of effect_mount section_device section_of number_of disk_of disks_of mode_of config_of whole_of conf_at given_text setting_of has_option opened_part part_kind setting_disk details_count details_of group_disk is_same_disk takes_nothing text_reason given_reason value_reason disk_reason detail_reason excluded_in part_reason setting_reason part_after settings_refusal opt_name all_options option_at opt_number takes_of places_of stands_in opens is_of_disk is_of_name excluded_by conf_reason_text config_line fault_place text_refusal flag_given flag_cut given_of signed_cut valued_cut taken_cut word_cut token_cut setting_cut with_setting settings_from text_settings is_separator is_bad_byte line_at in_comment is_blank blank_length is_of_word is_escape ends_quoted quoted_length unless_bad sound_token word_at closed quoted_at equals_at piece_at token_start next_piece is_equals pieces_from text_pieces unescaped_byte unescaped plain_bytes is_path is_name is_text is_shown number_between whole_disk_at root_at is_value last_length last_part disk_name last_partition partition_name device_name devices_of named_devices device_at disk_number device_number
-conf_an_option_behind_its_section = (refl, refl)
+conf_an_option_after_its_section = (refl, refl)
 
 -- no value in a wrong place
 pub conf_no_value_in_a_wrong_place : (conf_at (codes "image=/a\nboot\n") ≡ Err (record { reason = reasons.Misplaced; option = options.Boot; line = 2 })) × (config_line (record { reason = reasons.Misplaced; option = options.Boot; line = 2 }) ≡ (codes "boot: misplaced at line 2"))

@@ -1,4 +1,4 @@
--- Cases of the model, written by tools/model_cases.py: where kernels of any length stand.
+-- Cases of the model, written by tools/model_cases.py: where kernels of any length lie.
 use Rattle.std.proofs.Common.{◌≡◌, ◌∷◌, [], None, Some, Ok, Err, codes, refl}
 use Rattle.lilo_model.specs.Bytes.{number16, number32, is_zero}
 use Rattle.lilo_model.specs.Header.{setup_of, version_of, header_of, header_at, fit_checks, plan_memory, replaced_fields, patch, TooShort, SetupTooLarge, LowTooLarge, NoInitrd, NoRoom, LineTooLong}
@@ -40,15 +40,15 @@ pub layout_64_setup_sectors_in_a_kernel_one_byte_shorter : layout_for (file 1024
 unfolding number16 number32 is_zero setup_of version_of header_of header_at fit_checks plan_memory replaced_fields patch command_line written_by place kernel_fit
 layout_64_setup_sectors_in_a_kernel_one_byte_shorter = refl
 
--- a low kernel with 524288 bytes behind its setup
-pub layout_a_low_kernel_with_524288_bytes_behind_its_setup : layout_for (file 1024 (piece 497 (hex 1 0x01) ∷ piece 510 (hex 10 0x55aa0000486472530602) ∷ piece 556 (hex 4 0xffffff37) ∷ piece 568 (hex 1 0xff) ∷ [])) 525312 None 33 16777216 ≡ Ok (record { real = record { address = 0x90000; size = 1024 }; protected = record { address = 0x10000; size = 524288 }; initrd = None; line = record { address = 0x99800; size = 34 } })
+-- a low kernel with 524288 bytes after its setup
+pub layout_a_low_kernel_with_524288_bytes_after_its_setup : layout_for (file 1024 (piece 497 (hex 1 0x01) ∷ piece 510 (hex 10 0x55aa0000486472530602) ∷ piece 556 (hex 4 0xffffff37) ∷ piece 568 (hex 1 0xff) ∷ [])) 525312 None 33 16777216 ≡ Ok (record { real = record { address = 0x90000; size = 1024 }; protected = record { address = 0x10000; size = 524288 }; initrd = None; line = record { address = 0x99800; size = 34 } })
 unfolding number16 number32 is_zero setup_of version_of header_of header_at fit_checks plan_memory replaced_fields patch command_line written_by place kernel_fit
-layout_a_low_kernel_with_524288_bytes_behind_its_setup = refl
+layout_a_low_kernel_with_524288_bytes_after_its_setup = refl
 
--- a low kernel with 524289 bytes behind its setup
-pub layout_a_low_kernel_with_524289_bytes_behind_its_setup : layout_for (file 1024 (piece 497 (hex 1 0x01) ∷ piece 510 (hex 10 0x55aa0000486472530602) ∷ piece 556 (hex 4 0xffffff37) ∷ piece 568 (hex 1 0xff) ∷ [])) 525313 None 33 16777216 ≡ Err (LowTooLarge 524289)
+-- a low kernel with 524289 bytes after its setup
+pub layout_a_low_kernel_with_524289_bytes_after_its_setup : layout_for (file 1024 (piece 497 (hex 1 0x01) ∷ piece 510 (hex 10 0x55aa0000486472530602) ∷ piece 556 (hex 4 0xffffff37) ∷ piece 568 (hex 1 0xff) ∷ [])) 525313 None 33 16777216 ≡ Err (LowTooLarge 524289)
 unfolding number16 number32 is_zero setup_of version_of header_of header_at fit_checks plan_memory replaced_fields patch command_line written_by place kernel_fit
-layout_a_low_kernel_with_524289_bytes_behind_its_setup = refl
+layout_a_low_kernel_with_524289_bytes_after_its_setup = refl
 
 -- a kernel of 4,294,967,295 bytes
 pub layout_a_kernel_of_4_294_967_295_bytes : layout_for (file 1024 (piece 497 (hex 1 0x01) ∷ piece 510 (hex 10 0x55aa0000486472530602) ∷ piece 529 (hex 1 0x01) ∷ piece 556 (hex 4 0xffffff37) ∷ piece 568 (hex 1 0xff) ∷ [])) 4294967295 None 33 1073741824 ≡ Err (NoRoom 4296014847 1073741824)

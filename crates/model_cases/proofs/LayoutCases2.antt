@@ -1,4 +1,4 @@
--- Cases of the model, written by tools/model_cases.py: where kernels of any length stand.
+-- Cases of the model, written by tools/model_cases.py: where kernels of any length lie.
 use Rattle.std.proofs.Common.{◌≡◌, ◌∷◌, [], None, Some, Ok, Err, codes, refl}
 use Rattle.lilo_model.specs.Bytes.{number16, number32, is_zero}
 use Rattle.lilo_model.specs.Header.{setup_of, version_of, header_of, header_at, fit_checks, plan_memory, replaced_fields, patch, TooShort, LowTooLarge, NoInitrd, NoRoom, LineTooLong}

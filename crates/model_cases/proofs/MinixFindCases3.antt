@@ -8,10 +8,10 @@ use Rattle.lilo_model.specs.MinixParts.{bit, with_bit, parts_of, number_in, foll
 use Rattle.model_cases.specs.Sparse.{disks_of, patch_at, hex}
 use Rattle.model_cases.specs.MinixFixtures.{minix_v1_long, volume_v1_long, minix_v2_short, volume_v2_short}
 
--- a link of 1024 bytes with one byte behind it in version 1 with long names
-pub minix_find_a_link_of_1024_bytes_with_one_byte_behind_it_in_version_1_with_long_names : find volume_v1_long.layout (parts_of volume_v1_long (disks_of (minix_v1_long ++ (patch_at 0 8 228 (hex 4 0x00040000) ∷ [])))) (codes "/lr/") ≡ Err PathTooLong
+-- a link of 1024 bytes with one byte after it in version 1 with long names
+pub minix_find_a_link_of_1024_bytes_with_one_byte_after_it_in_version_1_with_long_names : find volume_v1_long.layout (parts_of volume_v1_long (disks_of (minix_v1_long ++ (patch_at 0 8 228 (hex 4 0x00040000) ∷ [])))) (codes "/lr/") ≡ Err PathTooLong
 unfolding number16 number32 is_zero kind_of super_of super_checks super_in super_at v1_inode v2_inode inode_of inode_at inode_place bit with_bit parts_of number_in follow pointer_by inside follow_at zone_at block_at content_at entry_of entry_at find_entry entries_at is_dots components child find_path file_block file_at
-minix_find_a_link_of_1024_bytes_with_one_byte_behind_it_in_version_1_with_long_names = refl
+minix_find_a_link_of_1024_bytes_with_one_byte_after_it_in_version_1_with_long_names = refl
 
 -- an empty link in version 1 with long names
 pub minix_find_an_empty_link_in_version_1_with_long_names : find volume_v1_long.layout (parts_of volume_v1_long (disks_of (minix_v1_long ++ (patch_at 0 8 228 (hex 4 0x00000000) ∷ [])))) (codes "/lr/boot") ≡ Ok 2
@@ -38,10 +38,10 @@ pub minix_find_a_directory_cut_inside_its_third_entry_in_version_1_with_long_nam
 unfolding number16 number32 is_zero kind_of super_of super_checks super_in super_at v1_inode v2_inode inode_of inode_at inode_place bit with_bit parts_of number_in follow pointer_by inside follow_at zone_at block_at content_at entry_of entry_at find_entry entries_at is_dots components child find_path file_block file_at
 minix_find_a_directory_cut_inside_its_third_entry_in_version_1_with_long_names = refl
 
--- a directory cut behind its third entry in version 1 with long names
-pub minix_find_a_directory_cut_behind_its_third_entry_in_version_1_with_long_names : find volume_v1_long.layout (parts_of volume_v1_long (disks_of (minix_v1_long ++ (patch_at 0 8 4 (hex 4 0x60000000) ∷ [])))) (codes "/boot") ≡ Ok 2
+-- a directory cut after its third entry in version 1 with long names
+pub minix_find_a_directory_cut_after_its_third_entry_in_version_1_with_long_names : find volume_v1_long.layout (parts_of volume_v1_long (disks_of (minix_v1_long ++ (patch_at 0 8 4 (hex 4 0x60000000) ∷ [])))) (codes "/boot") ≡ Ok 2
 unfolding number16 number32 is_zero kind_of super_of super_checks super_in super_at v1_inode v2_inode inode_of inode_at inode_place bit with_bit parts_of number_in follow pointer_by inside follow_at zone_at block_at content_at entry_of entry_at find_entry entries_at is_dots components child find_path file_block file_at
-minix_find_a_directory_cut_behind_its_third_entry_in_version_1_with_long_names = refl
+minix_find_a_directory_cut_after_its_third_entry_in_version_1_with_long_names = refl
 
 -- an entry of an inode that is not there in version 1 with long names
 pub minix_find_an_entry_of_an_inode_that_is_not_there_in_version_1_with_long_names : find volume_v1_long.layout (parts_of volume_v1_long (disks_of (minix_v1_long ++ (patch_at 0 10 64 (hex 2 0x2100) ∷ [])))) (codes "/boot") ≡ Err (BadEntry 1)

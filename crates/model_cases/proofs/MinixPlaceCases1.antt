@@ -1,4 +1,4 @@
--- Cases of Minix volumes, written by tools/minix_cases.py: where inodes stand.
+-- Cases of Minix volumes, written by tools/minix_cases.py: where inodes lie.
 use Rattle.std.proofs.Common.{◌≡◌, refl}
 use Rattle.lilo_model.specs.Bytes.{number16, number32, is_zero}
 use Rattle.lilo_model.specs.MinixLayout.{kind_of, super_of, super_checks, super_in, super_at, v1_inode, v2_inode, inode_of, inode_at, inode_place}

@@ -29,10 +29,10 @@ pub minix_super_no_zone_bitmap_and_a_first_zone_at_the_end_in_version_2_with_lon
 unfolding number16 number32 is_zero kind_of super_of super_checks super_in super_at v1_inode v2_inode inode_of inode_at inode_place
 minix_super_no_zone_bitmap_and_a_first_zone_at_the_end_in_version_2_with_long_names = refl
 
--- no zone bitmap, and a first zone behind the zones in version 2 with long names
-pub minix_super_no_zone_bitmap_and_a_first_zone_behind_the_zones_in_version_2_with_long_names : super_at (file 512 (piece 0 (hex 24 0x200000000100000029000000ffffff7f7824010028000000) ∷ [])) 80 ≡ Err (BadSize FirstZone)
+-- no zone bitmap, and a first zone after the zones in version 2 with long names
+pub minix_super_no_zone_bitmap_and_a_first_zone_after_the_zones_in_version_2_with_long_names : super_at (file 512 (piece 0 (hex 24 0x200000000100000029000000ffffff7f7824010028000000) ∷ [])) 80 ≡ Err (BadSize FirstZone)
 unfolding number16 number32 is_zero kind_of super_of super_checks super_in super_at v1_inode v2_inode inode_of inode_at inode_place
-minix_super_no_zone_bitmap_and_a_first_zone_behind_the_zones_in_version_2_with_long_names = refl
+minix_super_no_zone_bitmap_and_a_first_zone_after_the_zones_in_version_2_with_long_names = refl
 
 -- inodes that need a second block of marks in version 2 with long names
 pub minix_super_inodes_that_need_a_second_block_of_marks_in_version_2_with_long_names : super_at (file 512 (piece 0 (hex 24 0x002000000100010006000000ffffff7f7824010028000000) ∷ [])) 80 ≡ Err (BadSize InodeMap)
@@ -49,15 +49,15 @@ pub minix_super_a_first_zone_inside_the_table_in_version_2_with_long_names : sup
 unfolding number16 number32 is_zero kind_of super_of super_checks super_in super_at v1_inode v2_inode inode_of inode_at inode_place
 minix_super_a_first_zone_inside_the_table_in_version_2_with_long_names = refl
 
--- a first zone behind the table in version 2 with long names
-pub minix_super_a_first_zone_behind_the_table_in_version_2_with_long_names : super_at (file 512 (piece 0 (hex 24 0x200000000100010007000000ffffff7f7824010028000000) ∷ [])) 80 ≡ Ok (record { kind = V2Long; inodes = 32; zones = 40; imap = 1; zmap = 1; first = 7; max_size = 2147483647; state = 1 })
+-- a first zone after the table in version 2 with long names
+pub minix_super_a_first_zone_after_the_table_in_version_2_with_long_names : super_at (file 512 (piece 0 (hex 24 0x200000000100010007000000ffffff7f7824010028000000) ∷ [])) 80 ≡ Ok (record { kind = V2Long; inodes = 32; zones = 40; imap = 1; zmap = 1; first = 7; max_size = 2147483647; state = 1 })
 unfolding number16 number32 is_zero kind_of super_of super_checks super_in super_at v1_inode v2_inode inode_of inode_at inode_place
-minix_super_a_first_zone_behind_the_table_in_version_2_with_long_names = refl
+minix_super_a_first_zone_after_the_table_in_version_2_with_long_names = refl
 
--- a first zone behind the zones in version 2 with long names
-pub minix_super_a_first_zone_behind_the_zones_in_version_2_with_long_names : super_at (file 512 (piece 0 (hex 24 0x200000000100010029000000ffffff7f7824010028000000) ∷ [])) 80 ≡ Err (BadSize FirstZone)
+-- a first zone after the zones in version 2 with long names
+pub minix_super_a_first_zone_after_the_zones_in_version_2_with_long_names : super_at (file 512 (piece 0 (hex 24 0x200000000100010029000000ffffff7f7824010028000000) ∷ [])) 80 ≡ Err (BadSize FirstZone)
 unfolding number16 number32 is_zero kind_of super_of super_checks super_in super_at v1_inode v2_inode inode_of inode_at inode_place
-minix_super_a_first_zone_behind_the_zones_in_version_2_with_long_names = refl
+minix_super_a_first_zone_after_the_zones_in_version_2_with_long_names = refl
 
 -- a first zone that is the last in version 2 with long names
 pub minix_super_a_first_zone_that_is_the_last_in_version_2_with_long_names : super_at (file 512 (piece 0 (hex 24 0x200000000100010027000000ffffff7f7824010028000000) ∷ [])) 80 ≡ Ok (record { kind = V2Long; inodes = 32; zones = 40; imap = 1; zmap = 1; first = 39; max_size = 2147483647; state = 1 })

@@ -65,10 +65,10 @@ pub place_a_kernel_of_512_bytes : place (file 512 (piece 497 (hex 1 0x01) ∷ pi
 unfolding number16 number32 is_zero setup_of version_of header_of header_at fit_checks plan_memory replaced_fields patch command_line written_by place kernel_fit
 place_a_kernel_of_512_bytes = refl
 
--- a kernel of two sectors with nothing behind
-pub place_a_kernel_of_two_sectors_with_nothing_behind : place (file 1024 (piece 497 (hex 1 0x01) ∷ piece 510 (hex 10 0x55aa0000486472530602) ∷ piece 529 (hex 1 0x01) ∷ piece 556 (hex 4 0xffffff37) ∷ piece 568 (hex 1 0xff) ∷ [])) None (codes "auto BOOT_IMAGE=linux ro root=301") None 16777216 ≡ Ok (record { layout = (record { real = record { address = 0x90000; size = 1024 }; protected = record { address = 0x100000; size = 0 }; initrd = None; line = record { address = 0x99800; size = 34 } }); written = (record { address = 0x90000; bytes = (file 1024 (piece 497 (hex 1 0x01) ∷ piece 510 (hex 10 0x55aa0000486472530602) ∷ piece 528 (hex 2 0x0281) ∷ piece 549 (hex 11 0x96000000980900ffffff37) ∷ piece 568 (hex 1 0xff) ∷ [])) } ∷ record { address = 0x100000; bytes = (file 0 []) } ∷ record { address = 0x99800; bytes = (file 34 (piece 0 (codes "auto BOOT_IMAGE=linux ro root=301") ∷ [])) } ∷ []) })
+-- a kernel of two sectors with nothing after it
+pub place_a_kernel_of_two_sectors_with_nothing_after_it : place (file 1024 (piece 497 (hex 1 0x01) ∷ piece 510 (hex 10 0x55aa0000486472530602) ∷ piece 529 (hex 1 0x01) ∷ piece 556 (hex 4 0xffffff37) ∷ piece 568 (hex 1 0xff) ∷ [])) None (codes "auto BOOT_IMAGE=linux ro root=301") None 16777216 ≡ Ok (record { layout = (record { real = record { address = 0x90000; size = 1024 }; protected = record { address = 0x100000; size = 0 }; initrd = None; line = record { address = 0x99800; size = 34 } }); written = (record { address = 0x90000; bytes = (file 1024 (piece 497 (hex 1 0x01) ∷ piece 510 (hex 10 0x55aa0000486472530602) ∷ piece 528 (hex 2 0x0281) ∷ piece 549 (hex 11 0x96000000980900ffffff37) ∷ piece 568 (hex 1 0xff) ∷ [])) } ∷ record { address = 0x100000; bytes = (file 0 []) } ∷ record { address = 0x99800; bytes = (file 34 (piece 0 (codes "auto BOOT_IMAGE=linux ro root=301") ∷ [])) } ∷ []) })
 unfolding number16 number32 is_zero setup_of version_of header_of header_at fit_checks plan_memory replaced_fields patch command_line written_by place kernel_fit
-place_a_kernel_of_two_sectors_with_nothing_behind = refl
+place_a_kernel_of_two_sectors_with_nothing_after_it = refl
 
 -- a file with nothing in it
 pub place_a_file_with_nothing_in_it : place (file 0 []) None (codes "auto BOOT_IMAGE=linux ro root=301") None 16777216 ≡ Err TooShort

@@ -19,10 +19,10 @@ use Rattle.lilo_model.specs.Verdict.{names_behind, names_text, query_verdict, du
 use Rattle.model_cases.specs.Sparse.{hex, patch_at, disks_of, disk_with, machine_of}
 use Rattle.model_cases.specs.Fixtures.{fixture_l, fixture_menu}
 
--- the name behind a boot sector
-pub query_the_name_behind_a_boot_sector : query_verdict (disks_of fixture_l) (machine_of (disk_with 4096 16 63 ∷ [])) (Ok (record { disk = 0; start = 0; count = 4096 })) ≡ record { status = 0; text = (codes "linux *\n") }
+-- the name after a boot sector
+pub query_the_name_after_a_boot_sector : query_verdict (disks_of fixture_l) (machine_of (disk_with 4096 16 63 ∷ [])) (Ok (record { disk = 0; start = 0; count = 4096 })) ≡ record { status = 0; text = (codes "linux *\n") }
 unfolding number16 number32 is_zero has_ranges has_address is_slot is_one_slot chs_of address_of slot_of some_slot slot_at slot_bytes to_chs to_lba sector_at sectors_of place_at slot_make could_be_one link_at section file_content is_bootable has_signature has_options has_names has_slots has_no_message has_whole_message has_message has_zeros is_whole timeout_of table_slots boot_of boot_at is_set entry_name is_printable is_name has_flags has_video has_length has_main has_initrd has_extra is_entry descriptor_of entry_bytes same_name repeats breaks table_at options_at extra_at is_line line_of line_at line_bytes is_same_line setup_of version_of header_of header_at fit_checks plan_memory replaced_fields patch command_line written_by place kernel_fit foreign_boot slot_bytes_at map_sectors present_line good_map listed_entries settings_of message_of middle_of image_with_line handed_ending main_of loaded_ending kernel_ending entry_ending chosen_boot decision_at opening_at prompted_boot map_boot whole_boot course_of words_of meaning reason_text refusal_line names_behind names_text query_verdict dump_text boot_verdict digits
-query_the_name_behind_a_boot_sector = refl
+query_the_name_after_a_boot_sector = refl
 
 -- a blank disk is not ours
 pub query_a_blank_disk_is_not_ours : query_verdict (disks_of []) (machine_of (disk_with 4096 16 63 ∷ [])) (Ok (record { disk = 0; start = 0; count = 4096 })) ≡ record { status = 6; text = (codes "lilo: not ours\n") }

@@ -65,10 +65,10 @@ pub section_an_empty_section_sector : section (disks_of []) (machine_of (disk_wi
 unfolding number16 number32 is_zero has_ranges has_address is_slot is_one_slot chs_of address_of slot_of some_slot slot_at slot_bytes to_chs to_lba sector_at sectors_of place_at slot_make could_be_one link_at section file_content
 section_an_empty_section_sector = refl
 
--- a bad slot behind the last that is needed is never met
-pub section_a_bad_slot_behind_the_last_that_is_needed_is_never_met : section (disks_of (patch_at 0 100 0 (hex 32 0x038001005200000003800100530000000380010054000000ffffffffffffffff) ∷ [])) (machine_of (disk_with 4096 16 63 ∷ [])) (record { disk = 0; count = 1; address = Lba32 100 }) 3 1 ≡ record { places = (on 0 (82 ∷ 83 ∷ 84 ∷ [])); looked = (on 0 (100 ∷ [])); refusal = None }
+-- a bad slot after the last that is needed is never met
+pub section_a_bad_slot_after_the_last_that_is_needed_is_never_met : section (disks_of (patch_at 0 100 0 (hex 32 0x038001005200000003800100530000000380010054000000ffffffffffffffff) ∷ [])) (machine_of (disk_with 4096 16 63 ∷ [])) (record { disk = 0; count = 1; address = Lba32 100 }) 3 1 ≡ record { places = (on 0 (82 ∷ 83 ∷ 84 ∷ [])); looked = (on 0 (100 ∷ [])); refusal = None }
 unfolding number16 number32 is_zero has_ranges has_address is_slot is_one_slot chs_of address_of slot_of some_slot slot_at slot_bytes to_chs to_lba sector_at sectors_of place_at slot_make could_be_one link_at section file_content
-section_a_bad_slot_behind_the_last_that_is_needed_is_never_met = refl
+section_a_bad_slot_after_the_last_that_is_needed_is_never_met = refl
 
 -- a bad slot
 pub section_a_bad_slot : section (disks_of (patch_at 0 100 0 (hex 32 0x038001005200000003800100530000000380010054000000ffffffffffffffff) ∷ [])) (machine_of (disk_with 4096 16 63 ∷ [])) (record { disk = 0; count = 1; address = Lba32 100 }) 4 1 ≡ record { places = (on 0 (82 ∷ 83 ∷ 84 ∷ [])); looked = (on 0 (100 ∷ [])); refusal = (Some (BadSlot 3)) }
@@ -120,10 +120,10 @@ pub section_a_slot_that_leaves_the_disk : section (disks_of (patch_at 0 100 0 (h
 unfolding number16 number32 is_zero has_ranges has_address is_slot is_one_slot chs_of address_of slot_of some_slot slot_at slot_bytes to_chs to_lba sector_at sectors_of place_at slot_make could_be_one link_at section file_content
 section_a_slot_that_leaves_the_disk = refl
 
--- a slot that leaves the disk behind what is needed
-pub section_a_slot_that_leaves_the_disk_behind_what_is_needed : section (disks_of (patch_at 0 100 0 (hex 8 0x03800400fe0f0000) ∷ [])) (machine_of (disk_with 4096 16 63 ∷ [])) (record { disk = 0; count = 1; address = Lba32 100 }) 2 1 ≡ record { places = (on 0 (4094 ∷ 4095 ∷ [])); looked = (on 0 (100 ∷ [])); refusal = None }
+-- a slot that leaves the disk after what is needed
+pub section_a_slot_that_leaves_the_disk_after_what_is_needed : section (disks_of (patch_at 0 100 0 (hex 8 0x03800400fe0f0000) ∷ [])) (machine_of (disk_with 4096 16 63 ∷ [])) (record { disk = 0; count = 1; address = Lba32 100 }) 2 1 ≡ record { places = (on 0 (4094 ∷ 4095 ∷ [])); looked = (on 0 (100 ∷ [])); refusal = None }
 unfolding number16 number32 is_zero has_ranges has_address is_slot is_one_slot chs_of address_of slot_of some_slot slot_at slot_bytes to_chs to_lba sector_at sectors_of place_at slot_make could_be_one link_at section file_content
-section_a_slot_that_leaves_the_disk_behind_what_is_needed = refl
+section_a_slot_that_leaves_the_disk_after_what_is_needed = refl
 
 -- a slot that leaves its track
 pub section_a_slot_that_leaves_its_track : section (disks_of (patch_at 0 100 0 (hex 8 0x018003003e000000) ∷ [])) (machine_of (disk_with 4096 16 63 ∷ [])) (record { disk = 0; count = 1; address = Lba32 100 }) 3 1 ≡ record { places = (on 0 (61 ∷ 62 ∷ [])); looked = (on 0 (100 ∷ [])); refusal = (Some NotFound) }

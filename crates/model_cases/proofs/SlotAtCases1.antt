@@ -39,10 +39,10 @@ pub slot_at_a_fourth_mode : slot_at (hex 8 0x0480010052000000) ≡ Err BadSlot
 unfolding number16 number32 is_zero has_ranges has_address is_slot is_one_slot chs_of address_of slot_of some_slot slot_at slot_bytes to_chs to_lba sector_at sectors_of place_at slot_make could_be_one
 slot_at_a_fourth_mode = refl
 
--- mode 0 with something behind
-pub slot_at_mode_0_with_something_behind : slot_at (hex 8 0x0080010052000000) ≡ Err BadSlot
+-- mode 0 with something after it
+pub slot_at_mode_0_with_something_after_it : slot_at (hex 8 0x0080010052000000) ≡ Err BadSlot
 unfolding number16 number32 is_zero has_ranges has_address is_slot is_one_slot chs_of address_of slot_of some_slot slot_at slot_bytes to_chs to_lba sector_at sectors_of place_at slot_make could_be_one
-slot_at_mode_0_with_something_behind = refl
+slot_at_mode_0_with_something_after_it = refl
 
 -- a fifth disk
 pub slot_at_a_fifth_disk : slot_at (hex 8 0x0384010052000000) ≡ Err BadSlot
@@ -84,10 +84,10 @@ pub slot_at_sector_0_of_cylinder_256 : slot_at (hex 8 0x0180010040050100) ≡ Er
 unfolding number16 number32 is_zero has_ranges has_address is_slot is_one_slot chs_of address_of slot_of some_slot slot_at slot_bytes to_chs to_lba sector_at sectors_of place_at slot_make could_be_one
 slot_at_sector_0_of_cylinder_256 = refl
 
--- a last byte behind the head
-pub slot_at_a_last_byte_behind_the_head : slot_at (hex 8 0x0180010001000101) ≡ Err BadSlot
+-- a last byte after the head
+pub slot_at_a_last_byte_after_the_head : slot_at (hex 8 0x0180010001000101) ≡ Err BadSlot
 unfolding number16 number32 is_zero has_ranges has_address is_slot is_one_slot chs_of address_of slot_of some_slot slot_at slot_bytes to_chs to_lba sector_at sectors_of place_at slot_make could_be_one
-slot_at_a_last_byte_behind_the_head = refl
+slot_at_a_last_byte_after_the_head = refl
 
 -- a last byte of a number
 pub slot_at_a_last_byte_of_a_number : slot_at (hex 8 0x0380010001000001) ≡ Ok (Some (record { disk = 0; count = 1; address = Lba32 16777217 }))

@@ -56,10 +56,10 @@ pub table_the_least_byte_of_a_name : table_at 6 ((file 512 (piece 0 (codes "!inu
 unfolding number16 number32 is_zero has_ranges has_address is_slot is_one_slot chs_of address_of slot_of some_slot slot_at slot_bytes to_chs to_lba sector_at sectors_of place_at slot_make could_be_one is_bootable has_signature has_options has_names has_slots has_no_message has_whole_message has_message has_zeros is_whole timeout_of table_slots boot_of boot_at is_set entry_name is_printable is_name has_flags has_video has_length has_main has_initrd has_extra is_entry descriptor_of entry_bytes same_name repeats breaks table_at
 table_the_least_byte_of_a_name = refl
 
--- something behind the zero of a name
-pub table_something_behind_the_zero_of_a_name : table_at 6 ((file 512 (piece 0 (hex 9 0x6c696e757800000078) ∷ piece 16 (hex 39 0x4000000005040000bc020000038001006300000003800100640000000380010065000000010001) ∷ piece 64 (codes "safe") ∷ piece 80 (hex 27 0x060000000504000000000000038001006600000001800100290001) ∷ piece 116 (hex 15 0x010000000380010068000000747279) ∷ piece 144 (hex 25 0x10000000050400000000000003800100630000000380010069) ∷ piece 180 (hex 16 0x01000000038001006a0000006b656570) ∷ piece 208 (hex 25 0x2800fdff1405000000000000038001006b000000028001006c) ∷ piece 244 (hex 1 0x01) ∷ piece 256 (codes "dos") ∷ piece 272 (hex 25 0x810000000004000000000000038001006d0000000380010070) ∷ piece 308 (hex 1 0x01) ∷ piece 320 (codes "win") ∷ piece 336 (hex 25 0x030000000002000000000000038001006d0000000380010071) ∷ piece 372 (hex 9 0x010000000380010072) ∷ [])) ∷ (file 512 []) ∷ (file 512 []) ∷ []) ≡ Err (BadTable 0)
+-- something after the zero of a name
+pub table_something_after_the_zero_of_a_name : table_at 6 ((file 512 (piece 0 (hex 9 0x6c696e757800000078) ∷ piece 16 (hex 39 0x4000000005040000bc020000038001006300000003800100640000000380010065000000010001) ∷ piece 64 (codes "safe") ∷ piece 80 (hex 27 0x060000000504000000000000038001006600000001800100290001) ∷ piece 116 (hex 15 0x010000000380010068000000747279) ∷ piece 144 (hex 25 0x10000000050400000000000003800100630000000380010069) ∷ piece 180 (hex 16 0x01000000038001006a0000006b656570) ∷ piece 208 (hex 25 0x2800fdff1405000000000000038001006b000000028001006c) ∷ piece 244 (hex 1 0x01) ∷ piece 256 (codes "dos") ∷ piece 272 (hex 25 0x810000000004000000000000038001006d0000000380010070) ∷ piece 308 (hex 1 0x01) ∷ piece 320 (codes "win") ∷ piece 336 (hex 25 0x030000000002000000000000038001006d0000000380010071) ∷ piece 372 (hex 9 0x010000000380010072) ∷ [])) ∷ (file 512 []) ∷ (file 512 []) ∷ []) ≡ Err (BadTable 0)
 unfolding number16 number32 is_zero has_ranges has_address is_slot is_one_slot chs_of address_of slot_of some_slot slot_at slot_bytes to_chs to_lba sector_at sectors_of place_at slot_make could_be_one is_bootable has_signature has_options has_names has_slots has_no_message has_whole_message has_message has_zeros is_whole timeout_of table_slots boot_of boot_at is_set entry_name is_printable is_name has_flags has_video has_length has_main has_initrd has_extra is_entry descriptor_of entry_bytes same_name repeats breaks table_at
-table_something_behind_the_zero_of_a_name = refl
+table_something_after_the_zero_of_a_name = refl
 
 -- the name of an earlier entry
 pub table_the_name_of_an_earlier_entry : table_at 6 ((file 512 (piece 0 (codes "linux") ∷ piece 16 (hex 39 0x4000000005040000bc020000038001006300000003800100640000000380010065000000010001) ∷ piece 64 (codes "safe") ∷ piece 80 (hex 27 0x060000000504000000000000038001006600000001800100290001) ∷ piece 116 (hex 15 0x010000000380010068000000747279) ∷ piece 144 (hex 25 0x10000000050400000000000003800100630000000380010069) ∷ piece 180 (hex 16 0x01000000038001006a0000006b656570) ∷ piece 208 (hex 25 0x2800fdff1405000000000000038001006b000000028001006c) ∷ piece 244 (hex 1 0x01) ∷ piece 256 (codes "dos") ∷ piece 272 (hex 25 0x810000000004000000000000038001006d0000000380010070) ∷ piece 308 (hex 1 0x01) ∷ piece 320 (codes "linux") ∷ piece 336 (hex 25 0x030000000002000000000000038001006d0000000380010071) ∷ piece 372 (hex 9 0x010000000380010072) ∷ [])) ∷ (file 512 []) ∷ (file 512 []) ∷ []) ≡ Err (BadTable 5)

@@ -17,10 +17,10 @@ pub texts_a_middle_text : options_at (file 512 (piece 0 (hex 1 0x0c) ∷ piece 8
 unfolding number16 number32 is_zero options_at extra_at is_line line_of line_at line_bytes is_same_line
 texts_a_middle_text = refl
 
--- something behind the text
-pub texts_something_behind_the_text : options_at (file 512 (piece 0 (hex 1 0x03) ∷ piece 8 (codes " ro root") ∷ [])) ≡ Ok (codes " ro")
+-- something after the text
+pub texts_something_after_the_text : options_at (file 512 (piece 0 (hex 1 0x03) ∷ piece 8 (codes " ro root") ∷ [])) ≡ Ok (codes " ro")
 unfolding number16 number32 is_zero options_at extra_at is_line line_of line_at line_bytes is_same_line
-texts_something_behind_the_text = refl
+texts_something_after_the_text = refl
 
 -- 255 bytes
 pub texts_255_bytes : options_at (file 512 (piece 0 (hex 1 0xff) ∷ piece 8 (replicate 255 120) ∷ [])) ≡ Ok (replicate 255 120)
@@ -82,10 +82,10 @@ pub texts_a_kept_line : line_at (file 512 (piece 0 (hex 13 0x4c494e45020005006c6
 unfolding number16 number32 is_zero options_at extra_at is_line line_of line_at line_bytes is_same_line
 texts_a_kept_line = refl
 
--- something behind the line
-pub texts_something_behind_the_line : line_at (file 512 (piece 0 (hex 13 0x4c494e45020002006c696e7578) ∷ [])) ≡ Ok (Kept (codes "li"))
+-- something after the line
+pub texts_something_after_the_line : line_at (file 512 (piece 0 (hex 13 0x4c494e45020002006c696e7578) ∷ [])) ≡ Ok (Kept (codes "li"))
 unfolding number16 number32 is_zero options_at extra_at is_line line_of line_at line_bytes is_same_line
-texts_something_behind_the_line = refl
+texts_something_after_the_line = refl
 
 -- state 3
 pub texts_state_3 : line_at (file 512 (piece 0 (hex 13 0x4c494e45030005006c696e7578) ∷ [])) ≡ Err BadLine

@@ -134,32 +134,32 @@ pub words_root_without_a_device_text : usage_text ((codes "--root") ∷ []) ≡ 
 unfolding disk_name last_partition partition_name device_name devices_of named_devices device_at command_from part_from parts_from run_from run_at usage_text digits
 words_root_without_a_device_text = refl
 
--- a word behind -t
-pub words_a_word_behind_t : run_at ((codes "-t") ∷ (codes "--dump") ∷ []) ≡ Err (Some 1)
+-- a word after -t
+pub words_a_word_after_t : run_at ((codes "-t") ∷ (codes "--dump") ∷ []) ≡ Err (Some 1)
 unfolding disk_name last_partition partition_name device_name devices_of named_devices device_at command_from part_from parts_from run_from run_at usage_text digits
-words_a_word_behind_t = refl
+words_a_word_after_t = refl
 
-pub words_a_word_behind_t_text : usage_text ((codes "-t") ∷ (codes "--dump") ∷ []) ≡ codes "lilo: usage: --dump\n"
+pub words_a_word_after_t_text : usage_text ((codes "-t") ∷ (codes "--dump") ∷ []) ≡ codes "lilo: usage: --dump\n"
 unfolding disk_name last_partition partition_name device_name devices_of named_devices device_at command_from part_from parts_from run_from run_at usage_text digits
-words_a_word_behind_t_text = refl
+words_a_word_after_t_text = refl
 
--- an option behind a command
-pub words_an_option_behind_a_command : run_at ((codes "-q") ∷ (codes "-v") ∷ []) ≡ Err (Some 1)
+-- an option after a command
+pub words_an_option_after_a_command : run_at ((codes "-q") ∷ (codes "-v") ∷ []) ≡ Err (Some 1)
 unfolding disk_name last_partition partition_name device_name devices_of named_devices device_at command_from part_from parts_from run_from run_at usage_text digits
-words_an_option_behind_a_command = refl
+words_an_option_after_a_command = refl
 
-pub words_an_option_behind_a_command_text : usage_text ((codes "-q") ∷ (codes "-v") ∷ []) ≡ codes "lilo: usage: -v\n"
+pub words_an_option_after_a_command_text : usage_text ((codes "-q") ∷ (codes "-v") ∷ []) ≡ codes "lilo: usage: -v\n"
 unfolding disk_name last_partition partition_name device_name devices_of named_devices device_at command_from part_from parts_from run_from run_at usage_text digits
-words_an_option_behind_a_command_text = refl
+words_an_option_after_a_command_text = refl
 
--- a second device behind -q
-pub words_a_second_device_behind_q : run_at ((codes "-q") ∷ (codes "/dev/hda") ∷ (codes "/dev/hdb") ∷ []) ≡ Err (Some 2)
+-- a second device after -q
+pub words_a_second_device_after_q : run_at ((codes "-q") ∷ (codes "/dev/hda") ∷ (codes "/dev/hdb") ∷ []) ≡ Err (Some 2)
 unfolding disk_name last_partition partition_name device_name devices_of named_devices device_at command_from part_from parts_from run_from run_at usage_text digits
-words_a_second_device_behind_q = refl
+words_a_second_device_after_q = refl
 
-pub words_a_second_device_behind_q_text : usage_text ((codes "-q") ∷ (codes "/dev/hda") ∷ (codes "/dev/hdb") ∷ []) ≡ codes "lilo: usage: /dev/hdb\n"
+pub words_a_second_device_after_q_text : usage_text ((codes "-q") ∷ (codes "/dev/hda") ∷ (codes "/dev/hdb") ∷ []) ≡ codes "lilo: usage: /dev/hdb\n"
 unfolding disk_name last_partition partition_name device_name devices_of named_devices device_at command_from part_from parts_from run_from run_at usage_text digits
-words_a_second_device_behind_q_text = refl
+words_a_second_device_after_q_text = refl
 
 -- -C twice
 pub words_c_twice : run_at ((codes "-C") ∷ (codes "/a") ∷ (codes "-C") ∷ (codes "/b") ∷ []) ≡ Err (Some 2)
@@ -224,50 +224,50 @@ pub words_a_partition_with_a_leading_zero_text : usage_text ((codes "boot") ∷ 
 unfolding disk_name last_partition partition_name device_name devices_of named_devices device_at command_from part_from parts_from run_from run_at usage_text digits
 words_a_partition_with_a_leading_zero_text = refl
 
--- a byte of 0x7F behind -R
-pub words_a_byte_of_0x7f_behind_r : run_at ((codes "-R") ∷ (codes "a") ∷ (hex 2 0x627f) ∷ []) ≡ Err (Some 2)
+-- a byte of 0x7F after -R
+pub words_a_byte_of_0x7f_after_r : run_at ((codes "-R") ∷ (codes "a") ∷ (hex 2 0x627f) ∷ []) ≡ Err (Some 2)
 unfolding disk_name last_partition partition_name device_name devices_of named_devices device_at command_from part_from parts_from run_from run_at usage_text digits
-words_a_byte_of_0x7f_behind_r = refl
+words_a_byte_of_0x7f_after_r = refl
 
-pub words_a_byte_of_0x7f_behind_r_text : usage_text ((codes "-R") ∷ (codes "a") ∷ (hex 2 0x627f) ∷ []) ≡ hex 16 0x6c696c6f3a2075736167653a20627f0a
+pub words_a_byte_of_0x7f_after_r_text : usage_text ((codes "-R") ∷ (codes "a") ∷ (hex 2 0x627f) ∷ []) ≡ hex 16 0x6c696c6f3a2075736167653a20627f0a
 unfolding disk_name last_partition partition_name device_name devices_of named_devices device_at command_from part_from parts_from run_from run_at usage_text digits
-words_a_byte_of_0x7f_behind_r_text = refl
+words_a_byte_of_0x7f_after_r_text = refl
 
--- a byte of 0x1F behind -R
-pub words_a_byte_of_0x1f_behind_r : run_at ((codes "-R") ∷ (hex 1 0x1f) ∷ []) ≡ Err (Some 1)
+-- a byte of 0x1F after -R
+pub words_a_byte_of_0x1f_after_r : run_at ((codes "-R") ∷ (hex 1 0x1f) ∷ []) ≡ Err (Some 1)
 unfolding disk_name last_partition partition_name device_name devices_of named_devices device_at command_from part_from parts_from run_from run_at usage_text digits
-words_a_byte_of_0x1f_behind_r = refl
+words_a_byte_of_0x1f_after_r = refl
 
-pub words_a_byte_of_0x1f_behind_r_text : usage_text ((codes "-R") ∷ (hex 1 0x1f) ∷ []) ≡ hex 15 0x6c696c6f3a2075736167653a201f0a
+pub words_a_byte_of_0x1f_after_r_text : usage_text ((codes "-R") ∷ (hex 1 0x1f) ∷ []) ≡ hex 15 0x6c696c6f3a2075736167653a201f0a
 unfolding disk_name last_partition partition_name device_name devices_of named_devices device_at command_from part_from parts_from run_from run_at usage_text digits
-words_a_byte_of_0x1f_behind_r_text = refl
+words_a_byte_of_0x1f_after_r_text = refl
 
--- an empty word behind -R
-pub words_an_empty_word_behind_r : run_at ((codes "-R") ∷ (codes "a") ∷ [] ∷ []) ≡ Err (Some 2)
+-- an empty word after -R
+pub words_an_empty_word_after_r : run_at ((codes "-R") ∷ (codes "a") ∷ [] ∷ []) ≡ Err (Some 2)
 unfolding disk_name last_partition partition_name device_name devices_of named_devices device_at command_from part_from parts_from run_from run_at usage_text digits
-words_an_empty_word_behind_r = refl
+words_an_empty_word_after_r = refl
 
-pub words_an_empty_word_behind_r_text : usage_text ((codes "-R") ∷ (codes "a") ∷ [] ∷ []) ≡ codes "lilo: usage: \n"
+pub words_an_empty_word_after_r_text : usage_text ((codes "-R") ∷ (codes "a") ∷ [] ∷ []) ≡ codes "lilo: usage: \n"
 unfolding disk_name last_partition partition_name device_name devices_of named_devices device_at command_from part_from parts_from run_from run_at usage_text digits
-words_an_empty_word_behind_r_text = refl
+words_an_empty_word_after_r_text = refl
 
--- --then where a path must stand
-pub words_then_where_a_path_must_stand : run_at ((codes "-C") ∷ (codes "--then") ∷ (codes "-t") ∷ []) ≡ Err (Some 1)
+-- --then where a path must come
+pub words_then_where_a_path_must_come : run_at ((codes "-C") ∷ (codes "--then") ∷ (codes "-t") ∷ []) ≡ Err (Some 1)
 unfolding disk_name last_partition partition_name device_name devices_of named_devices device_at command_from part_from parts_from run_from run_at usage_text digits
-words_then_where_a_path_must_stand = refl
+words_then_where_a_path_must_come = refl
 
-pub words_then_where_a_path_must_stand_text : usage_text ((codes "-C") ∷ (codes "--then") ∷ (codes "-t") ∷ []) ≡ codes "lilo: usage: --then\n"
+pub words_then_where_a_path_must_come_text : usage_text ((codes "-C") ∷ (codes "--then") ∷ (codes "-t") ∷ []) ≡ codes "lilo: usage: --then\n"
 unfolding disk_name last_partition partition_name device_name devices_of named_devices device_at command_from part_from parts_from run_from run_at usage_text digits
-words_then_where_a_path_must_stand_text = refl
+words_then_where_a_path_must_come_text = refl
 
--- --then where a device must stand
-pub words_then_where_a_device_must_stand : run_at ((codes "-u") ∷ (codes "--then") ∷ []) ≡ Err (Some 1)
+-- --then where a device must come
+pub words_then_where_a_device_must_come : run_at ((codes "-u") ∷ (codes "--then") ∷ []) ≡ Err (Some 1)
 unfolding disk_name last_partition partition_name device_name devices_of named_devices device_at command_from part_from parts_from run_from run_at usage_text digits
-words_then_where_a_device_must_stand = refl
+words_then_where_a_device_must_come = refl
 
-pub words_then_where_a_device_must_stand_text : usage_text ((codes "-u") ∷ (codes "--then") ∷ []) ≡ codes "lilo: usage: --then\n"
+pub words_then_where_a_device_must_come_text : usage_text ((codes "-u") ∷ (codes "--then") ∷ []) ≡ codes "lilo: usage: --then\n"
 unfolding disk_name last_partition partition_name device_name devices_of named_devices device_at command_from part_from parts_from run_from run_at usage_text digits
-words_then_where_a_device_must_stand_text = refl
+words_then_where_a_device_must_come_text = refl
 
 -- a wrong word in the second part
 pub words_a_wrong_word_in_the_second_part : run_at ((codes "-t") ∷ (codes "--then") ∷ (codes "boot") ∷ (codes "/dev/hda") ∷ (codes "--dump") ∷ (codes "--dump") ∷ []) ≡ Err (Some 5)

@@ -8,8 +8,10 @@ use Rattle.disk_trait.proofs.MomentLemmas.{on_ok}
 use Rattle.lilo_model.specs.MinixLayout.{Inode, numbers_in_zone, number_size}
 use Rattle.lilo_model.specs.MinixNames.{Named, Refers, IsSound}
 use Rattle.lilo_model.specs.MinixParts as model
-use Rattle.lilo_model.specs.MinixParts.{Parts, is_directory, number_below, number_in}
+use Rattle.lilo_model.specs.MinixParts.{Parts, Pointer, is_directory, number_below, number_in}
 use Rattle.minix_beside_laws.specs.Beside.{IsDataZone}
+use Rattle.minix_growth_laws.specs.Changes.{ChangesZone, MayHook, HasNumber}
+use Rattle.minix_growth_laws.specs.Grows.{below}
 use Rattle.minix_layout.specs.View.{kind_view, super_view}
 use Rattle.minix_sees_laws.specs.Sees.{SeenAsIn}
 use Rattle.minix_sees_laws.proofs.Inode.{directory-zones}
@@ -18,17 +20,19 @@ use Rattle.minix_sees_laws.proofs.Sees.{directory-same, named-new}
 use Rattle.minix_steps.specs.Written.{parts_now}
 use Rattle.minix_turns.specs.Names.{MayHookAt, HooksUnseen}
 use Rattle.minix_turns.specs.Part.{HasNumberPart}
-use Rattle.minix_zone_bytes_laws.specs.Part.{HasZonePart, PartIsWritten, number_bytes, offset_of_number}
+use Rattle.minix_zone_bytes_laws.specs.Part.{HasZonePart, with_zone_part, PartIsWritten, number_bytes, offset_of_number}
 use Rattle.minix_zone_bytes_laws.proofs.Numbers.{number_bytes_law}
 use Rattle.minix_zone_bytes_laws.proofs.Part.{part_law}
 use Rattle.minix_zones.specs.Volume.{volume_view, past_of}
 use Rattle.minix_zones.specs.declared.volume.Volume.{Volume}
 use Rattle.minix_zones.specs.declared.zone_fault.ZoneFault.{ZoneFault}
 use Rattle.minix_grow.specs.Below.{MayHookBelowNow, HasFreeBlock, HooksBelowUnseen, HooksFreeBlock}
+use Rattle.minix_grow.specs.Others.{KeepsOthers, HookKeepsOthers}
 use Rattle.minix_grow.specs.Way.{depth_of, pointer_above, index_above, number_above, zones_below, AreGrown}
 use Rattle.minix_grow.specs.Zones.{AreData, AreGrownNow}
 use Rattle.minix_grow.proofs.CompleteLemmas.{way_is_pointer, number_there, number_step, may_hook_high, some_zone, entry_free}
 use Rattle.minix_grow.proofs.ExtendLemmas.{view_after}
+use Rattle.minix_grow.proofs.KeepLemmas.{keeps_number}
 use Rattle.minix_grow.proofs.WayLemmas.{pointer_below}
 use Rattle.minix_grow.proofs.ZoneLemmas.{zones_fit}
 
@@ -89,6 +93,19 @@ module _ (view : model.Volume) (old image : Image) (directory place-block high z
     free = entry_free view.layout Was directory place-block growth high (omega (arith, deep)) grown fit Is zones-stay top-is;
   }
 
+  -- each other inode stays
+  pub block_keeps : high < length growth → MayHook view.layout Was directory (below (pointer_above view.layout.kind place-block (suc high)) Index) (slice_index growth high) (zones_below view.layout.kind place-block growth high)
+      → KeepsOthers view.layout Was Is directory growth
+  block_keeps there hooks =
+      let outer : Pointer = pointer_above view.layout.kind place-block (suc high) in
+      let bytes : List ℕ = with_zone_part Was zone (offset_of_number view.layout.kind Index) (number_bytes view.layout.kind (slice_index growth high)) in
+      let R : ℕ → Type 0 = λ z. Refers view.layout Was directory outer z in
+      let N : ℕ → Type 0 = λ z. HasNumber view.layout (Was.zone z) bytes Index (slice_index growth high) in
+      let C : ℕ → Type 0 = λ z. ChangesZone view.layout Was Is z bytes in
+      keeps_number view.layout Was Is directory Index high place-block outer growth bytes (opened view old sound).parts there hooks (subst R (sym above) refers)
+      (subst N (sym above) (number_bytes_law view.layout (Was.zone zone) Index (slice_index growth high) written.long near (fit high (omega arith))))
+      (subst C (sym above) written.change)
+
 -- ---- on a volume
 
 module _ {D : Type 0} {disks : Ghosts D} (old new : Volume D disks) (place-block zone high : ℕ) (growth : List ℕ)
@@ -135,3 +152,14 @@ module _ {D : Type 0} {disks : Ghosts D} (old new : Volume D disks) (place-block
       (λ has. view_after old new F both
       (block_is_free (volume_view old) (now (past_of old)) (now (past_of new)) directory place-block high zone node growth deep near (grown-all told) fit-all
       m.lies.sound m.lies.is m.lies.named m.is (subst A last m.above) some (both.held told) has))
+
+  pub hook_keeps_others : At < numbers_in_zone (kind_view old.layout.kind) → zone ≢ 0 → (result : Result (Unit {0}) ZoneFault) → HooksUnseen old new zone At (slice_index growth high)
+      → (IsTold (past_of old) → OnOk result (HasNumberPart old (now (past_of new)) zone At (slice_index growth high)))
+      → HookKeepsOthers old new place-block growth zone result
+  hook_keeps_others near some result unseen part directory node may told =
+      let m = may told in
+      let both = hooks_below_unseen unseen directory node may in
+      let A : ℕ → Type 0 = λ count. number_above (super_view old.layout) (parts_now old) directory place-block count ≡ zone in
+      on_ok result _ _ (part told)
+      (λ has. block_keeps (volume_view old) (now (past_of old)) (now (past_of new)) directory place-block high zone node growth deep near (grown-all told) fit-all
+      m.lies.sound m.lies.is m.lies.named m.is (subst A last m.above) some (both.held told) has (omega (arith, last)) (may_hook_at directory node may told).hooks)

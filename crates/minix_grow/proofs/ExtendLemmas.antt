@@ -1,15 +1,16 @@
 -- A directory that gets the next place, in a zone that it has.
-use Rattle.std.proofs.Common.{◌≡◌, ◌≤◌, ◌<◌, ◌%◌, ◌^◌, ℕ, true, Result, Ok, OnOk, sym, ◌∙◌, ap, subst}
+use Rattle.std.proofs.Common.{◌≡◌, ◌≤◌, ◌<◌, ◌*◌, ◌%◌, ◌^◌, ℕ, true, [], Result, Ok, OnOk, sym, ◌∙◌, ap, subst}
 use Rattle.disk_trait.specs.declared.disks.Disks.{Ghosts}
 use Rattle.disk_trait.specs.Past.{Image}
 use Rattle.disk_trait.specs.Moments.{IsTold, now}
 use Rattle.disk_trait.proofs.MomentLemmas.{on_ok}
 use Rattle.lilo_model.specs.MinixEntries.{entries_per_block}
-use Rattle.lilo_model.specs.MinixLayout.{Inode, FitsInode, is_size, inode_place}
+use Rattle.lilo_model.specs.MinixLayout.{Inode, FitsInode, entry_size, is_size, inode_place}
 use Rattle.lilo_model.specs.MinixNames.{Named, IsSound}
 use Rattle.lilo_model.specs.MinixParts as model
-use Rattle.minix_growth_laws.specs.Changes.{with_size, MaySize}
+use Rattle.minix_growth_laws.specs.Changes.{ChangesZone, ChangesNode, with_size, MaySize}
 use Rattle.minix_layout.specs.View.{kind_view, super_view}
+use Rattle.minix_sees_laws.proofs.Seen.{opened}
 use Rattle.minix_steps.proofs.StepLemmas.{same_view}
 use Rattle.minix_steps.specs.Written.{with_sector_of, inode_rewritten, parts_now}
 use Rattle.minix_turns.specs.Inode.{TurnsInode, MayHaveSize}
@@ -18,12 +19,15 @@ use Rattle.minix_turns.specs.Names.{IsPastAt, PastUnseen, PastFree}
 use Rattle.minix_turns.specs.Part.{HasEntryPart}
 use Rattle.minix_turns.proofs.SeenLemmas.{node_size}
 use Rattle.minix_turns.proofs.JoinedLemmas.{unseen_join}
-use Rattle.minix_zone_bytes_laws.specs.Part.{free_bytes}
+use Rattle.minix_zone_bytes_laws.specs.Part.{with_zone_part, free_bytes}
+use Rattle.minix_zone_bytes_laws.proofs.Part.{part_law}
 use Rattle.minix_zones.specs.Volume.{volume_view, past_of}
 use Rattle.minix_zones.specs.declared.volume.Volume.{Volume}
 use Rattle.minix_zones.specs.declared.zone_fault.ZoneFault.{ZoneFault}
 use Rattle.minix_zones.specs.declared.zone_fault.ZoneFault.TheVariants.{Device}
+use Rattle.minix_grow.specs.Others.{KeepsOthers, KeepsOthersNow}
 use Rattle.minix_grow.specs.Places.{size_to, IsFreePlace, IsNextPlaceNow, IsFreePlaceNow}
+use Rattle.minix_grow.proofs.KeepLemmas.{keeps_join, keeps_size, keeps_bytes}
 use Rattle.minix_grow.proofs.PlaceLemmas.{past_is_free, node_stays, named_stays, next_may_size}
 
 -- what is said of a volume that was kept, and of what it was
@@ -38,19 +42,32 @@ module _ {D E : Type 0} {disks : Ghosts D} (old new : Volume D disks) (directory
   abbrev SizeIs : Image → Type 0
   SizeIs image = ((model.parts_of (volume_view old) image).node directory).size ≡ size
 
+  abbrev SizeChanges : Image → Inode → Type 0
+  SizeChanges image inode = ChangesNode (super_view old.layout) (parts_now old) (model.parts_of (volume_view old) image) directory (with_size inode size)
+
   abbrev Resized : Inode → Image
   Resized inode = with_sector_of (volume_view old) (now (past_of old)) (inode_place (super_view old.layout) directory).sector (inode_rewritten old directory (with_size inode size))
 
-  resized : MayHaveSize old directory node size → SizeIs (Resized node)
+  resized : MayHaveSize old directory node size → SizeChanges (Resized node) ((parts_now old).node directory)
   resized may =
       let fit : FitsInode (super_view old.layout).kind ((parts_now old).node directory) = subst (FitsInode (super_view old.layout).kind) (sym may.lies.is) fits in
-      let P : Inode → Type 0 = λ i. SizeIs (Resized i) in
-      let S : Inode → ℕ = λ i. i.size in
-      subst P may.lies.is (ap S (node_size (volume_view old) (now (past_of old)) old.whole may.lies.sound directory may.lies.named fit size small may.sized.sized).here)
+      let P : Inode → Type 0 = λ i. SizeChanges (Resized i) ((parts_now old).node directory) in
+      subst P may.lies.is (node_size (volume_view old) (now (past_of old)) old.whole may.lies.sound directory may.lies.named fit size small may.sized.sized)
+
+  pub size_changes : (result : Result (Unit {0}) E) → TurnsInode old new directory (with_size node size) error result → IsTold (past_of old) → MayHaveSize old directory node size
+      → OnOk result (SizeChanges (now (past_of new)) ((parts_now old).node directory))
+  size_changes result turns told may = on_ok result _ _ (turns.written told) (λ is. let P : Image → Type 0 = λ image. SizeChanges image ((parts_now old).node directory) in subst P (sym is) (resized may))
 
   pub size_is : (result : Result (Unit {0}) E) → TurnsInode old new directory (with_size node size) error result → IsTold (past_of old) → MayHaveSize old directory node size
       → OnOk result (SizeIs (now (past_of new)))
-  size_is result turns told may = on_ok result _ _ (turns.written told) (λ is. subst SizeIs (sym is) (resized may))
+  size_is result turns told may = on_ok result _ _ (size_changes result turns told may) (λ change. let S : Inode → ℕ = λ i. i.size in ap S change.here)
+
+  -- and each other inode stays
+  pub size_keeps : (result : Result (Unit {0}) E) → TurnsInode old new directory (with_size node size) error result → IsTold (past_of old) → MayHaveSize old directory node size
+      → OnOk result (KeepsOthersNow old new directory [])
+  size_keeps result turns told may =
+      on_ok result _ _ (size_changes result turns told may)
+      (λ change. keeps_size (super_view old.layout) (parts_now old) (model.parts_of (volume_view old) (now (past_of new))) directory size [] (opened (volume_view old) (now (past_of old)) may.lies.sound).parts change)
 
 -- the two turns by which the next place gets below the size
 module _ {D : Type 0} {disks : Ghosts D} (old mid : Volume D disks) (directory place zone index size : ℕ) (node : Inode) (from : old.layout.first ≤ zone) (below : zone < old.layout.zones)
@@ -99,3 +116,21 @@ module _ {D : Type 0} {disks : Ghosts D} (old mid : Volume D disks) (directory p
         let F : model.Volume → Type 0 = λ view. IsFreePlace view (now (past_of new)) directory place in
         on_ok result _ _ (size_is mid new directory node Device (view_after old mid K first fits) size low result turns told' (may_have_size told'))
         (λ bytes. view_after old new F both (past_is_free (volume_view old) (now (past_of old)) (now (past_of new)) directory place (next told).past (both.held told) (view_was old mid S first bytes ∙ is)))
+
+    -- the place is filled, and each other inode stays
+    filled-keeps : IsTold (past_of old) → KeepsOthersNow old mid directory []
+    filled-keeps told =
+        let at = next told in
+        let C : ℕ → Type 0 = λ z. ChangesZone (super_view old.layout) (parts_now old) (model.parts_of (volume_view old) (now (past_of mid))) z (with_zone_part (parts_now old) zone (entry_size (kind_view old.layout.kind) * index) (free_bytes (kind_view old.layout.kind))) in
+        let change = (part_law (volume_view old) (now (past_of old)) (now (past_of mid)) zone (entry_size (kind_view old.layout.kind) * index) (free_bytes (kind_view old.layout.kind)) at.sound (from, below) (part told)).change in
+        keeps_bytes (super_view old.layout) (parts_now old) (model.parts_of (volume_view old) (now (past_of mid))) directory place (with_zone_part (parts_now old) zone (entry_size (kind_view old.layout.kind) * index) (free_bytes (kind_view old.layout.kind))) []
+        (opened (volume_view old) (now (past_of old)) at.sound).parts at.past.named at.past.is at.past.some (subst C (sym at.lies) change)
+
+    pub next_keeps : (new : Volume D disks) (result : Result (Unit {0}) ZoneFault) → TurnsInode mid new directory (with_size node size) Device result → size < 2 ^ 32
+        → IsTold (past_of old) → OnOk result (KeepsOthersNow old new directory [])
+    next_keeps new result turns low told =
+        let told' = first.goes_on.told told in
+        let K : model.Volume → Type 0 = λ view. FitsInode view.layout.kind node in
+        let P : model.Volume → Type 0 = λ view. KeepsOthers view.layout (model.parts_of view (now (past_of mid))) (model.parts_of view (now (past_of new))) directory [] in
+        on_ok result _ _ (size_keeps mid new directory node Device (view_after old mid K first fits) size low result turns told' (may_have_size told'))
+        (λ keeps. keeps_join (super_view old.layout) (parts_now old) (model.parts_of (volume_view old) (now (past_of mid))) (model.parts_of (volume_view old) (now (past_of new))) directory [] (first.held told).sees (filled-keeps told) (view_was old mid P first keeps))

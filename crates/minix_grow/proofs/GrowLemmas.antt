@@ -40,6 +40,7 @@ use Rattle.minix_zones.specs.declared.zone_fault.ZoneFault.TheVariants as faults
 use Rattle.minix_grow.specs.Below.{MayHookBelowNow, IsOffNumber}
 use Rattle.minix_grow.specs.Grow.{AreUnusedWhereMissing, IsLowest, IsOffWay, IsRefusedOnWay, IsSizeOver, MayGrowNow, MayGrowByNow, ReachesDownNow}
 use Rattle.minix_grow.specs.Hook.{MayHookTopNow}
+use Rattle.minix_grow.specs.Others.{KeepsOthers, KeepsOthersNow}
 use Rattle.minix_grow.specs.Places.{size_to, IsFreePlaceNow, IsNextPlaceNow, IsOffPlace}
 use Rattle.minix_grow.specs.Way.{depth_of, pointer_above, number_on_way, index_above}
 use Rattle.minix_grow.specs.Zones.{AreData, AreUnused, IsOffZones}
@@ -386,3 +387,8 @@ module _ {D : Type 0} {disks : Ghosts D} (old mid : Volume D disks) (same : Same
   pub device_since : (new : Volume D disks) → faults_of old ≤ faults_of mid → (result : Result (Unit {0}) ZoneFault) → HasDeviceCause mid new faults.Device result → HasDeviceCause old new faults.Device result
   device_since new later (Ok value) cause = tt
   device_since new later (Err fault) cause = (cause.0, λ below. let rose = cause.1 below in omega (arith, rose, later))
+
+  -- what a later call keeps it keeps since the volume was read
+  pub keeps_since : (new : Volume D disks) (directory : ℕ) (growth : List ℕ) → KeepsOthersNow mid new directory growth → KeepsOthersNow old new directory growth
+  keeps_since new directory growth =
+      back_fact (λ span layout past. KeepsOthers (super_view layout) (PartsAt span layout past) (PartsAt span layout (past_of new)) directory growth)

@@ -15,6 +15,7 @@ use Rattle.minix_growth_laws.specs.Changes.{ChangesNode, MayHook, with_top}
 use Rattle.minix_growth_laws.specs.Grows.{pointer_at, below}
 use Rattle.minix_layout.specs.View.{kind_view, super_view}
 use Rattle.minix_sees_laws.specs.Sees.{SeenAsIn}
+use Rattle.minix_sees_laws.proofs.Seen.{opened}
 use Rattle.minix_sees_laws.proofs.Sees.{directory-same, named-new}
 use Rattle.minix_steps.specs.Written.{with_sector_of, inode_rewritten, parts_now}
 use Rattle.minix_tree.proofs.StatLemmas.{blocks_reached}
@@ -26,11 +27,13 @@ use Rattle.minix_zones.specs.declared.volume.Volume.{Volume}
 use Rattle.minix_zones.specs.declared.zone_fault.ZoneFault.{ZoneFault}
 use Rattle.minix_zones.specs.declared.zone_fault.ZoneFault.TheVariants.{Device}
 use Rattle.minix_grow.specs.Hook.{MayHookTopNow}
+use Rattle.minix_grow.specs.Others.{KeepsOthersNow}
 use Rattle.minix_grow.specs.Places.{IsFreePlace, IsFreePlaceNow}
 use Rattle.minix_grow.specs.Way.{depth_of, number_above, zones_below, AreGrown}
 use Rattle.minix_grow.specs.Zones.{AreData, AreGrownNow}
 use Rattle.minix_grow.proofs.CompleteLemmas.{may_hook_high, some_zone, entry_free}
 use Rattle.minix_grow.proofs.ExtendLemmas.{view_after}
+use Rattle.minix_grow.proofs.KeepLemmas.{keeps_top}
 use Rattle.minix_grow.proofs.WayLemmas.{pointer_highest}
 use Rattle.minix_grow.proofs.ZoneLemmas.{zones_fit}
 
@@ -149,3 +152,19 @@ module _ {D : Type 0} {disks : Ghosts D} (old new : Volume D disks) (directory p
       (λ change. view_after old new F unseen
       (hooked_is_free (volume_view old) (now (past_of old)) (now (past_of new)) directory place-block size node growth (grown-all told) fit-all (may told).lies.named (may told).is (unseen.held told) long small sized
       (subst₂ C (sym top-same) (sym depth-same) change) place here below))
+
+  -- each other inode stays
+  pub hook_keeps : FitsInode (kind_view old.layout.kind) node → top < 10 → top < tops (kind_view old.layout.kind) → size < 2 ^ 32 → is_size (kind_view old.layout.kind) size ≡ true
+      → (result : Result (Unit {0}) ZoneFault) → TurnsInode old new directory (with_top node top (slice_index growth depth) size) Device result → IsTold (past_of old)
+      → OnOk result (KeepsOthersNow old new directory growth)
+  hook_keeps fits ten low small sized result turns told =
+      let m = may told in
+      let fit : FitsTop (kind_view old.layout.kind) top (slice_index growth depth) = record { low = low; small = fit-all depth (omega (arith, depth-same)) } in
+      let H : ℕ → Type 0 = λ d. MayHook (super_view old.layout) (parts_now old) directory (pointer_at top []) (slice_index growth depth) (zones_below (kind_view old.layout.kind) place-block growth d) in
+      let C : Inode → Type 0 = λ i. ChangesNode (super_view old.layout) (parts_now old) (model.parts_of (volume_view old) (now (past_of new))) directory (with_top i top (slice_index growth depth) size) in
+      let L : Inode → Type 0 = λ i. top < length i.zones in
+      let long : top < length node.zones = let n = fits.ten in omega (arith, ten, n) in
+      on_ok result _ _ (top_changes old new directory top (slice_index growth depth) size node Device fits fit small sized result turns told m.lies)
+      (λ change. keeps_top (super_view old.layout) (parts_now old) (model.parts_of (volume_view old) (now (past_of new))) directory top size depth place-block growth
+      (opened (volume_view old) (now (past_of old)) m.lies.sound).parts (omega (arith, all, depth-same))
+      (subst H depth-same (may_have_top told).hooks) m.sized (subst L (sym m.lies.is) long) (subst C (sym m.lies.is) change))

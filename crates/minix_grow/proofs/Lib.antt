@@ -1,7 +1,9 @@
 pub mod WayLemmas
 pub mod ChainLemmas
 pub mod PlaceLemmas
+pub mod KeepLemmas
 pub mod ExtendLemmas
+pub mod KeepsNowLemmas
 pub mod ZoneLemmas
 pub mod CompleteLemmas
 pub mod HookLemmas

@@ -1,5 +1,5 @@
 -- A place of a block with free entries, once it lies below the size.
-use Rattle.std.proofs.Common.{◌≡◌, ◌≢◌, ◌≤◌, ◌<◌, ◌/◌, ◌^◌, ℕ, true, Result, OnOk, refl, sym, ◌∙◌, ap, subst, arith}
+use Rattle.std.proofs.Common.{◌≡◌, ◌≢◌, ◌≤◌, ◌<◌, ◌/◌, ◌^◌, ℕ, true, [], Result, OnOk, refl, sym, ◌∙◌, ap, subst, arith}
 use Rattle.disk_trait.specs.declared.disks.Disks.{Ghosts}
 use Rattle.disk_trait.specs.Past.{Image}
 use Rattle.disk_trait.specs.Moments.{IsTold, now, IsQuiet}
@@ -25,8 +25,9 @@ use Rattle.minix_zones.specs.declared.volume.Volume.{Volume}
 use Rattle.minix_zones.specs.declared.zone_fault.ZoneFault.{ZoneFault}
 use Rattle.minix_zones.specs.declared.zone_fault.ZoneFault.TheVariants.{Device}
 use Rattle.minix_grow.specs.Below.{HasFreeBlock, HasFreeBlockNow}
+use Rattle.minix_grow.specs.Others.{KeepsOthersNow}
 use Rattle.minix_grow.specs.Places.{size_to, IsFreePlace, IsFreePlaceNow}
-use Rattle.minix_grow.proofs.ExtendLemmas.{view_after, size_is}
+use Rattle.minix_grow.proofs.ExtendLemmas.{view_after, size_is, size_keeps}
 use Rattle.minix_grow.proofs.PlaceLemmas.{places_to, past_is_free}
 use Rattle.minix_grow.proofs.ZoneLemmas.{no_steps}
 
@@ -122,3 +123,7 @@ module _ {D : Type 0} {disks : Ghosts D} (old : Volume D disks) (directory place
         (λ bytes. view_after old new F unseen (past_is_free (volume_view old) (now (past_of old)) (now (past_of new)) directory place
         (is_past (volume_view old) (now (past_of old)) directory _ place node b refl fits (place_past (kind_view old.layout.kind) place node.size past) sized small)
         (unseen.held told) (bytes ∙ is)))
+
+    pub raised_keeps : (new : Volume D disks) (result : Result (Unit {0}) ZoneFault) → TurnsInode old new directory (with_size node size) Device result → IsTold (past_of old)
+        → OnOk result (KeepsOthersNow old new directory [])
+    raised_keeps new result turns told = size_keeps old new directory node Device fits size (omega (arith, is, small)) result turns told (may_raise told)

@@ -5,6 +5,7 @@ use Rattle.std.proofs.lemmas.Bool.{cases_eq}
 use Rattle.disk_trait.specs.declared.disks.Disks.{Ghosts}
 use Rattle.disk_trait.specs.Past.{Image}
 use Rattle.disk_trait.specs.Moments.{IsTold, now, begun}
+use Rattle.lilo_model.specs.MinixLayout as model-layout
 use Rattle.lilo_model.specs.MinixLayout.{Kind, IsSuper, number_size}
 use Rattle.lilo_model.specs.MinixNames.{Refers}
 use Rattle.lilo_model.specs.MinixParts as model
@@ -18,6 +19,7 @@ use Rattle.minix_steps.proofs.StepLemmas.{no_step, same_view}
 use Rattle.minix_steps.proofs.RegionLemmas.{zone_behind}
 use Rattle.minix_zones.specs.Volume.{volume_view, past_of, KeepsVolume}
 use Rattle.minix_zones.specs.declared.volume.Volume.{Volume}
+use Rattle.minix_grow.specs.Others.{IsOneOf, IsNoneOf, ChangesZones, ChangesZonesNow}
 use Rattle.minix_grow.specs.Way.{grown_bytes}
 use Rattle.minix_grow.specs.Zones.{AreData, AreUnused, AreMarked, AreWritten, AreGrownNow}
 
@@ -65,6 +67,66 @@ module _ {D : Type 0} {disks : Ghosts D} (mid new : Volume D disks) (zones : Lis
     marked_stay all few marked level low =
         let inside : level < length zones = omega (arith, low, few) in
         one.zone_marks (slice_index zones level) (those.below level inside) ∙ marked level low
+
+-- ---- all that changes
+
+changes-join : (super : model-layout.Super) (old mid new : model.Parts) (zones : List ℕ) → ChangesZones super old mid zones → ChangesZones super mid new zones → ChangesZones super old new zones
+changes-join super old mid new zones one two = record {
+  bytes = λ zone is none. two.bytes zone is none ∙ one.bytes zone is none;
+  nodes = λ number is. two.nodes number is ∙ one.nodes number is;
+  marks = λ number is. two.marks number is ∙ one.marks number is;
+  zone_marks = λ zone is none. two.zone_marks zone is none ∙ one.zone_marks zone is none;
+  stay_marked = λ zone is set. two.stay_marked zone is (one.stay_marked zone is set);
+}
+
+module _ (view : model.Volume) (old new : model.Parts) (zones : List ℕ) (zone : ℕ) (one : IsOneOf zones zone) where
+  another : (other : ℕ) → IsNoneOf zones other → other ≢ zone
+  another other none same = none one.at one.low (one.is ∙ sym same)
+
+  changes-mark : OneZoneMark view old new zone true → ChangesZones view.layout old new zones
+  changes-mark mark = record {
+    bytes = λ other is none. mark.bytes other is.0;
+    nodes = λ number is. mark.nodes number;
+    marks = λ number is. mark.inodes number is.1;
+    zone_marks = λ other is none. mark.other_zones other is.0 is.1 (another other none);
+    stay_marked = λ other is set. by other is.0 is.1 set (cases_eq other zone);
+  }
+    where
+      by : (other : ℕ) → view.layout.first ≤ other → other < view.layout.zones → old.has_zone other ≡ true → (other ≡ zone) ⊎ (other ≢ zone) → new.has_zone other ≡ true
+      by other from below set (inl same) = ap new.has_zone same ∙ mark.here
+      by other from below set (inr apart) = mark.other_zones other from below apart ∙ set
+
+  changes-bytes : (bytes : List ℕ) → OneZone view old new zone bytes → ChangesZones view.layout old new zones
+  changes-bytes bytes change = record {
+    bytes = λ other is none. change.others other (another other none);
+    nodes = λ number is. change.nodes number is.0 is.1;
+    marks = λ number is. change.marks number is.1;
+    zone_marks = λ other is none. change.zone_marks other is.1;
+    stay_marked = λ other is set. change.zone_marks other is.1 ∙ set;
+  }
+
+module _ {D : Type 0} {disks : Ghosts D} (old new : Volume D disks) (zones : List ℕ) where
+  pub changes_same : now (past_of new) ≡ now (past_of old) → ChangesZonesNow old new zones
+  changes_same same =
+      let P : Image → Type 0 = λ image. ChangesZones (super_view old.layout) (parts_now old) (model.parts_of (volume_view old) image) zones in
+      subst P (sym same) (record { bytes = λ zone is none. refl; nodes = λ number is. refl; marks = λ number is. refl; zone_marks = λ zone is none. refl; stay_marked = λ zone is set. set })
+
+  pub changes_marked : (zone : ℕ) → KeepsVolume old new → IsOneOf zones zone → OneZoneMark (volume_view old) (parts_now old) (parts_now new) zone true → ChangesZonesNow old new zones
+  changes_marked zone kept one mark =
+      let P : model.Volume → Type 0 = λ view. OneZoneMark (volume_view old) (parts_now old) (model.parts_of view (now (past_of new))) zone true in
+      changes-mark (volume_view old) (parts_now old) _ zones zone one (subst P (same_view old new kept) mark)
+
+  pub changes_written : (zone : ℕ) (bytes : List ℕ) → KeepsVolume old new → IsOneOf zones zone → OneZone (volume_view old) (parts_now old) (parts_now new) zone bytes → ChangesZonesNow old new zones
+  changes_written zone bytes kept one change =
+      let P : model.Volume → Type 0 = λ view. OneZone (volume_view old) (parts_now old) (model.parts_of view (now (past_of new))) zone bytes in
+      changes-bytes (volume_view old) (parts_now old) _ zones zone one bytes (subst P (same_view old new kept) change)
+
+pub changes_after : {D : Type 0} {disks : Ghosts D} (old mid new : Volume D disks) (zones : List ℕ) → KeepsVolume old mid → ChangesZonesNow old mid zones → ChangesZonesNow mid new zones → ChangesZonesNow old new zones
+changes_after old mid new zones kept one two =
+    let P : model.Volume → Type 0 = λ view. ChangesZones view.layout (model.parts_of view (now (past_of mid))) (model.parts_of view (now (past_of new))) zones in
+    changes-join (super_view old.layout) (parts_now old) (model.parts_of (volume_view old) (now (past_of mid))) _ zones one (subst P (same_view old mid kept) two)
+
+-- ---- numbers
 
 -- numbers of zones fit where they lie
 pub zones_fit : (layout : Super) (sectors : ℕ) (zones : List ℕ) → IsSuper (super_view layout) sectors → AreData layout zones → (level : ℕ) → level < length zones → slice_index zones level < 256 ^ number_size (kind_view layout.kind)

@@ -21,6 +21,7 @@ use Rattle.minix_zones.specs.declared.zone_fault.ZoneFault.{ZoneFault}
 use Rattle.minix_zones.specs.declared.zone_fault.ZoneFault.TheVariants.{Device}
 use Rattle.minix_grow.specs.Below.{MayHookBelowNow, IsOffNumber}
 use Rattle.minix_grow.specs.Hook.{MayHookTopNow, IsOffInode}
+use Rattle.minix_grow.specs.Others.{KeepsOthersNow}
 use Rattle.minix_grow.specs.Places.{size_to, IsFreePlaceNow, IsNextPlaceNow}
 use Rattle.minix_grow.specs.Way.{depth_of, number_above, number_on_way, ReachesDown}
 use Rattle.minix_grow.specs.Zones.{IsOffZones}
@@ -104,10 +105,11 @@ GrowsByAlone old new directory block growth zone =
 -- ---- what a growth leaves
 
 -- A place of a directory was brought below its size. No name sees it at any moment, also where it was refused; once it is
--- done the place is free and lies in a zone of the directory. It wrote nothing but what growth needs, and was refused where
--- the disk failed alone.
+-- done the place is free and lies in a zone of the directory, and all other inodes stay. It wrote nothing but what growth
+-- needs, and was refused where the disk failed alone.
 pub record GrowsTo {D : Type 0} {disks : Ghosts D} (old new : Volume D disks) (directory place : ℕ) (growth : List ℕ) (result : Result (Unit {0}) ZoneFault) : Type 0 where
   pub unseen : Unseen old new
   pub free : IsTold (past_of old) → OnOk result (IsFreePlaceNow new directory place)
+  pub keeps : IsTold (past_of old) → OnOk result (KeepsOthersNow old new directory growth)
   pub others : IsTold (past_of old) → GrowsAlone old new directory (place / entries_per_block (kind_view old.layout.kind)) growth
   pub device : IsTold (past_of old) → HasDeviceCause old new Device result

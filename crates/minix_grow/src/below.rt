@@ -1,11 +1,12 @@
 // New zones that a directory gets by a number in an indirect zone.
-ghost use Rattle.std.specs.Prelude.{◌≡◌, ◌-◌, ◌/◌, ◌≤◌, ◌<◌, ◌^◌, true, length, slice_index, OnOk};
+ghost use Rattle.std.specs.Prelude.{◌≡◌, ◌-◌, ◌/◌, ◌≤◌, ◌<◌, ◌^◌, true, [], length, slice_index, OnOk};
 ghost use Rattle.disk_trait.specs.Moments.{IsTold, now, IsQuiet};
 ghost use Rattle.lilo_model.specs.MinixEntries.{entries_per_block, places};
 ghost use Rattle.lilo_model.specs.MinixLayout.{FitsInode, is_size};
 ghost use Rattle.lilo_model.specs.MinixNames.{IsSound};
 ghost use Rattle.minix_grow.specs.Below.{MayHookBelowNow, HasFreeBlockNow, HooksBelowUnseen, HooksFreeBlock, WritesBelowAlone};
 ghost use Rattle.minix_grow.specs.Hook.{WritesInodeAlone};
+ghost use Rattle.minix_grow.specs.Others.{HookKeepsOthers, KeepsOthersNow};
 ghost use Rattle.minix_grow.specs.Places.{IsFreePlaceNow, size_to};
 ghost use Rattle.minix_grow.specs.Way.{depth_of, index_above};
 ghost use Rattle.minix_grow.specs.Zones.{AreData, AreUnused, AreGrownNow};
@@ -46,6 +47,7 @@ pub fn hook_in_zone<D: Disks>(
         (slice_index growth.now (length growth.now - 1)) ZoneFault.Device result }
     ensures unseen { HooksBelowUnseen volume.old volume.new block growth.now zone }
     ensures block { HooksFreeBlock volume.old volume.new block growth.now zone result }
+    ensures keeps { HookKeepsOthers volume.old volume.new block growth.now zone result }
     ensures quiet { OnOk result (IsQuiet (past_of volume.new)) }
     ensures device { HasDeviceCause volume.old volume.new ZoneFault.Device result }
 {
@@ -76,6 +78,9 @@ fn raise_over<D: Disks>(
     ensures place { (IsTold (past_of volume.old) → HasFreeBlockNow volume.old directory (inode_view node.now)
         (place / entries_per_block (kind_view volume.old.layout.kind)))
         → IsTold (past_of volume.old) → OnOk result (IsFreePlaceNow volume.new directory place) }
+    ensures keeps { (IsTold (past_of volume.old) → HasFreeBlockNow volume.old directory (inode_view node.now)
+        (place / entries_per_block (kind_view volume.old.layout.kind)))
+        → IsTold (past_of volume.old) → OnOk result (KeepsOthersNow volume.old volume.new directory []) }
     ensures quiet { OnOk result (IsQuiet (past_of volume.new)) }
     ensures device { HasDeviceCause volume.old volume.new ZoneFault.Device result }
 {
@@ -125,6 +130,9 @@ pub fn grow_in_zone<D: Disks>(
     ensures place { (IsTold (past_of volume.old) → MayHookBelowNow volume.old directory (inode_view node.now)
         (place / entries_per_block (kind_view volume.old.layout.kind)) (length growth.now) zone)
         → IsTold (past_of volume.old) → OnOk result (IsFreePlaceNow volume.new directory place) }
+    ensures keeps { (IsTold (past_of volume.old) → MayHookBelowNow volume.old directory (inode_view node.now)
+        (place / entries_per_block (kind_view volume.old.layout.kind)) (length growth.now) zone)
+        → IsTold (past_of volume.old) → OnOk result (KeepsOthersNow volume.old volume.new directory growth.now) }
     ensures quiet { OnOk result (IsQuiet (past_of volume.new)) }
     ensures device { HasDeviceCause volume.old volume.new ZoneFault.Device result }
 {

@@ -1,7 +1,8 @@
 // A place past a directory's size that lies in a zone that is there.
-ghost use Rattle.std.specs.Prelude.{◌≡◌, ◌≤◌, ◌<◌, ◌^◌, true, OnOk};
+ghost use Rattle.std.specs.Prelude.{◌≡◌, ◌≤◌, ◌<◌, ◌^◌, true, [], OnOk};
 ghost use Rattle.disk_trait.specs.Moments.{IsTold, IsQuiet};
 ghost use Rattle.lilo_model.specs.MinixLayout.{FitsInode, is_size};
+ghost use Rattle.minix_grow.specs.Others.{KeepsOthersNow};
 ghost use Rattle.minix_grow.specs.Places.{IsFreePlaceNow, IsNextPlaceNow, WritesPlaceAlone, size_to};
 ghost use Rattle.minix_layout.specs.View.{kind_view, inode_view};
 ghost use Rattle.minix_turns.specs.Joined.{Unseen};
@@ -41,6 +42,9 @@ pub fn extend_in_zone<D: Disks>(
     ensures place { (IsTold (past_of volume.old)
         → IsNextPlaceNow volume.old directory (inode_view node.now) place zone)
         → IsTold (past_of volume.old) → OnOk result (IsFreePlaceNow volume.new directory place) }
+    ensures keeps { (IsTold (past_of volume.old)
+        → IsNextPlaceNow volume.old directory (inode_view node.now) place zone)
+        → IsTold (past_of volume.old) → OnOk result (KeepsOthersNow volume.old volume.new directory []) }
     ensures quiet { OnOk result (IsQuiet (past_of volume.new)) }
     ensures device { HasDeviceCause volume.old volume.new ZoneFault.Device result }
 {

@@ -1,11 +1,12 @@
 // A directory that grows in whichever of its ways it needs.
-ghost use Rattle.std.specs.Prelude.{◌≡◌, ◌⊎◌, ◌+◌, ◌/◌, ◌≤◌, ◌<◌, ◌^◌, ℕ, true, length, IfErr, OnOk};
+ghost use Rattle.std.specs.Prelude.{◌≡◌, ◌⊎◌, ◌+◌, ◌/◌, ◌≤◌, ◌<◌, ◌^◌, ℕ, true, [], length, IfErr, OnOk};
 ghost use Rattle.disk_trait.specs.Moments.{IsTold, now, IsQuiet};
 ghost use Rattle.lilo_model.specs.MinixEntries.{entries_per_block, places};
 ghost use Rattle.lilo_model.specs.MinixLayout.{FitsInode, is_size};
 ghost use Rattle.lilo_model.specs.MinixNames.{IsSound};
 ghost use Rattle.minix_grow.specs.Grow.{AreUnusedWhereMissing, IsLowest, IsSizeOver, ReachesDownNow};
 ghost use Rattle.minix_grow.specs.Grow.{MayGrowByNow, MayGrowNow, MayReachNow, GrowsByAlone, GrowsTo};
+ghost use Rattle.minix_grow.specs.Others.{KeepsOthersNow};
 ghost use Rattle.minix_grow.specs.Places.{IsFreePlaceNow, IsNextPlaceNow, WritesPlaceAlone, size_to};
 ghost use Rattle.minix_grow.specs.Way.{depth_of};
 ghost use Rattle.minix_grow.specs.Zones.{AreData, AreUnused};
@@ -55,6 +56,8 @@ fn grow_in_block<D: Disks>(
     ensures others { WritesPlaceAlone volume.old volume.new directory place zone }
     ensures place { (IsTold (past_of volume.old) → MayReachNow volume.old directory (inode_view node.now) place zone)
         → IsTold (past_of volume.old) → OnOk result (IsFreePlaceNow volume.new directory place) }
+    ensures keeps { (IsTold (past_of volume.old) → MayReachNow volume.old directory (inode_view node.now) place zone)
+        → IsTold (past_of volume.old) → OnOk result (KeepsOthersNow volume.old volume.new directory []) }
     ensures quiet { OnOk result (IsQuiet (past_of volume.new)) }
     ensures device { HasDeviceCause volume.old volume.new ZoneFault.Device result }
 {
@@ -97,6 +100,9 @@ fn grow_by<D: Disks>(
     ensures place { (IsTold (past_of volume.old) → MayGrowByNow volume.old directory (inode_view node.now) place
         (length growth.now) zone) → IsTold (past_of volume.old)
         → OnOk result (IsFreePlaceNow volume.new directory place) }
+    ensures keeps { (IsTold (past_of volume.old) → MayGrowByNow volume.old directory (inode_view node.now) place
+        (length growth.now) zone) → IsTold (past_of volume.old)
+        → OnOk result (KeepsOthersNow volume.old volume.new directory growth.now) }
     ensures quiet { OnOk result (IsQuiet (past_of volume.new)) }
     ensures device { HasDeviceCause volume.old volume.new ZoneFault.Device result }
 {

@@ -5,6 +5,7 @@ ghost use Rattle.lilo_model.specs.MinixEntries.{entries_per_block, places};
 ghost use Rattle.lilo_model.specs.MinixLayout.{FitsInode, is_size, reach};
 ghost use Rattle.lilo_model.specs.MinixNames.{IsSound};
 ghost use Rattle.minix_grow.specs.Hook.{MayHookTopNow, WritesGrowthAlone, hooked};
+ghost use Rattle.minix_grow.specs.Others.{KeepsOthersNow};
 ghost use Rattle.minix_grow.specs.Places.{IsFreePlaceNow};
 ghost use Rattle.minix_grow.specs.Way.{depth_of};
 ghost use Rattle.minix_grow.specs.Zones.{AreData, AreUnused, AreGrownNow};
@@ -52,6 +53,9 @@ pub fn hook_in_inode<D: Disks>(
         → place / entries_per_block (kind_view volume.old.layout.kind) ≡ block
         → place < places (kind_view volume.old.layout.kind) size
         → OnOk result (IsFreePlaceNow volume.new directory place) }
+    ensures keeps { (IsTold (past_of volume.old)
+        → MayHookTopNow volume.old directory (inode_view node.now) block size) → IsTold (past_of volume.old)
+        → OnOk result (KeepsOthersNow volume.old volume.new directory growth.now) }
     ensures quiet { OnOk result (IsQuiet (past_of volume.new)) }
     ensures device { HasDeviceCause volume.old volume.new ZoneFault.Device result }
 {
@@ -93,6 +97,9 @@ pub fn grow_in_inode<D: Disks>(
         → place / entries_per_block (kind_view volume.old.layout.kind) ≡ block
         → place < places (kind_view volume.old.layout.kind) size
         → OnOk result (IsFreePlaceNow volume.new directory place) }
+    ensures keeps { (IsTold (past_of volume.old)
+        → MayHookTopNow volume.old directory (inode_view node.now) block size) → IsTold (past_of volume.old)
+        → OnOk result (KeepsOthersNow volume.old volume.new directory growth.now) }
     ensures quiet { OnOk result (IsQuiet (past_of volume.new)) }
     ensures device { HasDeviceCause volume.old volume.new ZoneFault.Device result }
 {

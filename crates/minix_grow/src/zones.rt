@@ -3,6 +3,7 @@ ghost use Rattle.std.specs.Prelude.{◌≡◌, ◌≤◌, ◌<◌, ◌^◌, ℕ,
 ghost use Rattle.disk_trait.specs.Moments.{IsTold, IsQuiet};
 ghost use Rattle.lilo_model.specs.Bytes.{with_part};
 ghost use Rattle.lilo_model.specs.MinixLayout.{numbers_in_zone, number_size};
+ghost use Rattle.minix_grow.specs.Others.{ChangesZonesNow};
 ghost use Rattle.minix_grow.specs.Way.{grown_bytes};
 ghost use Rattle.minix_grow.specs.Zones.{AreData, AreUnused, AreMarked, AreWritten, AreGrownNow, WritesZonesAlone};
 ghost use Rattle.minix_layout.specs.View.{kind_view};
@@ -61,6 +62,7 @@ fn mark_all<D: Disks>(volume: &mut Volume<'_, D>, zones: &[u32]) -> Result<(), Z
     requires ready { IsReady volume.old }
     ensures steps { Steps volume.old volume.new }
     ensures marked { IsTold (past_of volume.old) → OnOk result (AreMarked volume.new zones.now (length zones.now)) }
+    ensures only { IsTold (past_of volume.old) → OnOk result (ChangesZonesNow volume.old volume.new zones.now) }
     ensures others { WritesZonesAlone volume.old volume.new zones.now }
     ensures device { HasDeviceCause volume.old volume.new ZoneFault.Device result }
 {
@@ -85,6 +87,7 @@ fn write_all<D: Disks>(
         (kind_view volume.old.layout.kind) volume.new block growth.now (length growth.now)) }
     ensures marked { IsTold (past_of volume.old) → AreMarked volume.old growth.now (length growth.now)
         → OnOk result (AreMarked volume.new growth.now (length growth.now)) }
+    ensures only { IsTold (past_of volume.old) → OnOk result (ChangesZonesNow volume.old volume.new growth.now) }
     ensures others { WritesZonesAlone volume.old volume.new growth.now }
     ensures device { HasDeviceCause volume.old volume.new ZoneFault.Device result }
 {
@@ -114,6 +117,7 @@ pub fn make_zones<D: Disks>(
     requires unused { AreUnused volume.old growth.now }
     ensures steps { Steps volume.old volume.new }
     ensures grown { IsTold (past_of volume.old) → OnOk result (AreGrownNow volume.new block growth.now) }
+    ensures only { IsTold (past_of volume.old) → OnOk result (ChangesZonesNow volume.old volume.new growth.now) }
     ensures others { WritesZonesAlone volume.old volume.new growth.now }
     ensures quiet { OnOk result (IsQuiet (past_of volume.new)) }
     ensures device { HasDeviceCause volume.old volume.new ZoneFault.Device result }

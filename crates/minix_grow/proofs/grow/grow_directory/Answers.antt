@@ -2,6 +2,7 @@ use Rattle.std.proofs.Common.{rules, ◌≡◌, ◌/◌, ℕ, Err, Option, sym, 
 use Rattle.disk_trait.specs.Moments.{IsTold}
 use Rattle.disk_trait.specs.NotWritten.{NotWritten}
 use Rattle.disk_trait.specs.Past.{Past}
+use Rattle.disk_trait.proofs.MomentLemmas.{on_ok}
 use Rattle.disk_trait.proofs.NotWrittenLemmas.{not_written_none}
 use Rattle.lilo_model.specs.MinixEntries.{entries_per_block}
 use Rattle.minix_layout.specs.View.{kind_view, inode_view}
@@ -11,7 +12,7 @@ use Rattle.minix_zones.specs.Volume.{past_of, faults_of}
 use Rattle.minix_zones.proofs.WriteLemmas.{keeps_same}
 use Rattle.minix_zones.specs.declared.zone_fault.ZoneFault.{ZoneFault}
 use Rattle.minix_grow.specs.Grow.{IsRefusedOnWay, MayGrowNow, GrowsTo}
-use Rattle.minix_grow.proofs.GrowLemmas.{refused_is_device, read_unseen, off_way_same, may_grow_same, sound_same, unused_same, told_mid, told_old, device_since}
+use Rattle.minix_grow.proofs.GrowLemmas.{refused_is_device, read_unseen, off_way_same, may_grow_same, sound_same, unused_same, told_mid, told_old, keeps_since, device_since}
 use Rattle.minix_grow.proofs.OtherLemmas.{all_off_stay, other_stays}
 use Rattle.minix_grow.proofs.grow.grow_directory.Goals as goal
 
@@ -28,6 +29,7 @@ returns-in_err-lowest-clause-grows g c may =
     rw is (record {
       unseen = read_unseen old new c.requires.quiet c.requires.sound c.lowest_on_way.ensures.same c.lowest_on_way.ensures.later;
       free = λ told. tt;
+      keeps = λ told. tt;
       others = λ told d s off way other. subst (λ past. P past d s) (sym c.lowest_on_way.ensures.same.same_disks.same_past) (not_written_none (past_of old) d s);
       device = λ told.
           let refused : IsRefusedOnWay old (inode_view c.args.node.now) c.block_of-block.result fault = c.in_err-lowest.ensures.refused told in
@@ -58,6 +60,7 @@ returns-clause-grows g c may =
     record {
       unseen = unseen_join old mid new (read_unseen old mid c.requires.quiet c.requires.sound same c.lowest_on_way.ensures.later) grows.unseen;
       free = λ told. grows.free (told_mid old mid same told);
+      keeps = λ told. on_ok c.grow_from.result _ _ (grows.keeps (told_mid old mid same told)) (keeps_since old mid same new c.args.directory c.args.growth.now);
       others = λ told d s off way other. subst (λ past. P past d s) same.same_disks.same_past
           (grows.others (told_mid old mid same told) d s (all_off_stay old mid kept c.args.growth.now d s off) (off_way_same old mid same c.args.directory c.args.place d s way)
           (other_stays old mid kept c.args.directory d s other));

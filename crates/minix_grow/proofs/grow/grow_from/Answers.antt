@@ -1,13 +1,17 @@
-use Rattle.std.proofs.Common.{◌≡◌, ◌≤◌, ◌-◌, ◌/◌, ℕ, suc, length, sym, subst, arith}
+use Rattle.std.proofs.Common.{◌≡◌, ◌≤◌, ◌-◌, ◌/◌, ℕ, suc, [], length, sym, subst, arith}
 use Rattle.std.proofs.lemmas.List.{length-take-le}
-use Rattle.disk_trait.specs.Moments.{IsTold}
+use Rattle.disk_trait.specs.Moments.{IsTold, now}
+use Rattle.disk_trait.proofs.MomentLemmas.{on_ok}
 use Rattle.disk_trait.proofs.NotWrittenLemmas.{not_written_none}
 use Rattle.lilo_model.specs.MinixEntries.{entries_per_block}
-use Rattle.minix_layout.specs.View.{kind_view, inode_view}
-use Rattle.minix_zones.specs.Volume.{past_of}
+use Rattle.lilo_model.specs.MinixParts.{parts_of}
+use Rattle.minix_layout.specs.View.{kind_view, inode_view, super_view}
+use Rattle.minix_steps.specs.Written.{parts_now}
+use Rattle.minix_zones.specs.Volume.{volume_view, past_of}
 use Rattle.minix_grow.specs.Grow.{MayGrowByNow, MayReachNow, ReachesDownNow}
 use Rattle.minix_grow.specs.Way.{depth_of}
 use Rattle.minix_grow.proofs.GrowLemmas.{is_free, is_next, are_enough, are_unused, may_grow_by, off_block, off_first, off_hook}
+use Rattle.minix_grow.proofs.KeepLemmas.{one_of_none, one_of_first, keeps_wider}
 use Rattle.minix_grow.proofs.RaiseLemmas.{same_unseen}
 use Rattle.minix_grow.proofs.grow.grow_from.Goals as goal
 
@@ -27,6 +31,8 @@ returns-then-level-eq0-clause-grows g c may =
     record {
       unseen = c.grow_in_block.ensures.unseen reach;
       free = c.grow_in_block.ensures.place reach;
+      keeps = λ told. on_ok c.grow_in_block.result _ _ (c.grow_in_block.ensures.keeps reach told)
+          (keeps_wider (super_view old.layout) (parts_now old) (parts_of (volume_view old) (now (past_of c.grow_in_block.new.volume))) c.args.directory [] c.args.growth.now (one_of_none c.args.growth.now));
       others = λ told d s off way other. c.grow_in_block.ensures.others d s
           (off_block old c.args.directory c.args.place (inode_view c.args.node.now) c.args.growth.now c.requires.fits c.requires.sized c.requires.small c.requires.next may told
           c.args.lowest.zone there (subst W none (c.requires.way told)) d s way)
@@ -49,6 +55,7 @@ returns-then-growth-level-clause-grows g c may =
     record {
       unseen = same_unseen old c.requires.quiet c.requires.sound;
       free = λ told. let e = enough told in absurd (omega (arith, e, few));
+      keeps = λ told. let e = enough told in absurd (omega (arith, e, few));
       others = λ told d s off way other. not_written_none (past_of old) d s;
       device = λ told. let e = enough told in absurd (omega (arith, e, few));
     }
@@ -83,6 +90,9 @@ returns-clause-grows g c may =
     record {
       unseen = c.grow_by.ensures.unseen by;
       free = c.grow_by.ensures.place by;
+      keeps = λ told. on_ok c.grow_by.result _ _ (c.grow_by.ensures.keeps by told)
+          (keeps_wider (super_view old.layout) (parts_now old) (parts_of (volume_view old) (now (past_of c.grow_by.new.volume))) c.args.directory _ c.args.growth.now
+          (λ z. one_of_first c.args.growth.now c.args.lowest.level z enough));
       others = λ told d s off way other. c.grow_by.ensures.others d s
           (off_first old c.args.growth.now c.args.lowest.level enough d s off)
           (off_hook old c.args.directory c.args.place (inode_view c.args.node.now) c.args.growth.now c.requires.fits c.requires.sized c.requires.small c.requires.next may told

@@ -1,4 +1,5 @@
 use Rattle.std.proofs.Common.{◌≡◌, ◌≤◌, ◌<◌, ◌+◌, ◌/◌, true, length, sym, subst}
+use Rattle.disk_trait.proofs.MomentLemmas.{on_ok}
 use Rattle.disk_trait.proofs.NotWrittenLemmas.{not_written_join}
 use Rattle.lilo_model.specs.MinixEntries.{entries_per_block, places}
 use Rattle.lilo_model.specs.MinixLayout.{FitsInode, is_size, reach}
@@ -8,6 +9,7 @@ use Rattle.minix_steps.proofs.ReadyLemmas.{quiet_ready}
 use Rattle.minix_turns.proofs.JoinedLemmas.{steps_unseen, unseen_join}
 use Rattle.minix_grow.specs.Way.{depth_of}
 use Rattle.minix_grow.proofs.AfterLemmas.{hook_after}
+use Rattle.minix_grow.proofs.KeepsNowLemmas.{zones_keep, keeps_after}
 use Rattle.minix_grow.proofs.ZoneLemmas.{data_stay}
 use Rattle.minix_grow.proofs.OtherLemmas.{other_stays}
 use Rattle.minix_zones.specs.Volume.{past_of}
@@ -77,3 +79,16 @@ returns-clause-others g c d s off other =
     not_written_join (past_of c.args.volume.now) (past_of c.make_zones.new.volume) (past_of c.hook_in_inode.new.volume) d s
     (c.make_zones.ensures.others d s off)
     (c.hook_in_inode.ensures.turns.others d s (other_stays c.args.volume.now c.make_zones.new.volume c.make_zones.ensures.steps.kept c.args.directory d s other))
+
+pub returns-clause-keeps : goal.returns-clause-keeps
+returns-clause-keeps g c may told =
+    let old = c.args.volume.now in
+    let mid = c.make_zones.new.volume in
+    let growth = c.args.growth.now in
+    let sound = c.requires.sound told in
+    on_ok c.hook_in_inode.result _ _
+    (c.hook_in_inode.ensures.keeps
+    (hook_after old mid c.args.directory c.args.block c.args.size (inode_view c.args.node.now) (quiet_ready old c.requires.quiet c.requires.sound) c.requires.quiet c.make_zones.ensures.steps may)
+    (c.make_zones.ensures.steps.goes_on.told told))
+    (λ keeps. keeps_after old mid c.hook_in_inode.new.volume c.args.directory growth (steps_unseen old mid c.requires.quiet c.requires.sound c.make_zones.ensures.steps) told
+    (zones_keep old mid c.args.directory growth c.requires.quiet told sound (may told).lies.named c.requires.unused (c.in_ok-make_zones.ensures.only told)) keeps)

@@ -3,7 +3,7 @@ use Rattle.minix_grow.specs.Way.{grown_bytes}
 use Rattle.minix_layout.specs.View.{kind_view}
 use Rattle.disk_trait.proofs.NotWrittenLemmas.{not_written_none, not_written_join}
 use Rattle.minix_steps.proofs.StepLemmas.{steps_join}
-use Rattle.minix_grow.proofs.ZoneLemmas.{no_steps, data_stay, written_more, marked_stay}
+use Rattle.minix_grow.proofs.ZoneLemmas.{no_steps, data_stay, written_more, marked_stay, changes_same, changes_written, changes_after}
 use Rattle.minix_grow.proofs.OtherLemmas.{off_stays}
 use Rattle.minix_zones.specs.Volume.{past_of}
 use Rattle.minix_grow.proofs.zones.write_all.Goals as goal
@@ -13,6 +13,7 @@ loop-level-init g c = record {
   steps = no_steps c.args.volume.now c.requires.ready;
   written = λ told level low. absurd (omega (arith, low));
   marked = λ told marked. marked;
+  only = λ told. changes_same c.args.volume.now c.args.volume.now c.args.growth.now refl;
   others = λ d s off. not_written_none (past_of c.args.volume.now) d s;
   later = omega arith;
 }
@@ -39,6 +40,10 @@ loop-level-preserved g c =
       marked = λ told marked.
           marked_stay c.loop-level.volume c.write_zone.new.volume c.args.growth.now c.loop-level.level _ those refl c.loop-level-test.true _ (c.in_ok-write_zone.ensures.parts (c.loop-level.invariant.steps.goes_on.told told))
           _ (omega arith) (c.loop-level.invariant.marked told marked);
+      only = λ told.
+          changes_after c.args.volume.now c.loop-level.volume c.write_zone.new.volume c.args.growth.now c.loop-level.invariant.steps.kept (c.loop-level.invariant.only told)
+          (changes_written c.loop-level.volume c.write_zone.new.volume c.args.growth.now _ _ c.write_zone.ensures.steps.kept (record { at = c.loop-level.level; low = c.loop-level-test.true; is = refl })
+          (c.in_ok-write_zone.ensures.parts (c.loop-level.invariant.steps.goes_on.told told)));
       others = λ d s off.
           not_written_join (past_of c.args.volume.now) (past_of c.loop-level.volume) (past_of c.write_zone.new.volume) d s (c.loop-level.invariant.others d s off)
           (c.write_zone.ensures.others d s (off_stays c.args.volume.now c.loop-level.volume c.loop-level.invariant.steps.kept _ d s (off c.loop-level.level c.loop-level-test.true)).bytes);

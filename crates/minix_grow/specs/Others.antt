@@ -1,0 +1,71 @@
+-- What a directory's growth leaves of all other inodes, whether they have a name or not, and of the bitmap bits (a rule of
+-- this project's own).
+use Rattle.std.specs.Prelude.{◌≡◌, ◌≢◌, ◌<◌, ◌⊎◌, ℕ, true, List, length, slice_index, Result, OnOk}
+use Rattle.disk_trait.specs.declared.disks.Disks.{Ghosts}
+use Rattle.disk_trait.specs.Moments.{IsTold, now}
+use Rattle.lilo_model.specs.MinixLayout.{Super, Inode}
+use Rattle.lilo_model.specs.MinixNames.{Named, PointsTo}
+use Rattle.lilo_model.specs.MinixParts as model
+use Rattle.lilo_model.specs.MinixParts.{Parts, Pointer}
+use Rattle.minix_beside_laws.specs.Beside.{IsInode, IsDataZone}
+use Rattle.minix_entry_laws.specs.Comes.{IsFit}
+use Rattle.minix_entry_laws.specs.Only.{KeepsInode}
+use Rattle.minix_layout.specs.View.{super_view}
+use Rattle.minix_steps.specs.Written.{parts_now}
+use Rattle.minix_zones.specs.Volume.{volume_view, past_of}
+use Rattle.minix_zones.specs.declared.volume.Volume.{Volume}
+use Rattle.minix_grow.specs.Below.{MayHookBelowNow}
+
+-- a zone is one of some, or none of them
+pub record IsOneOf (zones : List ℕ) (zone : ℕ) : Type 0 where
+  pub at : ℕ
+  pub low : at < length zones
+  pub is : slice_index zones at ≡ zone
+
+abbrev pub IsNoneOf : List ℕ → ℕ → Type 0
+IsNoneOf zones zone = (at : ℕ) → at < length zones → slice_index zones at ≢ zone
+
+-- an inode points to none of some zones
+abbrev pub IsClearOf : Super → Parts → ℕ → List ℕ → Type 0
+IsClearOf super parts number zones = (at : Pointer) (zone : ℕ) → PointsTo super parts number at zone → IsNoneOf zones zone
+
+-- ---- new zones
+
+-- the bytes of some zones may be others, and their bitmap bits may get set; all else is as before
+pub record ChangesZones (super : Super) (old new : Parts) (zones : List ℕ) : Type 0 where
+  pub bytes : (zone : ℕ) → IsDataZone super zone → IsNoneOf zones zone → new.zone zone ≡ old.zone zone
+  pub nodes : (number : ℕ) → IsInode super number → new.node number ≡ old.node number
+  pub marks : (number : ℕ) → IsInode super number → new.has_inode number ≡ old.has_inode number
+  pub zone_marks : (zone : ℕ) → IsDataZone super zone → IsNoneOf zones zone → new.has_zone zone ≡ old.has_zone zone
+  pub stay_marked : (zone : ℕ) → IsDataZone super zone → old.has_zone zone ≡ true → new.has_zone zone ≡ true
+
+-- ---- growth
+
+-- A directory got some zones, or places in zones that it has. An inode with a name points to what it pointed to, or to one
+-- of these. Each other inode that is fit for a name stays, with its zones, where it points to none of them. The directory's
+-- links stay. No bitmap bit but theirs changed, and none was cleared.
+pub record KeepsOthers (super : Super) (old new : Parts) (directory : ℕ) (growth : List ℕ) : Type 0 where
+  pub points : (number : ℕ) (at : Pointer) (zone : ℕ) → Named super old number → PointsTo super new number at zone
+      → PointsTo super old number at zone ⊎ IsOneOf growth zone
+  pub others : (number : ℕ) → IsFit super old number → number ≢ directory → IsClearOf super old number growth
+      → KeepsInode super old new number
+  pub links : (new.node directory).links ≡ (old.node directory).links
+  pub marks : (number : ℕ) → IsInode super number → new.has_inode number ≡ old.has_inode number
+  pub zone_marks : (zone : ℕ) → IsDataZone super zone → IsNoneOf growth zone → new.has_zone zone ≡ old.has_zone zone
+  pub stay_marked : (zone : ℕ) → IsDataZone super zone → old.has_zone zone ≡ true → new.has_zone zone ≡ true
+
+-- ---- on a volume, since it was as it is here
+
+abbrev pub ChangesZonesNow : {D : Type 0} {disks : Ghosts D} → Volume D disks → Volume D disks → List ℕ → Type 0
+ChangesZonesNow old new zones =
+    ChangesZones (super_view old.layout) (parts_now old) (model.parts_of (volume_view old) (now (past_of new))) zones
+
+abbrev pub KeepsOthersNow : {D : Type 0} {disks : Ghosts D} → Volume D disks → Volume D disks → ℕ → List ℕ → Type 0
+KeepsOthersNow old new directory growth =
+    KeepsOthers (super_view old.layout) (parts_now old) (model.parts_of (volume_view old) (now (past_of new))) directory growth
+
+-- a number in an indirect zone of a directory does so
+abbrev pub HookKeepsOthers : {D E : Type 0} {disks : Ghosts D} → Volume D disks → Volume D disks → ℕ → List ℕ → ℕ → Result (Unit {0}) E → Type 0
+HookKeepsOthers old new block growth zone result =
+    (directory : ℕ) (node : Inode) → (IsTold (past_of old) → MayHookBelowNow old directory node block (length growth) zone)
+    → IsTold (past_of old) → OnOk result (KeepsOthersNow old new directory growth)

@@ -158,7 +158,7 @@ module _ (super : Super) (parts : Parts) (taken : Taken) (wish : Wish) (choice :
       let both = left_both (parts.has_zone (slice_index choice.zones i)) (taken.has_zone (slice_index choice.zones i)) one.passes in
       record { from = one.from; below = omega (arith, one.from, one.below); unmarked = both.0; left = both.1 }
 
-  many : length choice.zones ≡ file_need super.kind blocks + count_fresh made.promised
+  pub many : length choice.zones ≡ file_need super.kind blocks + count_fresh made.promised
   many = ap length made.zones ∙ length_take (file_need super.kind blocks + count_fresh made.promised) (left_zones super parts taken.has_zone) made.enough
 
   growth_is : choice.growth ≡ completed made.promised (drop (file_need super.kind blocks) choice.zones)

@@ -1,4 +1,5 @@
 pub mod Choose
+pub mod Growth
 pub mod Place
 pub mod Rising
 pub mod Stay

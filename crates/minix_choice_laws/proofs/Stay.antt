@@ -1,5 +1,5 @@
 -- A place where a name may be made stays one.
-use Rattle.std.proofs.Common.{◌≡◌, ◌≢◌, ◌<◌, ◌≤◌, ◌/◌, ℕ, true, List, ◌∷◌, Option, Some, None, refl, sym, ap, ◌∙◌, arith, ⊎_elim}
+use Rattle.std.proofs.Common.{◌≡◌, ◌≢◌, ◌<◌, ◌/◌, ℕ, true, List, ◌∷◌, Option, Some, None, refl, sym, ap, ◌∙◌, arith, ⊎_elim}
 use Rattle.std.proofs.lemmas.Bool.{cases_lt}
 use Rattle.lilo_model.specs.Disks.{Image}
 use Rattle.lilo_model.specs.MinixEntries.{Entry, entries_per_block, places}
@@ -12,7 +12,7 @@ use Rattle.minix_sees_laws.specs.Tree.{TreeAs}
 use Rattle.minix_sees_laws.proofs.Seen.{opened}
 use Rattle.minix_sees_laws.proofs.Sees.{directory-same, named-new}
 use Rattle.minix_sees_laws.proofs.Tree.{sees_tree_law}
-use Rattle.minix_choice_laws.specs.Choice.{MayHavePlace, LiesThere, HasNamePlace}
+use Rattle.minix_choice_laws.specs.Choice.{HasNamePlace}
 use Rattle.minix_choice_laws.specs.Laws.{PlaceStaysLaw, MayHaveStaysLaw, PlaceLiesLaw}
 
 module _ (volume : Volume) (old new : Image) (outer : List (List ℕ)) (directory place : ℕ) (name : List ℕ) (sound : IsSound volume old) (seen : SeenAsIn volume old new)

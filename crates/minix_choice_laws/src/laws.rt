@@ -1,4 +1,5 @@
 // What holds of a choice.
+ghost use Rattle.minix_choice_laws.specs.Growth.{FreeGrowthLaw, PromisesLaw};
 ghost use Rattle.minix_choice_laws.specs.Laws.{ChoiceLaw, FileLaw, PlaceLaw, PlaceStaysLaw, MayHaveStaysLaw, PlaceLiesLaw};
 
 /// What is chosen is free, and it is enough.
@@ -29,4 +30,14 @@ pub fn place_still_may_be_had()
 /// Once that lies below the size and in a zone, the name may be made.
 pub fn place_lies_there()
     ensures { PlaceLiesLaw }
+{}
+
+/// The zones that are chosen for a directory's growth are free, and none of the file's.
+pub fn growth_is_free()
+    ensures { FreeGrowthLaw }
+{}
+
+/// What was promised stays so with one choice more.
+pub fn promises_stay()
+    ensures { PromisesLaw }
 {}

@@ -4,4 +4,7 @@
 
 mod laws;
 
-pub use laws::{choice_is_free, choice_may_be_a_file, place_may_get_the_name, place_stays};
+pub use laws::{
+    choice_is_free, choice_may_be_a_file, growth_is_free, place_may_get_the_name, place_stays,
+    promises_stay,
+};

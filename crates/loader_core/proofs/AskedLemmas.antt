@@ -32,6 +32,7 @@ use Rattle.disk_trait.specs.declared.disks.Phase.{Phase}
 use Rattle.disk_trait.specs.declared.disks.Phase.TheVariants.{Before}
 use Rattle.disk_trait.specs.Calls.{SameOf}
 use Rattle.loader_core.specs.declared.outcome.Started.{Started}
+use Rattle.lilo_model.specs.Faults.{Rose}
 use Rattle.loader_core.specs.Leaves.{Leaves}
 use Rattle.loader_core.proofs.LeavesLemmas.{read_leaves}
 use Rattle.loader_core.specs.Start.{Reports, Went, unasked, stop_text}
@@ -236,11 +237,12 @@ asked_unwritten image machine boot good memory keys left state reason a b comes 
 -- what is left where asking was stopped
 pub asked_leaves :
     {D : Type 0} (g : Ghosts D) (old new : D) (image : Image) (machine : Machine) (boot : BootSector) (good : GoodMap) (memory : ℕ) (keys left : List Key) (state : State) (stop : Stop) (phase : Phase) (a b : SinkState)
-    → Comes (Err stop) (asked_tale image machine boot good keys) state left a b → SameOf g old new → phase ≡ Before
+    → Comes (Err stop) (asked_tale image machine boot good keys) state left a b → SameOf g old new
+    → (stop ≡ stops.Halt Device → Rose (g.faults old) (g.faults new)) → phase ≡ Before
     → Leaves g old new (asked_report image machine boot memory good keys).write (Err stop) phase
-asked_leaves g old new image machine boot good memory keys left state stops.Keys phase a b comes same begins = same
-asked_leaves g old new image machine boot good memory keys left state (stops.Halt Device) phase a b comes same begins =
-    read_leaves g old new (asked_report image machine boot memory good keys).write Device phase same begins (λ reason is. let h : ⊥ = cc in absurd h)
-asked_leaves g old new image machine boot good memory keys left state (stops.Halt (Refused reason)) phase a b comes same begins =
-    read_leaves g old new (asked_report image machine boot memory good keys).write (Refused reason) phase same begins
+asked_leaves g old new image machine boot good memory keys left state stops.Keys phase a b comes same failed begins = same
+asked_leaves g old new image machine boot good memory keys left state (stops.Halt Device) phase a b comes same failed begins =
+    read_leaves g old new (asked_report image machine boot memory good keys).write Device phase same (λ is. failed refl) begins (λ reason is. let h : ⊥ = cc in absurd h)
+asked_leaves g old new image machine boot good memory keys left state (stops.Halt (Refused reason)) phase a b comes same failed begins =
+    read_leaves g old new (asked_report image machine boot memory good keys).write (Refused reason) phase same (λ is. let h : ⊥ = cc in absurd h) begins
     (λ other is. asked_unwritten image machine boot good memory keys left state reason a b comes)

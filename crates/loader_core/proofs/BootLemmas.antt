@@ -2,7 +2,7 @@
 use Rattle.std.proofs.Common.{◌≡◌, ◌≤◌, inl, inr, ◌∙◌, ℕ, Bool, true, false, refl, sym, ap, subst, List, [], ◌∷◌, length, map, Option, None, Some, Result, Ok, Err, arith, rules}
 use Rattle.lilo_model.specs.Place.{Memory}
 use Rattle.std.specs.Result.{is_err, OnOk}
-use Rattle.std.specs.Prelude.{codes, not, bytes_eq, slice_get, slice_index_or, IsErr, IfSome, ◌<◌, ◌+◌, option_map}
+use Rattle.std.specs.Prelude.{codes, not, bytes_eq, slice_get, slice_index_or, IsErr, IsErrOf, IfSome, ◌<◌, ◌+◌, option_map}
 use Rattle.std.proofs.lemmas.Option.{slice_get-map, slice_get-get_or}
 use Rattle.lilo_model.specs.Bytes.{part_of}
 use Rattle.lilo_model.specs.Place.{with_bytes, memory_after}
@@ -15,6 +15,7 @@ use Rattle.lilo_model.specs.BootSector.{MapFault, NotOurs, BadVersion, BadTable,
 use Rattle.lilo_model.specs.Disks.{Span}
 use Rattle.lilo_model.specs.Boot.{Boot, boot_address, fallback_of, listed_entries, picked_entry, picked_line, video_of}
 use Rattle.bios_model.specs.Memory.{memory_of}
+use Rattle.bios_model.specs.Reads.{OnlyReads}
 use Rattle.boot_map.specs.declared.descriptor.Descriptor as declared
 use Rattle.boot_map.specs.View.{descriptor_view}
 use Rattle.prompt_core.specs.declared.reply.Picked as declared_picked
@@ -28,7 +29,11 @@ use Rattle.loader_core.specs.declared.outcome.Outcome.{Outcome}
 use Rattle.loader_core.specs.declared.outcome.Started.TheVariants as starts
 use Rattle.loader_core.specs.Laws.{EndsSo, IsReported}
 use Rattle.loader_core.specs.Start.{result_of, phase_of, unasked, OnKeys, ReportsBy, Went, EndsAs, IsBoot}
+use Rattle.disk_trait.specs.declared.disks.DiskFault.{DiskFault}
+use Rattle.disk_trait.specs.declared.disks.DiskFault.TheVariants.{Failed, OutOfRange}
 use Rattle.disk_trait.specs.declared.disks.Phase.{Phase}
+use Rattle.disk_trait.specs.Cause.{HasCause}
+use Rattle.lilo_model.specs.Faults.{Rose}
 use Rattle.disk_trait.specs.Calls.{SameOf}
 use Rattle.disk_trait.specs.Past.{Told}
 use Rattle.stream_trait.specs.Shows.{sink_of}
@@ -261,17 +266,17 @@ module _ {D O : Type 0} (g : Ghosts D) (o : sinks.Ghosts O) where
   -- it was written, or stays, and the entry is loaded
   pub line_loaded :
       (old mid new : D) (machine : Machine) (entry : Descriptor) (picked : Picked) (write : Option LineWrite) (memory : ℕ) (middle : List ℕ) (result : Result Started Halt) (phase : Phase) (ram ram' : List ℕ) (out out' : Shown O)
-      → HasPut g old mid write × IsPast write phase → SameOf g mid new → g.faults mid ≤ g.faults new
+      → HasPut g old mid write × IsPast write phase → g.faults old ≤ g.faults mid → OnlyReads g mid new (IsErrOf result Device)
       → Told (g.past mid) (λ now. Reports (entry_report now machine entry (picked_line entry picked middle) (video_of entry picked) memory) result (memory_of ram) ram' (sink_of o out) (sink_of o out'))
       → Told (g.past old) (λ now. ReportsBy g o (or_device (codes "Error 80\n") (line_report now machine entry picked write memory middle)) result phase (old, ram, out) (new, ram', out'))
-  line_loaded old mid new machine entry picked write memory middle result phase ram ram' out out' written same later reports =
+  line_loaded old mid new machine entry picked write memory middle result phase ram ram' out out' written early reads reports =
       put_told g old mid write
       (λ now. Reports (entry_report now machine entry (picked_line entry picked middle) (video_of entry picked) memory) result (memory_of ram) ram' (sink_of o out) (sink_of o out'))
       (λ now. ReportsBy g o (or_device (codes "Error 80\n") (line_report now machine entry picked write memory middle)) result phase (old, ram, out) (new, ram', out'))
       written.0
       (λ now loaded. record {
         reports = line_reported now machine entry picked write memory middle result (memory_of ram) ram' (sink_of o out) (sink_of o out') loaded;
-        leaves = put_leaves g old mid new same later write result phase written.0 written.1;
+        leaves = put_leaves g old mid new reads.same reads.later write result phase written early reads.failed;
       })
       reports
 
@@ -521,6 +526,14 @@ map_halted image machine boot memory (Refused reason) m ram left a b c read firs
     lost_map image machine boot memory (map_sectors image machine boot) reason m ram left a b c read.0 (ap reason_view read.1) first second
 
 -- ---- the boot sector
+
+-- a read of a sector that is there failed
+pub read_failed :
+    (size sector before now : ℕ) (result : Result (Unit {0}) DiskFault) → HasCause size sector before now result → sector < size → is_err result ≡ true
+    → Rose before now
+read_failed size sector before now (Ok done) cause inside lost = let h : ⊥ = cc in absurd h
+read_failed size sector before now (Err Failed) cause inside lost = cause.failed refl
+read_failed size sector before now (Err OutOfRange) cause inside lost = absurd (let past = cause.out_of_range.0 refl in omega (arith, inside, past))
 
 -- a boot whose first sector couldn't be read
 pub boot_lost :

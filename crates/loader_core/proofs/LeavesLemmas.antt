@@ -30,8 +30,12 @@ use Rattle.loader_core.specs.declared.outcome.Outcome.{Outcome}
 use Rattle.loader_core.specs.declared.outcome.Outcome.TheVariants as outcomes
 use Rattle.loader_core.specs.declared.outcome.Started.{Started}
 use Rattle.loader_core.specs.Report.{LineWrite, line_write, image_with}
-use Rattle.loader_core.specs.Leaves.{Puts, HasPut, CameTo, Leaves, IsPast, LineWritten, WritesLine}
+use Rattle.loader_core.specs.Leaves.{Puts, HasPut, LostIn, LostAfter, CameTo, Leaves, IsPast, LineWritten, WritesLine}
 use Rattle.loader_core.specs.Start.{unasked, result_of, phase_of, IsLost}
+
+-- a count that rose after it stayed or rose
+pub rose_after : (a b c : ℕ) → a ≤ b → Rose b c → Rose a c
+rose_after a b c before rose below = let risen = rose below in omega (arith, before, risen)
 
 module _ {D : Type 0} (g : Ghosts D) where
   pub same_self : (disks : D) → SameOf g disks disks
@@ -76,12 +80,16 @@ module _ {D : Type 0} (g : Ghosts D) where
 
     -- what is left once the write was made and a part that only reads ended so
     pub put_leaves :
-        (write : Option LineWrite) (result : Result Started Halt) (phase : Phase) → HasPut g old mid write → IsPast write phase
-        → Leaves g old new write (unasked result) phase
-    put_leaves write (Ok started) phase put past = put_before write put
-    put_leaves None (Err Device) phase put past = subst (λ p. CameTo g old new None p) (sym past) (same_join old mid new put same)
-    put_leaves (Some write) (Err Device) phase put past = subst (λ p. CameTo g old new (Some write) p) (sym past) (refl, put_before (Some write) put)
-    put_leaves write (Err (Refused reason)) phase put past = put_before write put
+        (write : Option LineWrite) (result : Result Started Halt) (phase : Phase) → HasPut g old mid write × IsPast write phase → g.faults old ≤ g.faults mid
+        → (IsErrOf result Device → Rose (g.faults mid) (g.faults new)) → Leaves g old new write (unasked result) phase
+    put_leaves write (Ok started) phase (put, past) early failed = put_before write put
+    put_leaves None (Err Device) phase (put, past) early failed =
+        subst (λ p. CameTo g old new None p) (sym past)
+        (record { same = same_join old mid new put same; rose = rose_after (g.faults old) (g.faults mid) (g.faults new) early (failed refl) })
+    put_leaves (Some write) (Err Device) phase (put, past) early failed =
+        subst (λ p. CameTo g old new (Some write) p) (sym past)
+        (record { some = refl; written = mid; put = put; same = same; later = later; rose = failed refl })
+    put_leaves write (Err (Refused reason)) phase (put, past) early failed = put_before write put
 
   -- what is left where the write failed
   pub lost_leaves :
@@ -91,31 +99,58 @@ module _ {D : Type 0} (g : Ghosts D) where
 
   -- ---- reads, and what comes after them
 
-  module _ (old mid new : D) (same : SameOf g old mid) (later : g.faults old ≤ g.faults mid) where
-    puts_after : {E : Type 0} → (write : Option LineWrite) (result : Result (Unit {0}) E) → Puts g mid new write result → Puts g old new write result
-    puts_after None result next = same_join old mid new same next
-    puts_after (Some write) result call = found_after g old mid new write.bytes same later {F = Unit {0}} (Ok write.place) result call
+  puts_after :
+      {E : Type 0} → (old mid new : D) → SameOf g old mid → g.faults old ≤ g.faults mid → (write : Option LineWrite) (result : Result (Unit {0}) E)
+      → Puts g mid new write result → Puts g old new write result
+  puts_after old mid new same later None result next = same_join old mid new same next
+  puts_after old mid new same later (Some write) result call = found_after g old mid new write.bytes same later {F = Unit {0}} (Ok write.place) result call
 
+  -- what was written where a device failed in the write, and after it
+  pub lost_puts : (old new : D) (write : Option LineWrite) → LostIn g old new write → Puts {E = Unit {0}} g old new write (Err tt)
+  lost_puts old new write lost = puts_after old lost.before new lost.same lost.later write (Err tt) lost.puts
+
+  pub lost_put : (old new : D) (write : Option LineWrite) → LostAfter g old new write → HasPut g old new write
+  lost_put old new write lost = put_before old lost.written new lost.same lost.later write lost.put
+
+  module _ (old mid new : D) (same : SameOf g old mid) (later : g.faults old ≤ g.faults mid) where
     came_after : (write : Option LineWrite) (phase : Phase) → CameTo g mid new write phase → CameTo g old new write phase
-    came_after write Before next = same_join old mid new same next
-    came_after write Commit (some, next) = (some, puts_after write (Err tt) next)
-    came_after write After (some, next) = (some, puts_after write (Ok tt) next)
+    came_after write Before lost = record {
+      same = same_join old mid new same lost.same;
+      rose = rose_after (g.faults old) (g.faults mid) (g.faults new) later lost.rose;
+    }
+    came_after write Commit lost = record {
+      some = lost.some;
+      before = lost.before;
+      same = same_join old mid lost.before same lost.same;
+      later = let next = lost.later in omega (arith, later, next);
+      puts = lost.puts;
+      rose = lost.rose;
+    }
+    came_after write After lost = record {
+      some = lost.some;
+      written = lost.written;
+      put = puts_after old mid lost.written same later write (Ok tt) lost.put;
+      same = lost.same;
+      later = lost.later;
+      rose = lost.rose;
+    }
 
     pub leaves_after :
         (write : Option LineWrite) (result : Result Started Stop) (phase : Phase) → Leaves g mid new write result phase
         → Leaves g old new write result phase
-    leaves_after write (Ok started) phase next = puts_after write (Ok tt) next
+    leaves_after write (Ok started) phase next = puts_after old mid new same later write (Ok tt) next
     leaves_after write (Err stops.Keys) phase next = same_join old mid new same next
     leaves_after write (Err (stops.Halt Device)) phase next = came_after write phase next
-    leaves_after write (Err (stops.Halt (Refused reason))) phase next = puts_after write (Ok tt) next
+    leaves_after write (Err (stops.Halt (Refused reason))) phase next = puts_after old mid new same later write (Ok tt) next
 
   -- what is left where only reads were made, and nothing was to be written
   pub read_leaves :
-      (old new : D) (write : Option LineWrite) (halt : Halt) (phase : Phase) → SameOf g old new → phase ≡ Before
-      → ((reason : Reason) → halt ≡ Refused reason → write ≡ None)
+      (old new : D) (write : Option LineWrite) (halt : Halt) (phase : Phase) → SameOf g old new → (halt ≡ Device → Rose (g.faults old) (g.faults new))
+      → phase ≡ Before → ((reason : Reason) → halt ≡ Refused reason → write ≡ None)
       → Leaves g old new write (Err (stops.Halt halt)) phase
-  read_leaves old new write Device phase same begins none = subst (λ p. CameTo g old new write p) (sym begins) same
-  read_leaves old new write (Refused reason) phase same begins none = subst (λ w. HasPut g old new w) (sym (none reason refl)) same
+  read_leaves old new write Device phase same failed begins none =
+      subst (λ p. CameTo g old new write p) (sym begins) (record { same = same; rose = failed refl })
+  read_leaves old new write (Refused reason) phase same failed begins none = subst (λ w. HasPut g old new w) (sym (none reason refl)) same
 
   -- ---- what the disks hold then
 
@@ -177,7 +212,11 @@ module _ {D : Type 0} (g : Ghosts D) where
         (found : Result DiskSector AddressFault) (error : BiosFault) → WritesFound g old new found (line_bytes to) (Err error) → (IsErr found → ⊥)
         → Rose (g.faults old) (g.faults new) → WritesLine g old new (place_write to found) (Err Device) Commit
     failed_by (Ok place) error call there rose = record {
-      line = (refl, (refl, refused_as g old new place (line_bytes to) error tt call), rose);
+      line = (
+        refl,
+        record { some = refl; before = old; same = same_self g old; later = omega arith; puts = refused_as g old new place (line_bytes to) error tt call; rose = rose },
+        rose,
+      );
       goes_on = call.writes.goes_on;
     }
     failed_by (Err fault) error call there rose = absurd (there refl)

@@ -30,12 +30,37 @@ Puts g old new (Some write) result = WritesPlace g old new write.place write.byt
 abbrev pub HasPut : {D : Type 0} → Ghosts D → D → D → Option LineWrite → Type 0
 HasPut g old new write = Puts {E = Unit {0}} g old new write (Ok tt)
 
--- how far the write came where a device failed: nothing was written; the write failed or the flush of it; or it was made
--- durable
+-- A device failed before the write: nothing was written, and the count of faults rose.
+pub record LostBefore {D : Type 0} (g : Ghosts D) (old new : D) : Type 0 where
+  pub same : SameOf g old new
+  pub rose : Rose (g.faults old) (g.faults new)
+
+-- A device failed in the write or the flush of it: nothing was written before it began, and from then on the count of
+-- faults rose. It has written it or hasn't.
+pub record LostIn {D : Type 0} (g : Ghosts D) (old new : D) (write : Option LineWrite) : Type 0 where
+  pub some : IsSome write
+  -- the disks when the write began
+  pub before : D
+  pub same : SameOf g old before
+  pub later : g.faults old ≤ g.faults before
+  pub puts : Puts {E = Unit {0}} g before new write (Err tt)
+  pub rose : Rose (g.faults before) (g.faults new)
+
+-- A device failed after the write was made durable: nothing was written from then on, and the count of faults rose.
+pub record LostAfter {D : Type 0} (g : Ghosts D) (old new : D) (write : Option LineWrite) : Type 0 where
+  pub some : IsSome write
+  -- the disks when the write was durable
+  pub written : D
+  pub put : HasPut g old written write
+  pub same : SameOf g written new
+  pub later : g.faults written ≤ g.faults new
+  pub rose : Rose (g.faults written) (g.faults new)
+
+-- how far the write came where a device failed, by the phase in which it did; the count of faults rose in that phase
 abbrev pub CameTo : {D : Type 0} → Ghosts D → D → D → Option LineWrite → Phase → Type 0
-CameTo g old new write Before = SameOf g old new
-CameTo g old new write Commit = IsSome write × Puts {E = Unit {0}} g old new write (Err tt)
-CameTo g old new write After = IsSome write × HasPut g old new write
+CameTo g old new write Before = LostBefore g old new
+CameTo g old new write Commit = LostIn g old new write
+CameTo g old new write After = LostAfter g old new write
 
 -- what is left where a boot, or a part of it, ended so, and where a device failed by the phase in which it did
 abbrev pub Leaves : {D : Type 0} → Ghosts D → D → D → Option LineWrite → Result Started Stop → Phase → Type 0
@@ -49,10 +74,10 @@ abbrev pub IsPast : Option LineWrite → Phase → Type 0
 IsPast None phase = phase ≡ Before
 IsPast (Some write) phase = phase ≡ After
 
--- what is to be written was, or a device failed in that, and then its count of faults rose
+-- what is to be written was, or a device failed in that
 abbrev pub LineWritten : {D : Type 0} → Ghosts D → D → D → Option LineWrite → Result (Unit {0}) Halt → Phase → Type 0
 LineWritten g old new write (Ok done) phase = HasPut g old new write × IsPast write phase
-LineWritten g old new write (Err Device) phase = (phase ≡ Commit) × CameTo g old new write Commit × Rose (g.faults old) (g.faults new)
+LineWritten g old new write (Err Device) phase = (phase ≡ Commit) × LostIn g old new write × Rose (g.faults old) (g.faults new)
 LineWritten g old new write (Err (Refused reason)) phase = ⊥
 
 -- the same, whatever else was done with the disks

@@ -1,4 +1,4 @@
-use Rattle.std.proofs.Common.{length}
+use Rattle.std.proofs.Common.{length, ap, Err}
 use Rattle.sector_address.specs.Machine.{machine_of}
 use Rattle.bios_model.specs.Memory.{memory_of}
 use Rattle.boot_map.specs.View.{boot_view}
@@ -49,7 +49,7 @@ returns-in-Err-clause-went g c =
     (λ keys left comes.
     let heard = rw (setup, message) at comes in (
       asked_leaves g.D.Disks c.args.bios.now.disks.now c.ask.new.bios.disks.now now machine boot model size keys left c.ask.new.prompt.state c.in-Err.stop c.args.phase.now
-          (sink_of g.O.Sink c.args.out.now) (sink_of g.O.Sink c.ask.new.out) heard c.in-Err.ensures.only.reads.same c.requires.begins,
+          (sink_of g.O.Sink c.args.out.now) (sink_of g.O.Sink c.ask.new.out) heard c.in-Err.ensures.only.reads.same (λ is. c.in-Err.ensures.only.reads.failed (ap Err is)) c.requires.begins,
       asked_err now machine boot model size keys left c.ask.new.prompt.state c.in-Err.stop (memory_of c.args.ram.now) c.args.ram.now
           (sink_of g.O.Sink c.args.out.now) (sink_of g.O.Sink c.ask.new.out) (sink_of g.O.Sink c.put.new.self) heard text,
     ))

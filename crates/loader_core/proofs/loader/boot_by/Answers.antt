@@ -6,7 +6,7 @@ use Rattle.stream_trait.specs.Shows.{sink_of}
 use Rattle.disk_trait.proofs.ToldLemmas.{told_all, told_map, told_both}
 use Rattle.loader_core.specs.Report.{report_by}
 use Rattle.loader_core.specs.Start.{span_view, unasked}
-use Rattle.loader_core.proofs.BootLemmas.{boot_lost, boot_read, boot_written, keys_map, keys_still, went_unasked, other_left, other_unwritten, on_ok}
+use Rattle.loader_core.proofs.BootLemmas.{read_failed, boot_lost, boot_read, boot_written, keys_map, keys_still, went_unasked, other_left, other_unwritten, on_ok}
 use Rattle.loader_core.proofs.LeavesLemmas.{leaves_as, leaves_after, read_leaves, other_leaves}
 use Rattle.disk_trait.specs.Calls.{SameOf}
 use Rattle.section_loader.specs.declared.reason.Halt.TheVariants.{Device}
@@ -15,11 +15,12 @@ use Rattle.loader_core.proofs.loader.boot_by.Goals as goal
 pub returns-then-is_err-clause-went : goal.returns-then-is_err-clause-went
 returns-then-is_err-clause-went g c =
     let machine = machine_of g.D.Disks c.args.bios.now.disks.now in
+    let rose = read_failed (g.D.Disks.size_of c.args.bios.now.disks.now c.args.device.disk) c.args.device.start (g.D.Disks.faults c.args.bios.now.disks.now) (g.D.Disks.faults c.read.new.self) c.read.result c.read.ensures.cause c.requires.device (sym c.is_err.ensures.value ∙ c.if-is_err.true) in
     let same : SameOf g.D.Disks c.args.bios.now.disks.now c.read.new.self = record { same_past = c.read.ensures.past; same_size = c.read.ensures.size; same_count = c.read.ensures.count; same_geometry = c.read.ensures.geometry } in
     told_all (g.D.Disks.past c.args.bios.now.disks.now) _
     (λ now. keys_still g.I.Source _ _
     (λ left. (
-      read_leaves g.D.Disks c.args.bios.now.disks.now c.read.new.self _ Device c.args.phase.now same c.requires.begins (λ reason is. let h : ⊥ = cc in absurd h),
+      read_leaves g.D.Disks c.args.bios.now.disks.now c.read.new.self _ Device c.args.phase.now same (λ is. rose) c.requires.begins (λ reason is. let h : ⊥ = cc in absurd h),
       boot_lost now machine (span_view c.args.device) (length c.args.ram.now) (memory_of c.args.ram.now) c.args.ram.now left (sink_of g.O.Sink c.args.out.now),
     )))
 

@@ -1,4 +1,4 @@
-use Rattle.std.proofs.Common.{length, sym, subst}
+use Rattle.std.proofs.Common.{length, sym, subst, ap, Err}
 use Rattle.sector_address.specs.Machine.{machine_of}
 use Rattle.sector_address.specs.View.{slot_view}
 use Rattle.bios_model.specs.Memory.{memory_of}
@@ -36,7 +36,7 @@ returns-in-Err-clause-report g c =
     (λ now texts. record {
       reports = texts_halted now machine entry picked _ (length c.args.ram.now) c.in-Err.halt (memory_of c.args.ram.now) c.args.ram.now
           (sink_of g.O.Sink c.args.out.now) (sink_of g.O.Sink c.put.new.self) texts error;
-      leaves = read_leaves g.D.Disks c.args.disks.now c.read_texts.new.disks _ c.in-Err.halt c.args.phase.now c.in-Err.ensures.reads.same c.requires.begins
+      leaves = read_leaves g.D.Disks c.args.disks.now c.read_texts.new.disks _ c.in-Err.halt c.args.phase.now c.in-Err.ensures.reads.same (λ is. c.in-Err.ensures.reads.failed (ap Err is)) c.requires.begins
           (λ reason is. texts_unwritten now machine entry picked _ (length c.args.ram.now) c.in-Err.halt reason is texts);
     })
     c.in-Err.ensures.texts

@@ -1,4 +1,4 @@
-use Rattle.std.proofs.Common.{length}
+use Rattle.std.proofs.Common.{length, ap, Err}
 use Rattle.sector_address.specs.Machine.{machine_of}
 use Rattle.bios_model.specs.Memory.{memory_of}
 use Rattle.boot_map.specs.View.{boot_view}
@@ -32,7 +32,7 @@ returns-in-Err-clause-went g c =
     told_map (g.D.Disks.past c.args.bios.now.disks.now) _ _
     (λ now found. keys_still g.I.Source _ _
     (λ left. (
-      read_leaves g.D.Disks c.args.bios.now.disks.now c.read_map.new.disks _ c.in-Err.halt c.args.phase.now c.in-Err.ensures.reads.same c.requires.begins
+      read_leaves g.D.Disks c.args.bios.now.disks.now c.read_map.new.disks _ c.in-Err.halt c.args.phase.now c.in-Err.ensures.reads.same (λ is. c.in-Err.ensures.reads.failed (ap Err is)) c.requires.begins
           (λ reason is. map_unwritten now machine (boot_view c.args.boot.now) (length c.args.ram.now) c.in-Err.halt reason left is found),
       map_halted now machine (boot_view c.args.boot.now) (length c.args.ram.now) c.in-Err.halt (memory_of c.args.ram.now) c.args.ram.now left
           (sink_of g.O.Sink c.args.out.now) (sink_of g.O.Sink c.put.new.self) (sink_of g.O.Sink c.put-in-Err.new.self) found c.put.ensures.shown error,

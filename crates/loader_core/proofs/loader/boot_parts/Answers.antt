@@ -33,7 +33,7 @@ returns-in-Err-clause-went g c =
     let judged = c.in-Err.ensures.judged sectors stands in
     keys_still g.I.Source _ _
     (λ left. (
-      read_leaves g.D.Disks c.args.bios.now.disks.now c.args.bios.now.disks.now _ (Refused c.in-Err.reason) c.args.phase.now (same_self g.D.Disks c.args.bios.now.disks.now) c.requires.begins
+      read_leaves g.D.Disks c.args.bios.now.disks.now c.args.bios.now.disks.now _ (Refused c.in-Err.reason) c.args.phase.now (same_self g.D.Disks c.args.bios.now.disks.now) (λ is. let h : ⊥ = cc in absurd h) c.requires.begins
           (λ reason is. bad_write now machine (boot_view c.args.boot.now) (length c.args.ram.now) sectors c.in-Err.reason left judged),
       sectors_bad now machine (boot_view c.args.boot.now) (length c.args.ram.now) sectors c.in-Err.reason (memory_of c.args.ram.now) c.args.ram.now left
           (sink_of g.O.Sink c.args.out.now) (sink_of g.O.Sink c.put.new.self) (sink_of g.O.Sink c.put-in-Err.new.self) judged c.put.ensures.shown c.put-in-Err.ensures.shown,

@@ -18,7 +18,7 @@ returns-in-Ok-clause-report g c =
     let written = rw (c.new_line-new.ensures, c.is_locked.ensures, c.as_slice.ensures.value) at c.in-Ok.ensures.line in
     let report = rw (goes.size, goes.geometry) at c.boot_line.ensures.report in
     line_loaded g.D.Disks g.O.Sink c.args.disks.now c.write_line.new.disks c.boot_line.new.disks machine entry picked _ (length c.args.ram.now) c.args.texts.middle.items c.boot_line.result c.write_line.new.phase c.args.ram.now c.boot_line.new.ram c.args.out.now c.boot_line.new.out
-    written c.boot_line.ensures.only.reads.same c.boot_line.ensures.only.reads.later report
+    written goes.later c.boot_line.ensures.only.reads report
 
 pub returns-in-Err-clause-report : goal.returns-in-Err-clause-report
 returns-in-Err-clause-report g c =

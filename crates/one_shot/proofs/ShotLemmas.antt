@@ -19,7 +19,7 @@ use Rattle.bios_model.specs.Writes.{WritesFound}
 use Rattle.bios_model.proofs.WriteLemmas.{made_as, refused_as, found_unwritten, goes_on_read, found_after}
 use Rattle.one_shot.specs.declared.shot.ShotFault.{ShotFault}
 use Rattle.one_shot.specs.declared.shot.ShotFault.TheVariants.{LineTooLong, NotOurs, BadTable, NotFound, Device}
-use Rattle.one_shot.specs.Shot.{place_named, shot_by, IsFault, Puts}
+use Rattle.one_shot.specs.Shot.{place_named, shot_by, IsFault, LostIn, Puts}
 
 -- ---- the place
 
@@ -49,11 +49,28 @@ pub rose_later : (a b c : ℕ) → a ≤ b → Rose b c → Rose a c
 rose_later a b c le rose = λ below. let less = rose below in omega (arith, le, less)
 
 module _ {D : Type 0} (disks : Ghosts D) (old mid : D) (same : SameOf disks old mid) (later : disks.faults old ≤ disks.faults mid) (bytes : List ℕ) (found : Result DiskSector model.ShotFault) where
-  pub puts_none : (fault : ShotFault) → IsFault fault found → Puts disks old mid bytes found (Err fault)
-  puts_none fault is = record { answer = is; writes = found_unwritten disks old mid bytes found fault same later }
+  pub puts_none : (fault : ShotFault) → IsFault fault found → (fault ≡ Device Commit → ⊥) → Puts disks old mid bytes found (Err fault)
+  puts_none fault is before = record {
+    answer = is;
+    writes = found_unwritten disks old mid bytes found fault same later;
+    lost = λ lost. absurd (before cc);
+  }
+
+  lost_after : (new : D) → LostIn disks mid new bytes found → LostIn disks old new bytes found
+  lost_after new lost = record {
+    before = lost.before;
+    same = found_after disks old mid lost.before bytes same later {E = ShotFault} (Err NotFound) (Ok tt) lost.same;
+    later = let next = lost.later in omega (arith, later, next);
+    writes = lost.writes;
+    rose = lost.rose;
+  }
 
   pub puts_after : (new : D) (result : Result (Unit {0}) ShotFault) → Puts disks mid new bytes found result → Puts disks old new bytes found result
-  puts_after new result call = record { answer = call.answer; writes = found_after disks old mid new bytes same later found result call.writes }
+  puts_after new result call = record {
+    answer = call.answer;
+    writes = found_after disks old mid new bytes same later found result call.writes;
+    lost = λ is. lost_after new (call.lost is);
+  }
 
 -- ---- what a write to a slot answers
 
@@ -73,16 +90,28 @@ module _ {D : Type 0} (disks : Ghosts D) (old new : D) (bytes : List ℕ) where
   named found = with_fault (λ fault. model.NotFound) found
 
   pub puts_made : (found : Result DiskSector AddressFault) → WritesFound {E = BiosFault} disks old new found bytes (Ok tt) → (IsErr found → ⊥) → Puts disks old new bytes (named found) (Ok tt)
-  puts_made (Ok place) call there = record { answer = refl; writes = made_as disks old new place bytes call }
+  puts_made (Ok place) call there = record { answer = refl; writes = made_as disks old new place bytes call; lost = λ is. let h : ⊥ = cc in absurd h }
   puts_made (Err fault) call there = absurd (there refl)
 
   pub puts_lost : (found : Result DiskSector AddressFault) (error : BiosFault) → WritesFound disks old new found bytes (Err error) → IsErr found → Puts disks old new bytes (named found) (Err NotFound)
   puts_lost (Ok place) error call lost = let h : ⊥ = cc in absurd h
-  puts_lost (Err fault) error same lost = record { answer = refl; writes = same }
+  puts_lost (Err fault) error same lost = record { answer = refl; writes = same; lost = λ is. let h : ⊥ = cc in absurd h }
 
-  pub puts_failed : (found : Result DiskSector AddressFault) (error : BiosFault) → WritesFound disks old new found bytes (Err error) → (IsErr found → ⊥) → Puts disks old new bytes (named found) (Err (Device Commit))
-  puts_failed (Ok place) error call there = record { answer = refl; writes = refused_as disks old new place bytes error (Device Commit) call }
-  puts_failed (Err fault) error call there = absurd (there refl)
+  pub puts_failed :
+      (found : Result DiskSector AddressFault) (error : BiosFault) → WritesFound disks old new found bytes (Err error) → (IsErr found → ⊥) → Rose (disks.faults old) (disks.faults new)
+      → Puts disks old new bytes (named found) (Err (Device Commit))
+  puts_failed (Ok place) error call there rose = record {
+    answer = refl;
+    writes = refused_as disks old new place bytes error (Device Commit) call;
+    lost = λ is. record {
+      before = old;
+      same = record { same_past = refl; same_size = refl; same_count = refl; same_geometry = refl };
+      later = omega arith;
+      writes = refused_as disks old new place bytes error tt call;
+      rose = rose;
+    };
+  }
+  puts_failed (Err fault) error call there rose = absurd (there refl)
 
   pub goes_on_found : (found : Result DiskSector AddressFault) (result : Result (Unit {0}) BiosFault) → WritesFound disks old new found bytes result → disks.faults old ≤ disks.faults new → GoesOn disks old new
   goes_on_found (Ok place) result call later = call.writes.goes_on

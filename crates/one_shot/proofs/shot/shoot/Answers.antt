@@ -20,7 +20,7 @@ returns-in-Err-clause-line g c =
     let same : SameOf disks old c.read.new.self = record { same_past = c.read.ensures.past; same_size = c.read.ensures.size; same_count = c.read.ensures.count; same_geometry = c.read.ensures.geometry } in
     told_all (disks.past old) _
     (λ now. puts_none disks old c.read.new.self same c.read.ensures.cause.later (line_bytes (shot_line c.args.text.now))
-    (shot_place now (machine_of disks old) (span_view c.args.device) c.args.text.now) (Device Before) tt)
+    (shot_place now (machine_of disks old) (span_view c.args.device) c.args.text.now) (Device Before) tt (λ is. let h : ⊥ = cc in absurd h))
 
 pub returns-in-Ok-clause-line : goal.returns-in-Ok-clause-line
 returns-in-Ok-clause-line g c =

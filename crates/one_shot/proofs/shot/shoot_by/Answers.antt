@@ -1,10 +1,11 @@
 -- The boot sector is refused, or the line is written where it says.
-use Rattle.std.proofs.Common.{◌≡◌, refl, ◌∙◌, ap, subst, arith, List, ℕ}
+use Rattle.std.proofs.Common.{◌≡◌, refl, ◌∙◌, ap, subst, arith, List, ℕ, Err}
 use Rattle.std.proofs.lemmas.Result.{err_from_is_err_and}
 use Rattle.lilo_model.specs.LineSector.{line_bytes}
 use Rattle.lilo_model.specs.LineShots.{shot_line}
 use Rattle.sector_address.specs.Machine.{machine_of}
 use Rattle.boot_map.specs.View.{boot_view}
+use Rattle.disk_trait.specs.declared.disks.Phase.TheVariants.{Commit}
 use Rattle.bios_model.proofs.WriteLemmas.{goes_on_read}
 use Rattle.one_shot.specs.Shot.{shot_by, Puts}
 use Rattle.one_shot.proofs.ShotLemmas.{shot_at, fault_of, puts_none}
@@ -19,7 +20,8 @@ returns-in_err-boot-clause-puts g c =
     (puts_none g.D.Disks c.args.disks.now c.args.disks.now
     (record { same_past = refl; same_size = refl; same_count = refl; same_geometry = refl })
     (omega arith) (line_bytes (shot_line c.args.text.now)) (shot_by machine c.args.sector.now c.args.text.now) fault
-    (fault_of machine c.args.sector.now c.args.text.now fault c.in_err-boot.ensures.no_device c.in_err-boot.ensures.judged))
+    (fault_of machine c.args.sector.now c.args.text.now fault c.in_err-boot.ensures.no_device c.in_err-boot.ensures.judged)
+    (λ is. c.in_err-boot.ensures.no_device Commit (ap Err is)))
 
 pub returns-in_err-boot-clause-goes_on : goal.returns-in_err-boot-clause-goes_on
 returns-in_err-boot-clause-goes_on g c =

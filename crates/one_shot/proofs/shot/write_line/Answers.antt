@@ -26,7 +26,7 @@ returns-in-Err-Timeout-clause-puts g c =
     puts_failed g.D.Disks c.args.disks.now c.write_sector.new.disks c.args.from.now
     (place_at (machine_of g.D.Disks c.args.disks.now) (slot_view c.args.slot.now) 0) bios.Timeout
     (rw c.in-Err-Timeout.field-0-is at c.in-Err-Timeout.ensures.writes)
-    (λ lost. not_lost (Err bios.Timeout) refl (there.1 lost))
+    (λ lost. not_lost (Err bios.Timeout) refl (there.1 lost)) (c.in-Err-Timeout.ensures.timeout (ap Err c.in-Err-Timeout.field-0-is))
 
 pub returns-in-Ok-clause-goes_on : goal.returns-in-Ok-clause-goes_on
 returns-in-Ok-clause-goes_on g c =

@@ -17,9 +17,10 @@ use Rattle.conf_settings.specs.View.{fault_view, reason_view, opt_view}
 use Rattle.conf_settings.specs.declared.reason.ConfFault.{ConfFault}
 use Rattle.mbr_table.specs.declared.table_fault.TableFault.{TableFault}
 use Rattle.mbr_table.specs.declared.table_fault.TableFault.TheVariants as tables
-use Rattle.lilo_run.specs.Refusal.{table_verdict, text_verdict, conf_verdict, halt_verdict, RefusesText, ConfRefuses}
+use Rattle.lilo_run.specs.Refusal.{table_verdict, text_verdict, conf_verdict, halt_verdict, RefusesText, ConfRefuses, HasConfCause}
 use Rattle.disk_trait.specs.declared.disks.Disks.{Ghosts}
-use Rattle.disk_trait.specs.Calls.{SameOf}
+use Rattle.bios_model.specs.Reads.{OnlyReads}
+use Rattle.lilo_model.specs.Faults.{Rose}
 use Rattle.lilo_run.specs.Run.{State, Does, Carries, IsPlaceHalt}
 use Rattle.lilo_run.proofs.RunLemmas.{carries_kept}
 use Rattle.lilo_model.specs.Prompt.{Key}
@@ -96,6 +97,22 @@ conf_refused f same path (File files.Memory) given status memory old new refuses
 conf_refused f same path (Text fault) given status memory old new refuses answer some shown =
     text_refused f same (fault_view fault) given status memory old new refuses answer some shown
 
+-- where 8 is answered of a configuration, the count of faults rose
+module _ (path : List ℕ) (status before now : ℕ) (eight : status ≡ 8) where
+  text_lost : (refusal : Option ConfRefusal) → status ≡ (text_verdict refusal).status → Rose before now
+  text_lost None answer = absurd (omega (arith, answer, eight))
+  text_lost (Some refusal) answer = absurd (omega (arith, answer, eight))
+
+  table_lost : (fault : TableFault) → HasConfCause before now (File (files.Place fault)) → status ≡ (table_verdict fault).status → Rose before now
+  table_lost tables.Device cause answer = cause
+  table_lost fault cause answer = absurd (omega (arith, answer, eight))
+
+  pub conf_lost : (halt : ConfHalt) → HasConfCause before now halt → status ≡ (conf_verdict path halt).status → Rose before now
+  conf_lost (File files.Device) cause answer = cause
+  conf_lost (File (files.Place fault)) cause answer = table_lost fault cause answer
+  conf_lost (File fault) cause answer = absurd (omega (arith, answer, eight))
+  conf_lost (Text fault) cause answer = text_lost (fault_view fault) answer
+
 -- a device that isn't found is reported as a halt is
 pub table_told : (fault : TableFault) (halt : Halt) → IsPlaceHalt fault halt → halt_verdict halt ≡ table_verdict fault
 table_told tables.Device halt is = rw is refl
@@ -150,25 +167,25 @@ conf_listed now machine root path device status memory old new is (inr (inl fail
 conf_listed now machine root path device status memory old new is (inr (inr failed)) = absurd failed.shown
 
 -- an installation, and what it would do
-module _ {D : Type 0} (g : Ghosts D) (now : Image) (machine : Machine) (size : ℕ) (root : Option Device) (path : List ℕ) (status : ℕ) (keys : List Key) (old new : State D) (same : SameOf g old.disks new.disks) where
+module _ {D : Type 0} (g : Ghosts D) (now : Image) (machine : Machine) (size : ℕ) (root : Option Device) (path : List ℕ) (status : ℕ) (keys : List Key) (old new : State D) (reads : OnlyReads g old.disks new.disks (status ≡ 8)) where
   pub installs :
       Does (install_effect now machine root path) status old.memory new.memory old.sink new.sink
       → Carries g (command_effect now machine size root path words.Install keys) status keys old new
   unfolding command_effect
-  installs does = carries_kept g (install_effect now machine root path) status keys old new same does
+  installs does = carries_kept g (install_effect now machine root path) status keys old new reads does
 
   pub would_install :
       Does (install_effect now machine root path) status old.memory new.memory old.sink new.sink
       → Carries g (command_effect now machine size root path words.Test keys) status keys old new
   unfolding command_effect
-  would_install does = carries_kept g (install_effect now machine root path) status keys old new same does
+  would_install does = carries_kept g (install_effect now machine root path) status keys old new reads does
 
   -- `-q`
   pub queries :
       (device : Option Device) → Does (plain_command now machine root path (words.Query device)) status old.memory new.memory old.sink new.sink
       → Carries g (command_effect now machine size root path (words.Query device) keys) status keys old new
   unfolding command_effect
-  queries device does = carries_kept g (plain_command now machine root path (words.Query device)) status keys old new same does
+  queries device does = carries_kept g (plain_command now machine root path (words.Query device)) status keys old new reads does
 
 -- ---- parts that read one
 

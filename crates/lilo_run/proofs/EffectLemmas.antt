@@ -17,6 +17,7 @@ use Rattle.prompt_loop.specs.declared.asking.Stop.TheVariants as stops
 use Rattle.section_loader.specs.declared.reason.Halt.TheVariants as ends
 use Rattle.lilo_model.specs.Prompt.{Key}
 use Rattle.loader_core.specs.Report.{Report, boot_report}
+use Rattle.lilo_model.specs.Faults.{Rose}
 use Rattle.loader_core.specs.Leaves.{HasPut, CameTo}
 use Rattle.loader_core.proofs.BootLemmas.{keys_map}
 use Rattle.disk_trait.specs.declared.disks.Disks.{Ghosts}
@@ -142,10 +143,10 @@ module _ {D : Type 0} (g : Ghosts D) (dump : Bool) (report : Report) (left : Lis
   pub boot_unheard :
       (status : ℕ) (ram : List ℕ)
       → Went (result_of outcomes.Keys) report old.memory ram left old.sink mid → status ≡ 11 → Shows mid keys_failed.text new.sink
-      → SameOf g old.disks new.disks → Carries g (report_effect dump report) status left old new
+      → Rose old.key_faults new.key_faults → SameOf g old.disks new.disks → Carries g (report_effect dump report) status left old new
   unfolding report_effect
-  boot_unheard status ram went answer told same =
-      Unheard (record { answer = answer; shown = shows_one_then old.sink mid new.sink report.unheard keys_failed.text went told }) same
+  boot_unheard status ram went answer told rose same =
+      Unheard (record { answer = answer; shown = shows_one_then old.sink mid new.sink report.unheard keys_failed.text went told }) rose same
 
 -- a device was found, and booted
 pub place_booted :
@@ -153,7 +154,7 @@ pub place_booted :
     (status : ℕ) (keys : I × I) (first : D) (old new : State D)
     → place ≡ Ok span → SameOf g first old.disks → g.faults first ≤ g.faults old.disks
     → OnKeys i keys (λ all left. Carries g (report_effect dump (boot_report now machine span size all)) status left old new)
-    → OnKeys i keys (λ all left. Carries g (boot_effect now machine size dump place all) status left (record { disks = first; memory = old.memory; sink = old.sink }) new)
+    → OnKeys i keys (λ all left. Carries g (boot_effect now machine size dump place all) status left (record { disks = first; memory = old.memory; sink = old.sink; key_faults = old.key_faults }) new)
 unfolding boot_effect
 place_booted g i now machine size dump place span status keys first old new is same later goes =
     keys_map i keys _ _
@@ -162,13 +163,14 @@ place_booted g i now machine size dump place span status keys first old new is s
 -- no device was found
 module _ {D : Type 0} (g : Ghosts D) (now : Image) (machine : Machine) (size : ℕ) (dump : Bool) (keys : List Key) (status : ℕ) (old new : State D) (same : SameOf g old.disks new.disks) (kept : new.memory ≡ old.memory) where
   pub place_failed :
-      (place : Result Span DeviceFault) (halt : Halt) → HaltsAt halt place → status ≡ (halt_verdict halt).status → 1 ≤ status → Shows old.sink (halt_verdict halt).text new.sink
+      (place : Result Span DeviceFault) (halt : Halt) → HaltsAt halt place → (halt ≡ Device → Rose (g.faults old.disks) (g.faults new.disks))
+      → status ≡ (halt_verdict halt).status → 1 ≤ status → Shows old.sink (halt_verdict halt).text new.sink
       → Carries g (boot_effect now machine size dump place keys) status keys old new
   unfolding boot_effect report_effect boot_report
-  place_failed (Ok span) Device halts answer some told = LostBefore (record { answer = answer; shown = inl told }) same
-  place_failed (Err fault) Device halts answer some told = LostBefore (record { answer = answer; shown = inl told }) same
-  place_failed place (NoPlace fault) halts answer some told =
+  place_failed (Ok span) Device halts failed answer some told = LostBefore (record { answer = answer; shown = inl told }) (record { same = same; rose = failed refl })
+  place_failed (Err fault) Device halts failed answer some told = LostBefore (record { answer = answer; shown = inl told }) (record { same = same; rose = failed refl })
+  place_failed place (NoPlace fault) halts failed answer some told =
       rw halts (CarriedOut (record { answer = answer; shown = told; placed = λ zero. absurd (omega (arith, zero, some)) }) refl same)
-  place_failed place NotBuilt halts answer some told = absurd halts
-  place_failed place NotOurs halts answer some told = absurd halts
-  place_failed place (Boot reason) halts answer some told = absurd halts
+  place_failed place NotBuilt halts failed answer some told = absurd halts
+  place_failed place NotOurs halts failed answer some told = absurd halts
+  place_failed place (Boot reason) halts failed answer some told = absurd halts

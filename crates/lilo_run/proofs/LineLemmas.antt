@@ -10,6 +10,7 @@ use Rattle.disk_trait.proofs.MomentLemmas.{leaves_none, leaves_weaker, leaves_jo
 use Rattle.disk_trait.proofs.NotWrittenLemmas.{not_written_none, not_written_join}
 use Rattle.lilo_model.specs.Prompt.{Key}
 use Rattle.loader_core.specs.Leaves.{Puts, HasPut}
+use Rattle.loader_core.proofs.LeavesLemmas.{lost_puts, lost_put}
 use Rattle.loader_core.specs.Report.{LineWrite, image_with}
 use Rattle.lilo_run.specs.Run.{Scene, Tells, TellsVerdict, TellsLost, TellsLostAtCommit, TellsLostAfter, TellsUnheard, TellsStarved, TellsCut, TellsRun, HoldsWritten, IsWritten, IsBeside, LeavesWritten, LeavesOthers}
 use Rattle.lilo_run.specs.Verdict.{Effect, run_image}
@@ -82,10 +83,12 @@ module _ {D : Type 0} (g : Ghosts D) where
 
       by : Tells g part status left old new → LeavesOnly (g.past old.disks) (g.past new.disks) (IsWritten (part ∷ parts) (now (g.past old.disks)))
       by (TellsVerdict is kept printed put) = puts_leave {E = Unit {0}} old.disks new.disks part parts (Ok tt) put quiet
-      by (TellsLost is printed same) = still same
-      by (TellsLostAtCommit is printed came) = puts_leave {E = Unit {0}} old.disks new.disks part parts (Err tt) came.1 quiet
-      by (TellsLostAfter is printed came) = puts_leave {E = Unit {0}} old.disks new.disks part parts (Ok tt) came.1 quiet
-      by (TellsUnheard is printed same) = still same
+      by (TellsLost is printed came) = still came.same
+      by (TellsLostAtCommit is printed came) =
+          puts_leave {E = Unit {0}} old.disks new.disks part parts (Err tt) (lost_puts g old.disks new.disks part.write came) quiet
+      by (TellsLostAfter is printed came) =
+          puts_leave {E = Unit {0}} old.disks new.disks part parts (Ok tt) (lost_put g old.disks new.disks part.write came) quiet
+      by (TellsUnheard is printed rose same) = still same
       by (TellsStarved is printed same) = still same
       by (TellsCut is zero kept rose front put) = puts_leave {E = Unit {0}} old.disks new.disks part parts (Ok tt) put quiet
   told_leaves (part ∷ parts) status keys left old new told (inr (mid, passed, rest)) quiet =
@@ -108,10 +111,12 @@ module _ {D : Type 0} (g : Ghosts D) where
 
       by : Tells g part status left old new → NotWritten (g.past old.disks) (g.past new.disks) d s
       by (TellsVerdict is kept printed put) = puts_beside {E = Unit {0}} old.disks new.disks part.write (Ok tt) d s put first
-      by (TellsLost is printed same) = same_beside old.disks new.disks d s same
-      by (TellsLostAtCommit is printed came) = puts_beside {E = Unit {0}} old.disks new.disks part.write (Err tt) d s came.1 first
-      by (TellsLostAfter is printed came) = puts_beside {E = Unit {0}} old.disks new.disks part.write (Ok tt) d s came.1 first
-      by (TellsUnheard is printed same) = same_beside old.disks new.disks d s same
+      by (TellsLost is printed came) = same_beside old.disks new.disks d s came.same
+      by (TellsLostAtCommit is printed came) =
+          puts_beside {E = Unit {0}} old.disks new.disks part.write (Err tt) d s (lost_puts g old.disks new.disks part.write came) first
+      by (TellsLostAfter is printed came) =
+          puts_beside {E = Unit {0}} old.disks new.disks part.write (Ok tt) d s (lost_put g old.disks new.disks part.write came) first
+      by (TellsUnheard is printed rose same) = same_beside old.disks new.disks d s same
       by (TellsStarved is printed same) = same_beside old.disks new.disks d s same
       by (TellsCut is zero kept rose front put) = puts_beside {E = Unit {0}} old.disks new.disks part.write (Ok tt) d s put first
   told_others (part ∷ parts) status keys left old new (inr (mid, passed, rest)) d s beside =

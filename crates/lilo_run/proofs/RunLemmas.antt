@@ -21,7 +21,7 @@ use Rattle.stream_trait.specs.declared.source.Source as sources
 use Rattle.stream_trait.proofs.ShowsLemmas.{zero_before}
 use Rattle.loader_core.specs.Start.{OnKeys}
 use Rattle.loader_core.specs.Report.{LineWrite, image_with}
-use Rattle.lilo_model.specs.Faults.{Rose}
+use Rattle.bios_model.specs.Reads.{OnlyReads}
 use Rattle.loader_core.specs.Leaves.{HasPut, KeepsDisks}
 use Rattle.loader_core.proofs.LeavesLemmas.{same_self, same_join, leaves_after}
 use Rattle.lilo_run.specs.Run.{State, IsDone, Does, Carries, CarriedOut, LostBefore, LostAtCommit, LostAfter, Starved, Unheard, EndsAt, IsPassed, IsOver, Runs, IsLost, IsWriteLost, is_part_status}
@@ -51,29 +51,30 @@ module _ {D : Type 0} (g : Ghosts D) where
   done_with_zero effect own left old new (LostAtCommit failed came) zero = absurd (let nine = failed.answer in omega (arith, zero, nine))
   done_with_zero effect own left old new (LostAfter failed came) zero = absurd (let ten = failed.answer in omega (arith, zero, ten))
   done_with_zero effect own left old new (Starved failed same) zero = absurd (let thirteen = failed.answer in omega (arith, zero, thirteen))
-  done_with_zero effect own left old new (Unheard failed same) zero = absurd (let eleven = failed.answer in omega (arith, zero, eleven))
+  done_with_zero effect own left old new (Unheard failed rose same) zero = absurd (let eleven = failed.answer in omega (arith, zero, eleven))
 
   -- a command that takes no key and writes nothing
   pub carries_kept :
-      (effect : Effect) (status : ℕ) (keys : List Key) (old new : State D) → SameOf g old.disks new.disks
+      (effect : Effect) (status : ℕ) (keys : List Key) (old new : State D) → OnlyReads g old.disks new.disks (status ≡ 8)
       → Does effect status old.memory new.memory old.sink new.sink → Carries g (keeping keys effect) status keys old new
-  carries_kept effect status keys old new same (inl done) = CarriedOut (record { answer = done.answer; shown = done.shown; placed = done.placed }) refl same
-  carries_kept effect status keys old new same (inr (inl failed)) = LostBefore failed same
-  carries_kept effect status keys old new same (inr (inr failed)) = Starved failed same
+  carries_kept effect status keys old new reads (inl done) = CarriedOut (record { answer = done.answer; shown = done.shown; placed = done.placed }) refl reads.same
+  carries_kept effect status keys old new reads (inr (inl failed)) = LostBefore failed (record { same = reads.same; rose = reads.failed failed.answer })
+  carries_kept effect status keys old new reads (inr (inr failed)) = Starved failed reads.same
 
   -- one that began as disks were read
   pub carries_after :
       (effect : Effect) (status : ℕ) (left : List Key) (first : D) (old new : State D) → SameOf g first old.disks → g.faults first ≤ g.faults old.disks
-      → Carries g effect status left old new → Carries g effect status left (record { disks = first; memory = old.memory; sink = old.sink }) new
+      → Carries g effect status left old new → Carries g effect status left (record { disks = first; memory = old.memory; sink = old.sink; key_faults = old.key_faults }) new
   carries_after effect status left first old new same later (CarriedOut done is put) =
       CarriedOut done is (leaves_after g first old.disks new.disks same later effect.write (Err (stops.Halt (ends.Refused reasons.Idle))) Before put)
-  carries_after effect status left first old new same later (LostBefore failed kept) = LostBefore failed (same_join g first old.disks new.disks same kept)
+  carries_after effect status left first old new same later (LostBefore failed came) =
+      LostBefore failed (leaves_after g first old.disks new.disks same later effect.write (Err (stops.Halt ends.Device)) Before came)
   carries_after effect status left first old new same later (LostAtCommit failed came) =
       LostAtCommit failed (leaves_after g first old.disks new.disks same later effect.write (Err (stops.Halt ends.Device)) Commit came)
   carries_after effect status left first old new same later (LostAfter failed came) =
       LostAfter failed (leaves_after g first old.disks new.disks same later effect.write (Err (stops.Halt ends.Device)) After came)
   carries_after effect status left first old new same later (Starved failed kept) = Starved failed (same_join g first old.disks new.disks same kept)
-  carries_after effect status left first old new same later (Unheard failed kept) = Unheard failed (same_join g first old.disks new.disks same kept)
+  carries_after effect status left first old new same later (Unheard failed rose kept) = Unheard failed rose (same_join g first old.disks new.disks same kept)
 
   -- ---- what disks hold
 
@@ -180,10 +181,6 @@ own_write_lost own status failed answer (inr is) = inr (own_status own 10 failed
 pub own_lost : (own status : ℕ) (failed : Bool) → status ≡ answer_of own failed → IsLost status → IsLost own
 own_lost own status failed answer (inl is) = inl (own_status own 8 failed (sym answer ∙ is) (λ same. omega (arith, same)))
 own_lost own status failed answer (inr lost) = inr (own_write_lost own status failed answer lost)
-
--- a count that rose after it stayed or rose
-pub rose_after : (a b c : ℕ) → a ≤ b → Rose b c → Rose a c
-rose_after a b c before rose below = let risen = rose below in omega (arith, before, risen)
 
 pub keeps_twice : {D : Type 0} → (g : Ghosts D) (old mid new : D) → KeepsDisks g old mid → KeepsDisks g mid new → KeepsDisks g old new
 keeps_twice g old mid new first next = record {
@@ -329,11 +326,11 @@ usage_is words wrong is = rw is refl
 
 pub usage_runs :
     {D : Type 0} (g : Ghosts D) (image : Image) (machine : Machine) (size : ℕ) (words : List (List ℕ)) (keys : List Key) (wrong : Option ℕ) (disks : D) (memory : Memory)
-    (old new : SinkState)
+    (key_faults : ℕ) (old new : SinkState)
     → run_at words ≡ Err wrong → Shows old (usage_text words) new
-    → Runs g (effects_of image machine size words keys) 1 keys keys (record { disks = disks; memory = memory; sink = old }) (record { disks = disks; memory = memory; sink = new })
+    → Runs g (effects_of image machine size words keys) 1 keys keys (record { disks = disks; memory = memory; sink = old; key_faults = key_faults }) (record { disks = disks; memory = memory; sink = new; key_faults = key_faults })
 unfolding effects_of
-usage_runs g image machine size words keys wrong disks memory old new is shown =
+usage_runs g image machine size words keys wrong disks memory key_faults old new is shown =
     rw is (inl (record {
       own = 1;
       does = CarriedOut (record { answer = refl; shown = shown; placed = λ zero. absurd (omega (arith, zero)) }) refl (same_self g disks);

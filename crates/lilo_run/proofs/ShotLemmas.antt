@@ -8,6 +8,7 @@ use Rattle.lilo_model.specs.Checks.{with_fault}
 use Rattle.lilo_model.specs.ConfVerdict.{conf_device, place_at}
 use Rattle.lilo_model.specs.Devices.{Device}
 use Rattle.lilo_model.specs.Disks.{Image, Machine, Span, DiskSector}
+use Rattle.lilo_model.specs.Faults.{Rose}
 use Rattle.lilo_model.specs.LineSector.{line_bytes}
 use Rattle.lilo_model.specs.LineShots as model
 use Rattle.lilo_model.specs.LineShots.{shot_line, shot_place}
@@ -18,9 +19,10 @@ use Rattle.lilo_model.specs.Verdict.{Verdict, verdict_of}
 use Rattle.lilo_words.proofs.Ranges.{range_empty, range_some}
 use Rattle.stream_trait.specs.Shows.{SinkState, Shows}
 use Rattle.disk_trait.specs.declared.disks.Disks.{Ghosts}
+use Rattle.disk_trait.specs.declared.disks.Phase.{Phase}
 use Rattle.disk_trait.specs.declared.disks.Phase.TheVariants.{Before, Commit, After}
 use Rattle.disk_trait.specs.Calls.{SameOf}
-use Rattle.bios_model.proofs.WriteLemmas.{made_as, refused_as}
+use Rattle.bios_model.proofs.WriteLemmas.{made_as}
 use Rattle.one_shot.specs.Shot.{Puts}
 use Rattle.one_shot.specs.declared.shot.ShotFault.{ShotFault}
 use Rattle.one_shot.specs.declared.shot.ShotFault.TheVariants as shots
@@ -111,25 +113,25 @@ joined_none words from = rw (range_empty words from from (omega arith)) refl
 module _ {D : Type 0} (g : Ghosts D) (text : List ℕ) (status : ℕ) (keys : List Key) (old new : State D) where
   -- a refusal, before a device was looked for
   pub shot_refused :
-      (place : Result DiskSector Verdict) → SameOf g old.disks new.disks → 1 ≤ status
+      (place : Result DiskSector Verdict) → SameOf g old.disks new.disks → (status ≡ 8 → Rose (g.faults old.disks) (g.faults new.disks)) → 1 ≤ status
       → Does (conf_effect (line_verdict place)) status old.memory new.memory old.sink new.sink
       → Carries g (leaving keys (shot_effect text place)) status keys old new
-  shot_refused (Ok place) same some (inl done) = absurd (let zero = done.answer in omega (arith, zero, some))
-  shot_refused (Err verdict) same some (inl done) = CarriedOut (record { answer = done.answer; shown = done.shown; placed = done.placed }) refl same
-  shot_refused place same some (inr (inl failed)) = LostBefore failed same
-  shot_refused place same some (inr (inr failed)) = Starved failed same
+  shot_refused (Ok place) same failed some (inl done) = absurd (let zero = done.answer in omega (arith, zero, some))
+  shot_refused (Err verdict) same failed some (inl done) = CarriedOut (record { answer = done.answer; shown = done.shown; placed = done.placed }) refl same
+  shot_refused place same failed some (inr (inl lost)) = LostBefore lost (record { same = same; rose = failed lost.answer })
+  shot_refused place same failed some (inr (inr starved)) = Starved starved same
 
   -- no device was found
   pub shot_unplaced :
       (now : Image) (machine : Machine) (place : Result Span DeviceFault) (halt : Halt) → HaltsAt halt place → SameOf g old.disks new.disks
-      → status ≡ (halt_verdict halt).status → 1 ≤ status → Shows old.sink (halt_verdict halt).text new.sink
+      → (halt ≡ DeviceHalt → Rose (g.faults old.disks) (g.faults new.disks)) → status ≡ (halt_verdict halt).status → 1 ≤ status → Shows old.sink (halt_verdict halt).text new.sink
       → Carries g (leaving keys (shot_effect text (line_on now machine text place))) status keys old new
-  shot_unplaced now machine place DeviceHalt halts same answer some told = LostBefore (record { answer = answer; shown = inl told }) same
-  shot_unplaced now machine place (NoPlace fault) halts same answer some told =
+  shot_unplaced now machine place DeviceHalt halts same failed answer some told = LostBefore (record { answer = answer; shown = inl told }) (record { same = same; rose = failed refl })
+  shot_unplaced now machine place (NoPlace fault) halts same failed answer some told =
       rw halts (CarriedOut (record { answer = answer; shown = told; placed = λ zero. absurd (omega (arith, zero, some)) }) refl same)
-  shot_unplaced now machine place NotBuilt halts same answer some told = absurd halts
-  shot_unplaced now machine place NotOurs halts same answer some told = absurd halts
-  shot_unplaced now machine place (Boot reason) halts same answer some told = absurd halts
+  shot_unplaced now machine place NotBuilt halts same failed answer some told = absurd halts
+  shot_unplaced now machine place NotOurs halts same failed answer some told = absurd halts
+  shot_unplaced now machine place (Boot reason) halts same failed answer some told = absurd halts
 
   -- the line was written
   pub shot_done :
@@ -144,27 +146,30 @@ module _ {D : Type 0} (g : Ghosts D) (text : List ℕ) (status : ℕ) (keys : Li
   pub shot_failed :
       (fault : ShotFault) (place : Result DiskSector model.ShotFault) → Puts g old.disks new.disks (line_bytes (shot_line text)) place (Err fault)
       → (let result : Result (Unit {0}) ShotFault = Err fault in result ≡ Err (shots.Device Before) → SameOf g old.disks new.disks)
+      → ((phase : Phase) → (let result : Result (Unit {0}) ShotFault = Err fault in result ≡ Err (shots.Device phase)) → Rose (g.faults old.disks) (g.faults new.disks))
       → status ≡ (shot_verdict fault).status → 1 ≤ status → Shows old.sink (shot_verdict fault).text new.sink
       → Carries g (leaving keys (shot_effect text (with_fault line_refused place))) status keys old new
-  shot_failed shots.NotOurs (Ok place) puts same answer some told = let is = puts.answer in absurd cc
-  shot_failed (shots.LineTooLong size) (Ok place) puts same answer some told = let is = puts.answer in absurd cc
-  shot_failed (shots.BadTable entry) (Ok place) puts same answer some told = let is = puts.answer in absurd cc
-  shot_failed shots.NotFound (Ok place) puts same answer some told = let is = puts.answer in absurd cc
-  shot_failed (shots.Device Commit) (Ok place) puts same answer some told =
-      LostAtCommit (record { answer = answer; shown = inl told }) (refl, refused_as g old.disks new.disks place (line_bytes (shot_line text)) (shots.Device Commit) tt puts.writes)
-  shot_failed (shots.Device Before) place puts same answer some told = LostBefore (record { answer = answer; shown = inl told }) (same refl)
-  shot_failed (shots.Device After) place puts same answer some told = absurd puts.answer
-  shot_failed (shots.Device Commit) (Err refusal) puts same answer some told = let is = puts.answer in absurd cc
-  shot_failed shots.NotOurs (Err refusal) puts same answer some told =
+  shot_failed shots.NotOurs (Ok place) puts same failed answer some told = let is = puts.answer in absurd cc
+  shot_failed (shots.LineTooLong size) (Ok place) puts same failed answer some told = let is = puts.answer in absurd cc
+  shot_failed (shots.BadTable entry) (Ok place) puts same failed answer some told = let is = puts.answer in absurd cc
+  shot_failed shots.NotFound (Ok place) puts same failed answer some told = let is = puts.answer in absurd cc
+  shot_failed (shots.Device Commit) (Ok place) puts same failed answer some told =
+      let lost = puts.lost refl in
+      LostAtCommit (record { answer = answer; shown = inl told })
+      (record { some = refl; before = lost.before; same = lost.same; later = lost.later; puts = lost.writes; rose = lost.rose })
+  shot_failed (shots.Device Before) place puts same failed answer some told = LostBefore (record { answer = answer; shown = inl told }) (record { same = same refl; rose = failed Before refl })
+  shot_failed (shots.Device After) place puts same failed answer some told = absurd puts.answer
+  shot_failed (shots.Device Commit) (Err refusal) puts same failed answer some told = let is = puts.answer in absurd cc
+  shot_failed shots.NotOurs (Err refusal) puts same failed answer some told =
       let found = puts.answer in let is : refusal ≡ model.NotOurs = cc in
       rw is (CarriedOut (record { answer = answer; shown = told; placed = λ zero. absurd (omega (arith, zero, some)) }) refl puts.writes)
-  shot_failed (shots.LineTooLong size) (Err refusal) puts same answer some told =
+  shot_failed (shots.LineTooLong size) (Err refusal) puts same failed answer some told =
       let found = puts.answer in let is : refusal ≡ model.LineTooLong size = cc in
       rw is (CarriedOut (record { answer = answer; shown = told; placed = λ zero. absurd (omega (arith, zero, some)) }) refl puts.writes)
-  shot_failed (shots.BadTable entry) (Err refusal) puts same answer some told =
+  shot_failed (shots.BadTable entry) (Err refusal) puts same failed answer some told =
       let found = puts.answer in let is : refusal ≡ model.BadTable entry = cc in
       rw is (CarriedOut (record { answer = answer; shown = told; placed = λ zero. absurd (omega (arith, zero, some)) }) refl puts.writes)
-  shot_failed shots.NotFound (Err refusal) puts same answer some told =
+  shot_failed shots.NotFound (Err refusal) puts same failed answer some told =
       let found = puts.answer in let is : refusal ≡ model.NotFound = cc in
       rw is (CarriedOut (record { answer = answer; shown = told; placed = λ zero. absurd (omega (arith, zero, some)) }) refl puts.writes)
 
@@ -175,7 +180,7 @@ module _ {D : Type 0} (g : Ghosts D) (text : List ℕ) (status : ℕ) (keys : Li
       (now : Image) (machine : Machine) (root : Option Device) (path : List ℕ) (device : Device) (first : D)
       → conf_device now machine root path ≡ Ok device → SameOf g first old.disks → g.faults first ≤ g.faults old.disks
       → Carries g (leaving keys (shot_effect text (line_on now machine text (place_at now machine device)))) status keys old new
-      → Carries g (leaving keys (line_effect now machine root path text)) status keys (record { disks = first; memory = old.memory; sink = old.sink }) new
+      → Carries g (leaving keys (line_effect now machine root path text)) status keys (record { disks = first; memory = old.memory; sink = old.sink; key_faults = old.key_faults }) new
   unfolding line_effect
   shot_booted now machine root path device first is same later carries =
       rw is (carries_after g (leaving keys (shot_effect text (line_on now machine text (place_at now machine device)))) status keys first old new same later carries)
@@ -185,6 +190,6 @@ module _ {D : Type 0} (g : Ghosts D) (text : List ℕ) (status : ℕ) (keys : Li
       (now : Image) (machine : Machine) (place : Result Span DeviceFault) (span : Span) (first : D)
       → place ≡ Ok span → SameOf g first old.disks → g.faults first ≤ g.faults old.disks
       → Carries g (leaving keys (shot_effect text (with_fault line_refused (shot_place now machine span text)))) status keys old new
-      → Carries g (leaving keys (shot_effect text (line_on now machine text place))) status keys (record { disks = first; memory = old.memory; sink = old.sink }) new
+      → Carries g (leaving keys (shot_effect text (line_on now machine text place))) status keys (record { disks = first; memory = old.memory; sink = old.sink; key_faults = old.key_faults }) new
   shot_placed now machine place span first is same later carries =
       rw is (carries_after g (leaving keys (shot_effect text (with_fault line_refused (shot_place now machine span text)))) status keys first old new same later carries)

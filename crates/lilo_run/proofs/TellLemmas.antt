@@ -12,7 +12,7 @@ use Rattle.stream_trait.proofs.SinkLemmas.{Takes-trans}
 use Rattle.lilo_run.specs.Run.{State, Scene, IsDone, Carries, CarriedOut, LostBefore, LostAtCommit, LostAfter, Starved, Unheard, EndsAt, Runs, Answers, Tells, TellsVerdict, TellsLost, TellsLostAtCommit, TellsLostAfter, TellsUnheard, TellsStarved, TellsCut, TellsPassed, TellsRun}
 use Rattle.lilo_run.specs.Verdict.{Effect, run_verdict, run_left, run_written}
 use Rattle.lilo_run.proofs.EffectLemmas.{memory_after-append}
-use Rattle.lilo_run.proofs.RunLemmas.{done_with_zero, rose_after}
+use Rattle.lilo_run.proofs.RunLemmas.{done_with_zero}
 
 -- what holds of four values holds of others that are the same
 pub held_of_four :
@@ -21,29 +21,21 @@ pub held_of_four :
 held_of_four {J} {K} {A} P first key one other {first'} {key'} {one'} {other'} held firsts keys ones others =
     subst (P first' key' one') others (subst (λ x. P first' key' x other) ones (subst (λ k. P first' k one other) keys (subst (λ d. P d key one other) firsts held)))
 
--- ---- counts of faults that began earlier
-
-prints_before :
-    (old new : Option (List ℕ)) (text : List ℕ) (a b c : ℕ) → a ≤ b → Prints old text new b c → Prints old text new a c
-prints_before old new text a b c before (inl whole) = inl whole
-prints_before old new text a b c before (inr (rose, front)) = inr (rose_after a b c before rose, front)
-
-prints_one_before :
-    (old new : Option (List ℕ)) (texts : List (List ℕ)) (a b c : ℕ) → a ≤ b → PrintsOne old texts new b c
-    → PrintsOne old texts new a c
-prints_one_before old new [] a b c before printed = printed
-prints_one_before old new (text ∷ texts) a b c before (inl printed) = inl (prints_before old new text a b c before printed)
-prints_one_before old new (text ∷ texts) a b c before (inr printed) = inr (prints_one_before old new texts a b c before printed)
-
 takes_nothing : (taken : Option (List ℕ)) → Takes taken [] taken
 takes_nothing None = refl
 takes_nothing (Some bytes) = ap (λ l. Some l) (sym (append-nil bytes))
 
 -- ---- the part at which a run ended
 
--- a moment as it is seen, with a count of faults that may have been there earlier
-abbrev pub seen : {D : Type 0} → State D → ℕ → Scene D
-seen state faults = record { disks = state.disks; memory = state.memory; taken = state.sink.taken; faults = faults }
+-- a moment as it is seen
+abbrev pub seen : {D : Type 0} → State D → Scene D
+seen state = record {
+  disks = state.disks;
+  memory = state.memory;
+  taken = state.sink.taken;
+  faults = state.sink.faults;
+  key_faults = state.key_faults;
+}
 
 module _ {D : Type 0} (g : Ghosts D) where
   -- it was done, and its text is the verdict's, or with 12 a prefix of it
@@ -51,37 +43,36 @@ module _ {D : Type 0} (g : Ghosts D) where
       (part : Effect) (status own : ℕ) (left : List Key) (old new : State D)
       → IsDone part own old.memory new.memory old.sink new.sink → part.left ≡ left → HasPut g old.disks new.disks part.write
       → status ≡ answer_of own new.sink.failed → status ≢ 0 → old.sink.failed ≡ false
-      → (first failed : Bool) → own == 0 ≡ first → new.sink.failed ≡ failed
-      → (before : ℕ) → before ≤ old.sink.faults → Tells g part status left (seen old before) (seen new new.sink.faults)
-  cut_tells part status own left old new done is_left put answer some fine true true zero failed before early =
+      → (first failed : Bool) → own == 0 ≡ first → new.sink.failed ≡ failed → Tells g part status left (seen old) (seen new)
+  cut_tells part status own left old new done is_left put answer some fine true true zero failed =
       let none = eqb-true own 0 zero in
       let twelve : status ≡ 12 = answer ∙ rw (none, failed) refl in
-      TellsCut twelve (sym done.answer ∙ none) is_left (rose_after before old.sink.faults new.sink.faults early (done.shown.rose fine failed)) (done.shown.front fine failed) put
-  cut_tells part status own left old new done is_left put answer some fine true false zero shown before early =
+      TellsCut twelve (sym done.answer ∙ none) is_left (done.shown.rose fine failed) (done.shown.front fine failed) put
+  cut_tells part status own left old new done is_left put answer some fine true false zero shown =
       absurd (some (answer ∙ let none = eqb-true own 0 zero in rw (none, shown) refl))
-  cut_tells part status own left old new done is_left put answer some fine false failed other is before early =
+  cut_tells part status own left old new done is_left put answer some fine false failed other is =
       let plain : answer_of own new.sink.failed ≡ own = rw other refl in
       TellsVerdict (answer ∙ plain ∙ done.answer) is_left
-      (prints_before old.sink.taken new.sink.taken part.verdict.text before old.sink.faults new.sink.faults early (prints_of old.sink new.sink part.verdict.text done.shown fine)) put
+      (prints_of old.sink new.sink part.verdict.text done.shown fine) put
 
   end_tells :
       (part : Effect) (status : ℕ) (left : List Key) (old new : State D) → EndsAt g part status left old new
-      → old.sink.failed ≡ false → (before : ℕ) → before ≤ old.sink.faults → Tells g part status left (seen old before) (seen new new.sink.faults)
-  end_tells part status left old new ends fine before early = by ends.does
+      → old.sink.failed ≡ false → Tells g part status left (seen old) (seen new)
+  end_tells part status left old new ends fine = by ends.does
     where
-      one : (texts : List (List ℕ)) → ShowsOne old.sink texts new.sink → PrintsOne old.sink.taken texts new.sink.taken before new.sink.faults
-      one texts shown = prints_one_before old.sink.taken new.sink.taken texts before old.sink.faults new.sink.faults early (prints_one_of old.sink new.sink texts shown fine)
+      one : (texts : List (List ℕ)) → ShowsOne old.sink texts new.sink → PrintsOne old.sink.taken texts new.sink.taken old.sink.faults new.sink.faults
+      one texts shown = prints_one_of old.sink new.sink texts shown fine
 
       own_is : (code : ℕ) → ends.own ≡ code → code == 0 ≡ false → status ≡ code
       own_is code is other = let same : answer_of ends.own new.sink.failed ≡ code = rw (is, other) refl in ends.answer ∙ same
 
-      by : Carries g part ends.own left old new → Tells g part status left (seen old before) (seen new new.sink.faults)
-      by (CarriedOut done is put) = cut_tells part status ends.own left old new done is put ends.answer ends.some fine (ends.own == 0) new.sink.failed refl refl before early
-      by (LostBefore failed same) = TellsLost (own_is 8 failed.answer refl) (one part.failures failed.shown) same
+      by : Carries g part ends.own left old new → Tells g part status left (seen old) (seen new)
+      by (CarriedOut done is put) = cut_tells part status ends.own left old new done is put ends.answer ends.some fine (ends.own == 0) new.sink.failed refl refl
+      by (LostBefore failed came) = TellsLost (own_is 8 failed.answer refl) (one part.failures failed.shown) came
       by (LostAtCommit failed came) = TellsLostAtCommit (own_is 9 failed.answer refl) (one part.at_commit failed.shown) came
       by (LostAfter failed came) = TellsLostAfter (own_is 10 failed.answer refl) (one part.after_commit failed.shown) came
       by (Starved failed same) = TellsStarved (own_is 13 failed.answer refl) (one part.starved failed.shown) same
-      by (Unheard failed same) = TellsUnheard (own_is 11 failed.answer refl) (one part.unheard failed.shown) same
+      by (Unheard failed rose same) = TellsUnheard (own_is 11 failed.answer refl) (one part.unheard failed.shown) rose same
 
   -- with 12 memory has what it puts there
   end_placed :
@@ -98,30 +89,28 @@ module _ {D : Type 0} (g : Ghosts D) where
   -- ---- what a run told
 
   pub runs_tell :
-      (parts : List Effect) (status : ℕ) (keys left : List Key) (old new : State D) (before : ℕ)
-      → before ≤ old.sink.faults → old.sink.failed ≡ false → Runs g parts status keys left old new
-      → TellsRun g parts status keys left (seen old before) (seen new new.sink.faults)
-  runs_tell [] status keys left old new before early fine over =
+      (parts : List Effect) (status : ℕ) (keys left : List Key) (old new : State D) → old.sink.failed ≡ false
+      → Runs g parts status keys left old new → TellsRun g parts status keys left (seen old) (seen new)
+  runs_tell [] status keys left old new fine over =
       record { zero = over.zero; memory = over.memory; kept = over.kept; taken = ap (λ state. state.taken) over.sink; disks = over.disks }
-  runs_tell (part ∷ parts) status keys left old new before early fine (inl ends) =
+  runs_tell (part ∷ parts) status keys left old new fine (inl ends) =
       inl (record {
         some = ends.some;
-        tells = end_tells part status left old new ends fine before early;
+        tells = end_tells part status left old new ends fine;
         placed = end_placed part status left old new ends;
         quiet = ends.quiet;
       })
-  runs_tell (part ∷ parts) status keys left old new before early fine (inr (mid, passed, runs)) =
-      let later = passed.done.shown.later in
-      let told = runs_tell parts status part.left left mid new before (omega (arith, early, later)) passed.whole runs in
-      let first : TellsPassed g part (seen old before) (seen mid before) =
+  runs_tell (part ∷ parts) status keys left old new fine (inr (mid, passed, runs)) =
+      let told = runs_tell parts status part.left left mid new passed.whole runs in
+      let first : TellsPassed g part (seen old) (seen mid) =
       record {
         zero = sym passed.done.answer;
         wrote = passed.wrote;
         placed = passed.done.placed refl;
         taken = passed.done.shown.whole passed.whole;
-        counted = refl;
+        later = passed.done.shown.later;
       } in
-      inr (seen mid before, first, told)
+      inr (seen mid, first, told)
 
   pub told_answers :
       (parts : List Effect) (status : ℕ) (keys left : List Key) (old new : Scene D) → TellsRun g parts status keys left old new → Answers parts status
@@ -131,10 +120,10 @@ module _ {D : Type 0} (g : Ghosts D) where
       by : Tells g part status left old new → Answers (part ∷ parts) status
       by (TellsVerdict is kept printed put) =
           let other = ne_eqb part.verdict.status 0 (λ zero. ends.some (is ∙ zero)) in inl (rw other is)
-      by (TellsLost is printed same) = inr (inl (inl is))
+      by (TellsLost is printed came) = inr (inl (inl is))
       by (TellsLostAtCommit is printed came) = inr (inl (inr (inl is)))
       by (TellsLostAfter is printed came) = inr (inl (inr (inr is)))
-      by (TellsUnheard is printed same) = inr (inr (inl is))
+      by (TellsUnheard is printed rose same) = inr (inr (inl is))
       by (TellsStarved is printed same) = inr (inr (inr (inl is)))
       by (TellsCut is zero kept rose front put) = inr (inr (inr (inr (is, zero))))
   told_answers (part ∷ parts) status keys left old new (inr (mid, passed, told)) = by (told_answers parts status part.left left mid new told)

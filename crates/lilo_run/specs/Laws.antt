@@ -8,6 +8,7 @@ use Rattle.lilo_model.specs.Refusal.{DeviceFault}
 use Rattle.lilo_model.specs.Verdict.{boot_verdict}
 use Rattle.lilo_model.specs.Words.{Part, Boot, run_at}
 use Rattle.stream_trait.specs.declared.sink.Sink.{Ghosts}
+use Rattle.stream_trait.specs.declared.source.Source as sources
 use Rattle.disk_trait.specs.declared.disks.Disks as disks
 use Rattle.loader_core.specs.Report.{LineWrite, boot_write}
 use Rattle.lilo_run.specs.Run.{Tells, scene_of}
@@ -37,9 +38,9 @@ model_effect now machine memory place dump keys =
     }
 
 -- the status, the text, the keys left and what was written go with the model's boot by these keys
-abbrev pub TellsBoot : {D O : Type 0} → disks.Ghosts D → Ghosts O → Image → Machine → ℕ → Result Span DeviceFault → Bool → List Key → List Key → ℕ → D × List ℕ × O → D × List ℕ × O → Type 0
-TellsBoot g o now machine memory place dump keys left status old new =
-    Tells g (model_effect now machine memory place dump keys) status left (scene_of o old) (scene_of o new)
+abbrev pub TellsBoot : {D I O : Type 0} → disks.Ghosts D → sources.Ghosts I → Ghosts O → Image → Machine → ℕ → Result Span DeviceFault → Bool → List Key → List Key → ℕ → D × I × List ℕ × O → D × I × List ℕ × O → Type 0
+TellsBoot g i o now machine memory place dump keys left status old new =
+    Tells g (model_effect now machine memory place dump keys) status left (scene_of i o old) (scene_of i o new)
 
 -- where no part boots, what arguments do is the same in a memory of any size
 abbrev pub NoMemoryLaw : Type 0

@@ -1,5 +1,5 @@
 -- How what was done relates to what the definitions give.
-use Rattle.std.specs.Prelude.{◌≡◌, ◌≢◌, ◌⊎◌, ℕ, ◌==◌, Bool, false, List, [], ◌∷◌, ◌++◌, length, All, Option, None, Some, Result, Ok, Err}
+use Rattle.std.specs.Prelude.{◌≡◌, ◌≢◌, ◌≤◌, ◌⊎◌, ℕ, ◌==◌, Bool, false, List, [], ◌∷◌, ◌++◌, length, All, Option, None, Some, Result, Ok, Err}
 use Rattle.std.specs.List.{list_any}
 use Rattle.std.specs.Option.{option_map}
 use Rattle.disk_trait.specs.declared.disks.Span.{Span}
@@ -29,7 +29,7 @@ use Rattle.lilo_run.specs.declared.refusal.Halt.{Halt}
 use Rattle.lilo_run.specs.declared.refusal.Halt.TheVariants.{Device, NotBuilt, NoPlace, NotOurs, Boot}
 use Rattle.lilo_run.specs.declared.refusal.PlaceFault.TheVariants as variants
 use Rattle.lilo_run.specs.Refusal.{place_fault_view}
-use Rattle.disk_trait.specs.declared.disks.Phase.TheVariants.{Commit, After}
+use Rattle.disk_trait.specs.declared.disks.Phase.TheVariants.{Before, Commit, After}
 use Rattle.disk_trait.specs.Calls.{SameOf}
 use Rattle.disk_trait.specs.Moments.{now, IsQuiet, LeavesOnly}
 use Rattle.disk_trait.specs.NotWritten.{IsOther, NotWritten}
@@ -106,34 +106,38 @@ DoesBeside g o disks memory status old new effect =
 
 -- ---- keys
 
--- the disks, the memory and the sink at a moment
+-- the disks, the memory and the sink at a moment, and how often the source of keys has failed
 pub record State (D : Type 0) : Type 0 where
   pub disks : D
   pub memory : Memory
   pub sink : SinkState
+  pub key_faults : ℕ
 
 -- It was done, left the keys that it is to leave, and wrote what it is to write. Or memory didn't suffice, or the source of
--- keys or a disk failed: before the write, in it, or after it.
+-- keys or a disk failed: before the write, in it, or after it. Then its count of faults rose, the disks' in that phase.
 pub data Carries {D : Type 0} (g : Ghosts D) (effect : Effect) (status : ℕ) (left : List Key) (old new : State D) : Type 0 where
   CarriedOut : IsDone effect status old.memory new.memory old.sink new.sink → effect.left ≡ left → HasPut g old.disks new.disks effect.write
       → Carries g effect status left old new
-  LostBefore : IsFailed 8 effect.failures status old.sink new.sink → SameOf g old.disks new.disks → Carries g effect status left old new
+  LostBefore : IsFailed 8 effect.failures status old.sink new.sink → CameTo g old.disks new.disks effect.write Before
+      → Carries g effect status left old new
   LostAtCommit : IsFailed 9 effect.at_commit status old.sink new.sink → CameTo g old.disks new.disks effect.write Commit
       → Carries g effect status left old new
   LostAfter : IsFailed 10 effect.after_commit status old.sink new.sink → CameTo g old.disks new.disks effect.write After
       → Carries g effect status left old new
   Starved : IsFailed 13 effect.starved status old.sink new.sink → SameOf g old.disks new.disks → Carries g effect status left old new
-  Unheard : IsFailed 11 effect.unheard status old.sink new.sink → SameOf g old.disks new.disks → Carries g effect status left old new
+  Unheard : IsFailed 11 effect.unheard status old.sink new.sink → Rose old.key_faults new.key_faults → SameOf g old.disks new.disks
+      → Carries g effect status left old new
 
--- the state of disks, a memory and a sink
-abbrev pub state_of : {D O : Type 0} → sinks.Ghosts O → D → List ℕ → Shown O → State D
-state_of o disks ram out = record { disks = disks; memory = memory_of ram; sink = sink_of o out }
+-- the state of disks, a source, a memory and a sink
+abbrev pub state_of : {D I O : Type 0} → sources.Ghosts I → sinks.Ghosts O → D × I × List ℕ × Shown O → State D
+state_of i o (disks, keys, ram, out) =
+    record { disks = disks; memory = memory_of ram; sink = sink_of o out; key_faults = i.faults keys }
 
 -- The same of disks, a source, the memory and the sink before and after: whichever keys the source leaves, those that it
 -- left before were carried out so.
 abbrev pub CarriesBy : {D I O : Type 0} → Ghosts D → sources.Ghosts I → sinks.Ghosts O → ℕ → (List Key → Effect) → D × I × List ℕ × Shown O → D × I × List ℕ × Shown O → Type 0
-CarriesBy g i o status effect (disks, keys, ram, out) (disks', keys', ram', out') =
-    OnKeys i (keys, keys') (λ all left. Carries g (effect all) status left (state_of o disks ram out) (state_of o disks' ram' out'))
+CarriesBy g i o status effect old new =
+    OnKeys i (old.1, new.1) (λ all left. Carries g (effect all) status left (state_of i o old) (state_of i o new))
 
 -- the same of what the disks held, where they report their past
 abbrev pub CarriesOn : {D I O : Type 0} → Ghosts D → sources.Ghosts I → sinks.Ghosts O → ℕ → D × I × List ℕ × Shown O → D × I × List ℕ × Shown O → (disks.Image → disks.Machine → ℕ → List Key → Effect) → Type 0
@@ -143,8 +147,9 @@ CarriesOn g i o status old new effect =
 -- the same of a command that leaves this memory and all keys alone, by the disks and the sink before it and after it
 abbrev pub CarriesBeside : {D O : Type 0} → Ghosts D → sinks.Ghosts O → Memory → ℕ → D × Shown O → D × Shown O → (disks.Image → disks.Machine → Effect) → Type 0
 CarriesBeside g o memory status old new effect =
-    OnDisks g old.0 (λ now machine. (keys : List Key) → Carries g (leaving keys (effect now machine)) status keys
-    (record { disks = old.0; memory = memory; sink = sink_of o old.1 }) (record { disks = new.0; memory = memory; sink = sink_of o new.1 }))
+    OnDisks g old.0 (λ now machine. (keys : List Key) (key_faults : ℕ) → Carries g (leaving keys (effect now machine)) status keys
+    (record { disks = old.0; memory = memory; sink = sink_of o old.1; key_faults = key_faults })
+    (record { disks = new.0; memory = memory; sink = sink_of o new.1; key_faults = key_faults }))
 
 -- a disk failed in a write or after it, by the status
 abbrev pub IsWriteLost : ℕ → Type 0
@@ -189,10 +194,9 @@ Runs {D} g (part ∷ parts) status keys left old new =
     EndsAt g part status left old new
     ⊎ ((mid : State D) × IsPassed g part old mid × Runs g parts status part.left left mid new)
 
--- the same, by the disks, the memory and the sink before them and after them
-abbrev pub RunsAll : {D O : Type 0} → Ghosts D → sinks.Ghosts O → List Effect → ℕ → List Key → List Key → D × List ℕ × Shown O → D × List ℕ × Shown O → Type 0
-RunsAll g o parts status keys left (disks, ram, out) (disks', ram', out') =
-    Runs g parts status keys left (state_of o disks ram out) (state_of o disks' ram' out')
+-- the same, by the disks, the source, the memory and the sink before them and after them
+abbrev pub RunsAll : {D I O : Type 0} → Ghosts D → sources.Ghosts I → sinks.Ghosts O → List Effect → ℕ → List Key → List Key → D × I × List ℕ × Shown O → D × I × List ℕ × Shown O → Type 0
+RunsAll g i o parts status keys left old new = Runs g parts status keys left (state_of i o old) (state_of i o new)
 
 -- a fact about what the parts of arguments do by keys over what disks hold, with a memory of so many bytes, where the
 -- disks report their past: whichever keys the source leaves, it holds of those that it left before
@@ -213,12 +217,13 @@ Answers parts status =
     (status ≡ (run_verdict parts).status)
     ⊎ (IsLost status ⊎ ((status ≡ 11) ⊎ ((status ≡ 13) ⊎ ((status ≡ 12) × BeginsWith0 parts))))
 
--- what a sink has taken, and how often it failed, with the disks and the memory at that moment
+-- what a sink has taken, and how often it failed and the source of keys did, with the disks and the memory at that moment
 pub record Scene (D : Type 0) : Type 0 where
   pub disks : D
   pub memory : Memory
   pub taken : Option (List ℕ)
   pub faults : ℕ
+  pub key_faults : ℕ
 
 -- a text was taken whole, or the sink's faults rose and a prefix of it was
 abbrev pub TellsText : {D : Type 0} → List ℕ → Scene D → Scene D → Type 0
@@ -231,14 +236,16 @@ TellsOne texts old new = PrintsOne old.taken texts new.taken old.faults new.faul
 -- A part showed its text, as far as the sink took it: the verdict's with its status, a text of a failure with 8 to 11, one
 -- of want of memory with 13, and with 12 in the place of 0 a prefix of the verdict's. Where it wasn't a failure's, these
 -- keys are left, and what is to be written was; a failure before the write left the disks, one in it has written it or
--- hasn't, and one after it left it written.
+-- hasn't, and one after it left it written: the disks' count of faults rose from the part's entry, from the write's start
+-- or from its end on. The source's count rose from the part's entry on.
 pub data Tells {D : Type 0} (g : Ghosts D) (part : Effect) (status : ℕ) (left : List Key) (old new : Scene D) : Type 0 where
   TellsVerdict : status ≡ part.verdict.status → part.left ≡ left → TellsText part.verdict.text old new → HasPut g old.disks new.disks part.write
       → Tells g part status left old new
-  TellsLost : status ≡ 8 → TellsOne part.failures old new → SameOf g old.disks new.disks → Tells g part status left old new
+  TellsLost : status ≡ 8 → TellsOne part.failures old new → CameTo g old.disks new.disks part.write Before → Tells g part status left old new
   TellsLostAtCommit : status ≡ 9 → TellsOne part.at_commit old new → CameTo g old.disks new.disks part.write Commit → Tells g part status left old new
   TellsLostAfter : status ≡ 10 → TellsOne part.after_commit old new → CameTo g old.disks new.disks part.write After → Tells g part status left old new
-  TellsUnheard : status ≡ 11 → TellsOne part.unheard old new → SameOf g old.disks new.disks → Tells g part status left old new
+  TellsUnheard : status ≡ 11 → TellsOne part.unheard old new → Rose old.key_faults new.key_faults → SameOf g old.disks new.disks
+      → Tells g part status left old new
   TellsStarved : status ≡ 13 → TellsOne part.starved old new → SameOf g old.disks new.disks → Tells g part status left old new
   TellsCut : status ≡ 12 → part.verdict.status ≡ 0 → part.left ≡ left → Rose old.faults new.faults → TakesFront old.taken part.verdict.text new.taken
       → HasPut g old.disks new.disks part.write → Tells g part status left old new
@@ -260,7 +267,7 @@ pub record TellsPassed {D : Type 0} (g : Ghosts D) (part : Effect) (old new : Sc
   pub wrote : HasPut g old.disks new.disks part.write
   pub placed : new.memory ≡ memory_after old.memory part.written
   pub taken : new.taken ≡ taken_behind old.taken part.verdict.text
-  pub counted : new.faults ≡ old.faults
+  pub later : old.faults ≤ new.faults
 
 -- no part more showed a text
 pub record TellsNone {D : Type 0} (status : ℕ) (keys left : List Key) (old new : Scene D) : Type 0 where
@@ -279,13 +286,14 @@ TellsRun {D} g (part ∷ parts) status keys left old new =
     TellsEnd g part status left old new
     ⊎ ((mid : Scene D) × TellsPassed g part old mid × TellsRun g parts status part.left left mid new)
 
--- disks, a memory and a sink at a moment
-abbrev pub scene_of : {D O : Type 0} → sinks.Ghosts O → D × List ℕ × O → Scene D
-scene_of o (disks, ram, out) = record { disks = disks; memory = memory_of ram; taken = o.taken out; faults = o.faults out }
+-- disks, a source, a memory and a sink at a moment
+abbrev pub scene_of : {D I O : Type 0} → sources.Ghosts I → sinks.Ghosts O → D × I × List ℕ × O → Scene D
+scene_of i o (disks, keys, ram, out) =
+    record { disks = disks; memory = memory_of ram; taken = o.taken out; faults = o.faults out; key_faults = i.faults keys }
 
--- the same, by the disks, the memory and the sink before them and after them
-abbrev pub TellsAll : {D O : Type 0} → Ghosts D → sinks.Ghosts O → List Effect → ℕ → List Key → List Key → D × List ℕ × O → D × List ℕ × O → Type 0
-TellsAll g o parts status keys left old new = TellsRun g parts status keys left (scene_of o old) (scene_of o new)
+-- the same, by the disks, the source, the memory and the sink before them and after them
+abbrev pub TellsAll : {D I O : Type 0} → Ghosts D → sources.Ghosts I → sinks.Ghosts O → List Effect → ℕ → List Key → List Key → D × I × List ℕ × O → D × I × List ℕ × O → Type 0
+TellsAll g i o parts status keys left old new = TellsRun g parts status keys left (scene_of i o old) (scene_of i o new)
 
 -- ---- what is left of the disks
 

@@ -87,8 +87,8 @@ pub fn lilo<D: Disks, I: Source, O: Sink>(
     // The text, the keys left and what the disks hold go with the status. Only a failed sink may have cut the text short,
     // in the part at which the run ended.
     ensures text { OnParts D.Disks I.Source disks.old (keys.old, keys.new) (length ram.old) words.now
-        (λ parts all left. TellsAll D.Disks O.Sink parts result all left
-        (disks.old, ram.old, out.old) (disks.new, ram.new, out.new)) }
+        (λ parts all left. TellsAll D.Disks I.Source O.Sink parts result all left
+        (disks.old, keys.old, ram.old, out.old) (disks.new, keys.new, ram.new, out.new)) }
     ensures whole { result ≡ 0 → OnParts D.Disks I.Source disks.old (keys.old, keys.new) (length ram.old) words.now
         (λ parts _ _. Takes (O.taken out.old) (run_verdict parts).text (O.taken out.new)) }
     ensures left { result ≡ 0 → OnParts D.Disks I.Source disks.old (keys.old, keys.new) (length ram.old) words.now
@@ -98,8 +98,8 @@ pub fn lilo<D: Disks, I: Source, O: Sink>(
     // writes.
     ensures boot { (device : Device) (dump : Bool) → IsBootRun words.now device dump
         → OnDisks D.Disks disks.old (λ now machine. OnKeys I.Source (keys.old, keys.new) (λ all left.
-        TellsBoot D.Disks O.Sink now machine (length ram.old) (place_at now machine device) dump all left result
-        (disks.old, ram.old, out.old) (disks.new, ram.new, out.new))) }
+        TellsBoot D.Disks I.Source O.Sink now machine (length ram.old) (place_at now machine device) dump all left result
+        (disks.old, keys.old, ram.old, out.old) (disks.new, keys.new, ram.new, out.new))) }
 
     // Each part that answers 0 wrote its default line, and a stop at any moment leaves what the disks held before one of
     // the parts or after it: the sector of a default line has its old bytes or its new ones, and no other is written.
@@ -147,8 +147,9 @@ fn run_words<D: Disks, I: Source, O: Sink>(
     out: &mut Shown<'_, O>,
 ) -> u8
     ensures does { OnParts D.Disks I.Source bios.old.disks.now (bios.old.keys.now, bios.new.keys.now) (length ram.old)
-        words.now (λ parts all left. RunsAll D.Disks O.Sink parts result all left
-        (bios.old.disks.now, ram.old, out.old) (bios.new.disks.now, ram.new, out.new)) }
+        words.now (λ parts all left. RunsAll D.Disks I.Source O.Sink parts result all left
+        (bios.old.disks.now, bios.old.keys.now, ram.old, out.old)
+        (bios.new.disks.now, bios.new.keys.now, ram.new, out.new)) }
     ensures usage { (result ≡ 1) ↔ IsErr (run_at words.now) }
     ensures usage_line { IsErr (run_at words.now)
         → Shows (sink_of O.Sink out.old) (usage_text words.now) (sink_of O.Sink out.new) }
@@ -188,9 +189,10 @@ fn run_parts<D: Disks, I: Source, O: Sink>(
 ) -> u8
     requires { IsOk (run_behind words.now 0) }
     ensures does { OnDisks D.Disks bios.old.disks.now (λ now machine.
-        OnKeys I.Source (bios.old.keys.now, bios.new.keys.now) (λ all left. RunsAll D.Disks O.Sink
+        OnKeys I.Source (bios.old.keys.now, bios.new.keys.now) (λ all left. RunsAll D.Disks I.Source O.Sink
         (parts_effects (part_effect machine (length ram.old)) now (parts_behind words.now 0) all) result all left
-        (bios.old.disks.now, ram.old, out.old) (bios.new.disks.now, ram.new, out.new))) }
+        (bios.old.disks.now, bios.old.keys.now, ram.old, out.old)
+        (bios.new.disks.now, bios.new.keys.now, ram.new, out.new))) }
     ensures early { IfSome (early_parts (D.size_of bios.old.disks.now) (parts_behind words.now 0))
         (λ status. result ≡ status) }
     ensures known { IsTrue (is_run_status result) }

@@ -1,4 +1,4 @@
-use Rattle.std.proofs.Common.{length, refl}
+use Rattle.std.proofs.Common.{length, refl, ap, Err}
 use Rattle.sector_address.specs.Machine.{machine_of}
 use Rattle.mbr_table.specs.View.{device_view, span_view}
 use Rattle.lilo_model.specs.ConfVerdict.{place_at}
@@ -16,7 +16,8 @@ returns-in-Ok-clause-does g c =
     told_both (g.D.Disks.past c.args.bios.now.disks.now) _ _ _
     (λ now place goes. place_booted g.D.Disks g.I.Source now machine (length c.args.ram.now) c.args.dump (place_at now machine (device_view c.args.device)) (span_view c.in-Ok.span) c.boot_span.result
     (c.args.bios.now.keys.now, c.boot_span.new.bios.keys.now) c.args.bios.now.disks.now
-    (state_of g.O.Sink c.find_device.new.disks c.args.ram.now c.args.out.now) (state_of g.O.Sink c.boot_span.new.bios.disks.now c.boot_span.new.ram c.boot_span.new.out)
+    (state_of g.I.Source g.O.Sink (c.find_device.new.disks, c.args.bios.now.keys.now, c.args.ram.now, c.args.out.now))
+    (state_of g.I.Source g.O.Sink (c.boot_span.new.bios.disks.now, c.boot_span.new.bios.keys.now, c.boot_span.new.ram, c.boot_span.new.out))
     place same c.in-Ok.ensures.reads.later goes)
     c.in-Ok.ensures.place rest
 
@@ -26,6 +27,7 @@ returns-in-Err-clause-does g c =
     told_map (g.D.Disks.past c.args.bios.now.disks.now) _ _
     (λ now halts. keys_still g.I.Source c.args.bios.now.keys.now _
     (λ keys. place_failed g.D.Disks now machine (length c.args.ram.now) c.args.dump keys c.say.result
-    (state_of g.O.Sink c.args.bios.now.disks.now c.args.ram.now c.args.out.now) (state_of g.O.Sink c.find_device.new.disks c.args.ram.now c.say.new.out)
-    c.in-Err.ensures.reads.same refl (place_at now machine (device_view c.args.device)) c.in-Err.halt halts c.say.ensures.status c.say.ensures.some c.say.ensures.shown))
+    (state_of g.I.Source g.O.Sink (c.args.bios.now.disks.now, c.args.bios.now.keys.now, c.args.ram.now, c.args.out.now))
+    (state_of g.I.Source g.O.Sink (c.find_device.new.disks, c.args.bios.now.keys.now, c.args.ram.now, c.say.new.out))
+    c.in-Err.ensures.reads.same refl (place_at now machine (device_view c.args.device)) c.in-Err.halt halts (λ is. c.in-Err.ensures.reads.failed (ap Err is)) c.say.ensures.status c.say.ensures.some c.say.ensures.shown))
     c.in-Err.ensures.place

@@ -6,7 +6,7 @@ use Rattle.sector_address.specs.Machine.{machine_of}
 use Rattle.lilo_model.specs.ConfVerdict.{conf_device}
 use Rattle.lilo_run.specs.Verdict.{line_verdict, line_by, line_effect}
 use Rattle.disk_trait.proofs.ToldLemmas.{told_map, told_both}
-use Rattle.lilo_run.proofs.ConfLemmas.{conf_refused}
+use Rattle.lilo_run.proofs.ConfLemmas.{conf_refused, conf_lost}
 use Rattle.lilo_run.proofs.ShotLemmas.{shot_refused, shot_booted}
 use Rattle.lilo_run.proofs.line.put_line.Goals as goal
 
@@ -14,7 +14,7 @@ pub returns-in-Ok-clause-does : goal.returns-in-Ok-clause-does
 returns-in-Ok-clause-does g c =
     let same = c.boot_device.ensures.same in λ memory.
     told_both (g.D.Disks.past c.args.disks.now) _ _ _
-    (λ now is carries keys. shot_booted g.D.Disks c.args.text.now c.put_line_on.result keys _ _ now _ _ c.args.path.now (device_view c.in-Ok.device) c.args.disks.now is same c.boot_device.ensures.later (carries keys))
+    (λ now is carries keys key_faults. shot_booted g.D.Disks c.args.text.now c.put_line_on.result keys _ _ now _ _ c.args.path.now (device_view c.in-Ok.device) c.args.disks.now is same c.boot_device.ensures.later (carries keys key_faults))
     c.in-Ok.ensures.device (rw (same.same_past, same.same_size, same.same_geometry) at (c.put_line_on.ensures.does memory))
 
 pub returns-in-Err-clause-does : goal.returns-in-Err-clause-does
@@ -22,8 +22,9 @@ unfolding line_effect
 returns-in-Err-clause-does g c =
     let machine = machine_of g.D.Disks c.args.disks.now in λ memory.
     told_map (g.D.Disks.past c.args.disks.now) _ _
-    (λ now refuses keys. shot_refused g.D.Disks c.args.text.now c.say_conf.result keys _ _
-    (line_by now machine c.args.text.now (conf_device now machine (option_map device_view c.args.root) c.args.path.now)) c.boot_device.ensures.same c.say_conf.ensures.some
+    (λ now refuses keys key_faults. shot_refused g.D.Disks c.args.text.now c.say_conf.result keys _ _
+    (line_by now machine c.args.text.now (conf_device now machine (option_map device_view c.args.root) c.args.path.now)) c.boot_device.ensures.same
+    (λ eight. conf_lost c.args.path.now c.say_conf.result _ _ eight c.in-Err.halt c.in-Err.ensures.cause c.say_conf.ensures.status) c.say_conf.ensures.some
     (conf_refused (λ given. line_verdict (line_by now machine c.args.text.now given)) (λ refusal. refl) c.args.path.now c.in-Err.halt
     (conf_device now machine (option_map device_view c.args.root) c.args.path.now) c.say_conf.result memory _ _ refuses c.say_conf.ensures.status c.say_conf.ensures.some c.say_conf.ensures.shown))
     c.in-Err.ensures.device

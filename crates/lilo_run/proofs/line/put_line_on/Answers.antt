@@ -1,3 +1,4 @@
+use Rattle.std.proofs.Common.{ap, Err}
 use Rattle.mbr_table.specs.View.{device_view, span_view}
 use Rattle.lilo_model.specs.ConfVerdict.{place_at}
 use Rattle.sector_address.specs.Machine.{machine_of}
@@ -10,13 +11,14 @@ returns-in-Ok-clause-does g c =
     let machine = machine_of g.D.Disks c.args.disks.now in
     let same = c.in-Ok.ensures.reads.same in λ memory.
     told_both (g.D.Disks.past c.args.disks.now) _ _ _
-    (λ now is carries keys. shot_placed g.D.Disks c.args.text.now c.put_line_in.result keys _ _ now machine (place_at now machine (device_view c.args.device)) (span_view c.in-Ok.span) c.args.disks.now is same c.in-Ok.ensures.reads.later (carries keys))
+    (λ now is carries keys key_faults. shot_placed g.D.Disks c.args.text.now c.put_line_in.result keys _ _ now machine (place_at now machine (device_view c.args.device)) (span_view c.in-Ok.span) c.args.disks.now is same c.in-Ok.ensures.reads.later (carries keys key_faults))
     c.in-Ok.ensures.place (rw (same.same_past, same.same_size, same.same_geometry) at (c.put_line_in.ensures.does memory))
 
 pub returns-in-Err-clause-does : goal.returns-in-Err-clause-does
 returns-in-Err-clause-does g c =
     let machine = machine_of g.D.Disks c.args.disks.now in λ memory.
     told_map (g.D.Disks.past c.args.disks.now) _ _
-    (λ now halts keys. shot_unplaced g.D.Disks c.args.text.now c.say.result keys _ _ now machine (place_at now machine (device_view c.args.device)) c.in-Err.halt halts c.in-Err.ensures.reads.same
+    (λ now halts keys key_faults. shot_unplaced g.D.Disks c.args.text.now c.say.result keys _ _ now machine (place_at now machine (device_view c.args.device)) c.in-Err.halt halts c.in-Err.ensures.reads.same
+    (λ is. c.in-Err.ensures.reads.failed (ap Err is))
     c.say.ensures.status c.say.ensures.some c.say.ensures.shown)
     c.in-Err.ensures.place

@@ -17,8 +17,8 @@ pub returns-in-Query-clause-does : goal.returns-in-Query-clause-does
 returns-in-Query-clause-does g c =
     let past = g.D.Disks.past c.args.bios.now.disks.now in
     let machine = machine_of g.D.Disks c.args.bios.now.disks.now in
-    let old = state_of g.O.Sink c.args.bios.now.disks.now c.args.ram.now c.args.out.now in
-    let new = state_of g.O.Sink c.query.new.disks c.args.ram.now c.query.new.out in
+    let old = state_of g.I.Source g.O.Sink (c.args.bios.now.disks.now, c.args.bios.now.keys.now, c.args.ram.now, c.args.out.now) in
+    let new = state_of g.I.Source g.O.Sink (c.query.new.disks, c.args.bios.now.keys.now, c.args.ram.now, c.query.new.out) in
     let same = c.as_bytes-path.ensures.value ∙ c.conf_path.ensures in
     let does = subst
     (λ path. DoesBeside g.D.Disks g.O.Sink c.args.bios.now.disks.now (memory_of c.args.ram.now) c.query.result c.args.out.now c.query.new.out
@@ -26,7 +26,7 @@ returns-in-Query-clause-does g c =
     same (c.query.ensures.does (memory_of c.args.ram.now)) in
     rw c.in-Query.is
     (told_map past _ _ (λ now does. keys_still g.I.Source c.args.bios.now.keys.now _
-    (λ keys. queries g.D.Disks now machine (length c.args.ram.now) _ _ c.query.result keys old new c.query.ensures.only.reads.same _ does)) does)
+    (λ keys. queries g.D.Disks now machine (length c.args.ram.now) _ _ c.query.result keys old new c.query.ensures.only.reads _ does)) does)
 
 pub returns-in-Boot-clause-does : goal.returns-in-Boot-clause-does
 unfolding command_effect
@@ -36,13 +36,13 @@ pub returns-in-Install-clause-does : goal.returns-in-Install-clause-does
 returns-in-Install-clause-does g c =
     let past = g.D.Disks.past c.args.bios.now.disks.now in
     let machine = machine_of g.D.Disks c.args.bios.now.disks.now in
-    let old = state_of g.O.Sink c.args.bios.now.disks.now c.args.ram.now c.args.out.now in
-    let new = state_of g.O.Sink c.install.new.disks c.args.ram.now c.install.new.out in
-    let same = c.install.ensures.only.reads.same in
+    let old = state_of g.I.Source g.O.Sink (c.args.bios.now.disks.now, c.args.bios.now.keys.now, c.args.ram.now, c.args.out.now) in
+    let new = state_of g.I.Source g.O.Sink (c.install.new.disks, c.args.bios.now.keys.now, c.args.ram.now, c.install.new.out) in
+    let reads = c.install.ensures.only.reads in
     let does = rw (c.as_bytes-path.ensures.value, c.conf_path.ensures) at (c.install.ensures.does (memory_of c.args.ram.now)) in
     elim c.in-Install.is [
-      | inl is ↦ rw is (told_map past _ _ (λ now does. keys_still g.I.Source c.args.bios.now.keys.now _ (λ keys. installs g.D.Disks now machine (length c.args.ram.now) _ _ c.install.result keys old new same does)) does)
-      | inr is ↦ rw is (told_map past _ _ (λ now does. keys_still g.I.Source c.args.bios.now.keys.now _ (λ keys. would_install g.D.Disks now machine (length c.args.ram.now) _ _ c.install.result keys old new same does)) does)
+      | inl is ↦ rw is (told_map past _ _ (λ now does. keys_still g.I.Source c.args.bios.now.keys.now _ (λ keys. installs g.D.Disks now machine (length c.args.ram.now) _ _ c.install.result keys old new reads does)) does)
+      | inr is ↦ rw is (told_map past _ _ (λ now does. keys_still g.I.Source c.args.bios.now.keys.now _ (λ keys. would_install g.D.Disks now machine (length c.args.ram.now) _ _ c.install.result keys old new reads does)) does)
     ]
 
 pub returns-in-Ok-clause-does : goal.returns-in-Ok-clause-does
@@ -54,7 +54,7 @@ returns-in-Ok-clause-does g c =
     (λ now machine. line_effect now machine (option_map device_view c.args.part.root) path c.in-Ok.text.items))
     same (rw c.as_slice.ensures.value at (c.put_line.ensures.does (memory_of c.args.ram.now))) in
     rw (c.in-SetLine.is, ← c.in-Ok.ensures)
-    (told_map (g.D.Disks.past c.args.bios.now.disks.now) _ _ (λ now carries. keys_still g.I.Source c.args.bios.now.keys.now _ carries) does)
+    (told_map (g.D.Disks.past c.args.bios.now.disks.now) _ _ (λ now carries. keys_still g.I.Source c.args.bios.now.keys.now _ (λ keys. carries keys (g.I.Source.faults c.args.bios.now.keys.now))) does)
 
 pub returns-in-Err-clause-does : goal.returns-in-Err-clause-does
 unfolding command_effect line_effect

@@ -18,10 +18,10 @@ returns-clause-text g c =
     held_of_four
     (λ disks keys out out'. Told (g.D.Disks.past c.args.disks.now) (λ now. OnKeys g.I.Source (c.args.keys.now, keys) (λ all left.
     TellsRun g.D.Disks (effects_of now (machine_of g.D.Disks c.args.disks.now) (length c.args.ram.now) c.args.words.now all)
-    c.run_words.result all left (scene_of g.O.Sink (c.args.disks.now, c.args.ram.now, out)) (scene_of g.O.Sink (disks, c.run_words.new.ram, out')))))
+    c.run_words.result all left (scene_of g.I.Source g.O.Sink (c.args.disks.now, c.args.keys.now, c.args.ram.now, out)) (scene_of g.I.Source g.O.Sink (disks, keys, c.run_words.new.ram, out')))))
     c.run_words.new.bios.disks.now c.run_words.new.bios.keys.now c.new-shown.result.out.now c.run_words.new.out.out.now
     (told_map (g.D.Disks.past c.args.disks.now) _ _
-    (λ now runs. keys_map g.I.Source _ _ _ (λ all left told. runs_tell g.D.Disks _ c.run_words.result all left _ _ _ (omega arith) c.new-shown.ensures.fresh told) runs) c.run_words.ensures.does)
+    (λ now runs. keys_map g.I.Source _ _ _ (λ all left told. runs_tell g.D.Disks _ c.run_words.result all left _ _ c.new-shown.ensures.fresh told) runs) c.run_words.ensures.does)
     (search rules) (search rules) (ap (λ out. out.now) c.new-shown.ensures.sink) (search rules)
 
 pub returns-clause-status : goal.returns-clause-status

@@ -14,7 +14,8 @@ use Rattle.lilo_run.specs.Verdict.{part_effect, early_status}
 use Rattle.lilo_run.proofs.ConfLemmas.{read_first, read_more}
 use Rattle.lilo_model.specs.ConfVerdict.{conf_path}
 use Rattle.lilo_run.proofs.MemoryLemmas.{boots_by}
-use Rattle.lilo_run.proofs.RunLemmas.{Begun, place_within, continues_more, continues_end, continues_last, own_status, own_lost, own_write_lost, boot_first, boot_more, write_first, write_more, begun_more, begun_last, stays_more, unwritten_more, told_here, told_from, keeps_twice, rose_after}
+use Rattle.lilo_run.proofs.RunLemmas.{Begun, place_within, continues_more, continues_end, continues_last, own_status, own_lost, own_write_lost, boot_first, boot_more, write_first, write_more, begun_more, begun_last, stays_more, unwritten_more, told_here, told_from, keeps_twice}
+use Rattle.loader_core.proofs.LeavesLemmas.{rose_after}
 use Rattle.lilo_run.proofs.run.run_parts.Goals as goal
 
 pub returns-in_default-answer-clause-does : goal.returns-in_default-answer-clause-does
@@ -24,9 +25,9 @@ returns-in_default-answer-clause-does g c =
     let run = c.carry_out-own in
     let part = part_view words c.part_at-read.result.part in
     let machine = machine_of g.D.Disks c.args.bios.now.disks.now in
-    let start = state_of g.O.Sink c.args.bios.now.disks.now c.args.ram.now c.args.out.now in
-    let here = state_of g.O.Sink c.loop-next.bios.disks.now c.loop-next.ram c.loop-next.out in
-    let there = state_of g.O.Sink run.new.bios.disks.now run.new.ram run.new.out in
+    let start = state_of g.I.Source g.O.Sink (c.args.bios.now.disks.now, c.args.bios.now.keys.now, c.args.ram.now, c.args.out.now) in
+    let here = state_of g.I.Source g.O.Sink (c.loop-next.bios.disks.now, c.loop-next.bios.keys.now, c.loop-next.ram, c.loop-next.out) in
+    let there = state_of g.I.Source g.O.Sink (run.new.bios.disks.now, run.new.bios.keys.now, run.new.ram, run.new.out) in
     let rest : parts_of_next words c.loop-next.next ≡ part ∷ parts_of_next words c.part_at-read.result.next =
     rw c.in-Some.is c.part_at-read.ensures.part in
     let answer : c.answer.result ≡ answer_of run.result run.new.out.failed = rw c.failed.ensures at c.answer.ensures in
@@ -139,9 +140,9 @@ loop-next-preserved g c =
     let old = sink_of g.O.Sink c.loop-next.out in
     let new = sink_of g.O.Sink run.new.out in
     let machine = machine_of g.D.Disks c.args.bios.now.disks.now in
-    let start = state_of g.O.Sink c.args.bios.now.disks.now c.args.ram.now c.args.out.now in
-    let here = state_of g.O.Sink c.loop-next.bios.disks.now c.loop-next.ram c.loop-next.out in
-    let there = state_of g.O.Sink run.new.bios.disks.now run.new.ram run.new.out in
+    let start = state_of g.I.Source g.O.Sink (c.args.bios.now.disks.now, c.args.bios.now.keys.now, c.args.ram.now, c.args.out.now) in
+    let here = state_of g.I.Source g.O.Sink (c.loop-next.bios.disks.now, c.loop-next.bios.keys.now, c.loop-next.ram, c.loop-next.out) in
+    let there = state_of g.I.Source g.O.Sink (run.new.bios.disks.now, run.new.bios.keys.now, run.new.ram, run.new.out) in
     let rest : parts_of_next words c.loop-next.next ≡ part ∷ behind = rw c.in-Some.is c.part_at-read.ensures.part in
     let begun = subst (λ next. Begun (g.D.Disks.size_of c.args.bios.now.disks.now) (parts_behind words 0) next) c.in-Some.is invariant.begun in
     let early = subst (λ size. IfSome (early_status size part.command) (λ status. run.result ≡ status)) invariant.keeps.size (run.ensures.early words) in

@@ -19,7 +19,7 @@ invariant-loop-next g l = record {
       IsTold (g.D.Disks.past l.fn.bios.disks.now)
       → Continues g.D.Disks g.I.Source (part_effect (machine_of g.D.Disks l.fn.bios.disks.now) (length l.fn.ram))
       (parts_behind l.words 0) (parts_of_next l.words l.next) l.fn.bios.keys.now l.bios.keys.now
-      (state_of g.O.Sink l.fn.bios.disks.now l.fn.ram l.fn.out) (state_of g.O.Sink l.bios.disks.now l.ram l.out);
+      (state_of g.I.Source g.O.Sink (l.fn.bios.disks.now, l.fn.bios.keys.now, l.fn.ram, l.fn.out)) (state_of g.I.Source g.O.Sink (l.bios.disks.now, l.bios.keys.now, l.ram, l.out));
   begun : Begun (g.D.Disks.size_of l.fn.bios.disks.now) (parts_behind l.words 0) l.next;
   keeps : KeepsDisks g.D.Disks l.fn.bios.disks.now l.bios.disks.now;
   keys_later : g.I.Source.faults l.fn.bios.keys.now ≤ g.I.Source.faults l.bios.keys.now;

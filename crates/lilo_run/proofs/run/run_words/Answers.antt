@@ -14,6 +14,6 @@ returns-in-Err-clause-does g c =
     (λ now left may. (
       left,
       may,
-      usage_runs g.D.Disks now _ _ c.args.words.now left (wrong_view c.in-Err.wrong) c.args.bios.now.disks.now _ _ _ c.in-Err.ensures.wrong
+      usage_runs g.D.Disks now _ _ c.args.words.now left (wrong_view c.in-Err.wrong) c.args.bios.now.disks.now _ _ _ _ c.in-Err.ensures.wrong
           (rw (usage_is c.args.words.now (wrong_view c.in-Err.wrong) c.in-Err.ensures.wrong, ← c.word.ensures) c.say_usage.ensures.shown),
     ))

@@ -1,12 +1,12 @@
 -- What a run reported, by what was done.
-use Rattle.std.proofs.Common.{◌≡◌, ◌≤◌, ◌≢◌, ◌∙◌, ◌==◌, ℕ, inl, inr, Bool, true, false, List, [], ◌∷◌, Option, None, Some, refl, sym, ap, subst, arith, append-nil}
+use Rattle.std.proofs.Common.{◌≡◌, ◌≢◌, ◌∙◌, ◌==◌, ℕ, inl, inr, Bool, true, false, List, [], ◌∷◌, Option, None, Some, refl, sym, ap, subst, append-nil}
 use Rattle.std.proofs.lemmas.Bool.{eqb-true, ne_eqb}
 use Rattle.lilo_model.specs.Place.{memory_after}
 use Rattle.lilo_model.specs.Prompt.{Key}
 use Rattle.stream_trait.specs.Sink.{Takes}
 use Rattle.disk_trait.specs.declared.disks.Disks.{Ghosts}
 use Rattle.loader_core.specs.Leaves.{HasPut}
-use Rattle.stream_trait.specs.Shows.{answer_of, Prints, PrintsOne, ShowsOne}
+use Rattle.stream_trait.specs.Shows.{answer_of, PrintsOne, ShowsOne}
 use Rattle.stream_trait.proofs.ShowsLemmas.{prints_of, prints_one_of}
 use Rattle.stream_trait.proofs.SinkLemmas.{Takes-trans}
 use Rattle.lilo_run.specs.Run.{State, Scene, IsDone, Carries, CarriedOut, LostBefore, LostAtCommit, LostAfter, Starved, Unheard, EndsAt, Runs, Answers, Tells, TellsVerdict, TellsLost, TellsLostAtCommit, TellsLostAfter, TellsUnheard, TellsStarved, TellsCut, TellsPassed, TellsRun}

@@ -1,5 +1,5 @@
 -- The sink hadn't failed before.
-use Rattle.std.proofs.Common.{ap, arith, rules}
+use Rattle.std.proofs.Common.{ap, rules}
 use Rattle.std.specs.Prelude.{length}
 use Rattle.disk_trait.specs.Past.{Told}
 use Rattle.sector_address.specs.Machine.{machine_of}

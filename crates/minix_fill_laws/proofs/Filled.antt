@@ -4,10 +4,10 @@ use Rattle.std.specs.Prelude.{◌==◌, slice_index}
 use Rattle.std.proofs.lemmas.Bool.{eqb-true}
 use Rattle.lilo_model.specs.MinixLayout.{Super, numbers_in_zone, reach}
 use Rattle.lilo_model.specs.MinixParts.{Parts, Pointer, IsPointer, number_below, follow, block_pointer, zone_bytes, blocks_for}
-use Rattle.lilo_model.specs.MinixNames.{pointer, zone_number, block, blocks, content, PointsTo}
+use Rattle.lilo_model.specs.MinixNames.{pointer, zone_number, block, blocks, content, PointsTo, Refers}
 use Rattle.minix_laws.proofs.Inside.{is_pointer-block, some_numbers}
 use Rattle.minix_fill_laws.specs.Sources.{FileZones, zone_from, below_source, source_below, source_by, source_of}
-use Rattle.minix_fill_laws.specs.Laws.{MayBeFile, HasZones, PointersLaw, ContentLaw, AreNewZones, FilledLaw}
+use Rattle.minix_fill_laws.specs.Laws.{MayBeFile, HasZones, PointersLaw, ContentLaw, AreNewZones, FitFilledLaw, FilledLaw}
 use Rattle.minix_fill_laws.proofs.Pointers.{outer_place, pointers_once, block_leads}
 
 module _ (super : Super) (parts : Parts) (number : ℕ) (zones : FileZones) (may : MayBeFile super.kind zones) (has : HasZones super parts number zones) where
@@ -75,21 +75,27 @@ module _ (super : Super) (parts : Parts) (number : ℕ) (zones : FileZones) (may
     at_zone : (P : ℕ → Type 0) (at : Pointer) (zone : ℕ) → PointsTo super parts number at zone → P (zone_from zones (source_of per at)) → P zone
     at_zone P at zone to holds = subst P (leads at zone to) holds
 
+    -- no named inode refers to one
+    unused : (at : Pointer) (zone : ℕ) → PointsTo super parts number at zone → (other : ℕ) (there : Pointer) → Refers super parts other there zone → ⊥
+    unused at zone to other there refers =
+        new.unused (source_of per at) (some_zone at zone to) other there
+        (record {
+          named = refers.named;
+          to = record { kind = refers.to.kind; place = refers.to.place; is = refers.to.is ∙ sym (leads at zone to); some = some_zone at zone to };
+        })
+
 pub pointers_law : PointersLaw
 pointers_law super parts number zones at may has is = pointers super parts number zones may has at is
 
 pub content_law : ContentLaw
 content_law super parts number zones may has few = contents super parts number zones may has few
 
-pub filled_law : FilledLaw
-filled_law super parts number zones may has inode new = record {
-  unnamed = inode.unnamed;
-  file = inode.file;
+pub fit_filled_law : FitFilledLaw
+fit_filled_law super parts number zones may has inode new = record {
   range = inode.range;
   marked = inode.marked;
   mode = inode.mode;
   size = inode.size;
-  some_link = inode.some_link;
   zone_range = λ at zone to.
       at_zone super parts number zones may has new (λ z. (super.first ≤ z) × (z < super.zones)) at zone to
       (new.range (source_of (numbers_in_zone super.kind) at) (some_zone super parts number zones may has new at zone to));
@@ -101,10 +107,22 @@ filled_law super parts number zones may has inode new = record {
       (may.once (source_of (numbers_in_zone super.kind) at) (source_of (numbers_in_zone super.kind) there)
       (leads super parts number zones may has new at zone one ∙ sym (leads super parts number zones may has new there zone other))
       (some_zone super parts number zones may has new at zone one));
-  unused = λ at zone to other there refers.
-      new.unused (source_of (numbers_in_zone super.kind) at) (some_zone super parts number zones may has new at zone to) other there
-      (record {
-        named = refers.named;
-        to = record { kind = refers.to.kind; place = refers.to.place; is = refers.to.is ∙ sym (leads super parts number zones may has new at zone to); some = some_zone super parts number zones may has new at zone to };
-      });
+  apart = λ other at there zone to refers. absurd (unused super parts number zones may has new at zone to other there refers);
 }
+
+pub filled_law : FilledLaw
+filled_law super parts number zones may has inode new file =
+    let fit = fit_filled_law super parts number zones may has inode new in
+    record {
+      unnamed = inode.unnamed;
+      file = file;
+      range = fit.range;
+      marked = fit.marked;
+      mode = fit.mode;
+      size = fit.size;
+      some_link = inode.some_link;
+      zone_range = fit.zone_range;
+      zone_marked = fit.zone_marked;
+      once = fit.once;
+      unused = unused super parts number zones may has new;
+    }

@@ -3,6 +3,7 @@ use Rattle.std.specs.Prelude.{◌≡◌, ◌≢◌, ◌≤◌, ◌<◌, ◌+◌,
 use Rattle.lilo_model.specs.MinixLayout.{Kind, Super, is_v1, is_size, numbers_in_zone, reach}
 use Rattle.lilo_model.specs.MinixParts.{Parts, Pointer, IsPointer, is_directory, number_in, zone_bytes, blocks_for}
 use Rattle.lilo_model.specs.MinixNames.{pointer, blocks, content, Named, Refers}
+use Rattle.minix_entry_laws.specs.Comes.{IsFit}
 use Rattle.minix_entry_laws.specs.Enter.{IsNewFile}
 use Rattle.minix_fill_laws.specs.Sources.{Source, FileZones, zone_from, top_source, below_source, source_of}
 
@@ -43,7 +44,6 @@ ContentLaw =
 -- an inode without a name may get one, but for its zones
 pub record IsNewInode (super : Super) (parts : Parts) (number : ℕ) : Type 0 where
   pub unnamed : Named super parts number → ⊥
-  pub file : is_directory (parts.node number) ≡ false
   pub range : (0 < number) × (number ≤ super.inodes)
   pub marked : parts.has_inode number ≡ true
   pub mode : (parts.node number).mode ≢ 0
@@ -56,9 +56,16 @@ pub record AreNewZones (super : Super) (parts : Parts) (zones : FileZones) : Typ
   pub marked : (source : Source) → zone_from zones source ≢ 0 → parts.has_zone (zone_from zones source) ≡ true
   pub unused : (source : Source) → zone_from zones source ≢ 0 → (other : ℕ) (there : Pointer) → Refers super parts other there (zone_from zones source) → ⊥
 
--- with such zones it is a new file
+-- with such zones it is fit for a name, be it a file or a directory
+abbrev pub FitFilledLaw : Type 0
+FitFilledLaw =
+    (super : Super) (parts : Parts) (number : ℕ) (zones : FileZones)
+    → MayBeFile super.kind zones → HasZones super parts number zones → IsNewInode super parts number → AreNewZones super parts zones
+    → IsFit super parts number
+
+-- and a new file, where it is no directory
 abbrev pub FilledLaw : Type 0
 FilledLaw =
     (super : Super) (parts : Parts) (number : ℕ) (zones : FileZones)
     → MayBeFile super.kind zones → HasZones super parts number zones → IsNewInode super parts number → AreNewZones super parts zones
-    → IsNewFile super parts number
+    → is_directory (parts.node number) ≡ false → IsNewFile super parts number

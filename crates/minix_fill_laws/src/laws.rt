@@ -1,6 +1,6 @@
 // What a file is whose inode and indirect zones have the numbers that were chosen for it.
 ghost use Rattle.minix_fill_laws.specs.Chosen.{ChosenLaw};
-ghost use Rattle.minix_fill_laws.specs.Laws.{PointersLaw, ContentLaw, FilledLaw};
+ghost use Rattle.minix_fill_laws.specs.Laws.{PointersLaw, ContentLaw, FitFilledLaw, FilledLaw};
 
 /// Each pointer leads to the zone that was chosen for it.
 pub fn pointers_lead_to_what_was_chosen()
@@ -12,7 +12,12 @@ pub fn content_is_of_the_blocks()
     ensures { ContentLaw }
 {}
 
-/// The inode may get a name, where its zones are new.
+/// The inode is fit for a name, where its zones are new.
+pub fn filled_inode_is_fit()
+    ensures { FitFilledLaw }
+{}
+
+/// It is a new file, where it is no directory.
 pub fn filled_inode_is_a_new_file()
     ensures { FilledLaw }
 {}

@@ -6,5 +6,5 @@ mod laws;
 
 pub use laws::{
     chosen_zones_may_be_a_file, content_is_of_the_blocks, filled_inode_is_a_new_file,
-    pointers_lead_to_what_was_chosen,
+    filled_inode_is_fit, pointers_lead_to_what_was_chosen,
 };

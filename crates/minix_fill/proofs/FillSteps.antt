@@ -21,7 +21,7 @@ use Rattle.minix_entry_laws.specs.Enter.{MayStand}
 use Rattle.minix_entry_laws.proofs.Names.{new_file_law}
 use Rattle.minix_fill_laws.specs.Sources.{Indirect, FileZones, zone_from}
 use Rattle.minix_fill_laws.specs.Laws.{MayBeFile, IsNewInode, AreNewZones}
-use Rattle.minix_fill_laws.proofs.Filled.{filled_law}
+use Rattle.minix_fill_laws.proofs.Filled.{fit_filled_law, filled_law}
 use Rattle.minix_fill_laws.proofs.Given.{past_end}
 use Rattle.minix_layout.specs.View.{kind_view, super_view, inode_view}
 use Rattle.minix_layout.specs.declared.inode.Inode as layouts
@@ -37,7 +37,7 @@ use Rattle.minix_zones.specs.declared.zone_fault.ZoneFault.{ZoneFault}
 use Rattle.minix_zones.specs.declared.zone_fault.ZoneFault.TheVariants.{Device}
 use Rattle.minix_zones.proofs.WriteLemmas.{cause_after}
 use Rattle.minix_fill.specs.Numbers.{AreNumbers, HasNumbers, tops_of}
-use Rattle.minix_fill.specs.Fill.{MayHoldFile, NumbersWritten, IsOffIndirect, WritesNumbers, IsFilled, FillsFile, IsOfFile, AreMarked, MayGetName}
+use Rattle.minix_fill.specs.Fill.{MayHoldFile, NumbersWritten, IsOffIndirect, WritesNumbers, IsFilled, FillsFile, IsOfSome, IsOfFile, AreMarked, MayGetName, IsNewFit, IsFitThen}
 use Rattle.minix_fill.proofs.FillLemmas.{numbers_none, numbers_hole, numbers_one, numbers_join, numbers_fit, kept_tops, KeepsFields, kept_fields, gid_small}
 
 -- ---- a volume that stays as it is
@@ -248,7 +248,7 @@ module _ {D : Type 0} {disks : Ghosts D} (old : Volume D disks) (zones : FileZon
 
   module _ (new : Volume D disks) (unnamed : IsUnnamedInode old number) (size : is_size (kind_view old.layout.kind) inode.size ≡ true) (steps : Steps old new)
       (durable : begun (past_of new) ≡ now (past_of new)) (told : IsTold (past_of old)) (filled : IsFilled old new number inode zones)
-      (file : IsOfFile inode) (marked : AreMarked (parts_now old) number zones) where
+      (some_of : IsOfSome inode) (marked : AreMarked (parts_now old) number zones) where
     -- what the disks hold now was held at the last flush
     at_flush : (P : models.Super → Parts → Type 0) → P (super_view old.layout) (parts_now new) → P (super_view new.layout) (model.parts_of (volume_view new) (begun (past_of new)))
     at_flush P holds =
@@ -262,12 +262,11 @@ module _ {D : Type 0} {disks : Ghosts D} (old : Volume D disks) (zones : FileZon
     new_inode : IsNewInode (super_view old.layout) (parts_now new) number
     new_inode = record {
       unnamed = λ named. (steps.unnamed number unnamed).unnamed (steps.goes_on.told told) (at_flush (λ super parts. Named super parts number) named);
-      file = let M : ℕ → Type 0 = λ mode. (mode / 4096 == 4) ≡ false in subst M (sym fields.mode) file.file;
       range = (omega (arith, some), there);
       marked = filled.marks number there ∙ marked.inode_bit;
-      mode = λ none. file.mode (sym fields.mode ∙ none);
+      mode = λ none. some_of.mode (sym fields.mode ∙ none);
       size = let S : ℕ → Type 0 = λ n. is_size (kind_view old.layout.kind) n ≡ true in subst S (sym fields.size) size;
-      some_link = let L : ℕ → Type 0 = λ n. 0 < n in subst L (sym fields.links) file.some_link;
+      some_link = let L : ℕ → Type 0 = λ n. 0 < n in subst L (sym fields.links) some_of.some_link;
     }
 
     new_zones : AreNewZones (super_view old.layout) (parts_now new) zones
@@ -279,11 +278,25 @@ module _ {D : Type 0} {disks : Ghosts D} (old : Volume D disks) (zones : FileZon
           (at_flush (λ super parts. Refers super parts other at (zone_from zones source)) refers);
     }
 
-    may_stand : MayStand (super_view old.layout) (parts_now new) number
-    may_stand = new_file_law (super_view old.layout) (parts_now new) number
-        (filled_law (super_view old.layout) (parts_now new) number zones (may told) filled.has new_inode new_zones)
+    new_fit : IsNewFit (super_view old.layout) (parts_now new) number
+    new_fit = record {
+      unnamed = new_inode.unnamed;
+      fit = fit_filled_law (super_view old.layout) (parts_now new) number zones (may told) filled.has new_inode new_zones;
+      some_link = new_inode.some_link;
+    }
+
+    may_stand : is_directory inode ≡ false → MayStand (super_view old.layout) (parts_now new) number
+    may_stand file =
+        let M : ℕ → Type 0 = λ mode. (mode / 4096 == 4) ≡ false in
+        new_file_law (super_view old.layout) (parts_now new) number
+        (filled_law (super_view old.layout) (parts_now new) number zones (may told) filled.has new_inode new_zones (subst M (sym fields.mode) file))
+
+  pub is_fit_then : (new : Volume D disks) (result : Result (Unit {0}) ZoneFault) → IsUnnamedInode old number → is_size (kind_view old.layout.kind) inode.size ≡ true
+      → FillsFile old new number inode zones result → IsFitThen old new number inode zones result
+  is_fit_then new (Ok done) unnamed size call some_of told marked = new_fit new unnamed size call.steps call.durable told (call.filled told) some_of marked
+  is_fit_then new (Err fault) unnamed size call some_of told marked = tt
 
   pub gets_name : (new : Volume D disks) (result : Result (Unit {0}) ZoneFault) → IsUnnamedInode old number → is_size (kind_view old.layout.kind) inode.size ≡ true
       → FillsFile old new number inode zones result → MayGetName old new number inode zones result
-  gets_name new (Ok done) unnamed size call file told marked = may_stand new unnamed size call.steps call.durable told (call.filled told) file marked
+  gets_name new (Ok done) unnamed size call file told marked = may_stand new unnamed size call.steps call.durable told (call.filled told) (record { mode = file.mode; some_link = file.some_link }) marked file.file
   gets_name new (Err fault) unnamed size call file told marked = tt

@@ -4,10 +4,12 @@ use Rattle.disk_trait.specs.declared.disks.Disks.{Ghosts}
 use Rattle.disk_trait.specs.Moments.{IsTold, now, begun, IsQuiet}
 use Rattle.disk_trait.specs.NotWritten.{IsOther, NotWritten}
 use Rattle.disk_trait.specs.Range.{IsOutside}
-use Rattle.lilo_model.specs.MinixLayout.{Inode, inode_place, kept_inode, zone_sector}
+use Rattle.lilo_model.specs.MinixLayout.{Super, Inode, inode_place, kept_inode, zone_sector}
 use Rattle.lilo_model.specs.MinixParts as model
+use Rattle.lilo_model.specs.MinixNames.{Named}
 use Rattle.lilo_model.specs.MinixParts.{Parts, is_directory}
 use Rattle.minix_beside_laws.specs.Beside.{IsDataZone}
+use Rattle.minix_entry_laws.specs.Comes.{IsFit}
 use Rattle.minix_entry_laws.specs.Enter.{MayStand}
 use Rattle.minix_fill_laws.specs.Sources.{Source, FileZones, zone_from}
 use Rattle.minix_fill_laws.specs.Laws.{HasZones}
@@ -72,7 +74,12 @@ pub record FillsFile {D : Type 0} {disks : Ghosts D} (old new : Volume D disks) 
 
 -- ---- what may get a name then
 
--- an inode is that of a file or a symbolic link, with a link
+-- an inode is that of something, with a link
+pub record IsOfSome (inode : Inode) : Type 0 where
+  pub mode : inode.mode ≢ 0
+  pub some_link : 0 < inode.links
+
+-- it is that of a file or a symbolic link
 pub record IsOfFile (inode : Inode) : Type 0 where
   pub file : is_directory inode ≡ false
   pub mode : inode.mode ≢ 0
@@ -88,3 +95,15 @@ abbrev pub MayGetName : {D : Type 0} {disks : Ghosts D} → Volume D disks → V
 MayGetName old new number inode zones result =
     IsOfFile inode → IsTold (past_of old) → AreMarked (parts_now old) number zones
     → OnOk result (MayStand (super_view old.layout) (parts_now new) number)
+
+-- an inode without a name is fit for one, be it a file's or a directory's, and has a link
+pub record IsNewFit (super : Super) (parts : Parts) (number : ℕ) : Type 0 where
+  pub unnamed : Named super parts number → ⊥
+  pub fit : IsFit super parts number
+  pub some_link : 0 < (parts.node number).links
+
+-- so it is of any inode, where these bits were set before
+abbrev pub IsFitThen : {D : Type 0} {disks : Ghosts D} → Volume D disks → Volume D disks → ℕ → Inode → FileZones → Result (Unit {0}) ZoneFault → Type 0
+IsFitThen old new number inode zones result =
+    IsOfSome inode → IsTold (past_of old) → AreMarked (parts_now old) number zones
+    → OnOk result (IsNewFit (super_view old.layout) (parts_now new) number)

@@ -7,7 +7,7 @@ ghost use Rattle.minix_layout.specs.View.{kind_view, inode_view};
 ghost use Rattle.minix_steps.specs.Steps.{IsReady, IsUnnamedInode};
 ghost use Rattle.minix_zones.specs.Volume.{past_of};
 ghost use Rattle.minix_fill.specs.Numbers.{zones_view};
-ghost use Rattle.minix_fill.specs.Fill.{MayHoldFile, WritesNumbers, FillsFile, MayGetName};
+ghost use Rattle.minix_fill.specs.Fill.{MayHoldFile, WritesNumbers, FillsFile, MayGetName, IsFitThen};
 
 use crate::numbers::{FileZones, put_numbers, with_zones};
 use disk_trait::Disks;
@@ -39,6 +39,7 @@ pub fn fill_file<D: Disks>(
     requires ready { IsReady volume.old }
     requires unnamed { IsUnnamedInode volume.old number }
     ensures fills { FillsFile volume.old volume.new number (inode_view inode.now) (zones_view zones.now) result }
+    ensures fit { IsFitThen volume.old volume.new number (inode_view inode.now) (zones_view zones.now) result }
     ensures stands { MayGetName volume.old volume.new number (inode_view inode.now) (zones_view zones.now) result }
 {
     write_indirect(volume, zones)?;

@@ -2,7 +2,7 @@ use Rattle.std.proofs.Common.{◌≡◌, Err, refl, rules}
 use Rattle.minix_layout.specs.View.{kind_view, inode_view}
 use Rattle.minix_fill.specs.Numbers.{zones_view}
 use Rattle.minix_fill.proofs.FillLemmas.{fits_with}
-use Rattle.minix_fill.proofs.FillSteps.{fit_numbers, written_zones, fills_no_inode, fills_done, gets_name}
+use Rattle.minix_fill.proofs.FillSteps.{fit_numbers, written_zones, fills_no_inode, fills_done, is_fit_then, gets_name}
 use Rattle.minix_fill.proofs.fill.fill_file.Goals as goal
 
 pub write_inode-requires-clause-zones : goal.write_inode-requires-clause-zones
@@ -32,6 +32,11 @@ returns-clause-fills g c =
     c.settle.new.volume c.settle.result refl (inode_view c.with_zones-filled.result) is
     (fits_with (kind_view old.layout.kind) zones (inode_view c.args.inode.now) (fit_numbers old zones c.requires.free) c.requires.fits) c.requires.size
     c.in_ok-write_inode.ensures.parts c.settle.ensures.steps c.settle.ensures.syncs
+
+pub returns-clause-fit : goal.returns-clause-fit
+returns-clause-fit g c =
+    is_fit_then c.args.volume.now (zones_view c.args.zones.now) c.args.number (inode_view c.args.inode.now) c.requires.some c.requires.there c.requires.ready c.requires.may c.requires.free
+    c.settle.new.volume c.settle.result c.requires.unnamed c.requires.size (returns-clause-fills g c)
 
 pub returns-clause-stands : goal.returns-clause-stands
 returns-clause-stands g c =

@@ -1,0 +1,4 @@
+pub mod Found
+pub mod Target
+pub mod Released
+pub mod Removed

@@ -1,0 +1,10 @@
+//! Laws of names that are removed from a sound Minix volume: public functions with empty bodies, which no code needs to
+//! call.
+#![tactic(auto)]
+
+mod laws;
+
+pub use laws::{
+    entry_leads_to_a_named_inode, held_name_may_go, links_may_change_without_a_name,
+    removed_name_releases_its_inode,
+};

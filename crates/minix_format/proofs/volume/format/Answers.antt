@@ -1,0 +1,48 @@
+use Rattle.std.proofs.Common.{◌+◌, refl, sym, inr, arith}
+use Rattle.disk_trait.proofs.CallLemmas.{goes_on_same}
+use Rattle.disk_trait.proofs.NotWrittenLemmas.{not_written_flushed}
+use Rattle.minix_layout.specs.View.{kind_view, super_view}
+use Rattle.minix_zones.specs.View.{span_view}
+use Rattle.minix_format.proofs.LayoutLemmas.{layout-laid}
+use Rattle.minix_format.proofs.WriteLemmas.{count-within, outside-span, made_at, made_empty}
+use Rattle.minix_format.proofs.volume.format.Goals as goal
+
+pub returns-in_default-clause-outside : goal.returns-in_default-clause-outside
+returns-in_default-clause-outside g c = λ d s out. not_written_flushed (g.D.Disks.past c.args.disks.now) (g.D.Disks.past c.args.disks.now) (inr refl) d s
+
+pub returns-in_default-clause-goes_on : goal.returns-in_default-clause-goes_on
+returns-in_default-clause-goes_on g c =
+    goes_on_same g.D.Disks c.args.disks.now c.args.disks.now refl record { later = omega arith; size = refl; count = refl; geometry = refl }
+
+pub write_volume-requires-clause-laid : goal.write_volume-requires-clause-laid
+write_volume-requires-clause-laid g c =
+    layout-laid (kind_view c.args.kind) c.args.span.count c.args.inodes (super_view c.in-Some.layout) (sym c.in-Some.ensures)
+
+pub write_volume-requires-clause-there : goal.write_volume-requires-clause-there
+write_volume-requires-clause-there g c =
+    let within = count-within (kind_view c.args.kind) c.args.span.count c.args.inodes (super_view c.in-Some.layout) c.in-Some.ensures in
+    omega (arith, within, c.requires)
+
+pub write_volume-requires-clause-numbered : goal.write_volume-requires-clause-numbered
+write_volume-requires-clause-numbered g c =
+    let within = count-within (kind_view c.args.kind) c.args.span.count c.args.inodes (super_view c.in-Some.layout) c.in-Some.ensures in
+    omega (arith, within, c.requires, c.size-size.ensures.size)
+
+pub returns-in-Ok-clause-made : goal.returns-in-Ok-clause-made
+returns-in-Ok-clause-made g c = λ told.
+    made_at (span_view c.args.span) (super_view c.in-Some.layout) c.args.time _ _ (c.in-Ok.ensures.writes.written told) (kind_view c.args.kind) c.args.inodes c.in-Some.ensures
+
+pub returns-in-Ok-clause-empty : goal.returns-in-Ok-clause-empty
+returns-in-Ok-clause-empty g c = λ told whole.
+    made_empty (span_view c.args.span) (super_view c.in-Some.layout) c.args.time _ _ (c.in-Ok.ensures.writes.written told) (kind_view c.args.kind) c.args.inodes c.in-Some.ensures
+    (omega (arith, c.ranges.time)) (λ sector below. whole c.args.span.disk (c.args.span.start + sector) (omega (arith, below, c.requires)))
+
+pub returns-in-Ok-clause-outside : goal.returns-in-Ok-clause-outside
+returns-in-Ok-clause-outside g c = λ d s out.
+    let within = count-within (kind_view c.args.kind) c.args.span.count c.args.inodes (super_view c.in-Some.layout) c.in-Some.ensures in
+    c.write_volume.ensures.writes.others d s (outside-span c.args.span.disk c.args.span.start c.args.span.count (super_view c.in-Some.layout) c.args.time d s within out)
+
+pub returns-in-Err-clause-outside : goal.returns-in-Err-clause-outside
+returns-in-Err-clause-outside g c = λ d s out.
+    let within = count-within (kind_view c.args.kind) c.args.span.count c.args.inodes (super_view c.in-Some.layout) c.in-Some.ensures in
+    c.write_volume.ensures.writes.others d s (outside-span c.args.span.disk c.args.span.start c.args.span.count (super_view c.in-Some.layout) c.args.time d s within out)

@@ -1,0 +1,3 @@
+pub mod MinixFormat
+pub mod Laid
+pub mod Laws

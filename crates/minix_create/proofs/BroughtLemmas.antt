@@ -16,24 +16,22 @@ use Rattle.lilo_model.specs.MinixLayout.{Kind, V1Short, V1Long, V2Short, V2Long,
 use Rattle.lilo_model.specs.MinixNames.{entry, Named, PointsTo, IsSound}
 use Rattle.lilo_model.specs.MinixParts as model
 use Rattle.lilo_model.specs.MinixParts.{Parts, Pointer, is_directory, blocks_for}
-use Rattle.minix_beside_laws.specs.Beside.{IsDataZone}
 use Rattle.minix_entry_laws.specs.Only.{zone_of_entry}
 use Rattle.minix_entry_laws.proofs.Only.{directory-refers}
-use Rattle.minix_growth_laws.specs.Changes.{ChangesZone, ChangesNode, with_size, MaySize}
+use Rattle.minix_growth_laws.specs.Changes.{ChangesZone, ChangesNode, with_size}
 use Rattle.minix_growth_laws.proofs.Holes.{hole_law}
 use Rattle.minix_grow.specs.Places.{size_to, IsNextPlaceNow}
 use Rattle.minix_grow.proofs.ExtendLemmas.{past_at, may_have_size, view_after}
 use Rattle.minix_grow.proofs.PlaceLemmas.{places_to}
 use Rattle.minix_layout.specs.View.{kind_view, super_view, inode_view}
 use Rattle.minix_layout.specs.declared.superblock.Super.{Super}
-use Rattle.minix_sees_laws.specs.Sees.{SeenAsIn}
 use Rattle.minix_sees_laws.proofs.Seen.{opened}
 use Rattle.minix_sees_laws.proofs.Sees.{named-new, directory-same}
 use Rattle.minix_steps.specs.Written.{with_sector_of, inode_rewritten, parts_now}
 use Rattle.minix_steps.proofs.ReadyLemmas.{quiet_ready}
 use Rattle.minix_steps.proofs.StepLemmas.{same_view, no_step}
 use Rattle.minix_tree.proofs.StatLemmas.{blocks_reached}
-use Rattle.minix_turns.specs.Inode.{TurnsInode, MayHaveSize}
+use Rattle.minix_turns.specs.Inode.{TurnsInode, IsNamedNow, MayHaveSize}
 use Rattle.minix_turns.specs.Joined.{Unseen}
 use Rattle.minix_turns.specs.Names.{PastUnseen, PastFree}
 use Rattle.minix_turns.specs.Part.{TurnsFreeEntry, HasEntryPart}
@@ -41,7 +39,7 @@ use Rattle.minix_turns.proofs.JoinedLemmas.{steps_unseen, unseen_join}
 use Rattle.minix_turns.proofs.SeenLemmas.{node_size}
 use Rattle.minix_zone_bytes_laws.specs.Part.{with_zone_part, free_bytes}
 use Rattle.minix_zone_bytes_laws.proofs.Part.{part_law}
-use Rattle.minix_zones.specs.Volume.{volume_view, past_of, faults_of, KeepsVolume, SameVolume, HasDeviceCause}
+use Rattle.minix_zones.specs.Volume.{volume_view, past_of, faults_of, KeepsVolume, SameVolume}
 use Rattle.minix_write.specs.View.{HasWriteCause}
 use Rattle.minix_write.specs.declared.write_fault.WriteFault.{WriteFault}
 use Rattle.minix_write.specs.declared.write_fault.WriteFault.TheVariants as refusals
@@ -53,7 +51,7 @@ use Rattle.minix_zones.proofs.WriteLemmas.{keeps_same}
 use Rattle.write_model.specs.Places.{most_places}
 use Rattle.minix_create.specs.Brought.{IsInDirectory, GivesPlace, MayBring, IsNextAt, IsOffDirectory, IsBrought, Brings}
 use Rattle.minix_create.specs.declared.place_at.PlaceAt.{PlaceAt}
-use Rattle.minix_create.proofs.StandLemmas.{keeps_none, keeps_join, keeps_sized, keeps_filled}
+use Rattle.minix_create.proofs.StandLemmas.{keeps_none, keeps_join, keeps_changed, keeps_filled}
 
 -- ---- numbers
 
@@ -81,7 +79,7 @@ near_most V2Long place low = omega (arith, low)
 pub rises : (before mid after : ℕ) → before ≤ mid → Rose mid after → Rose before after
 rises before mid after later rose below = let so = rose below in omega (arith, later, so)
 
-device_of : {D E : Type 0} {disks : Ghosts D} (start mid new : Volume D disks) (error : E) (result : Result (Unit {0}) E) → faults_of start ≤ faults_of mid
+pub device_of : {D E : Type 0} {disks : Ghosts D} (start mid new : Volume D disks) (error : E) (result : Result (Unit {0}) E) → faults_of start ≤ faults_of mid
     → IfErr result (λ fault. (fault ≡ error) × Rose (faults_of mid) (faults_of new)) → IfErr result (λ fault. (fault ≡ error) × Rose (faults_of start) (faults_of new))
 device_of start mid new error (Ok done) later cause = tt
 device_of start mid new error (Err fault) later cause = (cause.0, rises (faults_of start) (faults_of mid) (faults_of new) later cause.1)
@@ -115,7 +113,8 @@ brings_join start mid new directory low count error result named one two =
           let next = subst V (same_view start mid one.unseen.kept) (two.brought (one.unseen.goes_on.told told)) in
           on_ok result _ _ next (λ brought. record {
             room = brought.room;
-            keeps = keeps_join (super_view start.layout) (parts_now start) (model.parts_of (volume_view start) (now (past_of mid))) (model.parts_of (volume_view start) (now (past_of new)))
+            links = brought.links ∙ (one.brought told).links;
+            keeps = keeps_join (super_view start.layout) (parts_now start) (model.parts_of (volume_view start) (now (past_of mid))) (model.parts_of (volume_view start) (now (past_of new))) directory
                 (one.unseen.held told).sees (one.brought told).keeps brought.keeps;
           });
       others = λ told d s off.
@@ -127,29 +126,31 @@ brings_join start mid new directory low count error result named one two =
 
 -- ---- a call that wrote nothing
 
-module _ {D E : Type 0} {disks : Ghosts D} (old new : Volume D disks) (directory count : ℕ) (error : E) (quiet : IsQuiet (past_of old)) (sound : IsTold (past_of old) → IsSound (volume_view old) (now (past_of old)))
+module _ {D : Type 0} {disks : Ghosts D} (old new : Volume D disks) (quiet : IsQuiet (past_of old)) (sound : IsTold (past_of old) → IsSound (volume_view old) (now (past_of old)))
     (same : SameVolume old new) (later : faults_of old ≤ faults_of new) where
-  same_unseen : Unseen old new
+  pub same_unseen : Unseen old new
   same_unseen = steps_unseen old new quiet sound (no_step old new (quiet_ready old quiet sound) same later)
 
-  same_others : (d s : ℕ) → NotWritten (past_of old) (past_of new) d s
+  pub same_others : (d s : ℕ) → NotWritten (past_of old) (past_of new) d s
   same_others d s = let P : Option Past → Type 0 = λ p. NotWritten (past_of old) p d s in subst P (sym same.same_disks.same_past) (not_written_none (past_of old) d s)
 
+module _ {D E : Type 0} {disks : Ghosts D} (old new : Volume D disks) (directory count : ℕ) (error : E) (quiet : IsQuiet (past_of old)) (sound : IsTold (past_of old) → IsSound (volume_view old) (now (past_of old)))
+    (same : SameVolume old new) (later : faults_of old ≤ faults_of new) where
   pub brings_same : (IsTold (past_of old) → count ≤ places (kind_view old.layout.kind) ((parts_now old).node directory).size) → Brings old new directory count error (Ok tt)
   brings_same low = record {
-    unseen = same_unseen;
+    unseen = same_unseen old new quiet sound same later;
     brought = λ told.
         let P : Option Past → Type 0 = λ p. IsBrought (super_view old.layout) (parts_now old) (model.parts_of (volume_view old) (now p)) directory count in
-        subst P (sym same.same_disks.same_past) (record { room = low told; keeps = keeps_none (super_view old.layout) (parts_now old) });
-    others = λ told d s off. same_others d s;
+        subst P (sym same.same_disks.same_past) (record { room = low told; links = refl; keeps = keeps_none (super_view old.layout) (parts_now old) directory });
+    others = λ told d s off. same_others old new quiet sound same later d s;
     device = λ told. tt;
   }
 
   pub brings_refused : (fault : E) → (IsTold (past_of old) → (fault ≡ error) × Rose (faults_of old) (faults_of new)) → Brings old new directory count error (Err fault)
   brings_refused fault cause = record {
-    unseen = same_unseen;
+    unseen = same_unseen old new quiet sound same later;
     brought = λ told. tt;
-    others = λ told d s off. same_others d s;
+    others = λ told d s off. same_others old new quiet sound same later d s;
     device = cause;
   }
 
@@ -165,33 +166,44 @@ brings_again old new directory count error fault error' brings = record {
 pub brings_done : {D E F : Type 0} {disks : Ghosts D} (old new : Volume D disks) (directory count : ℕ) (error : E) (error' : F) → Brings old new directory count error (Ok tt) → Brings old new directory count error' (Ok tt)
 brings_done old new directory count error error' brings = record { unseen = brings.unseen; brought = brings.brought; others = brings.others; device = λ told. tt }
 
+-- ---- an inode that is turned into another
+
+module _ {D : Type 0} {disks : Ghosts D} (old new : Volume D disks) (number : ℕ) (node : Inode) (fits : FitsInode (kind_view old.layout.kind) node) (turned : Inode → Inode)
+    (result : Result (Unit {0}) ZoneFault) (turns : TurnsInode old new number (turned node) zones.Device result) where
+  abbrev pub Turned : Inode → Image
+  Turned inode = with_sector_of (volume_view old) (now (past_of old)) (inode_place (super_view old.layout) number).sector (inode_rewritten old number (turned inode))
+
+  abbrev pub ChangesIn : Image → Inode → Type 0
+  ChangesIn image inode = ChangesNode (super_view old.layout) (parts_now old) (model.parts_of (volume_view old) image) number (turned inode)
+
+  module _ (law : IsNamedNow old number node → FitsInode (kind_view old.layout.kind) ((parts_now old).node number) → ChangesIn (Turned ((parts_now old).node number)) ((parts_now old).node number)) where
+    pub changes_turned : IsNamedNow old number node → ChangesIn (Turned node) ((parts_now old).node number)
+    changes_turned is =
+        let P : Inode → Type 0 = λ i. ChangesIn (Turned i) ((parts_now old).node number) in
+        subst P is.is (law is (subst (FitsInode (kind_view old.layout.kind)) (sym is.is) fits))
+
+    pub changes : IsTold (past_of old) → IsNamedNow old number node → OnOk result (ChangesIn (now (past_of new)) ((parts_now old).node number))
+    changes told is = on_ok result _ _ (turns.written told) (λ at. let P : Image → Type 0 = λ image. ChangesIn image ((parts_now old).node number) in subst P (sym at) (changes_turned is))
+
 -- ---- a greater size
 
 module _ {D : Type 0} {disks : Ghosts D} (old new : Volume D disks) (directory size : ℕ) (node : Inode) (fits : FitsInode (kind_view old.layout.kind) node) (small : size < 2 ^ 32)
     (result : Result (Unit {0}) ZoneFault) (turns : TurnsInode old new directory (with_size node size) zones.Device result) where
-  abbrev Resized : Inode → Image
-  Resized inode = with_sector_of (volume_view old) (now (past_of old)) (inode_place (super_view old.layout) directory).sector (inode_rewritten old directory (with_size inode size))
-
-  abbrev Changes : Image → Inode → Type 0
-  Changes image inode = ChangesNode (super_view old.layout) (parts_now old) (model.parts_of (volume_view old) image) directory (with_size inode size)
-
-  resized : MayHaveSize old directory node size → Changes (Resized node) ((parts_now old).node directory)
-  resized may =
-      let fit : FitsInode (super_view old.layout).kind ((parts_now old).node directory) = subst (FitsInode (super_view old.layout).kind) (sym may.lies.is) fits in
-      let P : Inode → Type 0 = λ i. Changes (Resized i) ((parts_now old).node directory) in
-      subst P may.lies.is (node_size (volume_view old) (now (past_of old)) old.whole may.lies.sound directory may.lies.named fit size small may.sized.sized)
-
-  changes : IsTold (past_of old) → MayHaveSize old directory node size → OnOk result (Changes (now (past_of new)) ((parts_now old).node directory))
-  changes told may = on_ok result _ _ (turns.written told) (λ is. let P : Image → Type 0 = λ image. Changes image ((parts_now old).node directory) in subst P (sym is) (resized may))
+  resized : IsTold (past_of old) → MayHaveSize old directory node size → OnOk result (ChangesNode (super_view old.layout) (parts_now old) (model.parts_of (volume_view old) (now (past_of new))) directory (with_size ((parts_now old).node directory) size))
+  resized told may =
+      changes old new directory node fits (λ i. with_size i size) result turns
+      (λ is fit. node_size (volume_view old) (now (past_of old)) old.whole is.sound directory is.named fit size small may.sized.sized)
+      told may.lies
 
   -- so many places lie below it then
   pub raised : (count : ℕ) → count ≤ places (kind_view old.layout.kind) size → (IsTold (past_of old) → MayHaveSize old directory node size) → Unseen old new → Brings old new directory count zones.Device result
   raised count low may unseen = record {
     unseen = unseen;
-    brought = λ told. on_ok result _ _ (changes told (may told)) (λ change. record {
+    brought = λ told. on_ok result _ _ (resized told (may told)) (λ change. record {
       room = let R : ℕ → Type 0 = λ s. count ≤ places (kind_view old.layout.kind) s in subst R (sym (ap (λ (i : Inode). i.size) change.here)) low;
-      keeps = keeps_sized (super_view old.layout) (parts_now old) (model.parts_of (volume_view old) (now (past_of new))) directory size
-          (opened (volume_view old) (now (past_of old)) (may told).lies.sound).parts (may told).sized.is (unseen.held told).sees change;
+      links = ap (λ (i : Inode). i.links) change.here;
+      keeps = keeps_changed (super_view old.layout) (parts_now old) (model.parts_of (volume_view old) (now (past_of new))) directory (with_size ((parts_now old).node directory) size)
+          (opened (volume_view old) (now (past_of old)) (may told).lies.sound).parts (record { mode = refl; zones = refl }) (unseen.held told).sees change;
     });
     others = λ told d s off. turns.others d s off.inode;
     device = λ told. turns.device;
@@ -287,8 +299,10 @@ module _ {D : Type 0} {disks : Ghosts D} (old : Volume D disks) (directory place
           let change = (part_law (volume_view old) (now (past_of old)) (now (past_of mid)) zone (entry_size (kind_view old.layout.kind) * index) (free_bytes (kind_view old.layout.kind)) at.may.sound (from, below) has).change in
           let room' = seen.sees.room directory at.may.named at.may.is in
           let low' = low told in
+          let range = (opened (volume_view old) (now (past_of old)) at.may.sound).parts.in_range directory at.may.named in
           record {
             room = omega (arith, room', low');
+            links = ap (λ (i : Inode). i.links) (change.nodes directory range);
             keeps = keeps_filled (super_view old.layout) (parts_now old) (model.parts_of (volume_view old) (now (past_of mid))) directory place
                 (with_zone_part (parts_now old) zone (entry_size (kind_view old.layout.kind) * index) (free_bytes (kind_view old.layout.kind)))
                 (opened (volume_view old) (now (past_of old)) at.may.sound).parts at.may.named at.may.is (λ e. some (sym at.lies ∙ e)) seen.sees (subst C (sym at.lies) change);
@@ -402,7 +416,7 @@ module _ {D : Type 0} {disks : Ghosts D} (old mid : Volume D disks) (directory p
 pub brings_fewer : {D E : Type 0} {disks : Ghosts D} (old new : Volume D disks) (directory count fewer : ℕ) (error : E) (result : Result (Unit {0}) E) → fewer ≤ count → Brings old new directory count error result → Brings old new directory fewer error result
 brings_fewer old new directory count fewer error result low brings = record {
   unseen = brings.unseen;
-  brought = λ told. on_ok result _ _ (brings.brought told) (λ b. record { room = let r = b.room in omega (arith, r, low); keeps = b.keeps });
+  brought = λ told. on_ok result _ _ (brings.brought told) (λ b. record { room = let r = b.room in omega (arith, r, low); links = b.links; keeps = b.keeps });
   others = brings.others;
   device = brings.device;
 }

@@ -1,19 +1,22 @@
 -- What suits a volume.
-use Rattle.std.proofs.Common.{◌≡◌, ◌≢◌, ◌≤◌, ◌<◌, ◌^◌, ◌/◌, ◌==◌, ℕ, true, false, Bool, List, length, drop, All, Some, Result, Ok, refl, sym, ap, ◌∙◌, subst, arith}
+use Rattle.std.proofs.Common.{◌≡◌, ◌≢◌, ◌≤◌, ◌<◌, ◌^◌, ℕ, true, false, Bool, List, [], length, get_or, take, drop, replicate, All, Some, Ok, sym, ap, ◌∙◌, subst, arith}
+use Rattle.std.specs.Prelude.{slice_index}
 use Rattle.std.proofs.Math.Path.{subst₂}
+use Rattle.std.proofs.lemmas.List.{get_or-replicate}
 use Rattle.disk_trait.specs.declared.disks.Disks.{Ghosts}
 use Rattle.disk_trait.specs.Past.{Told}
 use Rattle.disk_trait.specs.Moments.{IsTold, now}
 use Rattle.disk_trait.proofs.MomentLemmas.{told_now}
-use Rattle.lilo_model.specs.MinixNames.{Named, reached, IsSound}
-use Rattle.lilo_model.specs.MinixLayout.{Kind, V1Short, V1Long, V2Short, V2Long, Inode, FitsInode, is_size, most_links, number_size, numbers_in_zone, reach}
+use Rattle.lilo_model.specs.MinixNames.{Named, reached}
+use Rattle.lilo_model.specs.MinixLayout.{Kind, is_size, numbers_in_zone, reach}
 use Rattle.lilo_model.specs.MinixParts.{blocks_for, is_directory, parts_of}
 use Rattle.minix_bits.proofs.BitmapLemmas.{fits}
 use Rattle.minix_choice_laws.specs.Choice.{MayHavePlace}
 use Rattle.minix_choice_laws.proofs.Choose.{blocks_length, choice_law, file_law}
 use Rattle.minix_choice_laws.proofs.Place.{place_law}
 use Rattle.minix_fill_laws.proofs.Chosen.{few_by}
-use Rattle.minix_fill_laws.proofs.Given.{given_length}
+use Rattle.minix_fill_laws.proofs.Given.{given_length, given_at, count_before}
+use Rattle.minix_fill_laws.specs.Sources.{FileZones}
 use Rattle.minix_layout.specs.View.{kind_view, super_view}
 use Rattle.minix_sees_laws.proofs.Seen.{opened}
 use Rattle.minix_steps.specs.Written.{parts_now}
@@ -27,7 +30,7 @@ use Rattle.minix_write.specs.View.{Promised, taken_view}
 use Rattle.minix_zones.specs.Volume.{volume_view, past_of}
 use Rattle.minix_zones.specs.declared.volume.Volume.{Volume}
 use Rattle.disk_trait.specs.declared.disks.Span.{Span}
-use Rattle.write_model.specs.Choice.{choose}
+use Rattle.write_model.specs.Choice.{choose, file_need}
 use Rattle.write_model.specs.FileZones.{count_made, data_blocks, made_indirect}
 use Rattle.write_model.specs.Places.{is_overlooked}
 use Rattle.write_model.specs.Wish as model
@@ -68,6 +71,21 @@ module _ {D : Type 0} {disks : Ghosts D} (volume : Volume D disks) (taken : Prom
         inode = free.unmarked;
         zones = λ i inside. (free.free i inside).unmarked;
       }
+
+  -- a file without holes gets a zone for each block
+  pub each_zone : chosen.length ≡ wish.length → IsTold (past_of volume) → wish.holes ≡ [] → (index : ℕ) → index < blocks_for chosen.length → slice_index chosen.choice.blocks index ≢ 0
+  unfolding data_blocks file_need
+  each_zone long told none index low =
+      let free = choice_law (super_view volume.layout) (parts_now volume) (taken_view taken) wish chosen.choice first_some (chosen_now told) in
+      let made : List Bool = data_blocks wish.length wish.holes in
+      let all : made ≡ replicate (blocks_for wish.length) true = ap (data_blocks wish.length) none in
+      let same : blocks_for chosen.length ≡ blocks_for wish.length = ap blocks_for long in
+      let one : get_or made index false ≡ true = ap (λ blocks. get_or blocks index false) all ∙ get_or-replicate (blocks_for wish.length) index true false (omega (arith, same, low)) in
+      let before = count_before made index one in
+      let enough = free.enough in
+      let is : slice_index chosen.choice.blocks index ≡ slice_index chosen.choice.zones (count_made (take index made)) =
+      ap (λ (zones : FileZones). slice_index zones.blocks index) free.file ∙ given_at made chosen.choice.zones index one in
+      λ zero. free.rising.some (count_made (take index made)) (omega (arith, before, enough)) (sym is ∙ zero)
 
   pub links : chosen.directory ≡ wish.directory → chosen.name ≡ wish.name → LinksWithoutZones volume taken.overlooked chosen
   links in_it named outer told needs =

@@ -1,26 +1,24 @@
 -- What the call leaves that fills a file.
-use Rattle.std.proofs.Common.{◌≡◌, ◌≢◌, ◌≤◌, ◌<◌, ◌+◌, ◌/◌, ◌==◌, ◌^◌, ℕ, zero, suc, Bool, true, false, List, length, take, ◌++◌, All, Result, Ok, Err, refl, sym, ap, ◌∙◌, subst, arith, ⊎_elim}
-use Rattle.std.specs.Prelude.{slice_index, replicate, if◌then◌else◌}
-use Rattle.std.proofs.lemmas.Bool.{cases_lt, eqb-true, eq-eqb}
+use Rattle.std.proofs.Common.{◌≡◌, ◌≢◌, ◌≤◌, ◌<◌, ◌+◌, ◌/◌, ◌==◌, ℕ, zero, suc, Bool, true, false, List, length, take, Ok, refl, sym, ap, ◌∙◌, subst, arith, inl, inr, ⊎_elim}
+use Rattle.std.specs.Prelude.{slice_index}
+use Rattle.std.proofs.lemmas.Bool.{cases_lt, eq-eqb}
 use Rattle.disk_trait.specs.declared.disks.Disks.{Ghosts}
 use Rattle.disk_trait.specs.declared.disks.Span.{Span}
 use Rattle.disk_trait.specs.Moments.{IsTold}
-use Rattle.disk_trait.specs.NotWritten.{IsOther, NotWritten}
+use Rattle.disk_trait.specs.NotWritten.{IsOther}
 use Rattle.disk_trait.specs.Range.{IsOutside}
 use Rattle.disk_trait.proofs.NotWrittenLemmas.{not_written_join}
-use Rattle.lilo_model.specs.MinixLayout.{Kind, Inode, inode_place, reach, zone_sector}
-use Rattle.lilo_model.specs.MinixNames.{thing, blocks, content, zone_number}
-use Rattle.lilo_model.specs.MinixParts as model
-use Rattle.lilo_model.specs.MinixParts.{Parts, zone_bytes, blocks_for, block_pointer}
-use Rattle.minix_beside_laws.specs.Beside.{IsDataZone}
+use Rattle.lilo_model.specs.MinixLayout.{Inode, inode_place, reach, zone_sector}
+use Rattle.lilo_model.specs.MinixNames.{thing, block, blocks, content, zone_number}
+use Rattle.lilo_model.specs.MinixParts.{is_directory, zone_bytes, blocks_for, block_pointer}
 use Rattle.minix_choice_laws.specs.Choice.{file_of}
-use Rattle.minix_entry_laws.specs.Enter.{MayStand}
+use Rattle.minix_entry_laws.specs.Enter.{DirectoryMayStand}
 use Rattle.minix_fill.specs.Fill as fill
-use Rattle.minix_fill.specs.Fill.{FillsFile, IsOfFile, MayGetName}
+use Rattle.minix_fill.specs.Fill.{FillsFile, AreMarked, IsOfSome, MayGetName, IsFitThen}
 use Rattle.minix_fill.proofs.FillLemmas.{KeepsFields, kept_fields}
 use Rattle.minix_fill.specs.Numbers.{tops_of}
-use Rattle.minix_fill_laws.specs.Laws.{MayBeFile, HasZones}
-use Rattle.minix_fill_laws.specs.Sources.{Source, Block, Indirect, zone_from}
+use Rattle.minix_fill_laws.specs.Laws.{MayBeFile}
+use Rattle.minix_fill_laws.specs.Sources.{Block, Indirect, zone_from}
 use Rattle.minix_fill_laws.proofs.Filled.{content_law, pointers_law}
 use Rattle.minix_laws.proofs.Inside.{is_pointer-block}
 use Rattle.minix_fill_laws.proofs.Pointers.{block_leads}
@@ -29,12 +27,14 @@ use Rattle.minix_layout.specs.View.{kind_view, super_view}
 use Rattle.minix_layout.specs.declared.superblock.Super.{Super}
 use Rattle.minix_steps.specs.Written.{parts_now}
 use Rattle.minix_steps.proofs.ReadyLemmas.{quiet_ready}
-use Rattle.minix_steps.proofs.StepLemmas.{same_view, steps_join}
-use Rattle.minix_zones.specs.Volume.{volume_view, past_of}
+use Rattle.minix_steps.proofs.StepLemmas.{steps_join}
+use Rattle.minix_zones.specs.Volume.{past_of}
 use Rattle.minix_zones.specs.declared.volume.Volume.{Volume}
-use Rattle.minix_create.specs.Chosen.{Suits, block_with, content_with, new_inode, thing_with}
-use Rattle.minix_create.specs.Created.{IsOffFile, MarksOnly, IsOpen, HasBlocks, IsReserved, IsFilledWith, IsFilled}
+use Rattle.minix_create.specs.Chosen.{Suits, IsOfDirectory, MayBeMade, MayNest, block_with, content_with, new_inode, thing_with}
+use Rattle.minix_create.specs.Created.{IsOffFile, IsOpen, IsReserved, IsFilledWith, IsFilled}
+use Rattle.minix_create.specs.Entered.{MayBeNamed}
 use Rattle.minix_create.specs.declared.chosen.Chosen.{Chosen}
+use Rattle.minix_create.proofs.DotsLemmas.{near_first, directory_stands}
 use Rattle.minix_create.proofs.FromLemmas.{file_zone, has_one}
 
 -- blocks that are the same
@@ -105,13 +105,37 @@ module _ {D : Type 0} {disks : Ghosts D} (start old new : Volume D disks) (chose
         (is_pointer-block (kind_view old.layout.kind) index)
         ∙ ap (zone_from (file_of chosen.choice)) (block_leads (kind_view old.layout.kind) index near)
 
-    pub filled_with : IsOfFile (new_inode chosen) → blocks_for chosen.length ≤ reach (kind_view old.layout.kind)
-        → MayGetName old new chosen.choice.inode (new_inode chosen) (file_of chosen.choice) (Ok tt) → IsFilledWith new chosen given
-    filled_with of few stands = record {
-      stands = at_new (λ layout. MayStand (super_view layout) (parts_now new) chosen.choice.inode) (stands of (told_old told) (may.marked (told_old told)));
-      is = at_new (λ layout. thing (super_view layout) (parts_now new) chosen.choice.inode ≡ thing_with chosen given) (thing_is few);
-      lies = at_new (λ layout. (index : ℕ) → index < reach (kind_view layout.kind) → zone_number (super_view layout) (parts_now new) chosen.choice.inode index ≡ slice_index chosen.choice.blocks index) zone_is;
-    }
+    -- the first block of a directory
+    first_block : block (super_view old.layout) (parts_now new) chosen.choice.inode 0 ≡ block_with chosen.choice.blocks given 0
+    unfolding block
+    first_block = ap (zone_bytes (parts_now new)) (zone_is 0 (near_first (kind_view old.layout.kind))) ∙ block_is 0
+
+    module _ (few : blocks_for chosen.length ≤ reach (kind_view old.layout.kind)) (made : MayBeMade (kind_view old.layout.kind) chosen given)
+        (fit : IsFitThen old new chosen.choice.inode (new_inode chosen) (file_of chosen.choice) (Ok tt)) (stands : MayGetName old new chosen.choice.inode (new_inode chosen) (file_of chosen.choice) (Ok tt)) where
+      marked : AreMarked (parts_now old) chosen.choice.inode (file_of chosen.choice)
+      marked = may.marked (told_old told)
+
+      of_directory : (outer : List (List ℕ)) → MayNest outer chosen → IsOfDirectory (kind_view old.layout.kind) chosen given
+          → DirectoryMayStand (super_view old.layout) (parts_now new) outer chosen.directory chosen.choice.inode
+      of_directory outer nests of =
+          let D : ℕ → Type 0 = λ mode. (mode / 4096 == 4) ≡ true in
+          directory_stands (super_view old.layout) (parts_now new) chosen.directory chosen.choice.inode (block_with chosen.choice.blocks given 0) (fields.size ∙ of.two) first_block of.dots
+          outer (subst D (sym fields.mode) of.is) (fit (some_of of.is) (told_old told) marked) (nests of.is)
+        where
+          some_of : is_directory (new_inode chosen) ≡ true → IsOfSome (new_inode chosen)
+          some_of is' = record {
+            mode = λ none. let t = rw none at is' in cc;
+            some_link = rw is' (omega arith);
+          }
+
+      pub filled_with : IsFilledWith new chosen given
+      filled_with = record {
+        mode = fields.mode;
+        named = at_new (λ layout. (outer : List (List ℕ)) → MayNest outer chosen → MayBeNamed (super_view layout) (parts_now new) outer chosen.directory chosen.choice.inode)
+            (λ outer nests. ⊎_elim (λ of. inl (stands of (told_old told) marked)) (λ of. inr (of_directory outer nests of)) made);
+        is = at_new (λ layout. thing (super_view layout) (parts_now new) chosen.choice.inode ≡ thing_with chosen given) (thing_is few);
+        lies = at_new (λ layout. (index : ℕ) → index < reach (kind_view layout.kind) → zone_number (super_view layout) (parts_now new) chosen.choice.inode index ≡ slice_index chosen.choice.blocks index) zone_is;
+      }
 
   off_indirect : (d s : ℕ) → IsOffFile start chosen d s → fill.IsOffIndirect old (file_of chosen.choice) d s
   off_indirect d s off place some =

@@ -1,8 +1,7 @@
 -- The zones that a file gets are of those that were chosen.
-use Rattle.std.proofs.Common.{◌≡◌, ◌≢◌, ◌≤◌, ◌<◌, ◌+◌, ◌==◌, ◌||◌, ℕ, zero, suc, Bool, true, false, List, [], ◌∷◌, length, drop, All, refl, sym, ap, ◌∙◌, subst, arith}
+use Rattle.std.proofs.Common.{◌≡◌, ◌≢◌, ◌<◌, ◌==◌, ℕ, zero, suc, Bool, true, false, List, [], ◌∷◌, length, drop, All, refl, sym, ap, ◌∙◌, subst, arith}
 use Rattle.std.specs.Prelude.{slice_index}
-use Rattle.std.proofs.lemmas.Bool.{eqb-true, eq-eqb}
-use Rattle.std.proofs.lemmas.List.{get_or-drop, length-drop}
+use Rattle.std.proofs.lemmas.Bool.{eq-eqb}
 use Rattle.lilo_model.specs.MinixLayout.{Kind}
 use Rattle.minix_bits.specs.Numbers.{has_number}
 use Rattle.minix_choice_laws.specs.Choice.{file_of}
@@ -10,7 +9,7 @@ use Rattle.minix_fill_laws.specs.Sources.{Source, Block, Indirect, zone_from}
 use Rattle.minix_fill_laws.proofs.Given.{past_end}
 use Rattle.minix_write.specs.Suits.{IsFileOf}
 use Rattle.write_model.specs.Choice.{Choice}
-use Rattle.write_model.specs.FileZones.{given, count_made, made_indirect}
+use Rattle.write_model.specs.FileZones.{given, count_made}
 
 -- a number is one of some
 pub record IsOf (zones : List ℕ) (zone : ℕ) : Type 0 where

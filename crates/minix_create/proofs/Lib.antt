@@ -1,11 +1,15 @@
 pub mod BroughtLemmas
 pub mod ChosenLemmas
+pub mod DotsLemmas
+pub mod EnterLemmas
 pub mod EntryLemmas
 pub mod FillLemmas
 pub mod FromLemmas
 pub mod LinkLemmas
 pub mod MarkLemmas
+pub mod NamedLemmas
 pub mod NextLemmas
 pub mod OpenLemmas
+pub mod RaisedLemmas
 pub mod StandLemmas
 pub mod StateLemmas

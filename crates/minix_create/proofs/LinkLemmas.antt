@@ -1,19 +1,20 @@
 -- What the call leaves that makes the name of a file.
-use Rattle.std.proofs.Common.{◌≡◌, ◌≢◌, ◌≤◌, ◌<◌, ◌+◌, ◌*◌, ◌/◌, ◌%◌, ℕ, List, ◌∷◌, Option, Some, Result, Ok, Err, OnOk, refl, sym, ap, ◌∙◌, subst, arith, inl, inr, ⊎_elim}
+use Rattle.std.proofs.Common.{◌≡◌, ◌≤◌, ◌<◌, ◌+◌, ◌*◌, ◌/◌, ◌%◌, ℕ, List, ◌∷◌, Option, Some, None, Result, Ok, Err, OnOk, sym, ap, ◌∙◌, subst, arith, inl, inr, ⊎_elim}
 use Rattle.std.proofs.lemmas.Bool.{cases_lt}
+use Rattle.std.proofs.Math.Path.{subst₂}
 use Rattle.disk_trait.specs.declared.disks.Disks.{Ghosts}
 use Rattle.disk_trait.specs.declared.disks.Span.{Span}
 use Rattle.disk_trait.specs.Past.{Image, Past}
-use Rattle.disk_trait.specs.Moments.{IsTold, now, IsQuiet}
+use Rattle.disk_trait.specs.Moments.{IsTold, now, LeavesOnly}
 use Rattle.disk_trait.specs.NotWritten.{IsOther, NotWritten}
 use Rattle.disk_trait.specs.Range.{IsOutside}
 use Rattle.disk_trait.proofs.LawLemmas.{quiet_begun}
-use Rattle.disk_trait.proofs.MomentLemmas.{leaves_weaker, on_ok}
+use Rattle.disk_trait.proofs.MomentLemmas.{leaves_join, on_ok}
 use Rattle.disk_trait.proofs.NotWrittenLemmas.{not_written_none, not_written_join}
 use Rattle.disk_trait.proofs.RangeLemmas.{outside_is_other}
 use Rattle.lilo_model.specs.MinixEntries.{entries_per_block, places}
-use Rattle.lilo_model.specs.MinixLayout.{Kind, V1Short, V1Long, V2Short, V2Long, Inode, entry_size, zone_sector}
-use Rattle.lilo_model.specs.MinixNames.{Thing, thing, Named, IsSound}
+use Rattle.lilo_model.specs.MinixLayout.{Kind, V1Short, V1Long, V2Short, V2Long, Inode, entry_size, inode_place, zone_sector}
+use Rattle.lilo_model.specs.MinixNames.{reached, thing, Named, IsSound}
 use Rattle.lilo_model.specs.MinixParts as model
 use Rattle.lilo_model.specs.MinixParts.{Parts}
 use Rattle.minix_choice_laws.specs.Choice.{MayHavePlace, LiesThere, HasNamePlace}
@@ -21,22 +22,18 @@ use Rattle.minix_choice_laws.proofs.Stay.{zone_lies, may_have_stays_law, place_l
 use Rattle.minix_beside_laws.specs.Beside.{Beside}
 use Rattle.minix_beside_laws.specs.Keeps.{Keeps}
 use Rattle.minix_beside_laws.proofs.Beside.{keeps}
-use Rattle.minix_entry_laws.specs.Enter.{MayStand}
 use Rattle.minix_entry_laws.specs.Only.{zone_of_entry}
 use Rattle.minix_entry_laws.proofs.Blocks.{block-below}
 use Rattle.minix_layout.specs.View.{kind_view, super_view, inode_view}
 use Rattle.minix_layout.specs.declared.superblock.Super.{Super}
-use Rattle.minix_sees_laws.specs.Sees.{SeenAsIn}
-use Rattle.minix_sees_laws.specs.Tree.{HasTreeWith}
+use Rattle.minix_sees_laws.specs.Sees.{Sees, SeenAsIn}
 use Rattle.minix_sees_laws.proofs.Inode.{same-node, keeps-above, points-old}
 use Rattle.minix_sees_laws.proofs.Seen.{opened}
 use Rattle.minix_steps.specs.Steps.{IsReady, Steps}
 use Rattle.minix_steps.specs.Written.{parts_now}
 use Rattle.minix_steps.proofs.ReadyLemmas.{quiet_ready}
 use Rattle.minix_steps.proofs.StepLemmas.{leaves_told, same_view, beside_before, now_beside, no_step, steps_join}
-use Rattle.minix_turns.specs.Joined.{Unseen, LeadsPath}
-use Rattle.minix_turns.specs.Names.{MayMakeAt, MakesName}
-use Rattle.minix_turns.specs.Part.{TurnsNamedEntry}
+use Rattle.minix_turns.specs.Joined.{Unseen}
 use Rattle.minix_turns.proofs.JoinedLemmas.{steps_unseen, unseen_join, unseen_then_leads}
 use Rattle.minix_write.specs.View.{HasWriteCause}
 use Rattle.minix_write.specs.declared.write_fault.WriteFault.{WriteFault}
@@ -44,40 +41,18 @@ use Rattle.minix_write.specs.declared.write_fault.WriteFault.TheVariants as refu
 use Rattle.lilo_model.specs.Faults.{Rose}
 use Rattle.minix_zones.specs.Volume.{volume_view, past_of, faults_of, SameVolume}
 use Rattle.minix_zones.specs.declared.volume.Volume.{Volume}
-use Rattle.minix_zones.specs.declared.zone_fault.ZoneFault.{ZoneFault}
-use Rattle.minix_zones.specs.declared.zone_fault.ZoneFault.TheVariants as zones
 use Rattle.minix_zones.proofs.WriteLemmas.{keeps_same}
 use Rattle.write_model.specs.Places.{most_places}
-use Rattle.minix_create.specs.Brought.{IsInDirectory, GivesPlace, MayBring, IsOffDirectory, IsBrought, Brings}
-use Rattle.minix_create.specs.Chosen.{Suits, MayLinkNow, thing_with}
+use Rattle.minix_create.specs.Brought.{StillFits, IsInDirectory, GivesPlace, MayBring, IsOffDirectory, IsBrought, Brings}
+use Rattle.minix_create.specs.Chosen.{MayLinkNow, MayNest, thing_with}
 use Rattle.minix_create.specs.Created.{IsOffFile, IsFilled}
-use Rattle.minix_create.specs.Linked.{IsOffName, Creates}
+use Rattle.minix_create.specs.Entered.{MayBeNamed, links_above, MayEnterNow, IsOffEntered, Enters}
+use Rattle.minix_create.specs.Linked.{IsOffName, IsRaisedBefore, Creates}
 use Rattle.minix_create.specs.declared.chosen.Chosen.{Chosen}
 use Rattle.minix_create.specs.declared.place_at.PlaceAt.{PlaceAt}
-use Rattle.minix_create.proofs.BroughtLemmas.{near_most, off_later}
-
--- ---- answers
-
-pub rose_later : (before mid now : ℕ) → before ≤ mid → Rose mid now → Rose before now
-rose_later before mid now later rose below = let so = rose below in omega (arith, later, so)
-
--- what no name saw was refused
-pub unseen_refused : {D E : Type 0} {disks : Ghosts D} (start volume : Volume D disks) (path : List (List ℕ)) (found : Option ℕ) (what : Option Thing) (fault : E) → Unseen start volume
-    → LeadsPath start volume path found what (Err fault)
-unseen_refused start volume path found what fault unseen = record {
-  any_moment = leaves_weaker (past_of start) (past_of volume) _ _ unseen.any_moment (λ c seen. inl seen);
-  held = λ told. inl (unseen.held told);
-  done = λ told. tt;
-  goes_on = unseen.goes_on;
-  kept = unseen.kept;
-}
-
--- an answer with another refusal
-answered : {D E F : Type 0} {disks : Ghosts D} (old new : Volume D disks) (path : List (List ℕ)) (found : Option ℕ) (what : Option Thing) → LeadsPath {E = E} old new path found what (Ok tt) → LeadsPath {E = F} old new path found what (Ok tt)
-answered old new path found what leads = record { any_moment = leads.any_moment; held = leads.held; done = leads.done; goes_on = leads.goes_on; kept = leads.kept }
-
-refused : {D E F : Type 0} {disks : Ghosts D} (old new : Volume D disks) (path : List (List ℕ)) (found : Option ℕ) (what : Option Thing) (fault : E) (fault' : F) → LeadsPath old new path found what (Err fault) → LeadsPath old new path found what (Err fault')
-refused old new path found what fault fault' leads = record { any_moment = leads.any_moment; held = leads.held; done = λ told. tt; goes_on = leads.goes_on; kept = leads.kept }
+use Rattle.minix_create.proofs.BroughtLemmas.{near_most, off_later, rises, device_of}
+use Rattle.minix_create.proofs.EnterLemmas.{leads_is, unseen_refused, unseen_before}
+use Rattle.minix_create.proofs.NamedLemmas.{thing_kept, named_kept, not_named, fit_named}
 
 -- ---- the part of a zone with an entry
 
@@ -86,6 +61,12 @@ half_of_entry V1Short index low = omega (arith, low)
 half_of_entry V1Long index low = omega (arith, low)
 half_of_entry V2Short index low = omega (arith, low)
 half_of_entry V2Long index low = omega (arith, low)
+
+slot-low : (kind : Kind) (place : ℕ) → place % entries_per_block kind < entries_per_block kind
+slot-low V1Short place = omega arith
+slot-low V1Long place = omega arith
+slot-low V2Short place = omega arith
+slot-low V2Long place = omega arith
 
 -- ---- where a directory may be read and grow
 
@@ -111,16 +92,14 @@ may_bring volume outer directory place have name sound may low = record { sound 
 
 -- ---- a volume on which the name may be made
 
--- a file's place got below the size, in a zone; no name saw it, and the file stays
+-- a file's place got below the size, in a zone; no name saw it, the file stays, and so do the directory's links
 pub record IsLinkable {D : Type 0} {disks : Ghosts D} (start next : Volume D disks) (outer : List (List ℕ)) (chosen : Chosen) (given : ℕ → List ℕ) (zone : ℕ) : Type 0 where
   pub unseen : Unseen start next
   pub others : IsTold (past_of start) → (d s : ℕ) → IsOffName start chosen d s → NotWritten (past_of start) (past_of next) d s
   pub lay : IsTold (past_of start) → zone_of_entry (super_view start.layout) (parts_now start) chosen.directory chosen.choice.place ≡ zone
-  pub lies : IsTold (past_of start) → zone_of_entry (super_view next.layout) (parts_now next) chosen.directory chosen.choice.place ≡ zone
-  pub place : IsTold (past_of start) → HasNamePlace (volume_view next) (now (past_of next)) outer chosen.directory chosen.choice.place chosen.name
-  pub sound : IsTold (past_of start) → IsSound (volume_view next) (now (past_of next))
-  pub stands : IsTold (past_of start) → MayStand (super_view next.layout) (parts_now next) chosen.choice.inode
+  pub may : IsTold (past_of start) → MayEnterNow next outer chosen zone
   pub is : IsTold (past_of start) → thing (super_view next.layout) (parts_now next) chosen.choice.inode ≡ thing_with chosen given
+  pub links : IsTold (past_of start) → ((model.parts_of (volume_view start) (now (past_of next))).node chosen.directory).links ≡ ((parts_now start).node chosen.directory).links
 
 -- ---- after a filled file
 
@@ -164,15 +143,17 @@ module _ {D : Type 0} {disks : Ghosts D} (start old mid : Volume D disks) (outer
   kept_named told = keeps (volume_view start) (now (past_of start)) (opened (volume_view start) (now (past_of start)) (sound told)) (now (past_of mid)) (beside told)
 
   -- a call was refused
-  refused_creates : (new : Volume D disks) (fault : WriteFault) → Unseen start new → (IsTold (past_of start) → (d s : ℕ) → IsOffName start chosen d s → NotWritten (past_of start) (past_of new) d s)
+  refused_creates : (IsTold (past_of start) → MayLinkNow start outer chosen) → (new : Volume D disks) (fault : WriteFault) → Unseen start new → (IsTold (past_of start) → (d s : ℕ) → IsOffName start chosen d s → NotWritten (past_of start) (past_of new) d s)
       → (IsTold (past_of start) → (fault ≡ refusals.Device) × Rose (faults_of start) (faults_of new)) → Creates start new outer chosen given (Err fault)
-  refused_creates new fault unseen' others cause = record {
+  refused_creates may new fault unseen' others cause = record {
     leads = unseen_refused start new (chosen.name ∷ outer) (Some chosen.choice.inode) (Some (thing_with chosen given)) fault unseen';
+    before = unseen_before start new outer chosen unseen' may;
+    above = λ told. tt;
     others = others;
     device = cause;
   }
 
-  module _ (may : IsTold (past_of start) → MayLinkNow start outer chosen) where
+  module _ (nests : MayNest outer chosen) (may : IsTold (past_of start) → MayLinkNow start outer chosen) where
     abbrev Facts : model.Volume → Image → Type 0
     Facts view image = IsSound view image × MayHavePlace view image outer chosen.directory chosen.choice.place chosen.name
 
@@ -197,10 +178,10 @@ module _ {D : Type 0} {disks : Ghosts D} (start old mid : Volume D disks) (outer
 
     pub links_no_place : (fault : WriteFault) → GivesPlace old chosen.directory chosen.choice.place (Err fault) → HasWriteCause (faults_of old) (faults_of mid) fault → Creates start mid outer chosen given (Err fault)
     links_no_place fault gives cause =
-        refused_creates mid fault unseen (λ told d s off. others_mid d s off.file) (λ told.
+        refused_creates may mid fault unseen (λ told d s off. others_mid d s off.file) (λ told.
         let is : fault ≡ refusals.Device = gives (filled.steps.goes_on.told told) (readable_place told) in
         let C : WriteFault → Type 0 = λ f. HasWriteCause (faults_of old) (faults_of mid) f in
-        (is, rose_later (faults_of start) (faults_of old) (faults_of mid) filled.steps.goes_on.later (subst C is cause)))
+        (is, rises (faults_of start) (faults_of old) (faults_of mid) filled.steps.goes_on.later (subst C is cause)))
 
     module _ (at : PlaceAt) (gives : GivesPlace old chosen.directory chosen.choice.place (Ok at)) where
       finds : IsTold (past_of start) → (inode_view at.node ≡ (parts_now old).node chosen.directory) × (zone_of_entry (super_view old.layout) (parts_now old) chosen.directory chosen.choice.place ≡ at.zone)
@@ -213,7 +194,7 @@ module _ {D : Type 0} {disks : Ghosts D} (start old mid : Volume D disks) (outer
 
       pub links_in_hole : at.zone ≡ 0 → (fault : WriteFault) → Creates start mid outer chosen given (Err fault)
       links_in_hole none fault =
-          refused_creates mid fault unseen (λ told d s off. others_mid d s off.file) (λ told. absurd ((may told).some (zone_start told ∙ none)))
+          refused_creates may mid fault unseen (λ told d s off. others_mid d s off.file) (λ told. absurd ((may told).some (zone_start told ∙ none)))
 
       module _ (have : ℕ) (is : have ≡ places (kind_view old.layout.kind) (inode_view at.node).size) where
         -- so many places lay below the size from the start on
@@ -281,9 +262,9 @@ module _ {D : Type 0} {disks : Ghosts D} (start old mid : Volume D disks) (outer
         pub links_not_brought : (next : Volume D disks) (fault : WriteFault) → Brings mid next chosen.directory (chosen.choice.place + 1) refusals.Device (Err fault)
             → (chosen.choice.place < have → SameVolume mid next) → Creates start next outer chosen given (Err fault)
         links_not_brought next fault brings none =
-            refused_creates next fault (unseen_next next (Err fault) brings none) (others_next next (Err fault) brings none) (λ told.
+            refused_creates may next fault (unseen_next next (Err fault) brings none) (others_next next (Err fault) brings none) (λ told.
             let cause = brings.device (steps.goes_on.told told) in
-            (cause.0, rose_later (faults_of start) (faults_of mid) (faults_of next) steps.goes_on.later cause.1))
+            (cause.0, rises (faults_of start) (faults_of mid) (faults_of next) steps.goes_on.later cause.1))
 
         module _ (next : Volume D disks) (brings : Brings mid next chosen.directory (chosen.choice.place + 1) refusals.Device (Ok tt)) (none : chosen.choice.place < have → SameVolume mid next) where
           unseen_then : Unseen start next
@@ -299,20 +280,28 @@ module _ {D : Type 0} {disks : Ghosts D} (start old mid : Volume D disks) (outer
           from_mid P holds = subst P (sym (same_view mid next brings.unseen.kept)) holds
 
           -- it stands on the volume that was read
-          stood : IsTold (past_of start) → MayStand (super_view mid.layout) (parts_now mid) chosen.choice.inode
-          stood told = stood_at ((filled.filled told).stands)
-            where
-              stood_at : MayStand (super_view old.layout) (parts_now old) chosen.choice.inode → MayStand (super_view mid.layout) (parts_now mid) chosen.choice.inode
-              stood_at stands =
-                  let V : model.Volume → Type 0 = λ view. MayStand view.layout (model.parts_of view (now (past_of old))) chosen.choice.inode in
-                  let I : Option Past → Type 0 = λ past. MayStand (super_view mid.layout) (model.parts_of (volume_view mid) (now past)) chosen.choice.inode in
-                  subst I (sym same.same_disks.same_past) (subst V (sym (same_view old mid (keeps_same old mid same))) stands)
+          abbrev IsThere : model.Volume → Image → Type 0
+          IsThere view image = (((model.parts_of view image).node chosen.choice.inode).mode ≡ chosen.mode) × MayBeNamed view.layout (model.parts_of view image) outer chosen.directory chosen.choice.inode
+              × (thing view.layout (model.parts_of view image) chosen.choice.inode ≡ thing_with chosen given)
 
-          was : IsTold (past_of start) → thing (super_view mid.layout) (parts_now mid) chosen.choice.inode ≡ thing_with chosen given
-          was told =
-              let V : model.Volume → Type 0 = λ view. thing view.layout (model.parts_of view (now (past_of old))) chosen.choice.inode ≡ thing_with chosen given in
-              let I : Option Past → Type 0 = λ past. thing (super_view mid.layout) (model.parts_of (volume_view mid) (now past)) chosen.choice.inode ≡ thing_with chosen given in
-              subst I (sym same.same_disks.same_past) (subst V (sym (same_view old mid (keeps_same old mid same))) (filled.filled told).is)
+          stood : IsTold (past_of start) → IsThere (volume_view mid) (now (past_of mid))
+          stood told =
+              let f = filled.filled told in
+              let V : model.Volume → Type 0 = λ view. IsThere view (now (past_of old)) in
+              let I : Option Past → Type 0 = λ past. IsThere (volume_view mid) (now past) in
+              subst I (sym same.same_disks.same_past) (subst V (sym (same_view old mid (keeps_same old mid same))) (f.mode, f.named outer nests, f.is))
+
+          -- and it is as it was once the place is there
+          still : IsTold (past_of start) → StillFits (super_view mid.layout) (parts_now mid) (model.parts_of (volume_view mid) (now (past_of next))) chosen.choice.inode
+          still told =
+              let f = at_mid Facts (facts told) in
+              let m = (stood told).1 in
+              (brought told).keeps.files chosen.choice.inode
+              (not_named (super_view mid.layout) (parts_now mid) outer chosen.directory chosen.choice.inode (record { path = outer; leads = f.1.leads }) f.1.is m)
+              (fit_named (super_view mid.layout) (parts_now mid) outer chosen.directory chosen.choice.inode m)
+
+          sees_mid : IsTold (past_of start) → Sees (super_view mid.layout) (parts_now mid) (model.parts_of (volume_view mid) (now (past_of next)))
+          sees_mid told = (brings.unseen.held (steps.goes_on.told told)).sees
 
           lies_start : IsTold (past_of start) → LiesThere (volume_view start) (now (past_of next)) chosen.directory chosen.choice.place
           lies_start told =
@@ -323,94 +312,95 @@ module _ {D : Type 0} {disks : Ghosts D} (start old mid : Volume D disks) (outer
                 some = λ e. (may told).some (sym (zone_stays told (now (past_of next)) (unseen_then.held told)) ∙ e);
               }
 
+          may_enter : IsTold (past_of start) → MayEnterNow next outer chosen at.zone
+          may_enter told = record {
+            sound = at_next (λ view. IsSound view (now (past_of next))) (unseen_then.held told).sound;
+            lies =
+                at_next (λ view. zone_of_entry view.layout (model.parts_of view (now (past_of next))) chosen.directory chosen.choice.place ≡ at.zone)
+                (zone_stays told (now (past_of next)) (unseen_then.held told) ∙ zone_start told);
+            place =
+                at_next (λ view. HasNamePlace view (now (past_of next)) outer chosen.directory chosen.choice.place chosen.name)
+                (place_lies_law (volume_view start) (now (past_of next)) outer chosen.directory chosen.choice.place chosen.name
+                (may_have_stays_law (volume_view start) (now (past_of start)) (now (past_of next)) outer chosen.directory chosen.choice.place chosen.name (sound told) (unseen_then.held told) (may told).may)
+                (lies_start told));
+            mode =
+                from_mid (λ view. ((model.parts_of view (now (past_of next))).node chosen.choice.inode).mode ≡ chosen.mode)
+                (ap (λ (i : Inode). i.mode) (still told).kept.node ∙ (stood told).0);
+            named =
+                from_mid (λ view. MayBeNamed view.layout (model.parts_of view (now (past_of next))) outer chosen.directory chosen.choice.inode)
+                (named_kept (super_view mid.layout) (parts_now mid) (model.parts_of (volume_view mid) (now (past_of next))) chosen.choice.inode (still told).kept (sees_mid told) (still told).fit outer chosen.directory (stood told).1);
+          }
+
+          links_stay : IsTold (past_of start) → ((model.parts_of (volume_view start) (now (past_of next))).node chosen.directory).links ≡ ((parts_now start).node chosen.directory).links
+          links_stay told =
+              let L : model.Volume → Type 0 = λ view. ((model.parts_of view (now (past_of next))).node chosen.directory).links ≡ ((model.parts_of view (now (past_of mid))).node chosen.directory).links in
+              subst L (same_view start mid unseen.kept) (brought told).links ∙ ap (λ (i : Inode). i.links) ((kept_named told).nodes chosen.directory (named told))
+
           pub linkable : IsLinkable start next outer chosen given at.zone
           linkable = record {
             unseen = unseen_then;
             others = others_next next (Ok tt) brings none;
             lay = zone_start;
-            lies = λ told.
-                at_next (λ view. zone_of_entry view.layout (model.parts_of view (now (past_of next))) chosen.directory chosen.choice.place ≡ at.zone)
-                (zone_stays told (now (past_of next)) (unseen_then.held told) ∙ zone_start told);
-            place = λ told.
-                at_next (λ view. HasNamePlace view (now (past_of next)) outer chosen.directory chosen.choice.place chosen.name)
-                (place_lies_law (volume_view start) (now (past_of next)) outer chosen.directory chosen.choice.place chosen.name
-                (may_have_stays_law (volume_view start) (now (past_of start)) (now (past_of next)) outer chosen.directory chosen.choice.place chosen.name (sound told) (unseen_then.held told) (may told).may)
-                (lies_start told));
-            sound = λ told. at_next (λ view. IsSound view (now (past_of next))) (unseen_then.held told).sound;
-            stands = λ told. from_mid (λ view. MayStand view.layout (model.parts_of view (now (past_of next))) chosen.choice.inode) ((brought told).keeps.files chosen.choice.inode (stood told)).stands;
+            may = may_enter;
             is = λ told.
                 from_mid (λ view. thing view.layout (model.parts_of view (now (past_of next))) chosen.choice.inode ≡ thing_with chosen given)
-                (((brought told).keeps.files chosen.choice.inode (stood told)).is ∙ was told);
+                (thing_kept (super_view mid.layout) (parts_now mid) (model.parts_of (volume_view mid) (now (past_of next))) chosen.choice.inode (still told).kept ∙ (stood told).2);
+            links = links_stay;
           }
 
 -- ---- the entry
 
-module _ {D : Type 0} {disks : Ghosts D} (start mid : Volume D disks) (outer : List (List ℕ)) (chosen : Chosen) (given : ℕ → List ℕ) (zone : ℕ) (ready : IsLinkable start mid outer chosen given zone)
-    (suits : Suits mid.layout mid.span chosen) (index : ℕ) (low : index < entries_per_block (kind_view mid.layout.kind)) (slot : index ≡ chosen.choice.place % entries_per_block (kind_view mid.layout.kind)) where
-  abbrev path : List (List ℕ)
-  path = chosen.name ∷ outer
+module _ {D : Type 0} {disks : Ghosts D} (start mid : Volume D disks) (outer : List (List ℕ)) (chosen : Chosen) (given : ℕ → List ℕ) (zone : ℕ) (ready : IsLinkable start mid outer chosen given zone) where
+  told_mid : IsTold (past_of start) → IsTold (past_of mid)
+  told_mid told = ready.unseen.goes_on.told told
 
-  may_make : IsTold (past_of mid) → MayMakeAt mid outer chosen.directory chosen.choice.place zone index chosen.choice.inode chosen.name
-  may_make told =
-      let before = ready.unseen.goes_on.told_before told in
-      let place = ready.place before in
+  pub enter_may : IsTold (past_of mid) → MayEnterNow mid outer chosen zone
+  enter_may told = ready.may (ready.unseen.goes_on.told_before told)
+
+  off_entered : IsTold (past_of start) → (d s : ℕ) → IsOffName start chosen d s → IsOffEntered mid chosen zone d s
+  off_entered told d s off =
+      let kept = ready.unseen.kept in
+      let index : ℕ = chosen.choice.place % entries_per_block (kind_view mid.layout.kind) in
+      let Z : ℕ → Type 0 = λ z. IsOutside start.span.disk (start.span.start + zone_sector z) 2 d s in
+      let S : Span → Type 0 = λ span. IsOutside span.disk (span.start + zone_sector zone) 2 d s in
+      let half = half_of_entry (kind_view mid.layout.kind) index (slot-low (kind_view mid.layout.kind) chosen.choice.place) in
+      let out = subst S (sym kept.same_span) (subst Z (ready.lay told) off.name) in
+      let at : mid.span.start + zone_sector zone + entry_size (kind_view mid.layout.kind) * index / 512 ≡ mid.span.start + (zone_sector zone + entry_size (kind_view mid.layout.kind) * index / 512) = omega arith in
+      let T : ℕ → Type 0 = λ n. IsOther mid.span.disk n d s in
+      let I : Span → Super → Type 0 = λ span layout. IsOther span.disk (span.start + (inode_place (super_view layout) chosen.directory).sector) d s in
       record {
-        lies = record { at = record { sound = ready.sound before; lies = ready.lies before; slot = sym slot }; placed = place.placed };
-        fits = suits.name;
-        enters = place.enters;
-        stands = ready.stands before;
+        entry = subst T at (outside_is_other mid.span.disk (mid.span.start + zone_sector zone) 2 (entry_size (kind_view mid.layout.kind) * index / 512) d s half out);
+        above = λ is. subst₂ I (sym kept.same_span) (sym kept.same_layout) (off.above is);
       }
 
-  module _ (new : Volume D disks) (result : Result (Unit {0}) ZoneFault)
-      (turns : TurnsNamedEntry mid new zone index chosen.choice.inode chosen.name zones.Device result) (makes : MakesName mid new zone index chosen.choice.inode chosen.name result) where
-    made : LeadsPath mid new path (Some chosen.choice.inode) (Some (thing (super_view mid.layout) (parts_now mid) chosen.choice.inode)) result
-    made = makes outer chosen.directory chosen.choice.place may_make
+  -- the links of the directory above at each moment
+  before_entered : (new : Volume D disks) (result : Result (Unit {0}) WriteFault) → (IsTold (past_of start) → MayLinkNow start outer chosen) → Enters mid new outer chosen zone result
+      → LeavesOnly (past_of start) (past_of new) (IsRaisedBefore start outer chosen)
+  before_entered new result may enters =
+      leaves_join (past_of start) (past_of mid) (past_of new) (IsRaisedBefore start outer chosen) (unseen_before start mid outer chosen ready.unseen may)
+      (leaves_told (past_of mid) (past_of new) _ _ enters.links (λ told c first.
+      let L : model.Volume → Type 0 = λ view. ((model.parts_of view c).node chosen.directory).links ≡ links_above view.layout.kind chosen ((model.parts_of view (now (past_of mid))).node chosen.directory).links in
+      let N : model.Volume → Type 0 = λ view. reached view.layout (model.parts_of view c) (chosen.name ∷ outer) ≡ None in
+      let view = same_view start mid ready.unseen.kept in
+      let told-start = ready.unseen.goes_on.told_before (enters.leads.goes_on.told_before told) in
+      ⊎_elim
+      (λ raised. inr (subst L view raised ∙ ap (links_above (kind_view start.layout.kind) chosen) (ready.links told-start)))
+      (λ unnamed. inl (subst N view unnamed.1))
+      first))
 
-    leads_from : LeadsPath start new path (Some chosen.choice.inode) (Some (thing (super_view mid.layout) (parts_now mid) chosen.choice.inode)) result
-    leads_from = unseen_then_leads start mid new path (Some chosen.choice.inode) (Some (thing (super_view mid.layout) (parts_now mid) chosen.choice.inode)) result ready.unseen made
-
-    off_entry : IsTold (past_of start) → (d s : ℕ) → IsOffName start chosen d s → IsOther mid.span.disk (mid.span.start + (zone_sector zone + entry_size (kind_view mid.layout.kind) * index / 512)) d s
-    off_entry told d s off =
-        let Z : ℕ → Type 0 = λ z. IsOutside start.span.disk (start.span.start + zone_sector z) 2 d s in
-        let S : Span → Type 0 = λ span. IsOutside span.disk (span.start + zone_sector zone) 2 d s in
-        let half = half_of_entry (kind_view mid.layout.kind) index low in
-        let out = subst S (sym ready.unseen.kept.same_span) (subst Z (ready.lay told) off.name) in
-        let at : mid.span.start + zone_sector zone + entry_size (kind_view mid.layout.kind) * index / 512 ≡ mid.span.start + (zone_sector zone + entry_size (kind_view mid.layout.kind) * index / 512) = omega arith in
-        let T : ℕ → Type 0 = λ n. IsOther mid.span.disk n d s in
-        subst T at (outside_is_other mid.span.disk (mid.span.start + zone_sector zone) 2 (entry_size (kind_view mid.layout.kind) * index / 512) d s half out)
-
-    others_new : IsTold (past_of start) → (d s : ℕ) → IsOffName start chosen d s → NotWritten (past_of start) (past_of new) d s
-    others_new told d s off =
-        not_written_join (past_of start) (past_of mid) (past_of new) d s (ready.others told d s off) (turns.others d s (off_entry told d s off))
-
-    -- the name leads to the file that was given, also where no past is reported
-    leads_to : {E : Type 0} (answer : Result (Unit {0}) E)
-        → LeadsPath start new path (Some chosen.choice.inode) (Some (thing (super_view mid.layout) (parts_now mid) chosen.choice.inode)) answer
-        → LeadsPath start new path (Some chosen.choice.inode) (Some (thing_with chosen given)) answer
-    leads_to answer leads =
-        let T : Thing → Image → Type 0 = λ what image. HasTreeWith (volume_view start) (now (past_of start)) image path (Some chosen.choice.inode) (Some what) in
-        let to : IsTold (past_of start) → (image : Image) → T (thing (super_view mid.layout) (parts_now mid) chosen.choice.inode) image → T (thing_with chosen given) image =
-        λ told image tree. let W : Thing → Type 0 = λ what. T what image in subst W (ready.is told) tree in
-        record {
-          any_moment = leaves_told (past_of start) (past_of new) _ _ leads.any_moment (λ told c either. ⊎_elim (λ unseen'. inl unseen') (λ tree. inr (to (leads.goes_on.told_before told) c tree)) either);
-          held = λ told. ⊎_elim (λ unseen'. inl unseen') (λ tree. inr (to told (now (past_of new)) tree)) (leads.held told);
-          done = λ told. on_ok answer _ _ (leads.done told) (to told (now (past_of new)));
-          goes_on = leads.goes_on;
-          kept = leads.kept;
-        }
-
-  pub links_done : (new : Volume D disks) → TurnsNamedEntry mid new zone index chosen.choice.inode chosen.name zones.Device (Ok tt) → MakesName {E = ZoneFault} mid new zone index chosen.choice.inode chosen.name (Ok tt)
-      → Creates start new outer chosen given (Ok tt)
-  links_done new turns makes = record {
-    device = λ told. tt;
-    leads = answered start new path (Some chosen.choice.inode) (Some (thing_with chosen given)) (leads_to new (Ok tt) turns makes (Ok tt) (leads_from new (Ok tt) turns makes));
-    others = others_new new (Ok tt) turns makes;
-  }
-
-  pub links_failed : (new : Volume D disks) (fault : ZoneFault) → TurnsNamedEntry mid new zone index chosen.choice.inode chosen.name zones.Device (Err fault) → MakesName {E = ZoneFault} mid new zone index chosen.choice.inode chosen.name (Err fault)
-      → Creates start new outer chosen given (Err refusals.Device)
-  links_failed new fault turns makes = record {
-    device = λ told. (refl, rose_later (faults_of start) (faults_of mid) (faults_of new) ready.unseen.goes_on.later turns.device.1);
-    leads = refused start new path (Some chosen.choice.inode) (Some (thing_with chosen given)) fault refusals.Device (leads_to new (Err fault) turns makes (Err fault) (leads_from new (Err fault) turns makes));
-    others = others_new new (Err fault) turns makes;
+  pub links_entered : (IsTold (past_of start) → MayLinkNow start outer chosen) → (new : Volume D disks) (result : Result (Unit {0}) WriteFault) → Enters mid new outer chosen zone result → Creates start new outer chosen given result
+  links_entered may new result enters = record {
+    leads =
+        leads_is start new (chosen.name ∷ outer) chosen.choice.inode (thing (super_view mid.layout) (parts_now mid) chosen.choice.inode) (thing_with chosen given) result
+        (unseen_then_leads start mid new (chosen.name ∷ outer) (Some chosen.choice.inode) (Some (thing (super_view mid.layout) (parts_now mid) chosen.choice.inode)) result ready.unseen enters.leads)
+        ready.is;
+    before = before_entered new result may enters;
+    above = λ told.
+        let L : model.Volume → Type 0 = λ view. OnOk result (((model.parts_of view (now (past_of new))).node chosen.directory).links
+        ≡ links_above view.layout.kind chosen ((model.parts_of view (now (past_of mid))).node chosen.directory).links) in
+        on_ok result _ _ (subst L (same_view start mid ready.unseen.kept) (enters.above (told_mid told)))
+        (λ above. above ∙ ap (links_above (kind_view start.layout.kind) chosen) (ready.links told));
+    others = λ told d s off.
+        not_written_join (past_of start) (past_of mid) (past_of new) d s (ready.others told d s off) (enters.others (told_mid told) d s (off_entered told d s off));
+    device = λ told. device_of start mid new refusals.Device result ready.unseen.goes_on.later (enters.device (told_mid told));
   }

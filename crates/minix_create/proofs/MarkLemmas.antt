@@ -1,19 +1,18 @@
 -- What the call leaves that sets the bits of what was chosen.
-use Rattle.std.proofs.Common.{◌≡◌, ◌≢◌, ◌≤◌, ◌<◌, ◌+◌, ◌*◌, ◌-◌, ◌==◌, ◌||◌, ℕ, Bool, true, false, List, Result, Ok, Err, OnOk, refl, sym, ap, ◌∙◌, subst, arith, inl, inr}
+use Rattle.std.proofs.Common.{◌≡◌, ◌≤◌, ◌<◌, ◌+◌, ◌*◌, ◌-◌, ◌==◌, ◌||◌, ℕ, Bool, true, false, List, Result, Err, refl, sym, ap, ◌∙◌, subst, arith, inl, inr}
 use Rattle.std.proofs.lemmas.Bool.{eqb-true, eq-eqb}
 use Rattle.disk_trait.specs.declared.disks.Disks.{Ghosts}
 use Rattle.disk_trait.specs.declared.disks.Span.{Span}
 use Rattle.disk_trait.specs.Past.{Image}
-use Rattle.disk_trait.specs.Moments.{IsTold, now, IsQuiet}
+use Rattle.disk_trait.specs.Moments.{IsTold, now}
 use Rattle.disk_trait.specs.NotWritten.{IsOther, NotWritten}
 use Rattle.disk_trait.specs.Range.{IsOutside}
-use Rattle.disk_trait.proofs.MomentLemmas.{on_ok}
 use Rattle.disk_trait.proofs.CallLemmas.{on_ok_held}
 use Rattle.disk_trait.proofs.NotWrittenLemmas.{not_written_join}
 use Rattle.disk_trait.proofs.RangeLemmas.{outside_is_other}
 use Rattle.lilo_model.specs.MinixParts as model
 use Rattle.lilo_model.specs.MinixParts.{Parts, inode_mark_sector}
-use Rattle.minix_beside_laws.specs.Beside.{IsDataZone, IsOfBitmaps}
+use Rattle.minix_beside_laws.specs.Beside.{IsOfBitmaps}
 use Rattle.minix_bits.specs.Laws.{OneInodeMark}
 use Rattle.minix_bits.specs.Numbers.{has_number}
 use Rattle.minix_fill.specs.Marks.{ZonesMarked, IsOffZoneMap, MarksZones}

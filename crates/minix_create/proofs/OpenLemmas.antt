@@ -1,18 +1,15 @@
 -- What holds of a file that is reserved.
-use Rattle.std.proofs.Common.{◌≡◌, ◌≢◌, ◌≤◌, ◌<◌, ◌+◌, ◌==◌, ◌||◌, ℕ, Bool, true, false, List, length, All, Result, Ok, Err, refl, sym, ap, ◌∙◌, subst, arith, ⊎_elim}
+use Rattle.std.proofs.Common.{◌≡◌, ◌≢◌, ◌≤◌, ◌<◌, ◌+◌, ◌||◌, ℕ, Bool, true, false, List, Ok, refl, sym, ap, ◌∙◌, subst, arith, ⊎_elim}
 use Rattle.std.specs.Prelude.{slice_index}
 use Rattle.std.proofs.lemmas.Bool.{eq-eqb, cases_lt}
 use Rattle.disk_trait.specs.declared.disks.Disks.{Ghosts}
 use Rattle.disk_trait.specs.declared.disks.Span.{Span}
 use Rattle.disk_trait.specs.Moments.{IsTold, IsQuiet}
-use Rattle.disk_trait.specs.NotWritten.{IsOther, NotWritten}
+use Rattle.disk_trait.specs.NotWritten.{NotWritten}
 use Rattle.disk_trait.specs.Range.{IsOutside}
 use Rattle.disk_trait.proofs.NotWrittenLemmas.{not_written_join}
-use Rattle.lilo_model.specs.MinixLayout.{zone_sector, inode_place}
-use Rattle.lilo_model.specs.MinixParts as model
-use Rattle.lilo_model.specs.MinixParts.{Parts}
+use Rattle.lilo_model.specs.MinixLayout.{zone_sector}
 use Rattle.minix_beside_laws.specs.Beside.{IsDataZone}
-use Rattle.minix_bits.specs.Numbers.{has_number}
 use Rattle.minix_choice_laws.specs.Choice.{file_of}
 use Rattle.minix_fill.specs.Fill.{MayHoldFile, AreMarked}
 use Rattle.minix_fill.proofs.FillSteps.{held_free}
@@ -24,12 +21,12 @@ use Rattle.minix_steps.specs.Laws.{OneZone}
 use Rattle.minix_steps.specs.Steps.{IsReady, IsUnusedZone, IsUnnamedInode, Steps}
 use Rattle.minix_steps.specs.Written.{parts_now}
 use Rattle.minix_steps.proofs.ReadyLemmas.{quiet_ready, unmarked_unused, unmarked_unnamed}
-use Rattle.minix_steps.proofs.StepLemmas.{same_view, steps_join}
+use Rattle.minix_steps.proofs.StepLemmas.{steps_join}
 use Rattle.minix_zones.specs.View as zones
 use Rattle.minix_zones.specs.Volume.{volume_view, past_of, KeepsVolume}
 use Rattle.minix_zones.specs.declared.volume.Volume.{Volume}
 use Rattle.minix_create.specs.Chosen.{Suits, IsFreeNow}
-use Rattle.minix_create.specs.Created.{IsOffFile, MarksOnly, MarksChosen, IsOpen, HasBlocks, IsReserved}
+use Rattle.minix_create.specs.Created.{IsOffFile, MarksChosen, IsOpen, HasBlocks, IsReserved}
 use Rattle.minix_create.specs.declared.chosen.Chosen.{Chosen}
 use Rattle.minix_create.proofs.FromLemmas.{IsOf, file_zone, of_all, of_each, has_one}
 

@@ -12,7 +12,7 @@ use Rattle.disk_trait.proofs.NotWrittenLemmas.{not_written_join}
 use Rattle.lilo_model.specs.MinixLayout.{inode_place, zone_sector}
 use Rattle.minix_bits.specs.Numbers.{has_number}
 use Rattle.minix_choice_laws.specs.Choice.{file_of}
-use Rattle.minix_fill.specs.Fill.{FillsFile, IsOfFile, MayGetName}
+use Rattle.minix_fill.specs.Fill.{FillsFile, MayGetName, IsFitThen}
 use Rattle.minix_fill_laws.specs.Sources.{Block}
 use Rattle.minix_layout.specs.View.{kind_view, super_view}
 use Rattle.minix_layout.specs.declared.superblock.Super.{Super}
@@ -28,8 +28,8 @@ use Rattle.minix_zones.specs.Volume.{volume_view, past_of, faults_of, KeepsVolum
 use Rattle.minix_zones.specs.declared.volume.Volume.{Volume}
 use Rattle.minix_zones.specs.declared.zone_fault.ZoneFault.{ZoneFault}
 use Rattle.minix_zones.specs.declared.zone_fault.ZoneFault.TheVariants as zones
-use Rattle.minix_create.specs.Chosen.{Suits, IsFreeNow, IsNextBlock, new_inode, thing_with}
-use Rattle.minix_create.specs.Created.{IsOffBitmaps, IsOffFile, MarksChosen, IsOpen, IsReserved, IsFilled}
+use Rattle.minix_create.specs.Chosen.{Suits, IsFreeNow, IsNextBlock, MayBeMade, new_inode}
+use Rattle.minix_create.specs.Created.{IsOffFile, MarksChosen}
 use Rattle.minix_create.specs.Linked.{LinksFilled}
 use Rattle.minix_create.specs.States.{IsInHand, IsReservedSince, Reserves, WritesBlock, Fills, GoesWrong, Links, LinkHalts, CreatesOn, CreatesFile, CreationHalts}
 use Rattle.minix_create.specs.declared.chosen.Chosen.{Chosen}
@@ -40,7 +40,8 @@ use Rattle.minix_create.specs.declared.reserved.Reserved.{Reserved}
 use Rattle.minix_create.proofs.ChosenLemmas.{few_blocks}
 use Rattle.minix_create.proofs.FillLemmas.{filled_with, fill_done, off_indirect_of}
 use Rattle.minix_create.proofs.FromLemmas.{file_zone, has_one}
-use Rattle.minix_create.proofs.LinkLemmas.{unseen_refused, rose_later}
+use Rattle.minix_create.proofs.BroughtLemmas.{rises}
+use Rattle.minix_create.proofs.EnterLemmas.{unseen_refused, unseen_before}
 use Rattle.minix_create.proofs.OpenLemmas.{suits_kept, suits_was, marked_open, marked_reserved, block_open, block_reserved}
 
 -- a sector that isn't of the file isn't either on the volume as it is kept
@@ -99,15 +100,19 @@ module _ {D : Type 0} {disks : Ghosts D} (old new : Volume D disks) (chosen : Ch
 -- ---- the whole file
 
 module _ {D : Type 0} {disks : Ghosts D} (old new : Volume D disks) (chosen : Chosen) (next : ℕ) (hand : IsInHand (record { volume = old; chosen = chosen; next = next })) (all : length chosen.choice.blocks ≤ next) where
-  pub fills_ok : FillsFile old new chosen.choice.inode (new_inode chosen) (file_of chosen.choice) (Ok tt) → MayGetName old new chosen.choice.inode (new_inode chosen) (file_of chosen.choice) (Ok tt)
+  pub fills_ok : FillsFile old new chosen.choice.inode (new_inode chosen) (file_of chosen.choice) (Ok tt) → IsFitThen old new chosen.choice.inode (new_inode chosen) (file_of chosen.choice) (Ok tt)
+      → MayGetName old new chosen.choice.inode (new_inode chosen) (file_of chosen.choice) (Ok tt)
       → Fills (record { volume = old; chosen = chosen; next = next }) (record { volume = new; chosen = chosen })
-  fills_ok fills stands = record {
+  fills_ok fills fit stands = record {
     same = refl;
     place = record { suits = suits_kept old new chosen fills.steps.kept hand.may.suits; quiet = fills.quiet };
-    since = λ start given of reserved.
+    since = λ start given made reserved.
         let suits = suits_was start old chosen reserved.steps.kept hand.may.suits in
+        let M : Super → Type 0 = λ layout. MayBeMade (kind_view layout.kind) chosen given in
         fill_done start old new chosen given next hand.may reserved suits all fills
-        (λ told. filled_with start old new chosen given next hand.may reserved suits all fills told of (few_blocks old.layout old.span chosen hand.may.suits) stands);
+        (λ told.
+        filled_with start old new chosen given next hand.may reserved suits all fills told (few_blocks old.layout old.span chosen hand.may.suits)
+        (subst M (sym reserved.steps.kept.same_layout) (made told)) fit stands);
   }
 
   pub fill_wrong : (fault : ZoneFault) → FillsFile old new chosen.choice.inode (new_inode chosen) (file_of chosen.choice) (Err fault) → GoesWrong old new chosen Device
@@ -122,8 +127,10 @@ module _ {D : Type 0} {disks : Ghosts D} (old new : Volume D disks) (chosen : Ch
 
 module _ {D : Type 0} {disks : Ghosts D} (start : Volume D disks) (chosen : Chosen) (given : ℕ → List ℕ) (quiet : IsQuiet (past_of start)) (free : IsTold (past_of start) → IsFreeNow start chosen) where
   pub wrong_creates : (new : Volume D disks) (fault : WriteFault) → GoesWrong start new chosen fault → CreatesOn start new chosen given (Err fault)
-  wrong_creates new fault wrong outer may = record {
+  wrong_creates new fault wrong outer nests may = record {
     leads = unseen_refused start new _ _ _ fault (steps_unseen start new quiet (λ told. (free told).sound) wrong.steps);
+    before = unseen_before start new outer chosen (steps_unseen start new quiet (λ told. (free told).sound) wrong.steps) may;
+    above = λ told. tt;
     others = λ told d s off. wrong.others d s off.file;
     device = λ told. (wrong.device, wrong.rose);
   }
@@ -134,7 +141,7 @@ module _ {D : Type 0} {disks : Ghosts D} (start : Volume D disks) (chosen : Chos
     steps = steps_join start old new (quiet_ready start quiet (λ told. (free told).sound)) steps wrong.steps;
     others = λ d s off. not_written_join (past_of start) (past_of old) (past_of new) d s (others d s off) (wrong.others d s (off_kept start old chosen steps.kept d s off));
     device = wrong.device;
-    rose = rose_later (faults_of start) (faults_of old) (faults_of new) steps.goes_on.later wrong.rose;
+    rose = rises (faults_of start) (faults_of old) (faults_of new) steps.goes_on.later wrong.rose;
   }
 
 -- ---- all of it
@@ -155,12 +162,12 @@ module _ {D : Type 0} {disks : Ghosts D} (start : Volume D disks) (given : ℕ �
       (wrong_creates start reserved.chosen given since.quiet since.free new fault
       (later_wrong start reserved.chosen given since.quiet since.free reserved.volume new fault since.steps since.others wrong))
 
-  module _ (of : IsOfFile (new_inode chosen)) (filled : Filled D disks) (fills : Fills reserved filled) where
+  module _ (made : IsTold (past_of start) → MayBeMade (kind_view start.layout.kind) chosen given) (filled : Filled D disks) (fills : Fills reserved filled) where
     creates : (new : Volume D disks) (result : Result (Unit {0}) WriteFault) → LinksFilled filled.volume new filled.chosen result → CreatesOn start new chosen given result
     creates new result links =
         let P : Chosen → Type 0 = λ it. CreatesOn start new it given result in
-        let F : Chosen → Type 0 = λ it. IsOfFile (new_inode it) in
-        subst P (fills.same ∙ same) (λ outer may. links start outer given (fills.since start given (subst F (sym same) of) since) may)
+        let M : Chosen → Type 0 = λ it. IsTold (past_of start) → MayBeMade (kind_view start.layout.kind) it given in
+        subst P (fills.same ∙ same) (λ outer nests may. links start outer given (fills.since start given (subst M (sym same) made) since) nests may)
 
     pub created_ok : (result : Result (Volume D disks × Linked) (WriteHalt D disks)) → IfOk result (Links filled) → IfOk result (CreatesFile start chosen given)
     created_ok (Ok linked) links = record {

@@ -7,11 +7,11 @@ use Rattle.disk_trait.specs.Range.{IsOutside}
 use Rattle.lilo_model.specs.Faults.{Rose}
 use Rattle.lilo_model.specs.MinixEntries.{entries_per_block, places}
 use Rattle.lilo_model.specs.MinixLayout.{Super, Inode, reach, zone_sector}
-use Rattle.lilo_model.specs.MinixNames.{thing, Named, PointsTo, IsSound}
+use Rattle.lilo_model.specs.MinixNames.{Named, PointsTo, IsSound}
 use Rattle.lilo_model.specs.MinixParts as model
 use Rattle.lilo_model.specs.MinixParts.{Parts, Pointer, is_directory, blocks_for}
-use Rattle.minix_entry_laws.specs.Enter.{MayStand}
-use Rattle.minix_entry_laws.specs.Only.{zone_of_entry}
+use Rattle.minix_entry_laws.specs.Comes.{IsFit}
+use Rattle.minix_entry_laws.specs.Only.{zone_of_entry, KeepsInode}
 use Rattle.minix_grow.specs.Hook.{IsOffInode}
 use Rattle.minix_layout.specs.View.{kind_view, super_view, inode_view}
 use Rattle.minix_steps.specs.Written.{parts_now}
@@ -20,21 +20,19 @@ use Rattle.minix_write.specs.declared.write_fault.WriteFault.{WriteFault}
 use Rattle.minix_write.specs.declared.write_fault.WriteFault.TheVariants.{Device}
 use Rattle.minix_zones.specs.Volume.{volume_view, past_of, faults_of}
 use Rattle.minix_zones.specs.declared.volume.Volume.{Volume}
-use Rattle.write_model.specs.Places.{most_places}
 use Rattle.minix_create.specs.declared.place_at.PlaceAt.{PlaceAt}
 
--- ---- files without a name
+-- ---- inodes without a name
 
--- a file that may get a name still may, it is what it was, and its pointers lead to the zones to which they led
-pub record StillStands (super : Super) (old new : Parts) (number : ℕ) : Type 0 where
-  pub stands : MayStand super new number
-  pub is : thing super new number ≡ thing super old number
-  pub points : (at : Pointer) (zone : ℕ) → PointsTo super old number at zone → PointsTo super new number at zone
+-- an inode that was fit for a name still is, and it and its zones are as they were
+pub record StillFits (super : Super) (old new : Parts) (number : ℕ) : Type 0 where
+  pub fit : IsFit super new number
+  pub kept : KeepsInode super old new number
 
--- what has a name has no pointer more, and so it is of each file that may get one
-pub record KeepsFiles (super : Super) (old new : Parts) : Type 0 where
+-- where a directory changes, what has a name has no pointer more, and so it is of each other inode that is fit for one
+pub record KeepsFiles (super : Super) (old new : Parts) (directory : ℕ) : Type 0 where
   pub points : (number : ℕ) (at : Pointer) (zone : ℕ) → Named super old number → PointsTo super new number at zone → PointsTo super old number at zone
-  pub files : (number : ℕ) → MayStand super old number → StillStands super old new number
+  pub files : (number : ℕ) → number ≢ directory → IsFit super old number → StillFits super old new number
 
 -- ---- where a place lies
 
@@ -76,10 +74,11 @@ pub record IsOffDirectory {D : Type 0} {disks : Ghosts D} (volume : Volume D dis
   pub inode : IsOffInode volume directory d s
   pub zones : (at : Pointer) (zone : ℕ) → PointsTo (super_view volume.layout) (parts_now volume) directory at zone → IsOutside volume.span.disk (volume.span.start + zone_sector zone) 2 d s
 
--- so many places of a directory lie below its size, and what has no name yet is as before
+-- so many places of a directory lie below its size, its links are as before, and so is what has no name yet
 pub record IsBrought (super : Super) (old new : Parts) (directory count : ℕ) : Type 0 where
   pub room : count ≤ places super.kind (new.node directory).size
-  pub keeps : KeepsFiles super old new
+  pub links : (new.node directory).links ≡ (old.node directory).links
+  pub keeps : KeepsFiles super old new directory
 
 -- So many places of a directory were brought below its size. No name sees it at any moment, and no sector but the
 -- directory's own was written; it was refused where the disk failed.

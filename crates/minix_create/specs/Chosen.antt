@@ -1,14 +1,16 @@
 -- What is chosen for a file (a rule of this project's own). A file's blocks and its sectors are counted from 0.
-use Rattle.std.specs.Prelude.{◌≡◌, ◌≢◌, ◌≤◌, ◌<◌, ◌+◌, ◌*◌, ◌/◌, ◌%◌, ◌==◌, ◌^◌, ℕ, true, false, Bool, if◌then◌else◌, List, [], Some, length, take, replicate, slice_index, slice_index_or, All}
+use Rattle.std.specs.Prelude.{◌≡◌, ◌≢◌, ◌≤◌, ◌<◌, ◌+◌, ◌*◌, ◌/◌, ◌%◌, ◌==◌, ◌^◌, ◌⊎◌, ℕ, true, false, Bool, if◌then◌else◌, List, [], Some, length, take, replicate, slice_index, slice_index_or, All}
 use Rattle.disk_trait.specs.declared.disks.Disks.{Ghosts}
 use Rattle.disk_trait.specs.declared.disks.Span.{Span}
 use Rattle.disk_trait.specs.Moments.{IsTold, now}
-use Rattle.lilo_model.specs.MinixLayout.{Inode, is_size, reach}
-use Rattle.lilo_model.specs.MinixNames.{Thing, File, Link, Directory, Other, blocks, reached, IsSound}
-use Rattle.lilo_model.specs.MinixParts.{Parts, blocks_for, is_directory, is_file, is_link}
+use Rattle.lilo_model.specs.MinixEntries.{entry_with, entry_in, here_name, above_name}
+use Rattle.lilo_model.specs.MinixLayout.{Kind, Inode, entry_size, is_size, reach}
+use Rattle.lilo_model.specs.MinixNames.{Thing, File, Link, Directory, Other, blocks, reached, depth_limit, IsSound}
+use Rattle.lilo_model.specs.MinixParts.{blocks_for, is_directory, is_file, is_link}
 use Rattle.minix_choice_laws.specs.Choice.{file_of, MayHavePlace}
 use Rattle.minix_entry_bytes_laws.specs.Written.{FitsEntry}
 use Rattle.minix_entry_laws.specs.Only.{zone_of_entry}
+use Rattle.minix_fill.specs.Fill.{IsOfFile}
 use Rattle.minix_fill_laws.specs.Laws.{MayBeFile}
 use Rattle.minix_layout.specs.View.{kind_view, super_view}
 use Rattle.minix_layout.specs.declared.superblock.Super.{Super}
@@ -45,6 +47,11 @@ pub record Suits (layout : Super) (span : Span) (chosen : Chosen) : Type 0 where
   pub many : length made ≡ blocks_for chosen.length
   pub file : IsFileOf (kind_view layout.kind) made chosen.choice
   pub begins : chosen.start ≡ span.start
+
+-- each block of a file that is wished without holes gets a zone
+abbrev pub HasEachZone : {D : Type 0} {disks : Ghosts D} → Volume D disks → Wish → Chosen → Type 0
+HasEachZone volume wish chosen =
+    IsTold (past_of volume) → wish.holes.now ≡ [] → (index : ℕ) → index < blocks_for chosen.length → slice_index chosen.choice.blocks index ≢ 0
 
 -- in which sector of the disk a sector of the file will lie
 abbrev pub sector_of : Chosen → ℕ → ℕ
@@ -120,3 +127,24 @@ pub record IsNextBlock (zones : List ℕ) (from next : ℕ) : Type 0 where
 -- a block of some
 abbrev pub block_of : List (List ℕ) → ℕ → List ℕ
 block_of given index = slice_index_or given index []
+
+-- ---- what may be made
+
+-- the bytes of a block begin with the entries of `.` and `..` in a directory
+pub record HasDots (kind : Kind) (bytes : List ℕ) (number directory : ℕ) : Type 0 where
+  pub here : entry_in kind bytes 0 ≡ entry_with number here_name
+  pub above : entry_in kind bytes 1 ≡ entry_with directory above_name
+
+-- it is that of a directory with these two entries
+pub record IsOfDirectory (kind : Kind) (chosen : Chosen) (given : ℕ → List ℕ) : Type 0 where
+  pub is : is_directory (new_inode chosen) ≡ true
+  pub two : chosen.length ≡ 2 * entry_size kind
+  pub dots : HasDots kind (block_with chosen.choice.blocks given 0) chosen.choice.inode chosen.directory
+
+-- what is chosen and the blocks that are given are those of a file, or of a directory with nothing in it but `.` and `..`
+abbrev pub MayBeMade : Kind → Chosen → (ℕ → List ℕ) → Type 0
+MayBeMade kind chosen given = IsOfFile (new_inode chosen) ⊎ IsOfDirectory kind chosen given
+
+-- a directory isn't nested too deep in the one that a path leads to
+abbrev pub MayNest : List (List ℕ) → Chosen → Type 0
+MayNest outer chosen = is_directory (new_inode chosen) ≡ true → length outer < depth_limit

@@ -1,27 +1,26 @@
 -- What the calls leave of which a creation is made: the bits of what was chosen, its inode and its zones.
 use Rattle.std.specs.Prelude.{◌≡◌, ◌≢◌, ◌≤◌, ◌<◌, ◌+◌, ◌*◌, ◌==◌, ◌||◌, ℕ, true, List, slice_index, Result, OnOk}
 use Rattle.disk_trait.specs.declared.disks.Disks.{Ghosts}
-use Rattle.disk_trait.specs.Moments.{IsTold, now, begun, IsQuiet}
+use Rattle.disk_trait.specs.Moments.{IsTold, IsQuiet}
 use Rattle.disk_trait.specs.NotWritten.{IsOther, NotWritten}
 use Rattle.disk_trait.specs.Range.{IsOutside}
 use Rattle.lilo_model.specs.MinixLayout.{inode_place, reach, zone_sector}
 use Rattle.lilo_model.specs.MinixNames.{zone_number, thing}
-use Rattle.lilo_model.specs.MinixParts as model
 use Rattle.lilo_model.specs.MinixParts.{Parts}
 use Rattle.minix_beside_laws.specs.Beside.{IsDataZone}
 use Rattle.minix_bits.specs.Numbers.{has_number}
 use Rattle.minix_choice_laws.specs.Choice.{file_of}
-use Rattle.minix_entry_laws.specs.Enter.{MayStand}
 use Rattle.minix_fill.specs.Fill.{MayHoldFile, AreMarked}
 use Rattle.minix_fill_laws.specs.Laws.{MayBeFile}
 use Rattle.minix_layout.specs.View.{kind_view, super_view}
 use Rattle.minix_steps.specs.Steps.{IsReady, IsUnnamedInode, Steps}
 use Rattle.minix_steps.specs.Written.{parts_now}
-use Rattle.minix_zones.specs.Volume.{volume_view, past_of, HasDeviceCause}
+use Rattle.minix_zones.specs.Volume.{past_of, HasDeviceCause}
 use Rattle.minix_zones.specs.declared.volume.Volume.{Volume}
 use Rattle.minix_zones.specs.declared.zone_fault.ZoneFault.{ZoneFault}
 use Rattle.minix_zones.specs.declared.zone_fault.ZoneFault.TheVariants.{Device}
-use Rattle.minix_create.specs.Chosen.{Suits, IsFreeNow, thing_with}
+use Rattle.minix_create.specs.Chosen.{Suits, IsFreeNow, MayNest, thing_with}
+use Rattle.minix_create.specs.Entered.{MayBeNamed}
 use Rattle.minix_create.specs.declared.chosen.Chosen.{Chosen}
 
 -- ---- sectors that aren't written
@@ -80,7 +79,8 @@ pub record IsReserved {D : Type 0} {disks : Ghosts D} (start volume : Volume D d
 
 -- it was filled too: its inode may get a name, is what was given, and each block lies in the zone that was chosen
 pub record IsFilledWith {D : Type 0} {disks : Ghosts D} (volume : Volume D disks) (chosen : Chosen) (given : ℕ → List ℕ) : Type 0 where
-  pub stands : MayStand (super_view volume.layout) (parts_now volume) chosen.choice.inode
+  pub mode : ((parts_now volume).node chosen.choice.inode).mode ≡ chosen.mode
+  pub named : (outer : List (List ℕ)) → MayNest outer chosen → MayBeNamed (super_view volume.layout) (parts_now volume) outer chosen.directory chosen.choice.inode
   pub is : thing (super_view volume.layout) (parts_now volume) chosen.choice.inode ≡ thing_with chosen given
   pub lies : (index : ℕ) → index < reach (kind_view volume.layout.kind) → zone_number (super_view volume.layout) (parts_now volume) chosen.choice.inode index ≡ slice_index chosen.choice.blocks index
 

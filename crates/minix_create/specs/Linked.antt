@@ -1,37 +1,54 @@
 -- A name that is made for a new file.
-use Rattle.std.specs.Prelude.{◌≡◌, ◌≤◌, ◌+◌, ℕ, List, ◌∷◌, Some, Result, IfErr}
+use Rattle.std.specs.Prelude.{◌≡◌, ◌≤◌, ◌+◌, ◌⊎◌, ℕ, true, List, ◌∷◌, Some, None, Result, OnOk, IfErr}
 use Rattle.disk_trait.specs.declared.disks.Disks.{Ghosts}
-use Rattle.disk_trait.specs.Moments.{IsTold}
+use Rattle.disk_trait.specs.Past.{Image}
+use Rattle.disk_trait.specs.Moments.{IsTold, now, LeavesOnly}
 use Rattle.disk_trait.specs.NotWritten.{NotWritten}
 use Rattle.disk_trait.specs.Range.{IsOutside}
 use Rattle.lilo_model.specs.Faults.{Rose}
 use Rattle.lilo_model.specs.MinixLayout.{zone_sector}
 use Rattle.lilo_model.specs.MinixEntries.{places}
+use Rattle.lilo_model.specs.MinixNames.{reached}
+use Rattle.lilo_model.specs.MinixParts as model
+use Rattle.lilo_model.specs.MinixParts.{is_directory}
 use Rattle.minix_entry_laws.specs.Only.{zone_of_entry}
+use Rattle.minix_grow.specs.Hook.{IsOffInode}
 use Rattle.minix_layout.specs.View.{kind_view, super_view}
 use Rattle.minix_steps.specs.Written.{parts_now}
 use Rattle.minix_turns.specs.Joined.{LeadsPath}
 use Rattle.minix_write.specs.declared.write_fault.WriteFault.{WriteFault}
 use Rattle.minix_write.specs.declared.write_fault.WriteFault.TheVariants.{Device}
-use Rattle.minix_zones.specs.Volume.{past_of, faults_of}
+use Rattle.minix_zones.specs.Volume.{volume_view, past_of, faults_of}
 use Rattle.minix_zones.specs.declared.volume.Volume.{Volume}
 use Rattle.minix_create.specs.Brought.{IsOffDirectory}
-use Rattle.minix_create.specs.Chosen.{MayLinkNow, thing_with}
+use Rattle.minix_create.specs.Chosen.{MayLinkNow, MayNest, new_inode, thing_with}
 use Rattle.minix_create.specs.Created.{IsOffFile, IsFilled}
+use Rattle.minix_create.specs.Entered.{links_above}
 use Rattle.minix_create.specs.declared.chosen.Chosen.{Chosen}
 
--- a sector is none that a new file needs, nor of the zone with its name, nor one of the directory's where its place lies past
--- the size
+-- a sector is none that a new file needs, nor of the zone with its name, nor the one with the directory's inode where it is a
+-- directory itself, nor one of the directory's where its place lies past the size
 pub record IsOffName {D : Type 0} {disks : Ghosts D} (volume : Volume D disks) (chosen : Chosen) (d s : ℕ) : Type 0 where
   pub file : IsOffFile volume chosen d s
   pub name : IsOutside volume.span.disk (volume.span.start + zone_sector (zone_of_entry (super_view volume.layout) (parts_now volume) chosen.directory chosen.choice.place)) 2 d s
+  pub above : is_directory (new_inode chosen) ≡ true → IsOffInode volume chosen.directory d s
   pub past : places (kind_view volume.layout.kind) ((parts_now volume).node chosen.directory).size ≤ chosen.choice.place → IsOffDirectory volume chosen.directory d s
 
+-- in an image of a volume a new name isn't there, or the links of the directory above are those once it is made
+abbrev pub IsRaisedBefore : {D : Type 0} {disks : Ghosts D} → Volume D disks → List (List ℕ) → Chosen → Image → Type 0
+IsRaisedBefore volume outer chosen c =
+    (reached (super_view volume.layout) (model.parts_of (volume_view volume) c) (chosen.name ∷ outer) ≡ None)
+    ⊎ (((model.parts_of (volume_view volume) c).node chosen.directory).links ≡ links_above (kind_view volume.layout.kind) chosen ((parts_now volume).node chosen.directory).links)
+
 -- Since a volume was as it is here, a file was reserved, filled and linked. Whatever a stop left, at any moment, is seen as
--- before or has the name, which leads to the whole of the file; once it is done the name is there. No other sector was
--- written, and it was refused where the disk failed alone.
+-- before or has the name, which leads to the whole of the file; where the name is there, the directory above a new one has a
+-- link more, if it can have, and once it is done both are there. No other sector was written, and it was refused where the disk
+-- failed alone.
 pub record Creates {D : Type 0} {disks : Ghosts D} (start volume : Volume D disks) (outer : List (List ℕ)) (chosen : Chosen) (given : ℕ → List ℕ) (result : Result (Unit {0}) WriteFault) : Type 0 where
   pub leads : LeadsPath start volume (chosen.name ∷ outer) (Some chosen.choice.inode) (Some (thing_with chosen given)) result
+  pub before : LeavesOnly (past_of start) (past_of volume) (IsRaisedBefore start outer chosen)
+  pub above : IsTold (past_of start) → OnOk result (((model.parts_of (volume_view start) (now (past_of volume))).node chosen.directory).links
+      ≡ links_above (kind_view start.layout.kind) chosen ((parts_now start).node chosen.directory).links)
   pub others : IsTold (past_of start) → (d s : ℕ) → IsOffName start chosen d s → NotWritten (past_of start) (past_of volume) d s
   pub device : IsTold (past_of start) → IfErr result (λ fault. (fault ≡ Device) × Rose (faults_of start) (faults_of volume))
 
@@ -39,4 +56,4 @@ pub record Creates {D : Type 0} {disks : Ghosts D} (start volume : Volume D disk
 abbrev pub LinksFilled : {D : Type 0} {disks : Ghosts D} → Volume D disks → Volume D disks → Chosen → Result (Unit {0}) WriteFault → Type 0
 LinksFilled {D} {disks} old new chosen result =
     (start : Volume D disks) (outer : List (List ℕ)) (given : ℕ → List ℕ) → IsFilled start old chosen given
-    → (IsTold (past_of start) → MayLinkNow start outer chosen) → Creates start new outer chosen given result
+    → MayNest outer chosen → (IsTold (past_of start) → MayLinkNow start outer chosen) → Creates start new outer chosen given result

@@ -4,13 +4,13 @@ use Rattle.disk_trait.specs.declared.disks.Disks.{Ghosts}
 use Rattle.disk_trait.specs.Moments.{IsTold, IsQuiet}
 use Rattle.disk_trait.specs.NotWritten.{NotWritten}
 use Rattle.lilo_model.specs.Faults.{Rose}
-use Rattle.minix_fill.specs.Fill.{IsOfFile}
+use Rattle.minix_layout.specs.View.{kind_view}
 use Rattle.minix_steps.specs.Steps.{Steps}
 use Rattle.minix_write.specs.declared.write_fault.WriteFault.{WriteFault}
 use Rattle.minix_write.specs.declared.write_fault.WriteFault.TheVariants.{Device}
 use Rattle.minix_zones.specs.Volume.{past_of, faults_of}
 use Rattle.minix_zones.specs.declared.volume.Volume.{Volume}
-use Rattle.minix_create.specs.Chosen.{Suits, MayLinkNow, new_inode}
+use Rattle.minix_create.specs.Chosen.{Suits, MayLinkNow, MayBeMade, MayNest}
 use Rattle.minix_create.specs.Created.{IsOffFile, IsOpen, IsReserved, IsFilled}
 use Rattle.minix_create.specs.Linked.{LinksFilled, Creates}
 use Rattle.minix_create.specs.declared.chosen.Chosen.{Chosen}
@@ -50,7 +50,8 @@ pub record IsInPlace {D : Type 0} {disks : Ghosts D} (filled : Filled D disks) :
 pub record Fills {D : Type 0} {disks : Ghosts D} (reserved : Reserved D disks) (filled : Filled D disks) : Type 0 where
   pub same : filled.chosen ≡ reserved.chosen
   pub place : IsInPlace filled
-  pub since : (start : Volume D disks) (given : ℕ → List ℕ) → IsOfFile (new_inode reserved.chosen) → IsReservedSince start given reserved → IsFilled start filled.volume filled.chosen given
+  pub since : (start : Volume D disks) (given : ℕ → List ℕ) → (IsTold (past_of start) → MayBeMade (kind_view start.layout.kind) reserved.chosen given)
+      → IsReservedSince start given reserved → IsFilled start filled.volume filled.chosen given
 
 -- a call was refused as the disk failed. What it did no name sees, and it wrote nothing but what was chosen.
 pub record GoesWrong {D : Type 0} {disks : Ghosts D} (old new : Volume D disks) (chosen : Chosen) (fault : WriteFault) : Type 0 where
@@ -80,7 +81,7 @@ pub record LinkHalts {D : Type 0} {disks : Ghosts D} (old : Filled D disks) (hal
 -- on a volume a file was made of the blocks that are given, whole or not at all, in each directory where its name may be made
 abbrev pub CreatesOn : {D : Type 0} {disks : Ghosts D} → Volume D disks → Volume D disks → Chosen → (ℕ → List ℕ) → Result (Unit {0}) WriteFault → Type 0
 CreatesOn start volume chosen given result =
-    (outer : List (List ℕ)) → (IsTold (past_of start) → MayLinkNow start outer chosen) → Creates start volume outer chosen given result
+    (outer : List (List ℕ)) → MayNest outer chosen → (IsTold (past_of start) → MayLinkNow start outer chosen) → Creates start volume outer chosen given result
 
 -- it is there
 pub record CreatesFile {D : Type 0} {disks : Ghosts D} (start : Volume D disks) (chosen : Chosen) (given : ℕ → List ℕ) (linked : Volume D disks × Linked) : Type 0 where

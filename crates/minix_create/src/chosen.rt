@@ -3,7 +3,13 @@ ghost use Rattle.std.specs.Prelude.{◌≡◌, ◌≢◌, ◌+◌, ◌≤◌, �
 ghost use Rattle.disk_trait.specs.Past.{Told};
 ghost use Rattle.lilo_model.specs.MinixLayout.{is_size};
 ghost use Rattle.lilo_model.specs.MinixParts.{parts_of, blocks_for};
-ghost use Rattle.minix_create.specs.Chosen.{IsMade, Suits, IsFreeWhereSound, LinksWithoutZones};
+ghost use Rattle.minix_create.specs.Chosen.{
+  IsMade,
+  Suits,
+  HasEachZone,
+  IsFreeWhereSound,
+  LinksWithoutZones,
+};
 ghost use Rattle.minix_layout.specs.View.{kind_view, super_view};
 ghost use Rattle.minix_write.specs.Taken.{with_choice};
 ghost use Rattle.minix_write.specs.View.{taken_view, wish_view, Gives, HasWriteCause};
@@ -55,6 +61,7 @@ pub fn choose<D: Disks>(
     ensures taken { IfOk result (λ chosen. taken.new ≡ with_choice taken.old wish.now.directory chosen.choice) }
     ensures made { IfOk result (IsMade wish.now) }
     ensures suits { IfOk result (Suits volume.old.layout volume.old.span) }
+    ensures whole { IfOk result (HasEachZone volume.new wish.now) }
 
     // What may be done with it.
     ensures free { IfOk result (IsFreeWhereSound volume.new) }

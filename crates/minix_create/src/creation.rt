@@ -1,9 +1,9 @@
 // A file from its blocks.
 ghost use Rattle.std.specs.Prelude.{◌≡◌, ◌≤◌, ℕ, List, length, IfOk, IfErr};
 ghost use Rattle.disk_trait.specs.Moments.{IsTold, IsQuiet};
-ghost use Rattle.minix_create.specs.Chosen.{Suits, IsFreeNow, new_inode, block_of};
+ghost use Rattle.minix_create.specs.Chosen.{Suits, IsFreeNow, MayBeMade, block_of};
 ghost use Rattle.minix_create.specs.States.{CreatesFile, CreationHalts};
-ghost use Rattle.minix_fill.specs.Fill.{IsOfFile};
+ghost use Rattle.minix_layout.specs.View.{kind_view};
 ghost use Rattle.minix_zones.specs.Volume.{past_of};
 
 use crate::chosen::Chosen;
@@ -11,8 +11,8 @@ use crate::halt::{Linked, WriteHalt};
 use disk_trait::Disks;
 use minix_zones::Volume;
 
-/// Makes a file of what was chosen: a regular file, a symbolic link, or another that is no directory. Its blocks are given,
-/// also those of holes, which aren't written.
+/// Makes a file of what was chosen, or a directory with nothing in it but `.` and `..`. Its blocks are given, also those of
+/// holes, which aren't written.
 ///
 /// # Errors
 ///
@@ -23,7 +23,8 @@ pub fn create<'d, D: Disks>(
     blocks: &[[u8; 1024]],
 ) -> Result<(Volume<'d, D>, Linked), WriteHalt<'d, D>>
     requires suits { Suits volume.layout volume.span chosen }
-    requires of_file { IsOfFile (new_inode chosen) }
+    requires whole { IsTold (past_of volume)
+        → MayBeMade (kind_view volume.layout.kind) chosen (block_of blocks.now) }
     requires all { length chosen.choice.blocks ≤ length blocks.now }
     requires quiet { IsQuiet (past_of volume) }
     requires free { IsTold (past_of volume) → IsFreeNow volume chosen }

@@ -6,9 +6,11 @@
 mod brought;
 mod chosen;
 mod creation;
+mod dots;
 mod filled;
 mod halt;
 mod place_at;
+mod raised;
 mod reserved;
 mod steps;
 #[cfg(test)]
@@ -16,6 +18,7 @@ mod tests;
 
 pub use chosen::{Chosen, choose};
 pub use creation::create;
+pub use dots::directory_block;
 pub use filled::Filled;
 pub use halt::{Linked, WriteHalt};
 pub use reserved::Reserved;

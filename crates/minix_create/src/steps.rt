@@ -1,18 +1,22 @@
 // The steps of a creation.
 ghost use Rattle.std.specs.Prelude.{◌≡◌, ◌≤◌, ◌<◌, ◌^◌, OnOk};
-ghost use Rattle.disk_trait.specs.Moments.{IsQuiet};
+ghost use Rattle.disk_trait.specs.Moments.{IsTold, IsQuiet};
+ghost use Rattle.lilo_model.specs.MinixParts.{is_directory};
 ghost use Rattle.minix_choice_laws.specs.Choice.{file_of};
 ghost use Rattle.minix_create.specs.Chosen.{Suits, new_inode};
 ghost use Rattle.minix_create.specs.Created.{MarksChosen, IsOpen};
+ghost use Rattle.minix_create.specs.Entered.{IsDirectoryNow, Readies, EntersFilled};
 ghost use Rattle.minix_create.specs.Linked.{LinksFilled};
-ghost use Rattle.minix_fill.specs.Fill.{FillsFile, MayGetName};
+ghost use Rattle.minix_fill.specs.Fill.{FillsFile, MayGetName, IsFitThen};
 ghost use Rattle.minix_layout.specs.View.{inode_view};
 ghost use Rattle.minix_steps.specs.Steps.{IsReady};
-ghost use Rattle.minix_zones.specs.Volume.{past_of};
+ghost use Rattle.minix_zones.specs.View.{IsDataZone};
+ghost use Rattle.minix_zones.specs.Volume.{past_of, KeepsVolume};
 
 use crate::brought::bring;
 use crate::chosen::Chosen;
 use crate::place_at::place_at;
+use crate::raised::raise_links;
 use disk_trait::Disks;
 use minix_fill::{FileZones, fill_file, mark_zones};
 use minix_grow::slot_of;
@@ -45,6 +49,8 @@ pub(crate) fn fill_chosen<D: Disks>(
     requires { IsOpen volume.old chosen.now }
     ensures fills { FillsFile volume.old volume.new chosen.now.choice.inode (new_inode chosen.now)
         (file_of chosen.now.choice) result }
+    ensures fit { IsFitThen volume.old volume.new chosen.now.choice.inode (new_inode chosen.now)
+        (file_of chosen.now.choice) result }
     ensures stands { MayGetName volume.old volume.new chosen.now.choice.inode (new_inode chosen.now)
         (file_of chosen.now.choice) result }
 {
@@ -59,10 +65,9 @@ pub(crate) fn fill_chosen<D: Disks>(
 fn new_inode(chosen: &Chosen) -> Inode
     ensures { inode_view result ≡ new_inode chosen.now }
 {
-    let is_directory = chosen.mode / 4096 == 4;
     Inode {
         mode: chosen.mode,
-        links: if is_directory { 2 } else { 1 },
+        links: if is_directory(chosen) { 2 } else { 1 },
         uid: 0,
         gid: 0,
         size: chosen.length,
@@ -71,7 +76,7 @@ fn new_inode(chosen: &Chosen) -> Inode
     }
 }
 
-/// Brings the place of a file that is filled below the directory's size, writes its entry, and makes that durable.
+/// Brings the place of what is filled below the directory's size, makes its name, and makes that durable.
 pub(crate) fn link_chosen<D: Disks>(
     volume: &mut Volume<'_, D>,
     chosen: &Chosen,
@@ -88,12 +93,52 @@ pub(crate) fn link_chosen<D: Disks>(
     }
     let have = places(&at.node, volume.layout().kind);
     bring(volume, chosen.directory, have, place)?;
-    let index = slot_of(volume.layout().kind, place);
+    enter_chosen(volume, chosen, at.zone)
+}
+
+/// Writes the entry of what is filled, and makes it durable. Before the name of a directory the links of the one above are
+/// raised.
+fn enter_chosen<D: Disks>(
+    volume: &mut Volume<'_, D>,
+    chosen: &Chosen,
+    zone: u32,
+) -> Result<(), WriteFault>
+    requires suits { Suits volume.old.layout volume.old.span chosen.now }
+    requires data { IsDataZone volume.old.layout zone }
+    requires quiet { IsQuiet (past_of volume.old) }
+    ensures enters { EntersFilled volume.old volume.new chosen.now zone result }
+    ensures quiet { OnOk result (IsQuiet (past_of volume.new)) }
+{
+    ready_links(volume, chosen)?;
+    let index = slot_of(volume.layout().kind, chosen.choice.place());
     let number = number_of(volume.layout(), chosen);
-    match turn_entry(volume, at.zone, index, number, chosen.name.bytes()) {
+    match turn_entry(volume, zone, index, number, chosen.name.bytes()) {
         Ok(()) => Ok(()),
         Err(_) => Err(WriteFault::Device),
     }
+}
+
+/// Raises the links of the directory above, where a directory is made.
+fn ready_links<D: Disks>(volume: &mut Volume<'_, D>, chosen: &Chosen) -> Result<(), WriteFault>
+    requires suits { Suits volume.old.layout volume.old.span chosen.now }
+    requires quiet { IsQuiet (past_of volume.old) }
+    ensures readies { (IsTold (past_of volume.old) → IsDirectoryNow volume.old chosen.now.directory)
+        → Readies volume.old volume.new chosen.now result }
+    ensures quiet { OnOk result (IsQuiet (past_of volume.new)) }
+    ensures kept { KeepsVolume volume.old volume.new }
+{
+    if is_directory(chosen) {
+        raise_links(volume, chosen.directory)
+    } else {
+        Ok(())
+    }
+}
+
+/// Whether a directory is made.
+fn is_directory(chosen: &Chosen) -> bool
+    ensures { result ≡ is_directory (new_inode chosen.now) }
+{
+    chosen.mode / 4096 == 4
 }
 
 /// The inode's number, as an entry has it.

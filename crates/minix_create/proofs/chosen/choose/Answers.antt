@@ -1,14 +1,11 @@
 use Rattle.std.proofs.Common.{◌≡◌, ◌<◌, ◌^◌, Ok, refl, ap, ◌∙◌, rules}
 use Rattle.disk_trait.specs.declared.disks.Span.{Span}
 use Rattle.lilo_model.specs.MinixParts.{parts_of}
-use Rattle.minix_create.specs.Chosen.{Suits}
-use Rattle.minix_create.specs.declared.chosen.Chosen.{Chosen}
-use Rattle.minix_layout.specs.View.{super_view}
 use Rattle.minix_write.specs.View.{taken_view, wish_view}
 use Rattle.minix_zones.proofs.SameLemmas.{told_forth}
 use Rattle.minix_zones.proofs.WriteLemmas.{keeps_same}
 use Rattle.write_model.specs.Choice.{choose}
-use Rattle.minix_create.proofs.ChosenLemmas.{suits_made, is_free, links}
+use Rattle.minix_create.proofs.ChosenLemmas.{suits_made, is_free, each_zone, links}
 use Rattle.minix_create.proofs.OpenLemmas.{suits_kept}
 use Rattle.minix_create.proofs.chosen.choose.Goals as goal
 
@@ -22,6 +19,14 @@ pub returns-clause-free : goal.returns-clause-free
 returns-clause-free g c =
     let suits = suits_kept c.args.volume.now c.choose.new.volume _ (keeps_same c.args.volume.now c.choose.new.volume c.choose.ensures.same) (returns-clause-suits g c) in
     is_free c.choose.new.volume c.args.taken.now (wish_view c.args.wish.now) _ suits
+    (told_forth c.args.volume.now c.choose.new.volume (λ volume image. choose volume.layout (parts_of volume image) (taken_view c.args.taken.now) (wish_view c.args.wish.now) ≡ Ok c.in_ok-choice.choice)
+    c.choose.ensures.same c.in_ok-choice.ensures.choice)
+    refl
+
+pub returns-clause-whole : goal.returns-clause-whole
+returns-clause-whole g c =
+    let suits = suits_kept c.args.volume.now c.choose.new.volume _ (keeps_same c.args.volume.now c.choose.new.volume c.choose.ensures.same) (returns-clause-suits g c) in
+    each_zone c.choose.new.volume c.args.taken.now (wish_view c.args.wish.now) _ suits
     (told_forth c.args.volume.now c.choose.new.volume (λ volume image. choose volume.layout (parts_of volume image) (taken_view c.args.taken.now) (wish_view c.args.wish.now) ≡ Ok c.in_ok-choice.choice)
     c.choose.ensures.same c.in_ok-choice.ensures.choice)
     refl

@@ -1,4 +1,4 @@
-use Rattle.std.proofs.Common.{◌≡◌, Err, ap, sym, ◌∙◌, rules}
+use Rattle.std.proofs.Common.{◌≡◌, Err, ap, ◌∙◌, rules}
 use Rattle.minix_create.specs.Chosen.{block_of}
 use Rattle.minix_create.proofs.StateLemmas.{wrong_creates, next_is, since_halts, created_ok, created_err}
 use Rattle.minix_create.proofs.creation.create.Goals as goal
@@ -40,11 +40,11 @@ returns-in_err-filled-clause-halted g c =
 pub returns-clause-created : goal.returns-clause-created
 returns-clause-created g c =
     let inv = c.loop-index.invariant in
-    created_ok c.args.volume (block_of c.args.blocks.now) c.args.chosen c.loop-index.reserved inv.same inv.since c.requires.of_file c.in_ok-filled.filled c.in_ok-filled.ensures.filled
+    created_ok c.args.volume (block_of c.args.blocks.now) c.args.chosen c.loop-index.reserved inv.same inv.since c.requires.whole c.in_ok-filled.filled c.in_ok-filled.ensures.filled
     c.link.result c.link.ensures.linked
 
 pub returns-clause-halted : goal.returns-clause-halted
 returns-clause-halted g c =
     let inv = c.loop-index.invariant in
-    created_err c.args.volume (block_of c.args.blocks.now) c.args.chosen c.loop-index.reserved inv.same inv.since c.requires.of_file c.in_ok-filled.filled c.in_ok-filled.ensures.filled
+    created_err c.args.volume (block_of c.args.blocks.now) c.args.chosen c.loop-index.reserved inv.same inv.since c.requires.whole c.in_ok-filled.filled c.in_ok-filled.ensures.filled
     c.link.result c.link.ensures.halted

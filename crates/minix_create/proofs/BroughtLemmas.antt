@@ -1,5 +1,5 @@
 -- What calls leave by which places of a directory get below its size.
-use Rattle.std.proofs.Common.{◌≡◌, ◌≢◌, ◌≤◌, ◌<◌, ◌+◌, ◌*◌, ◌/◌, ◌%◌, ◌^◌, ℕ, true, Option, Result, Ok, Err, OnOk, refl, sym, ap, ◌∙◌, subst, arith}
+use Rattle.std.proofs.Common.{◌≡◌, ◌≢◌, ◌≤◌, ◌<◌, ◌+◌, ◌*◌, ◌/◌, ◌%◌, ◌^◌, ℕ, true, [], Option, Result, Ok, Err, OnOk, refl, sym, ap, ◌∙◌, subst, arith, ◌⊎◌, inl, inr}
 use Rattle.std.specs.Prelude.{IfErr}
 use Rattle.disk_trait.specs.declared.disks.Disks.{Ghosts}
 use Rattle.disk_trait.specs.declared.disks.Span.{Span}
@@ -20,7 +20,9 @@ use Rattle.minix_entry_laws.specs.Only.{zone_of_entry}
 use Rattle.minix_entry_laws.proofs.Only.{directory-refers}
 use Rattle.minix_growth_laws.specs.Changes.{ChangesZone, ChangesNode, with_size}
 use Rattle.minix_growth_laws.proofs.Holes.{hole_law}
+use Rattle.minix_grow.specs.Others.{IsOneOf}
 use Rattle.minix_grow.specs.Places.{size_to, IsNextPlaceNow}
+use Rattle.minix_grow.proofs.KeepLemmas.{keeps_none, keeps_join, keeps_size, keeps_bytes}
 use Rattle.minix_grow.proofs.ExtendLemmas.{past_at, may_have_size, view_after}
 use Rattle.minix_grow.proofs.PlaceLemmas.{places_to}
 use Rattle.minix_layout.specs.View.{kind_view, super_view, inode_view}
@@ -51,7 +53,6 @@ use Rattle.minix_zones.proofs.WriteLemmas.{keeps_same}
 use Rattle.write_model.specs.Places.{most_places}
 use Rattle.minix_create.specs.Brought.{IsInDirectory, GivesPlace, MayBring, IsNextAt, IsOffDirectory, IsBrought, Brings}
 use Rattle.minix_create.specs.declared.place_at.PlaceAt.{PlaceAt}
-use Rattle.minix_create.proofs.StandLemmas.{keeps_none, keeps_join, keeps_changed, keeps_filled}
 
 -- ---- numbers
 
@@ -84,6 +85,11 @@ pub device_of : {D E : Type 0} {disks : Ghosts D} (start mid new : Volume D disk
 device_of start mid new error (Ok done) later cause = tt
 device_of start mid new error (Err fault) later cause = (cause.0, rises (faults_of start) (faults_of mid) (faults_of new) later cause.1)
 
+-- a pointer that isn't to one of no zones is one that was there
+pub points_was : {A : Type 0} (zone : ℕ) → A ⊎ IsOneOf [] zone → A
+points_was zone (inl was) = was
+points_was zone (inr one) = let low = one.low in absurd (omega (arith, low))
+
 -- ---- in a row
 
 -- a sector off a directory is off it later, where it has no pointer more
@@ -113,14 +119,13 @@ brings_join start mid new directory low count error result named one two =
           let next = subst V (same_view start mid one.unseen.kept) (two.brought (one.unseen.goes_on.told told)) in
           on_ok result _ _ next (λ brought. record {
             room = brought.room;
-            links = brought.links ∙ (one.brought told).links;
-            keeps = keeps_join (super_view start.layout) (parts_now start) (model.parts_of (volume_view start) (now (past_of mid))) (model.parts_of (volume_view start) (now (past_of new))) directory
+            keeps = keeps_join (super_view start.layout) (parts_now start) (model.parts_of (volume_view start) (now (past_of mid))) (model.parts_of (volume_view start) (now (past_of new))) directory []
                 (one.unseen.held told).sees (one.brought told).keeps brought.keeps;
           });
       others = λ told d s off.
           not_written_join (past_of start) (past_of mid) (past_of new) d s (one.others told d s off)
           (two.others (one.unseen.goes_on.told told) d s
-          (off_later start mid directory one.unseen.kept (λ at zone to. (one.brought told).keeps.points directory at zone (named told) to) d s off));
+          (off_later start mid directory one.unseen.kept (λ at zone to. points_was zone ((one.brought told).keeps.points directory at zone (named told) to)) d s off));
       device = λ told. device_of start mid new error result one.unseen.goes_on.later (two.device (one.unseen.goes_on.told told));
     }
 
@@ -141,7 +146,7 @@ module _ {D E : Type 0} {disks : Ghosts D} (old new : Volume D disks) (directory
     unseen = same_unseen old new quiet sound same later;
     brought = λ told.
         let P : Option Past → Type 0 = λ p. IsBrought (super_view old.layout) (parts_now old) (model.parts_of (volume_view old) (now p)) directory count in
-        subst P (sym same.same_disks.same_past) (record { room = low told; links = refl; keeps = keeps_none (super_view old.layout) (parts_now old) directory });
+        subst P (sym same.same_disks.same_past) (record { room = low told; keeps = keeps_none (super_view old.layout) (parts_now old) directory [] });
     others = λ told d s off. same_others old new quiet sound same later d s;
     device = λ told. tt;
   }
@@ -201,9 +206,8 @@ module _ {D : Type 0} {disks : Ghosts D} (old new : Volume D disks) (directory s
     unseen = unseen;
     brought = λ told. on_ok result _ _ (resized told (may told)) (λ change. record {
       room = let R : ℕ → Type 0 = λ s. count ≤ places (kind_view old.layout.kind) s in subst R (sym (ap (λ (i : Inode). i.size) change.here)) low;
-      links = ap (λ (i : Inode). i.links) change.here;
-      keeps = keeps_changed (super_view old.layout) (parts_now old) (model.parts_of (volume_view old) (now (past_of new))) directory (with_size ((parts_now old).node directory) size)
-          (opened (volume_view old) (now (past_of old)) (may told).lies.sound).parts (record { mode = refl; zones = refl }) (unseen.held told).sees change;
+      keeps = keeps_size (super_view old.layout) (parts_now old) (model.parts_of (volume_view old) (now (past_of new))) directory size []
+          (opened (volume_view old) (now (past_of old)) (may told).lies.sound).parts change;
     });
     others = λ told d s off. turns.others d s off.inode;
     device = λ told. turns.device;
@@ -299,13 +303,11 @@ module _ {D : Type 0} {disks : Ghosts D} (old : Volume D disks) (directory place
           let change = (part_law (volume_view old) (now (past_of old)) (now (past_of mid)) zone (entry_size (kind_view old.layout.kind) * index) (free_bytes (kind_view old.layout.kind)) at.may.sound (from, below) has).change in
           let room' = seen.sees.room directory at.may.named at.may.is in
           let low' = low told in
-          let range = (opened (volume_view old) (now (past_of old)) at.may.sound).parts.in_range directory at.may.named in
           record {
             room = omega (arith, room', low');
-            links = ap (λ (i : Inode). i.links) (change.nodes directory range);
-            keeps = keeps_filled (super_view old.layout) (parts_now old) (model.parts_of (volume_view old) (now (past_of mid))) directory place
-                (with_zone_part (parts_now old) zone (entry_size (kind_view old.layout.kind) * index) (free_bytes (kind_view old.layout.kind)))
-                (opened (volume_view old) (now (past_of old)) at.may.sound).parts at.may.named at.may.is (λ e. some (sym at.lies ∙ e)) seen.sees (subst C (sym at.lies) change);
+            keeps = keeps_bytes (super_view old.layout) (parts_now old) (model.parts_of (volume_view old) (now (past_of mid))) directory place
+                (with_zone_part (parts_now old) zone (entry_size (kind_view old.layout.kind) * index) (free_bytes (kind_view old.layout.kind))) []
+                (opened (volume_view old) (now (past_of old)) at.may.sound).parts at.may.named at.may.is (λ e. some (sym at.lies ∙ e)) (subst C (sym at.lies) change);
           });
       others = λ told d s off. turns.others d s (off-entry told d s off);
       device = λ told. turns.device;
@@ -416,7 +418,7 @@ module _ {D : Type 0} {disks : Ghosts D} (old mid : Volume D disks) (directory p
 pub brings_fewer : {D E : Type 0} {disks : Ghosts D} (old new : Volume D disks) (directory count fewer : ℕ) (error : E) (result : Result (Unit {0}) E) → fewer ≤ count → Brings old new directory count error result → Brings old new directory fewer error result
 brings_fewer old new directory count fewer error result low brings = record {
   unseen = brings.unseen;
-  brought = λ told. on_ok result _ _ (brings.brought told) (λ b. record { room = let r = b.room in omega (arith, r, low); links = b.links; keeps = b.keeps });
+  brought = λ told. on_ok result _ _ (brings.brought told) (λ b. record { room = let r = b.room in omega (arith, r, low); keeps = b.keeps });
   others = brings.others;
   device = brings.device;
 }

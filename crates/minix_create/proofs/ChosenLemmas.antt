@@ -1,5 +1,5 @@
 -- What suits a volume.
-use Rattle.std.proofs.Common.{◌≡◌, ◌≢◌, ◌≤◌, ◌<◌, ◌^◌, ℕ, true, false, Bool, List, [], length, get_or, take, drop, replicate, All, Some, Ok, sym, ap, ◌∙◌, subst, arith}
+use Rattle.std.proofs.Common.{◌≡◌, ◌≢◌, ◌≤◌, ◌<◌, ◌^◌, ◌/◌, ◌==◌, ℕ, true, false, Bool, List, [], length, get_or, take, drop, replicate, All, Some, None, Result, Ok, refl, sym, ap, ◌∙◌, subst, arith}
 use Rattle.std.specs.Prelude.{slice_index}
 use Rattle.std.proofs.Math.Path.{subst₂}
 use Rattle.std.proofs.lemmas.List.{get_or-replicate}
@@ -7,23 +7,25 @@ use Rattle.disk_trait.specs.declared.disks.Disks.{Ghosts}
 use Rattle.disk_trait.specs.Past.{Told}
 use Rattle.disk_trait.specs.Moments.{IsTold, now}
 use Rattle.disk_trait.proofs.MomentLemmas.{told_now}
-use Rattle.lilo_model.specs.MinixNames.{Named, reached}
-use Rattle.lilo_model.specs.MinixLayout.{Kind, is_size, numbers_in_zone, reach}
+use Rattle.lilo_model.specs.MinixEntries.{entries_per_block, places, is_dots}
+use Rattle.lilo_model.specs.MinixNames.{entry, lookup}
+use Rattle.lilo_model.specs.MinixLayout.{Kind, V1Short, V1Long, V2Short, V2Long, Inode, FitsInode, is_size, most_links, number_size, numbers_in_zone, reach}
 use Rattle.lilo_model.specs.MinixParts.{blocks_for, is_directory, parts_of}
 use Rattle.minix_bits.proofs.BitmapLemmas.{fits}
-use Rattle.minix_choice_laws.specs.Choice.{MayHavePlace}
 use Rattle.minix_choice_laws.proofs.Choose.{blocks_length, choice_law, file_law}
+use Rattle.minix_choice_laws.proofs.Growth.{free_growth_law}
 use Rattle.minix_choice_laws.proofs.Place.{place_law}
 use Rattle.minix_fill_laws.proofs.Chosen.{few_by}
 use Rattle.minix_fill_laws.proofs.Given.{given_length, given_at, count_before}
 use Rattle.minix_fill_laws.specs.Sources.{FileZones}
+use Rattle.minix_grow.specs.Way.{depth_of, number_above}
+use Rattle.minix_grow.proofs.MissingLemmas.{growth_law}
 use Rattle.minix_layout.specs.View.{kind_view, super_view}
 use Rattle.minix_sees_laws.proofs.Seen.{opened}
 use Rattle.minix_steps.specs.Written.{parts_now}
 use Rattle.minix_layout.specs.declared.superblock.Super.{Super}
 use Rattle.minix_tree.proofs.StatLemmas.{blocks_reached}
 use Rattle.minix_entry_bytes_laws.specs.Written.{FitsEntry}
-use Rattle.minix_entry_laws.specs.Only.{zone_of_entry}
 use Rattle.minix_write.specs.Suits.{SuitsWish}
 use Rattle.minix_write.specs.declared.wish.Wish.{Wish}
 use Rattle.minix_write.specs.View.{Promised, taken_view}
@@ -32,9 +34,9 @@ use Rattle.minix_zones.specs.declared.volume.Volume.{Volume}
 use Rattle.disk_trait.specs.declared.disks.Span.{Span}
 use Rattle.write_model.specs.Choice.{choose, file_need}
 use Rattle.write_model.specs.FileZones.{count_made, data_blocks, made_indirect}
-use Rattle.write_model.specs.Places.{is_overlooked}
+use Rattle.write_model.specs.Places.{most_places}
 use Rattle.write_model.specs.Wish as model
-use Rattle.minix_create.specs.Chosen.{Suits, IsFreeWhereSound, LinksWithoutZones}
+use Rattle.minix_create.specs.Chosen.{Suits, IsPromisedNow, IsFreeWhereSound, LinksWhereSound}
 use Rattle.minix_create.specs.declared.chosen.Chosen.{Chosen}
 
 -- an inode can name the blocks
@@ -60,16 +62,52 @@ module _ {D : Type 0} {disks : Ghosts D} (volume : Volume D disks) (taken : Prom
   first_some : 0 < volume.layout.first
   first_some = let behind = (fits (super_view volume.layout) volume.span.count volume.whole.passes).behind in omega (arith, behind)
 
-  pub is_free : chosen.length ≡ wish.length → IsFreeWhereSound volume chosen
-  is_free long told sound =
+  -- its name is free there
+  record IsFreeThere : Type 0 where
+    pub plain : is_dots chosen.name ≡ false
+    pub absent : lookup (super_view volume.layout) (parts_now volume) chosen.name chosen.directory ≡ None
+    pub free : chosen.choice.place < places (kind_view volume.layout.kind) ((parts_now volume).node chosen.directory).size → (entry (super_view volume.layout) (parts_now volume) chosen.directory chosen.choice.place).inode ≡ 0
+    pub near : places (kind_view volume.layout.kind) ((parts_now volume).node chosen.directory).size ≤ chosen.choice.place → chosen.choice.place < most_places (kind_view volume.layout.kind)
+
+  free_name : wish.directory ≡ chosen.directory → wish.name ≡ chosen.name → (outer : List (List ℕ)) → IsTold (past_of volume) → IsPromisedNow volume (taken_view taken) outer chosen → IsFreeThere
+  free_name in_it named outer told needs =
+      let it : model.Wish = record wish { directory = chosen.directory; name = chosen.name } in
+      let O : ℕ → List ℕ → Type 0 = λ d n. choose (super_view volume.layout) (parts_now volume) (taken_view taken) (record wish { directory = d; name = n }) ≡ Ok chosen.choice in
+      let parts = (opened (volume_view volume) (now (past_of volume)) needs.sound).parts in
+      let name = place_law (super_view volume.layout) (parts_now volume) (taken_view taken) it chosen.choice parts (record { path = outer; leads = needs.leads }) needs.is needs.seen (subst₂ O in_it named (chosen_now told)) in
+      record { plain = name.plain; absent = name.absent; free = name.free; near = name.near }
+
+  pub is_free : wish.directory ≡ chosen.directory → wish.name ≡ chosen.name → wish.length ≡ chosen.length → IsFreeWhereSound volume (taken_view taken) chosen
+  is_free in_it named long outer told needs =
+      let parts = (opened (volume_view volume) (now (past_of volume)) needs.sound).parts in
       let free = choice_law (super_view volume.layout) (parts_now volume) (taken_view taken) wish chosen.choice first_some (chosen_now told) in
       let few = few_blocks volume.layout volume.span chosen suits in
       let F : ℕ → Type 0 = λ n. blocks_for n ≤ reach (kind_view volume.layout.kind) in
+      let growth = free_growth_law (super_view volume.layout) (parts_now volume) (taken_view taken) wish chosen.choice first_some needs.promised (chosen_now told) in
+      let name = free_name in_it named outer told needs in
+      let E : ℕ → Type 0 = λ d. (level : ℕ) → level ≤ depth_of (kind_view volume.layout.kind) (chosen.choice.place / entries_per_block (kind_view volume.layout.kind))
+      → number_above (super_view volume.layout) (parts_now volume) d (chosen.choice.place / entries_per_block (kind_view volume.layout.kind)) level ≡ 0 → level < length chosen.choice.growth in
       record {
-        sound = sound;
-        file = file_law (super_view volume.layout) (parts_now volume) (taken_view taken) wish chosen.choice first_some (subst F long few) (chosen_now told);
+        sound = needs.sound;
+        file = file_law (super_view volume.layout) (parts_now volume) (taken_view taken) wish chosen.choice first_some (subst F (sym long) few) (chosen_now told);
         inode = free.unmarked;
         zones = λ i inside. (free.free i inside).unmarked;
+        grows = record {
+          sound = needs.sound;
+          named = record { path = outer; leads = needs.leads };
+          is = needs.is;
+          reaches = needs.reached;
+          free = name.free;
+          near = name.near;
+          growth_is = record {
+            from = growth.from;
+            below = growth.below;
+            apart = growth.apart;
+            enough = subst E in_it (λ level. growth_law (super_view volume.layout) (parts_now volume) (taken_view taken) wish chosen.choice level (chosen_now told));
+            unused = λ level low hole number at refers. let set = parts.zone_marked number at _ refers in let clear = growth.unmarked level low in cc;
+          };
+        };
+        clear = growth.clear;
       }
 
   -- a file without holes gets a zone for each block
@@ -87,29 +125,10 @@ module _ {D : Type 0} {disks : Ghosts D} (volume : Volume D disks) (taken : Prom
       ap (λ (zones : FileZones). slice_index zones.blocks index) free.file ∙ given_at made chosen.choice.zones index one in
       λ zero. free.rising.some (count_made (take index made)) (omega (arith, before, enough)) (sym is ∙ zero)
 
-  pub links : chosen.directory ≡ wish.directory → chosen.name ≡ wish.name → LinksWithoutZones volume taken.overlooked chosen
+  pub links : wish.directory ≡ chosen.directory → wish.name ≡ chosen.name → LinksWhereSound volume (taken_view taken) chosen
   links in_it named outer told needs =
-      let D : ℕ → Type 0 = λ d. (reached (super_view volume.layout) (parts_now volume) outer ≡ Some d) × (is_directory ((parts_now volume).node d) ≡ true)
-      × (is_overlooked taken.overlooked d chosen.name ≡ false) × (blocks_for ((parts_now volume).node d).size ≤ reach (kind_view volume.layout.kind)) in
-      let there = subst D in_it (needs.leads, needs.is, needs.seen, needs.reached) in
-      let O : List ℕ → Type 0 = λ n. is_overlooked taken.overlooked wish.directory n ≡ false in
-      let has : Named (super_view volume.layout) (parts_now volume) wish.directory = record { path = outer; leads = there.0 } in
-      let parts = (opened (volume_view volume) (now (past_of volume)) needs.sound).parts in
-      let name = place_law (super_view volume.layout) (parts_now volume) (taken_view taken) wish chosen.choice parts has there.1 (subst O named there.2) (chosen_now told) in
-      let P : ℕ → List ℕ → Type 0 = λ d n. MayHavePlace (volume_view volume) (now (past_of volume)) outer d chosen.choice.place n in
-      let Z : ℕ → Type 0 = λ d. zone_of_entry (super_view volume.layout) (parts_now volume) d chosen.choice.place ≢ 0 in
-      record {
-        may = subst₂ P (sym in_it) (sym named) (record {
-          leads = there.0;
-          is = there.1;
-          reaches = there.3;
-          plain = name.plain;
-          absent = name.absent;
-          free = name.free;
-          near = name.near;
-        });
-        some = subst Z (sym in_it) (name.some needs.no_growth);
-      }
+      let name = free_name in_it named outer told needs in
+      record { leads = needs.leads; is = needs.is; reaches = needs.reached; plain = name.plain; absent = name.absent; free = name.free; near = name.near }
 
 -- what is answered suits the volume
 pub suits_made : (layout : Super) (span : Span) (wish : Wish) (chosen : Chosen) → chosen.name ≡ wish.name.now → chosen.length ≡ wish.length → chosen.directory ≡ wish.directory → chosen.start ≡ span.start

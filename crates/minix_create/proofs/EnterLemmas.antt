@@ -88,7 +88,7 @@ pub unseen_before : {D : Type 0} {disks : Ghosts D} (start volume : Volume D dis
 unfolding reached
 unseen_before start volume outer chosen unseen may =
     leaves_told (past_of start) (past_of volume) _ _ unseen.any_moment (λ told c seen.
-    let m = (may (unseen.goes_on.told_before told)).may in
+    let m = may (unseen.goes_on.told_before told) in
     let T : Option ℕ → Option ℕ = λ found. then_lookup (super_view start.layout) (parts_now start) chosen.name found in
     inl (reached-same (super_view start.layout) (parts_now start) (model.parts_of (volume_view start) c) seen.sees (chosen.name ∷ outer) ∙ (ap T m.leads ∙ m.absent)))
 

@@ -8,7 +8,7 @@ use Rattle.disk_trait.specs.Moments.{IsTold}
 use Rattle.disk_trait.specs.NotWritten.{IsOther}
 use Rattle.disk_trait.specs.Range.{IsOutside}
 use Rattle.disk_trait.proofs.NotWrittenLemmas.{not_written_join}
-use Rattle.lilo_model.specs.MinixLayout.{Inode, inode_place, reach, zone_sector}
+use Rattle.lilo_model.specs.MinixLayout.{Kind, Inode, inode_place, numbers_in_zone, reach, zone_sector}
 use Rattle.lilo_model.specs.MinixNames.{thing, block, blocks, content, zone_number}
 use Rattle.lilo_model.specs.MinixParts.{is_directory, zone_bytes, blocks_for, block_pointer}
 use Rattle.minix_choice_laws.specs.Choice.{file_of}
@@ -17,12 +17,13 @@ use Rattle.minix_fill.specs.Fill as fill
 use Rattle.minix_fill.specs.Fill.{FillsFile, AreMarked, IsOfSome, MayGetName, IsFitThen}
 use Rattle.minix_fill.proofs.FillLemmas.{KeepsFields, kept_fields}
 use Rattle.minix_fill.specs.Numbers.{tops_of}
-use Rattle.minix_fill_laws.specs.Laws.{MayBeFile}
-use Rattle.minix_fill_laws.specs.Sources.{Block, Indirect, zone_from}
+use Rattle.minix_fill_laws.specs.Laws.{MayBeFile, HasZones}
+use Rattle.minix_fill_laws.specs.Sources.{Source, Block, Indirect, zone_from, source_of}
 use Rattle.minix_fill_laws.proofs.Filled.{content_law, pointers_law}
 use Rattle.minix_laws.proofs.Inside.{is_pointer-block}
 use Rattle.minix_fill_laws.proofs.Pointers.{block_leads}
 use Rattle.minix_fill_laws.proofs.Given.{past_end}
+use Rattle.minix_grow.specs.Others.{IsClearOf}
 use Rattle.minix_layout.specs.View.{kind_view, super_view}
 use Rattle.minix_layout.specs.declared.superblock.Super.{Super}
 use Rattle.minix_steps.specs.Written.{parts_now}
@@ -105,6 +106,14 @@ module _ {D : Type 0} {disks : Ghosts D} (start old new : Volume D disks) (chose
         (is_pointer-block (kind_view old.layout.kind) index)
         ∙ ap (zone_from (file_of chosen.choice)) (block_leads (kind_view old.layout.kind) index near)
 
+    -- and no pointer leads to a zone of growth
+    clear_is : IsClearOf (super_view old.layout) (parts_now new) chosen.choice.inode chosen.choice.growth
+    clear_is at zone to level low same =
+        let source : Source = source_of (numbers_in_zone (kind_view old.layout.kind)) at in
+        let from : zone ≡ zone_from (file_of chosen.choice) source =
+        sym to.is ∙ pointers_law (super_view old.layout) (parts_now new) chosen.choice.inode (file_of chosen.choice) at file is.has to.place in
+        may.clear (told_old told) source level (λ none. to.some (from ∙ none)) low (same ∙ from)
+
     -- the first block of a directory
     first_block : block (super_view old.layout) (parts_now new) chosen.choice.inode 0 ≡ block_with chosen.choice.blocks given 0
     unfolding block
@@ -133,6 +142,7 @@ module _ {D : Type 0} {disks : Ghosts D} (start old new : Volume D disks) (chose
         mode = fields.mode;
         named = at_new (λ layout. (outer : List (List ℕ)) → MayNest outer chosen → MayBeNamed (super_view layout) (parts_now new) outer chosen.directory chosen.choice.inode)
             (λ outer nests. ⊎_elim (λ of. inl (stands of (told_old told) marked)) (λ of. inr (of_directory outer nests of)) made);
+        clear = at_new (λ layout. IsClearOf (super_view layout) (parts_now new) chosen.choice.inode chosen.choice.growth) clear_is;
         is = at_new (λ layout. thing (super_view layout) (parts_now new) chosen.choice.inode ≡ thing_with chosen given) (thing_is few);
         lies = at_new (λ layout. (index : ℕ) → index < reach (kind_view layout.kind) → zone_number (super_view layout) (parts_now new) chosen.choice.inode index ≡ slice_index chosen.choice.blocks index) zone_is;
       }

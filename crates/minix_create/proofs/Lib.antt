@@ -1,4 +1,5 @@
 pub mod BroughtLemmas
+pub mod GrownLemmas
 pub mod ChosenLemmas
 pub mod DotsLemmas
 pub mod EnterLemmas

@@ -1,6 +1,6 @@
 -- What the call leaves that makes the name of a file.
-use Rattle.std.proofs.Common.{◌≡◌, ◌≤◌, ◌<◌, ◌+◌, ◌*◌, ◌/◌, ◌%◌, ℕ, List, ◌∷◌, Option, Some, None, Result, Ok, Err, OnOk, sym, ap, ◌∙◌, subst, arith, inl, inr, ⊎_elim}
-use Rattle.std.proofs.lemmas.Bool.{cases_lt}
+use Rattle.std.proofs.Common.{◌≡◌, ◌≢◌, ◌≤◌, ◌<◌, ◌+◌, ◌*◌, ◌/◌, ◌%◌, ◌⊎◌, ℕ, true, List, ◌∷◌, Option, Some, None, Result, Ok, Err, OnOk, refl, sym, ap, ◌∙◌, subst, arith, inl, inr, ⊎_elim}
+use Rattle.std.proofs.lemmas.Bool.{cases_eq, cases_lt}
 use Rattle.std.proofs.Math.Path.{subst₂}
 use Rattle.disk_trait.specs.declared.disks.Disks.{Ghosts}
 use Rattle.disk_trait.specs.declared.disks.Span.{Span}
@@ -13,22 +13,30 @@ use Rattle.disk_trait.proofs.MomentLemmas.{leaves_join, on_ok}
 use Rattle.disk_trait.proofs.NotWrittenLemmas.{not_written_none, not_written_join}
 use Rattle.disk_trait.proofs.RangeLemmas.{outside_is_other}
 use Rattle.lilo_model.specs.MinixEntries.{entries_per_block, places}
+use Rattle.lilo_model.specs.MinixLayout as layouts
 use Rattle.lilo_model.specs.MinixLayout.{Kind, V1Short, V1Long, V2Short, V2Long, Inode, entry_size, inode_place, zone_sector}
-use Rattle.lilo_model.specs.MinixNames.{reached, thing, Named, IsSound}
+use Rattle.lilo_model.specs.MinixNames.{reached, thing, zone_number, Named, PointsTo, IsSound}
 use Rattle.lilo_model.specs.MinixParts as model
-use Rattle.lilo_model.specs.MinixParts.{Parts}
+use Rattle.lilo_model.specs.MinixParts.{Parts, Pointer, block_pointer, is_directory}
 use Rattle.minix_choice_laws.specs.Choice.{MayHavePlace, LiesThere, HasNamePlace}
 use Rattle.minix_choice_laws.proofs.Stay.{zone_lies, may_have_stays_law, place_lies_law}
 use Rattle.minix_beside_laws.specs.Beside.{Beside}
 use Rattle.minix_beside_laws.specs.Keeps.{Keeps}
 use Rattle.minix_beside_laws.proofs.Beside.{keeps}
-use Rattle.minix_entry_laws.specs.Only.{zone_of_entry}
+use Rattle.minix_entry_laws.specs.Comes.{IsFit}
+use Rattle.minix_entry_laws.specs.Only.{zone_of_entry, KeepsInode}
+use Rattle.minix_entry_laws.proofs.Only.{directory-refers}
 use Rattle.minix_entry_laws.proofs.Blocks.{block-below}
+use Rattle.minix_grow.specs.Others.{IsOneOf, KeepsOthers}
+use Rattle.minix_grow.specs.Places.{IsFreePlace}
+use Rattle.minix_grow.proofs.KeepLemmas.{fit_kept}
+use Rattle.minix_grow.proofs.OtherLemmas.{all_off_stay}
 use Rattle.minix_layout.specs.View.{kind_view, super_view, inode_view}
 use Rattle.minix_layout.specs.declared.superblock.Super.{Super}
 use Rattle.minix_sees_laws.specs.Sees.{Sees, SeenAsIn}
 use Rattle.minix_sees_laws.proofs.Inode.{same-node, keeps-above, points-old}
 use Rattle.minix_sees_laws.proofs.Seen.{opened}
+use Rattle.minix_sees_laws.proofs.Sees.{directory-same, named-new}
 use Rattle.minix_steps.specs.Steps.{IsReady, Steps}
 use Rattle.minix_steps.specs.Written.{parts_now}
 use Rattle.minix_steps.proofs.ReadyLemmas.{quiet_ready}
@@ -43,15 +51,17 @@ use Rattle.minix_zones.specs.Volume.{volume_view, past_of, faults_of, SameVolume
 use Rattle.minix_zones.specs.declared.volume.Volume.{Volume}
 use Rattle.minix_zones.proofs.WriteLemmas.{keeps_same}
 use Rattle.write_model.specs.Places.{most_places}
-use Rattle.minix_create.specs.Brought.{StillFits, IsInDirectory, GivesPlace, MayBring, IsOffDirectory, IsBrought, Brings}
+use Rattle.minix_create.specs.Brought.{IsInDirectory, GivesPlace}
 use Rattle.minix_create.specs.Chosen.{MayLinkNow, MayNest, thing_with}
 use Rattle.minix_create.specs.Created.{IsOffFile, IsFilled}
 use Rattle.minix_create.specs.Entered.{MayBeNamed, links_above, MayEnterNow, IsOffEntered, Enters}
+use Rattle.minix_create.specs.Grown.{MayGrowNow, LiesNow, IsOffGrowth, GrowsChosen}
 use Rattle.minix_create.specs.Linked.{IsOffName, IsRaisedBefore, Creates}
 use Rattle.minix_create.specs.declared.chosen.Chosen.{Chosen}
 use Rattle.minix_create.specs.declared.place_at.PlaceAt.{PlaceAt}
-use Rattle.minix_create.proofs.BroughtLemmas.{near_most, off_later, rises, device_of}
+use Rattle.minix_create.proofs.BroughtLemmas.{off_later, rises, device_of, same_unseen}
 use Rattle.minix_create.proofs.EnterLemmas.{leads_is, unseen_refused, unseen_before}
+use Rattle.minix_create.proofs.GrownLemmas.{same_at}
 use Rattle.minix_create.proofs.NamedLemmas.{thing_kept, named_kept, not_named, fit_named}
 
 -- ---- the part of a zone with an entry
@@ -68,79 +78,113 @@ slot-low V1Long place = omega arith
 slot-low V2Short place = omega arith
 slot-low V2Long place = omega arith
 
--- ---- where a directory may be read and grow
-
-pub in_directory : {D : Type 0} {disks : Ghosts D} (volume : Volume D disks) (outer : List (List ℕ)) (directory place : ℕ) (name : List ℕ)
-    → IsSound (volume_view volume) (now (past_of volume)) → MayHavePlace (volume_view volume) (now (past_of volume)) outer directory place name → IsInDirectory volume directory place
-in_directory volume outer directory place name sound may = record {
-  sound = sound;
-  named = record { path = outer; leads = may.leads };
-  is = may.is;
-  near = ⊎_elim
-      (λ low.
-      let b = block-below (kind_view volume.layout.kind) ((parts_now volume).node directory).size place low in
-      let few = may.reaches in
-      omega (arith, b, few))
-      (λ past. near_most (kind_view volume.layout.kind) place (may.near past))
-      (cases_lt place (places (kind_view volume.layout.kind) ((parts_now volume).node directory).size));
-}
-
-pub may_bring : {D : Type 0} {disks : Ghosts D} (volume : Volume D disks) (outer : List (List ℕ)) (directory place have : ℕ) (name : List ℕ)
-    → IsSound (volume_view volume) (now (past_of volume)) → MayHavePlace (volume_view volume) (now (past_of volume)) outer directory place name
-    → have ≤ places (kind_view volume.layout.kind) ((parts_now volume).node directory).size → MayBring volume directory have
-may_bring volume outer directory place have name sound may low = record { sound = sound; named = record { path = outer; leads = may.leads }; is = may.is; reaches = may.reaches; low = low }
-
 -- ---- a volume on which the name may be made
 
 -- a file's place got below the size, in a zone; no name saw it, the file stays, and so do the directory's links
 pub record IsLinkable {D : Type 0} {disks : Ghosts D} (start next : Volume D disks) (outer : List (List ℕ)) (chosen : Chosen) (given : ℕ → List ℕ) (zone : ℕ) : Type 0 where
   pub unseen : Unseen start next
   pub others : IsTold (past_of start) → (d s : ℕ) → IsOffName start chosen d s → NotWritten (past_of start) (past_of next) d s
-  pub lay : IsTold (past_of start) → zone_of_entry (super_view start.layout) (parts_now start) chosen.directory chosen.choice.place ≡ zone
+  pub off : IsTold (past_of start) → (d s : ℕ) → IsOffName start chosen d s → IsOutside start.span.disk (start.span.start + zone_sector zone) 2 d s
   pub may : IsTold (past_of start) → MayEnterNow next outer chosen zone
   pub is : IsTold (past_of start) → thing (super_view next.layout) (parts_now next) chosen.choice.inode ≡ thing_with chosen given
   pub links : IsTold (past_of start) → ((model.parts_of (volume_view start) (now (past_of next))).node chosen.directory).links ≡ ((parts_now start).node chosen.directory).links
 
 -- ---- after a filled file
 
-module _ {D : Type 0} {disks : Ghosts D} (start old mid : Volume D disks) (outer : List (List ℕ)) (chosen : Chosen) (given : ℕ → List ℕ) (filled : IsFilled start old chosen given)
-    (same : SameVolume old mid) (later : faults_of old ≤ faults_of mid) where
+-- the zone of a place is that to which its block's pointer leads
+zone_pointed : (super : layouts.Super) (parts : Parts) (directory place zone : ℕ) → PointsTo super parts directory (block_pointer super.kind (place / entries_per_block super.kind)) zone → zone_of_entry super parts directory place ≡ zone
+unfolding zone_number
+zone_pointed super parts directory place zone to = to.is
+
+-- a place lies below the size and in a zone, or it doesn't
+lies_or : (view : model.Volume) (image : Image) (directory place : ℕ) → LiesThere view image directory place ⊎ (LiesThere view image directory place → ⊥)
+lies_or view image directory place = by (cases_lt place (places view.layout.kind ((model.parts_of view image).node directory).size)) (cases_eq (zone_of_entry view.layout (model.parts_of view image) directory place) 0)
+  where
+    by : (place < places view.layout.kind ((model.parts_of view image).node directory).size) ⊎ (places view.layout.kind ((model.parts_of view image).node directory).size ≤ place)
+        → (zone_of_entry view.layout (model.parts_of view image) directory place ≡ 0) ⊎ (zone_of_entry view.layout (model.parts_of view image) directory place ≢ 0)
+        → LiesThere view image directory place ⊎ (LiesThere view image directory place → ⊥)
+    by (inl low) (inr some) = inl (record { below = low; some = some })
+    by (inl low) (inl none) = inr (λ lies. lies.some none)
+    by (inr past) zone = inr (λ lies. let low = lies.below in omega (arith, low, past))
+
+module _ {D : Type 0} {disks : Ghosts D} (start old next : Volume D disks) (outer : List (List ℕ)) (chosen : Chosen) (given : ℕ → List ℕ) (filled : IsFilled start old chosen given)
+    (result : Result (Unit {0}) WriteFault) (grows : GrowsChosen old next chosen result) (none : IsTold (past_of old) → LiesNow old chosen → SameVolume old next) where
   sound : IsTold (past_of start) → IsSound (volume_view start) (now (past_of start))
   sound told = (filled.free told).sound
 
   ready : IsReady start
   ready = quiet_ready start filled.quiet sound
 
-  steps : Steps start mid
-  steps = steps_join start old mid ready filled.steps (no_step old mid filled.steps.ready same later)
+  unseen : Unseen start old
+  unseen = steps_unseen start old filled.quiet sound filled.steps
 
-  unseen : Unseen start mid
-  unseen = steps_unseen start mid filled.quiet sound steps
+  told_grown : IsTold (past_of start) → IsTold (past_of old)
+  told_grown told = filled.steps.goes_on.told told
 
-  seen_old : IsTold (past_of start) → SeenAsIn (volume_view start) (now (past_of start)) (now (past_of old))
-  seen_old told = (steps_unseen start old filled.quiet sound filled.steps).held told
+  unseen_next : Unseen start next
+  unseen_next = unseen_join start old next unseen grows.unseen
 
-  others_mid : (d s : ℕ) → IsOffFile start chosen d s → NotWritten (past_of start) (past_of mid) d s
-  others_mid d s off = let P : Option Past → Type 0 = λ p. NotWritten (past_of start) p d s in subst P (sym same.same_disks.same_past) (filled.others d s off)
+  at_old : (P : model.Volume → Type 0) → P (volume_view start) → P (volume_view old)
+  at_old P holds = subst P (sym (same_view start old filled.steps.kept)) holds
 
-  -- what is said of an image of the volume as it was is said of it as it was read, and as it is kept
-  at_old : (P : model.Volume → Image → Type 0) → P (volume_view start) (now (past_of old)) → P (volume_view old) (now (past_of old))
-  at_old P holds = let V : model.Volume → Type 0 = λ view. P view (now (past_of old)) in subst V (sym (same_view start old filled.steps.kept)) holds
+  at_start : (P : model.Volume → Type 0) → P (volume_view old) → P (volume_view start)
+  at_start P holds = subst P (same_view start old filled.steps.kept) holds
 
-  at_mid : (P : model.Volume → Image → Type 0) → P (volume_view start) (now (past_of old)) → P (volume_view mid) (now (past_of mid))
-  at_mid P holds =
-      let V : model.Volume → Type 0 = λ view. P view (now (past_of old)) in
-      let I : Option Past → Type 0 = λ past. P (volume_view mid) (now past) in
-      subst I (sym same.same_disks.same_past) (subst V (sym (same_view start mid unseen.kept)) holds)
+  at_next : (P : model.Volume → Type 0) → P (volume_view start) → P (volume_view next)
+  at_next P holds = subst P (sym (same_view start next unseen_next.kept)) holds
+
+  from_old : (P : model.Volume → Type 0) → P (volume_view old) → P (volume_view next)
+  from_old P holds = subst P (sym (same_view old next grows.unseen.kept)) holds
 
   -- what has a name is as it was
-  beside : IsTold (past_of start) → Beside (volume_view start) (now (past_of start)) (now (past_of mid))
+  beside : IsTold (past_of start) → Beside (volume_view start) (now (past_of start)) (now (past_of old))
   beside told =
-      let B : Image → Type 0 = λ image. Beside (volume_view start) image (now (past_of mid)) in
-      subst B (quiet_begun (past_of start) told filled.quiet) (beside_before start mid ready steps told (now (past_of mid)) (now_beside mid steps.ready (steps.goes_on.told told)))
+      let B : Image → Type 0 = λ image. Beside (volume_view start) image (now (past_of old)) in
+      subst B (quiet_begun (past_of start) told filled.quiet) (beside_before start old ready filled.steps told (now (past_of old)) (now_beside old filled.steps.ready (told_grown told)))
 
-  kept_named : IsTold (past_of start) → Keeps (super_view start.layout) (parts_now start) (model.parts_of (volume_view start) (now (past_of mid)))
-  kept_named told = keeps (volume_view start) (now (past_of start)) (opened (volume_view start) (now (past_of start)) (sound told)) (now (past_of mid)) (beside told)
+  kept_named : IsTold (past_of start) → Keeps (super_view start.layout) (parts_now start) (model.parts_of (volume_view start) (now (past_of old)))
+  kept_named told = keeps (volume_view start) (now (past_of start)) (opened (volume_view start) (now (past_of start)) (sound told)) (now (past_of old)) (beside told)
+
+  may_grow : IsTold (past_of start) → MayGrowNow start chosen
+  may_grow told = (filled.free told).grows
+
+  named : IsTold (past_of start) → Named (super_view start.layout) (parts_now start) chosen.directory
+  named told = (may_grow told).named
+
+  -- its pointers lead where they led
+  points_start : IsTold (past_of start) → (at : Pointer) (zone : ℕ) → PointsTo (super_view start.layout) (model.parts_of (volume_view start) (now (past_of old))) chosen.directory at zone
+      → PointsTo (super_view start.layout) (parts_now start) chosen.directory at zone
+  points_start told =
+      let keeps' = kept_named told in
+      points-old (super_view start.layout) (parts_now start) (model.parts_of (volume_view start) (now (past_of old))) chosen.directory
+      (same-node ((parts_now start).node chosen.directory) ((model.parts_of (volume_view start) (now (past_of old))).node chosen.directory) (keeps'.nodes chosen.directory (named told))).numbers
+      (keeps-above (super_view start.layout) (parts_now start) (model.parts_of (volume_view start) (now (past_of old))) chosen.directory (λ at zone to. keeps'.zones chosen.directory at zone (record { named = named told; to = to })))
+
+  off_old : IsTold (past_of start) → (d s : ℕ) → IsOffGrowth start chosen d s → IsOffGrowth old chosen d s
+  off_old told d s off = record {
+    directory = off_later start old chosen.directory filled.steps.kept (points_start told) d s off.directory;
+    zones = all_off_stay start old filled.steps.kept chosen.choice.growth d s off.zones;
+  }
+
+  lies_old : IsTold (past_of start) → LiesNow start chosen → LiesNow old chosen
+  lies_old told lies =
+      let seen = unseen.held told in
+      let below = lies.below in
+      at_old (λ view. LiesThere view (now (past_of old)) chosen.directory chosen.choice.place)
+      (record {
+        below = let room = seen.sees.room chosen.directory (named told) (may_grow told).is in omega (arith, room, below);
+        some = λ none'. lies.some (sym (zone_lies (volume_view start) (now (past_of start)) (now (past_of old)) chosen.directory (named told) (may_grow told).is seen chosen.choice.place lies.some) ∙ none');
+      })
+
+  others_next : IsTold (past_of start) → (d s : ℕ) → IsOffName start chosen d s → NotWritten (past_of start) (past_of next) d s
+  others_next told d s off =
+      not_written_join (past_of start) (past_of old) (past_of next) d s (filled.others d s off.file)
+      (⊎_elim
+      (λ lies.
+      let P : Option Past → Type 0 = λ p. NotWritten (past_of old) p d s in
+      subst P (sym (none (told_grown told) (lies_old told lies)).same_disks.same_past) (not_written_none (past_of old) d s))
+      (λ apart. grows.others (told_grown told) d s (off_old told d s (off.growth apart)))
+      (lies_or (volume_view start) (now (past_of start)) chosen.directory chosen.choice.place))
 
   -- a call was refused
   refused_creates : (IsTold (past_of start) → MayLinkNow start outer chosen) → (new : Volume D disks) (fault : WriteFault) → Unseen start new → (IsTold (past_of start) → (d s : ℕ) → IsOffName start chosen d s → NotWritten (past_of start) (past_of new) d s)
@@ -153,200 +197,202 @@ module _ {D : Type 0} {disks : Ghosts D} (start old mid : Volume D disks) (outer
     device = cause;
   }
 
-  module _ (nests : MayNest outer chosen) (may : IsTold (past_of start) → MayLinkNow start outer chosen) where
-    abbrev Facts : model.Volume → Image → Type 0
-    Facts view image = IsSound view image × MayHavePlace view image outer chosen.directory chosen.choice.place chosen.name
+-- it didn't grow
+pub links_not_grown : {D : Type 0} {disks : Ghosts D} (start old next : Volume D disks) (outer : List (List ℕ)) (chosen : Chosen) (given : ℕ → List ℕ) → IsFilled start old chosen given → (fault : WriteFault) → GrowsChosen old next chosen (Err fault)
+    → (IsTold (past_of old) → LiesNow old chosen → SameVolume old next) → (IsTold (past_of start) → MayLinkNow start outer chosen) → Creates start next outer chosen given (Err fault)
+links_not_grown start old next outer chosen given filled fault grows none may =
+    refused_creates start old next outer chosen given filled (Err fault) grows none may next fault (unseen_next start old next outer chosen given filled (Err fault) grows none) (others_next start old next outer chosen given filled (Err fault) grows none)
+    (λ told.
+    let cause = grows.device (filled.steps.goes_on.told told) in
+    (cause.0, rises (faults_of start) (faults_of old) (faults_of next) filled.steps.goes_on.later cause.1))
 
-    facts : IsTold (past_of start) → Facts (volume_view start) (now (past_of old))
-    facts told = (
-      (seen_old told).sound,
-      may_have_stays_law (volume_view start) (now (past_of start)) (now (past_of old)) outer chosen.directory chosen.choice.place chosen.name (sound told) (seen_old told) (may told).may,
-    )
+module _ {D : Type 0} {disks : Ghosts D} (start old next read : Volume D disks) (outer : List (List ℕ)) (chosen : Chosen) (given : ℕ → List ℕ) (filled : IsFilled start old chosen given)
+    (grows : GrowsChosen old next chosen (Ok tt)) (none : IsTold (past_of old) → LiesNow old chosen → SameVolume old next) (same : SameVolume next read) (later : faults_of next ≤ faults_of read)
+    (nests : MayNest outer chosen) (may : IsTold (past_of start) → MayLinkNow start outer chosen) (quiet : IsQuiet (past_of next)) where
+  abbrev told_old : IsTold (past_of start) → IsTold (past_of old)
+  told_old = told_grown start old next outer chosen given filled (Ok tt) grows none
 
-    named : IsTold (past_of start) → Named (super_view start.layout) (parts_now start) chosen.directory
-    named told = record { path = outer; leads = (may told).may.leads }
+  unseen_then : Unseen start next
+  unseen_then = unseen_next start old next outer chosen given filled (Ok tt) grows none
 
-    -- its place may be read
-    pub readable_place : IsTold (past_of start) → IsInDirectory old chosen.directory chosen.choice.place
-    readable_place told = let f = at_old Facts (facts told) in in_directory old outer chosen.directory chosen.choice.place chosen.name f.0 f.1
+  told_next : IsTold (past_of start) → IsTold (past_of next)
+  told_next told = unseen_then.goes_on.told told
 
-    -- a zone is found
-    zone_stays : IsTold (past_of start) → (image : Image) → SeenAsIn (volume_view start) (now (past_of start)) image
-        → zone_of_entry (super_view start.layout) (model.parts_of (volume_view start) image) chosen.directory chosen.choice.place ≡ zone_of_entry (super_view start.layout) (parts_now start) chosen.directory chosen.choice.place
-    zone_stays told image seen =
-        zone_lies (volume_view start) (now (past_of start)) image chosen.directory (named told) (may told).may.is seen chosen.choice.place (may told).some
+  place_next : IsTold (past_of start) → IsFreePlace (volume_view next) (now (past_of next)) chosen.directory chosen.choice.place
+  place_next told = grows.free (told_old told)
 
-    pub links_no_place : (fault : WriteFault) → GivesPlace old chosen.directory chosen.choice.place (Err fault) → HasWriteCause (faults_of old) (faults_of mid) fault → Creates start mid outer chosen given (Err fault)
-    links_no_place fault gives cause =
-        refused_creates may mid fault unseen (λ told d s off. others_mid d s off.file) (λ told.
-        let is : fault ≡ refusals.Device = gives (filled.steps.goes_on.told told) (readable_place told) in
-        let C : WriteFault → Type 0 = λ f. HasWriteCause (faults_of old) (faults_of mid) f in
-        (is, rises (faults_of start) (faults_of old) (faults_of mid) filled.steps.goes_on.later (subst C is cause)))
+  has_place : IsTold (past_of start) → HasNamePlace (volume_view next) (now (past_of next)) outer chosen.directory chosen.choice.place chosen.name
+  has_place told =
+      let P : model.Volume → Type 0 = λ view. MayHavePlace view (now (past_of next)) outer chosen.directory chosen.choice.place chosen.name in
+      let has = (place_next told).placed in
+      place_lies_law (volume_view next) (now (past_of next)) outer chosen.directory chosen.choice.place chosen.name
+      (at_next start old next outer chosen given filled (Ok tt) grows none P
+      (may_have_stays_law (volume_view start) (now (past_of start)) (now (past_of next)) outer chosen.directory chosen.choice.place chosen.name (filled.free told).sound (unseen_then.held told) (may told)))
+      (record { below = has.below; some = has.some })
 
-    module _ (at : PlaceAt) (gives : GivesPlace old chosen.directory chosen.choice.place (Ok at)) where
-      finds : IsTold (past_of start) → (inode_view at.node ≡ (parts_now old).node chosen.directory) × (zone_of_entry (super_view old.layout) (parts_now old) chosen.directory chosen.choice.place ≡ at.zone)
-      finds told = gives (filled.steps.goes_on.told told) (readable_place told)
+  sound_next : IsTold (past_of start) → IsSound (volume_view next) (now (past_of next))
+  sound_next told = at_next start old next outer chosen given filled (Ok tt) grows none (λ view. IsSound view (now (past_of next))) (unseen_then.held told).sound
 
-      zone_start : IsTold (past_of start) → zone_of_entry (super_view start.layout) (parts_now start) chosen.directory chosen.choice.place ≡ at.zone
-      zone_start told =
-          let V : model.Volume → ℕ = λ view. zone_of_entry view.layout (model.parts_of view (now (past_of old))) chosen.directory chosen.choice.place in
-          sym (zone_stays told (now (past_of old)) (seen_old told)) ∙ (ap V (sym (same_view start old filled.steps.kept)) ∙ (finds told).1)
+  -- its place may be read
+  pub readable_place : IsTold (past_of start) → IsInDirectory next chosen.directory chosen.choice.place
+  readable_place told =
+      let has = (place_next told).placed in
+      record {
+        sound = sound_next told;
+        named = has.named;
+        is = has.is;
+        near =
+            let b = block-below (kind_view next.layout.kind) ((parts_now next).node chosen.directory).size chosen.choice.place has.below in
+            let few = has.reached in
+            omega (arith, b, few);
+      }
 
-      pub links_in_hole : at.zone ≡ 0 → (fault : WriteFault) → Creates start mid outer chosen given (Err fault)
-      links_in_hole none fault =
-          refused_creates may mid fault unseen (λ told d s off. others_mid d s off.file) (λ told. absurd ((may told).some (zone_start told ∙ none)))
+  -- what was filled is as it was
+  abbrev Old : Parts
+  Old = parts_now old
 
-      module _ (have : ℕ) (is : have ≡ places (kind_view old.layout.kind) (inode_view at.node).size) where
-        -- so many places lay below the size from the start on
-        have_start : IsTold (past_of start) → have ≡ places (kind_view start.layout.kind) ((parts_now start).node chosen.directory).size
-        have_start told =
-            let K : Super → ℕ = λ layout. places (kind_view layout.kind) (inode_view at.node).size in
-            let S : Inode → ℕ = λ node. places (kind_view start.layout.kind) node.size in
-            let V : model.Volume → Inode = λ view. (model.parts_of view (now (past_of old))).node chosen.directory in
-            let I : Option Past → Inode = λ past. (model.parts_of (volume_view start) (now past)).node chosen.directory in
-            is ∙ (ap K filled.steps.kept.same_layout
-            ∙ (ap S (finds told).0
-            ∙ (ap S (ap V (same_view start old filled.steps.kept))
-            ∙ (ap S (ap I (sym same.same_disks.same_past))
-            ∙ ap S ((kept_named told).nodes chosen.directory (named told))))))
+  abbrev Next : Parts
+  Next = model.parts_of (volume_view old) (now (past_of next))
 
-        have_mid : IsTold (past_of start) → have ≤ places (kind_view mid.layout.kind) ((parts_now mid).node chosen.directory).size
-        have_mid told =
-            let P : model.Volume → Type 0 = λ view. have ≤ places view.layout.kind ((model.parts_of view (now (past_of mid))).node chosen.directory).size in
-            let same' : ((model.parts_of (volume_view start) (now (past_of mid))).node chosen.directory) ≡ (parts_now start).node chosen.directory = (kept_named told).nodes chosen.directory (named told) in
-            let N : Inode → Type 0 = λ node. have ≤ places (kind_view start.layout.kind) node.size in
-            let e = have_start told in
-            subst P (sym (same_view start mid unseen.kept)) (subst N (sym same') (omega (arith, e)))
+  sees_old : IsTold (past_of start) → Sees (super_view old.layout) Old Next
+  sees_old told = (grows.unseen.held (told_old told)).sees
 
-        pub bring_may : IsTold (past_of mid) → MayBring mid chosen.directory have
-        bring_may told =
-            let before = steps.goes_on.told_before told in
-            let f = at_mid Facts (facts before) in
-            may_bring mid outer chosen.directory chosen.choice.place have chosen.name f.0 f.1 (have_mid before)
+  may_be_named : IsTold (past_of start) → MayBeNamed (super_view old.layout) Old outer chosen.directory chosen.choice.inode
+  may_be_named told = (filled.filled told).named outer nests
 
-        pub bring_near : IsTold (past_of mid) → have ≤ chosen.choice.place → chosen.choice.place < most_places (kind_view mid.layout.kind)
-        bring_near told past =
-            let before = steps.goes_on.told_before told in
-            let K : Super → Type 0 = λ layout. chosen.choice.place < most_places (kind_view layout.kind) in
-            let e = have_start before in
-            subst K (sym unseen.kept.same_layout) ((may before).may.near (omega (arith, e, past)))
+  own_named : IsTold (past_of start) → Named (super_view old.layout) Old chosen.directory × (is_directory (Old.node chosen.directory) ≡ true)
+  own_named told =
+      let seen = (unseen start old next outer chosen given filled (Ok tt) grows none).held told in
+      let m = (filled.free told).grows in
+      at_old start old next outer chosen given filled (Ok tt) grows none (λ view. Named view.layout (model.parts_of view (now (past_of old))) chosen.directory × (is_directory ((model.parts_of view (now (past_of old))).node chosen.directory) ≡ true)) (
+        named-new (super_view start.layout) (parts_now start) (model.parts_of (volume_view start) (now (past_of old))) seen.sees chosen.directory m.named,
+        directory-same (super_view start.layout) (parts_now start) (model.parts_of (volume_view start) (now (past_of old))) seen.sees chosen.directory m.named ∙ m.is,
+      )
 
-        module _ (next : Volume D disks) (result : Result (Unit {0}) WriteFault) (brings : Brings mid next chosen.directory (chosen.choice.place + 1) refusals.Device result)
-            (none : chosen.choice.place < have → SameVolume mid next) where
-          unseen_next : Unseen start next
-          unseen_next = unseen_join start mid next unseen brings.unseen
+  fit_old : IsTold (past_of start) → IsFit (super_view old.layout) Old chosen.choice.inode
+  fit_old told = fit_named (super_view old.layout) Old outer chosen.directory chosen.choice.inode (may_be_named told)
 
-          off_mid : IsTold (past_of start) → (d s : ℕ) → IsOffDirectory start chosen.directory d s → IsOffDirectory mid chosen.directory d s
-          off_mid told d s off =
-              off_later start mid chosen.directory unseen.kept
-              (λ at' zone to.
-              let keeps' = kept_named told in
-              points-old (super_view start.layout) (parts_now start) (model.parts_of (volume_view start) (now (past_of mid))) chosen.directory
-              (same-node ((parts_now start).node chosen.directory) ((model.parts_of (volume_view start) (now (past_of mid))).node chosen.directory) (keeps'.nodes chosen.directory (named told))).numbers
-              (keeps-above (super_view start.layout) (parts_now start) (model.parts_of (volume_view start) (now (past_of mid))) chosen.directory (λ at'' zone' to'. keeps'.zones chosen.directory at'' zone' (record { named = named told; to = to' })))
-              at' zone to)
-              d s off
+  apart_old : IsTold (past_of start) → chosen.choice.inode ≢ chosen.directory
+  apart_old told = let own = own_named told in not_named (super_view old.layout) Old outer chosen.directory chosen.choice.inode own.0 own.1 (may_be_named told)
 
-          others_next : IsTold (past_of start) → (d s : ℕ) → IsOffName start chosen d s → NotWritten (past_of start) (past_of next) d s
-          others_next told d s off =
-              not_written_join (past_of start) (past_of mid) (past_of next) d s (others_mid d s off.file)
-              (⊎_elim
-              (λ low.
-              let P : Option Past → Type 0 = λ p. NotWritten (past_of mid) p d s in
-              subst P (sym (none low).same_disks.same_past) (not_written_none (past_of mid) d s))
-              (λ past.
-              let e = have_start told in
-              brings.others (steps.goes_on.told told) d s (off_mid told d s (off.past (omega (arith, e, past)))))
-              (cases_lt chosen.choice.place have))
+  keeps_old : IsTold (past_of start) → KeepsOthers (super_view old.layout) Old Next chosen.directory chosen.choice.growth
+  keeps_old told = grows.keeps (told_old told)
 
-        pub links_not_brought : (next : Volume D disks) (fault : WriteFault) → Brings mid next chosen.directory (chosen.choice.place + 1) refusals.Device (Err fault)
-            → (chosen.choice.place < have → SameVolume mid next) → Creates start next outer chosen given (Err fault)
-        links_not_brought next fault brings none =
-            refused_creates may next fault (unseen_next next (Err fault) brings none) (others_next next (Err fault) brings none) (λ told.
-            let cause = brings.device (steps.goes_on.told told) in
-            (cause.0, rises (faults_of start) (faults_of mid) (faults_of next) steps.goes_on.later cause.1))
+  kept_old : IsTold (past_of start) → KeepsInode (super_view old.layout) Old Next chosen.choice.inode
+  kept_old told = (keeps_old told).others chosen.choice.inode (fit_old told) (apart_old told) (filled.filled told).clear
 
-        module _ (next : Volume D disks) (brings : Brings mid next chosen.directory (chosen.choice.place + 1) refusals.Device (Ok tt)) (none : chosen.choice.place < have → SameVolume mid next) where
-          unseen_then : Unseen start next
-          unseen_then = unseen_next next (Ok tt) brings none
+  -- what is known of the volume then
+  abbrev Facts : model.Volume → Image → Type 0
+  Facts view image =
+      IsSound view image × HasNamePlace view image outer chosen.directory chosen.choice.place chosen.name × (((model.parts_of view image).node chosen.choice.inode).mode ≡ chosen.mode)
+      × MayBeNamed view.layout (model.parts_of view image) outer chosen.directory chosen.choice.inode
+      × (thing view.layout (model.parts_of view image) chosen.choice.inode ≡ thing_with chosen given)
 
-          brought : IsTold (past_of start) → IsBrought (super_view mid.layout) (parts_now mid) (model.parts_of (volume_view mid) (now (past_of next))) chosen.directory (chosen.choice.place + 1)
-          brought told = brings.brought (steps.goes_on.told told)
+  facts_next : IsTold (past_of start) → Facts (volume_view next) (now (past_of next))
+  facts_next told =
+      let kept = kept_old told in
+      let V : model.Volume → Type 0 = λ view. (((model.parts_of view (now (past_of next))).node chosen.choice.inode).mode ≡ chosen.mode)
+      × MayBeNamed view.layout (model.parts_of view (now (past_of next))) outer chosen.directory chosen.choice.inode
+      × (thing view.layout (model.parts_of view (now (past_of next))) chosen.choice.inode ≡ thing_with chosen given) in
+      let v = from_old start old next outer chosen given filled (Ok tt) grows none V (
+        ap (λ (i : Inode). i.mode) kept.node ∙ (filled.filled told).mode,
+        named_kept (super_view old.layout) Old Next chosen.choice.inode kept (sees_old told)
+        (fit_kept (super_view old.layout) Old Next chosen.directory chosen.choice.growth (sees_old told) (keeps_old told) chosen.choice.inode (fit_old told) (apart_old told) (filled.filled told).clear)
+        outer chosen.directory (may_be_named told),
+        thing_kept (super_view old.layout) Old Next chosen.choice.inode kept ∙ (filled.filled told).is,
+      ) in
+      (sound_next told, has_place told, v.0, v.1, v.2)
 
-          at_next : (P : model.Volume → Type 0) → P (volume_view start) → P (volume_view next)
-          at_next P holds = subst P (sym (same_view start next unseen_then.kept)) holds
+  facts_read : IsTold (past_of start) → Facts (volume_view read) (now (past_of read))
+  facts_read told = same_at next read same Facts (facts_next told)
 
-          from_mid : (P : model.Volume → Type 0) → P (volume_view mid) → P (volume_view next)
-          from_mid P holds = subst P (sym (same_view mid next brings.unseen.kept)) holds
+  -- the read changed nothing
+  read_unseen : Unseen next read
+  read_unseen = same_unseen next read quiet (λ told. sound_next (unseen_then.goes_on.told_before told)) same later
 
-          -- it stands on the volume that was read
-          abbrev IsThere : model.Volume → Image → Type 0
-          IsThere view image = (((model.parts_of view image).node chosen.choice.inode).mode ≡ chosen.mode) × MayBeNamed view.layout (model.parts_of view image) outer chosen.directory chosen.choice.inode
-              × (thing view.layout (model.parts_of view image) chosen.choice.inode ≡ thing_with chosen given)
+  unseen_read : Unseen start read
+  unseen_read = unseen_join start next read unseen_then read_unseen
 
-          stood : IsTold (past_of start) → IsThere (volume_view mid) (now (past_of mid))
-          stood told =
-              let f = filled.filled told in
-              let V : model.Volume → Type 0 = λ view. IsThere view (now (past_of old)) in
-              let I : Option Past → Type 0 = λ past. IsThere (volume_view mid) (now past) in
-              subst I (sym same.same_disks.same_past) (subst V (sym (same_view old mid (keeps_same old mid same))) (f.mode, f.named outer nests, f.is))
+  others_read : IsTold (past_of start) → (d s : ℕ) → IsOffName start chosen d s → NotWritten (past_of start) (past_of read) d s
+  others_read told d s off =
+      let P : Option Past → Type 0 = λ p. NotWritten (past_of start) p d s in
+      subst P (sym same.same_disks.same_past) (others_next start old next outer chosen given filled (Ok tt) grows none told d s off)
 
-          -- and it is as it was once the place is there
-          still : IsTold (past_of start) → StillFits (super_view mid.layout) (parts_now mid) (model.parts_of (volume_view mid) (now (past_of next))) chosen.choice.inode
-          still told =
-              let f = at_mid Facts (facts told) in
-              let m = (stood told).1 in
-              (brought told).keeps.files chosen.choice.inode
-              (not_named (super_view mid.layout) (parts_now mid) outer chosen.directory chosen.choice.inode (record { path = outer; leads = f.1.leads }) f.1.is m)
-              (fit_named (super_view mid.layout) (parts_now mid) outer chosen.directory chosen.choice.inode m)
+  -- it couldn't be read
+  pub links_no_place : (fault : WriteFault) → GivesPlace next chosen.directory chosen.choice.place (Err fault) → HasWriteCause (faults_of next) (faults_of read) fault → Creates start read outer chosen given (Err fault)
+  links_no_place fault gives cause =
+      refused_creates start old next outer chosen given filled (Ok tt) grows none may read fault unseen_read others_read (λ told.
+      let is : fault ≡ refusals.Device = gives (told_next told) (readable_place told) in
+      let C : WriteFault → Type 0 = λ f. HasWriteCause (faults_of next) (faults_of read) f in
+      (is, rises (faults_of start) (faults_of next) (faults_of read) unseen_then.goes_on.later (subst C is cause)))
 
-          sees_mid : IsTold (past_of start) → Sees (super_view mid.layout) (parts_now mid) (model.parts_of (volume_view mid) (now (past_of next)))
-          sees_mid told = (brings.unseen.held (steps.goes_on.told told)).sees
+  module _ (at : PlaceAt) (gives : GivesPlace next chosen.directory chosen.choice.place (Ok at)) where
+    zone_is : IsTold (past_of start) → zone_of_entry (super_view next.layout) (parts_now next) chosen.directory chosen.choice.place ≡ at.zone
+    zone_is told = (gives (told_next told) (readable_place told)).1
 
-          lies_start : IsTold (past_of start) → LiesThere (volume_view start) (now (past_of next)) chosen.directory chosen.choice.place
-          lies_start told =
-              let R : model.Volume → Type 0 = λ view. chosen.choice.place + 1 ≤ places view.layout.kind ((model.parts_of view (now (past_of next))).node chosen.directory).size in
-              let room = subst R (same_view start mid unseen.kept) (brought told).room in
-              record {
-                below = omega (arith, room);
-                some = λ e. (may told).some (sym (zone_stays told (now (past_of next)) (unseen_then.held told)) ∙ e);
-              }
+    -- no zone was there
+    pub links_in_hole : at.zone ≡ 0 → (fault : WriteFault) → Creates start read outer chosen given (Err fault)
+    links_in_hole hole fault =
+        refused_creates start old next outer chosen given filled (Ok tt) grows none may read fault unseen_read others_read (λ told. absurd ((place_next told).placed.some (zone_is told ∙ hole)))
 
-          may_enter : IsTold (past_of start) → MayEnterNow next outer chosen at.zone
-          may_enter told = record {
-            sound = at_next (λ view. IsSound view (now (past_of next))) (unseen_then.held told).sound;
-            lies =
-                at_next (λ view. zone_of_entry view.layout (model.parts_of view (now (past_of next))) chosen.directory chosen.choice.place ≡ at.zone)
-                (zone_stays told (now (past_of next)) (unseen_then.held told) ∙ zone_start told);
-            place =
-                at_next (λ view. HasNamePlace view (now (past_of next)) outer chosen.directory chosen.choice.place chosen.name)
-                (place_lies_law (volume_view start) (now (past_of next)) outer chosen.directory chosen.choice.place chosen.name
-                (may_have_stays_law (volume_view start) (now (past_of start)) (now (past_of next)) outer chosen.directory chosen.choice.place chosen.name (sound told) (unseen_then.held told) (may told).may)
-                (lies_start told));
-            mode =
-                from_mid (λ view. ((model.parts_of view (now (past_of next))).node chosen.choice.inode).mode ≡ chosen.mode)
-                (ap (λ (i : Inode). i.mode) (still told).kept.node ∙ (stood told).0);
-            named =
-                from_mid (λ view. MayBeNamed view.layout (model.parts_of view (now (past_of next))) outer chosen.directory chosen.choice.inode)
-                (named_kept (super_view mid.layout) (parts_now mid) (model.parts_of (volume_view mid) (now (past_of next))) chosen.choice.inode (still told).kept (sees_mid told) (still told).fit outer chosen.directory (stood told).1);
-          }
+    -- the zone is one that it had, or one of growth
+    zone_start : IsTold (past_of start) → (zone_of_entry (super_view start.layout) (parts_now start) chosen.directory chosen.choice.place ≡ at.zone) ⊎ IsOneOf chosen.choice.growth at.zone
+    zone_start told = ⊎_elim
+        (λ was. inl (zone_pointed (super_view start.layout) (parts_now start) chosen.directory chosen.choice.place at.zone (points_start start old next outer chosen given filled (Ok tt) grows none told _ _ (at_start start old next outer chosen given filled (Ok tt) grows none (λ view. PointsTo view.layout (model.parts_of view (now (past_of old))) chosen.directory (block_pointer view.layout.kind (chosen.choice.place / entries_per_block view.layout.kind)) at.zone) was))))
+        (λ one. inr one)
+        ((keeps_old told).points chosen.directory (block_pointer (kind_view old.layout.kind) (chosen.choice.place / entries_per_block (kind_view old.layout.kind))) at.zone (own_named told).0 (points_now told))
+      where
+        points_now : IsTold (past_of start) → PointsTo (super_view old.layout) Next chosen.directory (block_pointer (kind_view old.layout.kind) (chosen.choice.place / entries_per_block (kind_view old.layout.kind))) at.zone
+        points_now told =
+            let has = (place_next told).placed in
+            let some : at.zone ≢ 0 = λ hole. has.some (zone_is told ∙ hole) in
+            let V : model.Volume → Type 0 = λ view. PointsTo view.layout (model.parts_of view (now (past_of next))) chosen.directory (block_pointer view.layout.kind (chosen.choice.place / entries_per_block view.layout.kind)) at.zone in
+            subst V (same_view old next grows.unseen.kept)
+            (directory-refers (super_view next.layout) (parts_now next) chosen.directory chosen.choice.place has.named has.is at.zone some (sym (zone_is told))).to
 
-          links_stay : IsTold (past_of start) → ((model.parts_of (volume_view start) (now (past_of next))).node chosen.directory).links ≡ ((parts_now start).node chosen.directory).links
-          links_stay told =
-              let L : model.Volume → Type 0 = λ view. ((model.parts_of view (now (past_of next))).node chosen.directory).links ≡ ((model.parts_of view (now (past_of mid))).node chosen.directory).links in
-              subst L (same_view start mid unseen.kept) (brought told).links ∙ ap (λ (i : Inode). i.links) ((kept_named told).nodes chosen.directory (named told))
+    off_zone : IsTold (past_of start) → (d s : ℕ) → IsOffName start chosen d s → IsOutside start.span.disk (start.span.start + zone_sector at.zone) 2 d s
+    off_zone told d s off =
+        let Z : ℕ → Type 0 = λ z. IsOutside start.span.disk (start.span.start + zone_sector z) 2 d s in
+        ⊎_elim
+        (λ was. subst Z was off.name)
+        (λ one. ⊎_elim
+        (λ lies. subst Z (stays told lies) off.name)
+        (λ apart. subst Z one.is ((off.growth apart).zones one.at one.low).bytes)
+        (lies_or (volume_view start) (now (past_of start)) chosen.directory chosen.choice.place))
+        (zone_start told)
+      where
+        stays : IsTold (past_of start) → LiesNow start chosen → zone_of_entry (super_view start.layout) (parts_now start) chosen.directory chosen.choice.place ≡ at.zone
+        stays told lies =
+            let m = (filled.free told).grows in
+            let V : model.Volume → Type 0 = λ view. zone_of_entry view.layout (model.parts_of view (now (past_of next))) chosen.directory chosen.choice.place ≡ at.zone in
+            sym (zone_lies (volume_view start) (now (past_of start)) (now (past_of next)) chosen.directory m.named m.is (unseen_then.held told) chosen.choice.place lies.some)
+            ∙ subst V (same_view start next unseen_then.kept) (zone_is told)
 
-          pub linkable : IsLinkable start next outer chosen given at.zone
-          linkable = record {
-            unseen = unseen_then;
-            others = others_next next (Ok tt) brings none;
-            lay = zone_start;
-            may = may_enter;
-            is = λ told.
-                from_mid (λ view. thing view.layout (model.parts_of view (now (past_of next))) chosen.choice.inode ≡ thing_with chosen given)
-                (thing_kept (super_view mid.layout) (parts_now mid) (model.parts_of (volume_view mid) (now (past_of next))) chosen.choice.inode (still told).kept ∙ (stood told).2);
-            links = links_stay;
-          }
+    links_stay : IsTold (past_of start) → ((model.parts_of (volume_view start) (now (past_of read))).node chosen.directory).links ≡ ((parts_now start).node chosen.directory).links
+    links_stay told =
+        let V : model.Volume → Type 0 = λ view. ((model.parts_of view (now (past_of next))).node chosen.directory).links ≡ ((model.parts_of view (now (past_of old))).node chosen.directory).links in
+        let I : Option Past → Type 0 = λ past. ((model.parts_of (volume_view start) (now past)).node chosen.directory).links ≡ ((parts_now start).node chosen.directory).links in
+        let kept' = kept_named start old next outer chosen given filled (Ok tt) grows none told in
+        subst I (sym same.same_disks.same_past)
+        (at_start start old next outer chosen given filled (Ok tt) grows none V (keeps_old told).links ∙ ap (λ (i : Inode). i.links) (kept'.nodes chosen.directory (filled.free told).grows.named))
+
+    pub linkable : IsLinkable start read outer chosen given at.zone
+    linkable = record {
+      unseen = unseen_read;
+      others = others_read;
+      off = off_zone;
+      may = λ told.
+          let f = facts_read told in
+          record {
+            sound = f.0;
+            lies = same_at next read same (λ view image. zone_of_entry view.layout (model.parts_of view image) chosen.directory chosen.choice.place ≡ at.zone) (zone_is told);
+            place = f.1;
+            mode = f.2;
+            named = f.3;
+          };
+      is = λ told. (facts_read told).4;
+      links = links_stay;
+    }
 
 -- ---- the entry
 
@@ -361,10 +407,9 @@ module _ {D : Type 0} {disks : Ghosts D} (start mid : Volume D disks) (outer : L
   off_entered told d s off =
       let kept = ready.unseen.kept in
       let index : ℕ = chosen.choice.place % entries_per_block (kind_view mid.layout.kind) in
-      let Z : ℕ → Type 0 = λ z. IsOutside start.span.disk (start.span.start + zone_sector z) 2 d s in
       let S : Span → Type 0 = λ span. IsOutside span.disk (span.start + zone_sector zone) 2 d s in
       let half = half_of_entry (kind_view mid.layout.kind) index (slot-low (kind_view mid.layout.kind) chosen.choice.place) in
-      let out = subst S (sym kept.same_span) (subst Z (ready.lay told) off.name) in
+      let out = subst S (sym kept.same_span) (ready.off told d s off) in
       let at : mid.span.start + zone_sector zone + entry_size (kind_view mid.layout.kind) * index / 512 ≡ mid.span.start + (zone_sector zone + entry_size (kind_view mid.layout.kind) * index / 512) = omega arith in
       let T : ℕ → Type 0 = λ n. IsOther mid.span.disk n d s in
       let I : Span → Super → Type 0 = λ span layout. IsOther span.disk (span.start + (inode_place (super_view layout) chosen.directory).sector) d s in

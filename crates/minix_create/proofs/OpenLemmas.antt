@@ -7,6 +7,7 @@ use Rattle.disk_trait.specs.declared.disks.Span.{Span}
 use Rattle.disk_trait.specs.Moments.{IsTold, IsQuiet}
 use Rattle.disk_trait.specs.NotWritten.{NotWritten}
 use Rattle.disk_trait.specs.Range.{IsOutside}
+use Rattle.disk_trait.proofs.LawLemmas.{quiet_begun}
 use Rattle.disk_trait.proofs.NotWrittenLemmas.{not_written_join}
 use Rattle.lilo_model.specs.MinixLayout.{zone_sector}
 use Rattle.minix_beside_laws.specs.Beside.{IsDataZone}
@@ -29,6 +30,7 @@ use Rattle.minix_create.specs.Chosen.{Suits, IsFreeNow}
 use Rattle.minix_create.specs.Created.{IsOffFile, MarksChosen, IsOpen, HasBlocks, IsReserved}
 use Rattle.minix_create.specs.declared.chosen.Chosen.{Chosen}
 use Rattle.minix_create.proofs.FromLemmas.{IsOf, file_zone, of_all, of_each, has_one}
+use Rattle.minix_create.proofs.GrownLemmas.{may_grow_steps, may_grow_then}
 
 -- what suits a volume suits it as it is kept
 pub suits_kept : {D : Type 0} {disks : Ghosts D} (old new : Volume D disks) (chosen : Chosen) → KeepsVolume old new → Suits old.layout old.span chosen → Suits new.layout new.span chosen
@@ -95,6 +97,9 @@ module _ {D : Type 0} {disks : Ghosts D} (start : Volume D disks) (chosen : Chos
       unnamed = marks.steps.unnamed chosen.choice.inode start_unnamed;
       file = λ told. let L : Super → Type 0 = λ layout. MayBeFile (kind_view layout.kind) (file_of chosen.choice) in subst L (sym marks.steps.kept.same_layout) (free (marks.steps.goes_on.told_before told)).file;
       marked = λ told. bits (marks.steps.goes_on.told_before told);
+      grows = may_grow_steps start new chosen.directory chosen.choice.place chosen.choice.growth marks.steps
+          (λ told. may_grow_then start chosen (quiet_begun (past_of start) told quiet) (free told).grows);
+      clear = λ told. (free (marks.steps.goes_on.told_before told)).clear;
     }
 
     pub marked_reserved : (given : ℕ → List ℕ) (next : ℕ) → ((index : ℕ) → index < next → slice_index chosen.choice.blocks index ≡ 0) → IsReserved start new chosen given next
@@ -134,6 +139,8 @@ module _ {D : Type 0} {disks : Ghosts D} (old : Volume D disks) (chosen : Chosen
             inode_bit = (one before).marks chosen.choice.inode may.suits.there ∙ was.inode_bit;
             zone_bits = λ source made. (one before).zone_marks (zone_from (file_of chosen.choice) source) (may.free.range source made).1 ∙ was.zone_bits source made;
           };
+      grows = may_grow_steps old new chosen.directory chosen.choice.place chosen.choice.growth steps may.grows;
+      clear = λ told. may.clear (steps.goes_on.told_before told);
     }
 
     module _ (start : Volume D disks) (given : ℕ → List ℕ) (suits : Suits start.layout start.span chosen) (is : bytes ≡ given index) (reserved : IsReserved start old chosen given index)

@@ -50,24 +50,6 @@ keeps_none super parts directory = record {
   };
 }
 
-pub keeps_join : (super : Super) (old mid new : Parts) (directory : ℕ) → Sees super old mid → KeepsFiles super old mid directory → KeepsFiles super mid new directory → KeepsFiles super old new directory
-keeps_join super old mid new directory sees one two = record {
-  points = λ number at zone named to. one.points number at zone named (two.points number at zone (named-new super old mid sees number named) to);
-  files = λ number apart fit.
-      let first = one.files number apart fit in
-      let next = two.files number apart first.fit in
-      let to' : (at : Pointer) (zone : ℕ) → PointsTo super old number at zone → PointsTo super mid number at zone = points_kept super old mid number first.kept in
-      record {
-        fit = next.fit;
-        kept = record {
-          node = next.kept.node ∙ first.kept.node;
-          mark = next.kept.mark ∙ first.kept.mark;
-          zones = λ at zone to. next.kept.zones at zone (to' at zone to) ∙ first.kept.zones at zone to;
-          zone_marks = λ at zone to. next.kept.zone_marks at zone (to' at zone to) ∙ first.kept.zone_marks at zone to;
-        };
-      };
-}
-
 -- ---- another inode with the same numbers, of another size or with other links
 
 module _ (super : Super) (old new : Parts) (directory : ℕ) (inode : Inode) (sound : Sound super old) (same : HasSameNumbers (old.node directory) inode) (sees : Sees super old new)
@@ -93,32 +75,6 @@ module _ (super : Super) (old new : Parts) (directory : ℕ) (inode : Inode) (so
       node = change.others number fit.range apart;
       mark = change.marks number fit.range;
       zones = λ at zone to. change.zones zone (fit.zone_range at zone to);
-      zone_marks = λ at zone to. change.zone_marks zone (fit.zone_range at zone to);
-    }) fit;
-  }
-
--- ---- other bytes in the zone with a place
-
-module _ (super : Super) (old new : Parts) (directory place : ℕ) (bytes : List ℕ) (sound : Sound super old) (named : Named super old directory) (is : is_directory (old.node directory) ≡ true)
-    (some : zone_of_entry super old directory place ≢ 0) (sees : Sees super old new) (change : ChangesZone super old new (zone_of_entry super old directory place) bytes) where
-  others-stay : (number : ℕ) (at : Pointer) (zone : ℕ) → Refers super old number at zone → zone ≢ zone_of_entry super old directory place → new.zone zone ≡ old.zone zone
-  others-stay number at zone refers apart = change.others zone (sound.zone_range number at zone refers) apart
-
-  points-filled : (number : ℕ) (at : Pointer) (zone : ℕ) → Named super old number → PointsTo super new number at zone → PointsTo super old number at zone
-  points-filled number at zone named' to =
-      points-old super old new number (same-node (old.node number) (new.node number) (change.nodes number (sound.in_range number named'))).numbers
-      (above-kept super old directory place named is new sound others-stay number named')
-      at zone to
-
-  pub keeps_filled : KeepsFiles super old new directory
-  keeps_filled = record {
-    points = points-filled;
-    files = λ number apart fit. still super old new sees points-filled number (record {
-      node = change.nodes number fit.range;
-      mark = change.marks number fit.range;
-      zones = λ at zone to.
-          change.others zone (fit.zone_range at zone to)
-          (λ same. apart (fit.apart directory at _ zone to (directory-refers super old directory place named is zone to.some same)));
       zone_marks = λ at zone to. change.zone_marks zone (fit.zone_range at zone to);
     }) fit;
   }

@@ -40,6 +40,7 @@ use Rattle.minix_create.specs.declared.reserved.Reserved.{Reserved}
 use Rattle.minix_create.proofs.ChosenLemmas.{few_blocks}
 use Rattle.minix_create.proofs.FillLemmas.{filled_with, fill_done, off_indirect_of}
 use Rattle.minix_create.proofs.FromLemmas.{file_zone, has_one}
+use Rattle.minix_create.proofs.GrownLemmas.{may_grow_steps, may_grow_begun}
 use Rattle.minix_create.proofs.BroughtLemmas.{rises}
 use Rattle.minix_create.proofs.EnterLemmas.{unseen_refused, unseen_before}
 use Rattle.minix_create.proofs.OpenLemmas.{suits_kept, suits_was, marked_open, marked_reserved, block_open, block_reserved}
@@ -105,7 +106,11 @@ module _ {D : Type 0} {disks : Ghosts D} (old new : Volume D disks) (chosen : Ch
       → Fills (record { volume = old; chosen = chosen; next = next }) (record { volume = new; chosen = chosen })
   fills_ok fills fit stands = record {
     same = refl;
-    place = record { suits = suits_kept old new chosen fills.steps.kept hand.may.suits; quiet = fills.quiet };
+    place = record {
+      suits = suits_kept old new chosen fills.steps.kept hand.may.suits;
+      quiet = fills.quiet;
+      grows = λ told. may_grow_begun new chosen fills.durable (may_grow_steps old new chosen.directory chosen.choice.place chosen.choice.growth fills.steps hand.may.grows told);
+    };
     since = λ start given made reserved.
         let suits = suits_was start old chosen reserved.steps.kept hand.may.suits in
         let M : Super → Type 0 = λ layout. MayBeMade (kind_view layout.kind) chosen given in

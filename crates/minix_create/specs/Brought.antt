@@ -1,5 +1,5 @@
 -- Places of a directory that get below its size before a name is made there (a rule of this project's own).
-use Rattle.std.specs.Prelude.{◌≡◌, ◌≢◌, ◌≤◌, ◌<◌, ◌+◌, ◌/◌, ℕ, true, Result, Ok, Err, OnOk, IfErr}
+use Rattle.std.specs.Prelude.{◌≡◌, ◌≢◌, ◌≤◌, ◌<◌, ◌+◌, ◌/◌, ℕ, true, [], Result, Ok, Err, OnOk, IfErr}
 use Rattle.disk_trait.specs.declared.disks.Disks.{Ghosts}
 use Rattle.disk_trait.specs.Moments.{IsTold, now}
 use Rattle.disk_trait.specs.NotWritten.{NotWritten}
@@ -13,6 +13,7 @@ use Rattle.lilo_model.specs.MinixParts.{Parts, Pointer, is_directory, blocks_for
 use Rattle.minix_entry_laws.specs.Comes.{IsFit}
 use Rattle.minix_entry_laws.specs.Only.{zone_of_entry, KeepsInode}
 use Rattle.minix_grow.specs.Hook.{IsOffInode}
+use Rattle.minix_grow.specs.Others.{KeepsOthers}
 use Rattle.minix_layout.specs.View.{kind_view, super_view, inode_view}
 use Rattle.minix_steps.specs.Written.{parts_now}
 use Rattle.minix_turns.specs.Joined.{Unseen}
@@ -74,11 +75,10 @@ pub record IsOffDirectory {D : Type 0} {disks : Ghosts D} (volume : Volume D dis
   pub inode : IsOffInode volume directory d s
   pub zones : (at : Pointer) (zone : ℕ) → PointsTo (super_view volume.layout) (parts_now volume) directory at zone → IsOutside volume.span.disk (volume.span.start + zone_sector zone) 2 d s
 
--- so many places of a directory lie below its size, its links are as before, and so is what has no name yet
+-- so many places of a directory lie below its size, its links are as before, and so are all other inodes
 pub record IsBrought (super : Super) (old new : Parts) (directory count : ℕ) : Type 0 where
   pub room : count ≤ places super.kind (new.node directory).size
-  pub links : (new.node directory).links ≡ (old.node directory).links
-  pub keeps : KeepsFiles super old new directory
+  pub keeps : KeepsOthers super old new directory []
 
 -- So many places of a directory were brought below its size. No name sees it at any moment, and no sector but the
 -- directory's own was written; it was refused where the disk failed.

@@ -8,10 +8,12 @@ use Rattle.lilo_model.specs.MinixLayout.{Kind, Inode, entry_size, is_size, reach
 use Rattle.lilo_model.specs.MinixNames.{Thing, File, Link, Directory, Other, blocks, reached, depth_limit, IsSound}
 use Rattle.lilo_model.specs.MinixParts.{blocks_for, is_directory, is_file, is_link}
 use Rattle.minix_choice_laws.specs.Choice.{file_of, MayHavePlace}
+use Rattle.minix_choice_laws.specs.Growth.{ArePromised}
 use Rattle.minix_entry_bytes_laws.specs.Written.{FitsEntry}
 use Rattle.minix_entry_laws.specs.Only.{zone_of_entry}
 use Rattle.minix_fill.specs.Fill.{IsOfFile}
 use Rattle.minix_fill_laws.specs.Laws.{MayBeFile}
+use Rattle.minix_fill_laws.specs.Sources.{Source, zone_from}
 use Rattle.minix_layout.specs.View.{kind_view, super_view}
 use Rattle.minix_layout.specs.declared.superblock.Super.{Super}
 use Rattle.minix_steps.specs.Written.{parts_now}
@@ -21,7 +23,9 @@ use Rattle.minix_zones.specs.View.{IsDataZone}
 use Rattle.minix_zones.specs.Volume.{volume_view, past_of}
 use Rattle.minix_zones.specs.declared.volume.Volume.{Volume}
 use Rattle.write_model.specs.Places.{is_overlooked}
-use Rattle.write_model.specs.Wish.{Overlooked}
+use Rattle.write_model.specs.Choice.{Choice}
+use Rattle.write_model.specs.Wish.{Taken}
+use Rattle.minix_create.specs.Grown.{MayGrowNow}
 use Rattle.minix_create.specs.declared.chosen.Chosen.{Chosen}
 
 -- it is made for a wish
@@ -57,35 +61,43 @@ HasEachZone volume wish chosen =
 abbrev pub sector_of : Chosen → ℕ → ℕ
 sector_of chosen index = chosen.start + 2 * slice_index chosen.choice.blocks (index / 2) + index % 2
 
--- what is chosen is free now on a sound volume, and may be a file
+-- the zones by which the directory grows are none of the file's
+abbrev pub IsClearGrowth : Choice → Type 0
+IsClearGrowth choice =
+    (source : Source) (level : ℕ) → zone_from (file_of choice) source ≢ 0 → level < length choice.growth
+    → slice_index choice.growth level ≢ zone_from (file_of choice) source
+
+-- What is chosen is free now on a sound volume, and may be a file. The directory has a name and may grow by what was chosen:
+-- its growth is still to be made, or was made before.
 pub record IsFreeNow {D : Type 0} {disks : Ghosts D} (volume : Volume D disks) (chosen : Chosen) : Type 0 where
   pub sound : IsSound (volume_view volume) (now (past_of volume))
   pub file : MayBeFile (kind_view volume.layout.kind) (file_of chosen.choice)
   pub inode : (parts_now volume).has_inode chosen.choice.inode ≡ false
   pub zones : (i : ℕ) → i < length chosen.choice.zones → (parts_now volume).has_zone (slice_index chosen.choice.zones i) ≡ false
+  pub grows : MayGrowNow volume chosen
+  pub clear : IsClearGrowth chosen.choice
 
--- so it is where the volume is sound
-abbrev pub IsFreeWhereSound : {D : Type 0} {disks : Ghosts D} → Volume D disks → Chosen → Type 0
-IsFreeWhereSound volume chosen = IsTold (past_of volume) → IsSound (volume_view volume) (now (past_of volume)) → IsFreeNow volume chosen
+-- its name may be made now in the directory that a path leads to, once its place lies below the size and in a zone
+abbrev pub MayLinkNow : {D : Type 0} {disks : Ghosts D} → Volume D disks → List (List ℕ) → Chosen → Type 0
+MayLinkNow volume outer chosen = MayHavePlace (volume_view volume) (now (past_of volume)) outer chosen.directory chosen.choice.place chosen.name
 
--- its name may be made now at its place in the directory that a path leads to, which lies in a zone that this has
-pub record MayLinkNow {D : Type 0} {disks : Ghosts D} (volume : Volume D disks) (outer : List (List ℕ)) (chosen : Chosen) : Type 0 where
-  pub may : MayHavePlace (volume_view volume) (now (past_of volume)) outer chosen.directory chosen.choice.place chosen.name
-  pub some : zone_of_entry (super_view volume.layout) (parts_now volume) chosen.directory chosen.choice.place ≢ 0
-
--- a path leads to the directory, which needs no new zones, and the name isn't overlooked
-pub record NeedsNoZones {D : Type 0} {disks : Ghosts D} (volume : Volume D disks) (overlooked : List Overlooked) (outer : List (List ℕ)) (chosen : Chosen) : Type 0 where
+-- a path leads to its directory, the name isn't overlooked there, and what was promised before is free
+pub record IsPromisedNow {D : Type 0} {disks : Ghosts D} (volume : Volume D disks) (taken : Taken) (outer : List (List ℕ)) (chosen : Chosen) : Type 0 where
   pub sound : IsSound (volume_view volume) (now (past_of volume))
   pub leads : reached (super_view volume.layout) (parts_now volume) outer ≡ Some chosen.directory
   pub is : is_directory ((parts_now volume).node chosen.directory) ≡ true
   pub reached : blocks_for ((parts_now volume).node chosen.directory).size ≤ reach (kind_view volume.layout.kind)
-  pub seen : is_overlooked overlooked chosen.directory chosen.name ≡ false
-  pub no_growth : chosen.choice.growth ≡ []
+  pub seen : is_overlooked taken.overlooked chosen.directory chosen.name ≡ false
+  pub promised : ArePromised (super_view volume.layout) (parts_now volume) taken
 
--- then its name may be made there
-abbrev pub LinksWithoutZones : {D : Type 0} {disks : Ghosts D} → Volume D disks → List Overlooked → Chosen → Type 0
-LinksWithoutZones volume overlooked chosen =
-    (outer : List (List ℕ)) → IsTold (past_of volume) → NeedsNoZones volume overlooked outer chosen → MayLinkNow volume outer chosen
+-- then it is free, and its name may be made there
+abbrev pub IsFreeWhereSound : {D : Type 0} {disks : Ghosts D} → Volume D disks → Taken → Chosen → Type 0
+IsFreeWhereSound volume taken chosen =
+    (outer : List (List ℕ)) → IsTold (past_of volume) → IsPromisedNow volume taken outer chosen → IsFreeNow volume chosen
+
+abbrev pub LinksWhereSound : {D : Type 0} {disks : Ghosts D} → Volume D disks → Taken → Chosen → Type 0
+LinksWhereSound volume taken chosen =
+    (outer : List (List ℕ)) → IsTold (past_of volume) → IsPromisedNow volume taken outer chosen → MayLinkNow volume outer chosen
 
 -- ---- content
 

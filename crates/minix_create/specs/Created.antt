@@ -12,6 +12,7 @@ use Rattle.minix_bits.specs.Numbers.{has_number}
 use Rattle.minix_choice_laws.specs.Choice.{file_of}
 use Rattle.minix_fill.specs.Fill.{MayHoldFile, AreMarked}
 use Rattle.minix_fill_laws.specs.Laws.{MayBeFile}
+use Rattle.minix_grow.specs.Others.{IsClearOf}
 use Rattle.minix_layout.specs.View.{kind_view, super_view}
 use Rattle.minix_steps.specs.Steps.{IsReady, IsUnnamedInode, Steps}
 use Rattle.minix_steps.specs.Written.{parts_now}
@@ -19,8 +20,9 @@ use Rattle.minix_zones.specs.Volume.{past_of, HasDeviceCause}
 use Rattle.minix_zones.specs.declared.volume.Volume.{Volume}
 use Rattle.minix_zones.specs.declared.zone_fault.ZoneFault.{ZoneFault}
 use Rattle.minix_zones.specs.declared.zone_fault.ZoneFault.TheVariants.{Device}
-use Rattle.minix_create.specs.Chosen.{Suits, IsFreeNow, MayNest, thing_with}
+use Rattle.minix_create.specs.Chosen.{Suits, IsClearGrowth, IsFreeNow, MayNest, thing_with}
 use Rattle.minix_create.specs.Entered.{MayBeNamed}
+use Rattle.minix_create.specs.Grown.{MayGrowIn}
 use Rattle.minix_create.specs.declared.chosen.Chosen.{Chosen}
 
 -- ---- sectors that aren't written
@@ -60,6 +62,9 @@ pub record IsOpen {D : Type 0} {disks : Ghosts D} (volume : Volume D disks) (cho
   pub unnamed : IsUnnamedInode volume chosen.choice.inode
   pub file : IsTold (past_of volume) → MayBeFile (kind_view volume.layout.kind) (file_of chosen.choice)
   pub marked : IsTold (past_of volume) → AreMarked (parts_now volume) chosen.choice.inode (file_of chosen.choice)
+  -- at the last flush its directory might grow by what was chosen
+  pub grows : IsTold (past_of volume) → MayGrowIn (volume_view volume) (begun (past_of volume)) chosen.directory chosen.choice.place chosen.choice.growth
+  pub clear : IsTold (past_of volume) → IsClearGrowth chosen.choice
 
 -- the first blocks that are no holes are those given
 abbrev pub HasBlocks : Parts → Chosen → (ℕ → List ℕ) → ℕ → Type 0
@@ -77,10 +82,12 @@ pub record IsReserved {D : Type 0} {disks : Ghosts D} (start volume : Volume D d
 
 -- ---- the whole file
 
--- it was filled too: its inode may get a name, is what was given, and each block lies in the zone that was chosen
+-- it was filled too: its inode may get a name, points to no zone of growth, is what was given, and each block lies in the zone
+-- that was chosen
 pub record IsFilledWith {D : Type 0} {disks : Ghosts D} (volume : Volume D disks) (chosen : Chosen) (given : ℕ → List ℕ) : Type 0 where
   pub mode : ((parts_now volume).node chosen.choice.inode).mode ≡ chosen.mode
   pub named : (outer : List (List ℕ)) → MayNest outer chosen → MayBeNamed (super_view volume.layout) (parts_now volume) outer chosen.directory chosen.choice.inode
+  pub clear : IsClearOf (super_view volume.layout) (parts_now volume) chosen.choice.inode chosen.choice.growth
   pub is : thing (super_view volume.layout) (parts_now volume) chosen.choice.inode ≡ thing_with chosen given
   pub lies : (index : ℕ) → index < reach (kind_view volume.layout.kind) → zone_number (super_view volume.layout) (parts_now volume) chosen.choice.inode index ≡ slice_index chosen.choice.blocks index
 

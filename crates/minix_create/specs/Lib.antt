@@ -5,3 +5,4 @@ pub mod Dots
 pub mod Entered
 pub mod Linked
 pub mod States
+pub mod Grown

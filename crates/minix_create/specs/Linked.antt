@@ -20,19 +20,19 @@ use Rattle.minix_write.specs.declared.write_fault.WriteFault.{WriteFault}
 use Rattle.minix_write.specs.declared.write_fault.WriteFault.TheVariants.{Device}
 use Rattle.minix_zones.specs.Volume.{volume_view, past_of, faults_of}
 use Rattle.minix_zones.specs.declared.volume.Volume.{Volume}
-use Rattle.minix_create.specs.Brought.{IsOffDirectory}
 use Rattle.minix_create.specs.Chosen.{MayLinkNow, MayNest, new_inode, thing_with}
 use Rattle.minix_create.specs.Created.{IsOffFile, IsFilled}
 use Rattle.minix_create.specs.Entered.{links_above}
+use Rattle.minix_create.specs.Grown.{LiesNow, IsOffGrowth}
 use Rattle.minix_create.specs.declared.chosen.Chosen.{Chosen}
 
 -- a sector is none that a new file needs, nor of the zone with its name, nor the one with the directory's inode where it is a
--- directory itself, nor one of the directory's where its place lies past the size
+-- directory itself, nor of the directory or its growth where its place isn't below the size and in a zone
 pub record IsOffName {D : Type 0} {disks : Ghosts D} (volume : Volume D disks) (chosen : Chosen) (d s : ℕ) : Type 0 where
   pub file : IsOffFile volume chosen d s
   pub name : IsOutside volume.span.disk (volume.span.start + zone_sector (zone_of_entry (super_view volume.layout) (parts_now volume) chosen.directory chosen.choice.place)) 2 d s
   pub above : is_directory (new_inode chosen) ≡ true → IsOffInode volume chosen.directory d s
-  pub past : places (kind_view volume.layout.kind) ((parts_now volume).node chosen.directory).size ≤ chosen.choice.place → IsOffDirectory volume chosen.directory d s
+  pub growth : (LiesNow volume chosen → ⊥) → IsOffGrowth volume chosen d s
 
 -- in an image of a volume a new name isn't there, or the links of the directory above are those once it is made
 abbrev pub IsRaisedBefore : {D : Type 0} {disks : Ghosts D} → Volume D disks → List (List ℕ) → Chosen → Image → Type 0

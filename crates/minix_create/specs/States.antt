@@ -12,6 +12,7 @@ use Rattle.minix_zones.specs.Volume.{past_of, faults_of}
 use Rattle.minix_zones.specs.declared.volume.Volume.{Volume}
 use Rattle.minix_create.specs.Chosen.{Suits, MayLinkNow, MayBeMade, MayNest}
 use Rattle.minix_create.specs.Created.{IsOffFile, IsOpen, IsReserved, IsFilled}
+use Rattle.minix_create.specs.Grown.{MayGrowNow}
 use Rattle.minix_create.specs.Linked.{LinksFilled, Creates}
 use Rattle.minix_create.specs.declared.chosen.Chosen.{Chosen}
 use Rattle.minix_create.specs.declared.filled.Filled.{Filled}
@@ -42,10 +43,11 @@ pub record WritesBlock {D : Type 0} {disks : Ghosts D} (old new : Reserved D dis
   pub hand : IsInHand new
   pub since : (start : Volume D disks) (given : ℕ → List ℕ) → bytes ≡ given old.next → IsReservedSince start given old → IsReservedSince start given new
 
--- a file is filled
+-- a file is filled, and its directory may grow for it
 pub record IsInPlace {D : Type 0} {disks : Ghosts D} (filled : Filled D disks) : Type 0 where
   pub suits : Suits filled.volume.layout filled.volume.span filled.chosen
   pub quiet : IsQuiet (past_of filled.volume)
+  pub grows : IsTold (past_of filled.volume) → MayGrowNow filled.volume filled.chosen
 
 pub record Fills {D : Type 0} {disks : Ghosts D} (reserved : Reserved D disks) (filled : Filled D disks) : Type 0 where
   pub same : filled.chosen ≡ reserved.chosen

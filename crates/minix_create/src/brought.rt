@@ -19,7 +19,7 @@ use minix_write::WriteFault;
 use minix_zones::{Volume, ZoneFault};
 
 /// How many places a directory can have.
-fn most_places(kind: FsKind) -> u32
+pub(crate) fn most_places(kind: FsKind) -> u32
     ensures { result ≡ most_places (kind_view kind) }
 {
     let size = if kind.is_v1() { 268966912 } else { 4294967295 };
@@ -87,8 +87,8 @@ fn bring_next<D: Disks>(
     }
 }
 
-/// Brings a place of a directory below its size, and all before it, where so many lie there. So many are more than one
-/// where files whose names were to be made there weren't made.
+/// Brings all places of a directory before one below its size, where so many lie there: others lie past it where files
+/// whose names were to be made there weren't made.
 pub(crate) fn bring<D: Disks>(
     volume: &mut Volume<'_, D>,
     directory: u32,
@@ -100,7 +100,7 @@ pub(crate) fn bring<D: Disks>(
     requires quiet { IsQuiet (past_of volume.old) }
     ensures brings { (IsTold (past_of volume.old) → MayBring volume.old directory have)
         → (IsTold (past_of volume.old) → have ≤ place → place < most_places (kind_view volume.old.layout.kind))
-        → Brings volume.old volume.new directory (place + 1) WriteFault.Device result }
+        → Brings volume.old volume.new directory place WriteFault.Device result }
     ensures none { place < have → SameVolume volume.old volume.new }
     ensures quiet { OnOk result (IsQuiet (past_of volume.new)) }
     ensures kept { KeepsVolume volume.old volume.new }
@@ -111,7 +111,7 @@ pub(crate) fn bring<D: Disks>(
     if place >= most_places(volume.layout().kind) {
         return Err(WriteFault::NoSpace { need: 1, found: 0 });
     }
-    for next in have..place + 1 {
+    for next in have..place {
         bring_next(volume, directory, next)?;
     }
     Ok(())

@@ -8,7 +8,7 @@ ghost use Rattle.minix_create.specs.Chosen.{
   Suits,
   HasEachZone,
   IsFreeWhereSound,
-  LinksWithoutZones,
+  LinksWhereSound,
 };
 ghost use Rattle.minix_layout.specs.View.{kind_view, super_view};
 ghost use Rattle.minix_write.specs.Taken.{with_choice};
@@ -64,8 +64,8 @@ pub fn choose<D: Disks>(
     ensures whole { IfOk result (HasEachZone volume.new wish.now) }
 
     // What may be done with it.
-    ensures free { IfOk result (IsFreeWhereSound volume.new) }
-    ensures name { IfOk result (LinksWithoutZones volume.new taken.old.overlooked) }
+    ensures free { IfOk result (IsFreeWhereSound volume.new (taken_view taken.old)) }
+    ensures name { IfOk result (LinksWhereSound volume.new (taken_view taken.old)) }
 
     // When it is refused.
     ensures refused { OnErr result (taken.new ≡ taken.old) }

@@ -1,6 +1,6 @@
 // Where a place of a directory lies.
-ghost use Rattle.std.specs.Prelude.{◌≡◌, ◌≢◌, ◌≤◌, IfOk, IfErr};
-ghost use Rattle.lilo_model.specs.MinixLayout.{FitsInode};
+ghost use Rattle.std.specs.Prelude.{◌≡◌, ◌≢◌, ◌≤◌, true, IfOk, IfErr};
+ghost use Rattle.lilo_model.specs.MinixLayout.{FitsInode, is_size};
 ghost use Rattle.minix_create.specs.Brought.{GivesPlace};
 ghost use Rattle.minix_layout.specs.View.{kind_view, inode_view};
 ghost use Rattle.minix_write.specs.View.{HasWriteCause};
@@ -34,6 +34,7 @@ pub(crate) fn place_at<D: Disks>(
     requires there { directory ≤ volume.old.layout.inodes }
     ensures finds { GivesPlace volume.old directory place result }
     ensures data { IfOk result (λ at. at.zone ≢ 0 → IsDataZone volume.old.layout at.zone) }
+    ensures sized { IfOk result (λ at. is_size (kind_view volume.old.layout.kind) at.node.size ≡ true) }
     ensures fits { IfOk result (λ at. FitsInode (kind_view volume.old.layout.kind) (inode_view at.node)) }
     ensures cause { IfErr result (HasWriteCause (faults_of volume.old) (faults_of volume.new)) }
     ensures later { faults_of volume.old ≤ faults_of volume.new }

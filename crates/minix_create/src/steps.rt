@@ -6,6 +6,7 @@ ghost use Rattle.minix_choice_laws.specs.Choice.{file_of};
 ghost use Rattle.minix_create.specs.Chosen.{Suits, new_inode};
 ghost use Rattle.minix_create.specs.Created.{MarksChosen, IsOpen};
 ghost use Rattle.minix_create.specs.Entered.{IsDirectoryNow, Readies, EntersFilled};
+ghost use Rattle.minix_create.specs.Grown.{MayGrowNow};
 ghost use Rattle.minix_create.specs.Linked.{LinksFilled};
 ghost use Rattle.minix_fill.specs.Fill.{FillsFile, MayGetName, IsFitThen};
 ghost use Rattle.minix_layout.specs.View.{inode_view};
@@ -13,8 +14,8 @@ ghost use Rattle.minix_steps.specs.Steps.{IsReady};
 ghost use Rattle.minix_zones.specs.View.{IsDataZone};
 ghost use Rattle.minix_zones.specs.Volume.{past_of, KeepsVolume};
 
-use crate::brought::bring;
 use crate::chosen::Chosen;
+use crate::grown::grow_chosen;
 use crate::place_at::place_at;
 use crate::raised::raise_links;
 use disk_trait::Disks;
@@ -22,7 +23,6 @@ use minix_fill::{FileZones, fill_file, mark_zones};
 use minix_grow::slot_of;
 use minix_layout::{Inode, Super};
 use minix_steps::{put_inode_mark, settle};
-use minix_tree::places;
 use minix_turns::turn_entry;
 use minix_write::WriteFault;
 use minix_zones::{Volume, ZoneFault};
@@ -83,16 +83,15 @@ pub(crate) fn link_chosen<D: Disks>(
 ) -> Result<(), WriteFault>
     requires suits { Suits volume.old.layout volume.old.span chosen.now }
     requires quiet { IsQuiet (past_of volume.old) }
+    requires grows { IsTold (past_of volume.old) → MayGrowNow volume.old chosen.now }
     ensures links { LinksFilled volume.old volume.new chosen.now result }
     ensures quiet { OnOk result (IsQuiet (past_of volume.new)) }
 {
-    let place = chosen.choice.place();
-    let at = place_at(volume, chosen.directory, place)?;
+    grow_chosen(volume, chosen)?;
+    let at = place_at(volume, chosen.directory, chosen.choice.place())?;
     if at.zone == 0 {
         return Err(WriteFault::NoSpace { need: 1, found: 0 });
     }
-    let have = places(&at.node, volume.layout().kind);
-    bring(volume, chosen.directory, have, place)?;
     enter_chosen(volume, chosen, at.zone)
 }
 

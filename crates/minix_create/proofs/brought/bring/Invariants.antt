@@ -12,5 +12,5 @@ invariant-loop-next g l = record {
   quiet : IsQuiet (past_of l.volume);
   kept : KeepsVolume l.fn.volume l.volume;
   from : l.have ≤ l.next;
-  to : l.next ≤ l.place + 1;
+  to : l.next ≤ l.place;
 }

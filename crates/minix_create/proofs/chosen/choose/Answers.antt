@@ -1,4 +1,4 @@
-use Rattle.std.proofs.Common.{◌≡◌, ◌<◌, ◌^◌, Ok, refl, ap, ◌∙◌, rules}
+use Rattle.std.proofs.Common.{◌≡◌, ◌<◌, ◌^◌, Ok, refl, sym, ap, ◌∙◌, rules}
 use Rattle.disk_trait.specs.declared.disks.Span.{Span}
 use Rattle.lilo_model.specs.MinixParts.{parts_of}
 use Rattle.minix_write.specs.View.{taken_view, wish_view}
@@ -21,7 +21,7 @@ returns-clause-free g c =
     is_free c.choose.new.volume c.args.taken.now (wish_view c.args.wish.now) _ suits
     (told_forth c.args.volume.now c.choose.new.volume (λ volume image. choose volume.layout (parts_of volume image) (taken_view c.args.taken.now) (wish_view c.args.wish.now) ≡ Ok c.in_ok-choice.choice)
     c.choose.ensures.same c.in_ok-choice.ensures.choice)
-    refl
+    refl (sym c.in_ok-name.ensures) refl
 
 pub returns-clause-whole : goal.returns-clause-whole
 returns-clause-whole g c =
@@ -37,4 +37,4 @@ returns-clause-name g c =
     links c.choose.new.volume c.args.taken.now (wish_view c.args.wish.now) _ suits
     (told_forth c.args.volume.now c.choose.new.volume (λ volume image. choose volume.layout (parts_of volume image) (taken_view c.args.taken.now) (wish_view c.args.wish.now) ≡ Ok c.in_ok-choice.choice)
     c.choose.ensures.same c.in_ok-choice.ensures.choice)
-    refl c.in_ok-name.ensures
+    refl (sym c.in_ok-name.ensures)

@@ -24,3 +24,4 @@ pub mod AcceptedWhole
 pub mod Laid
 pub mod Holder
 pub mod Fit
+pub mod ShotLines

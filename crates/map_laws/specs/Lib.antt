@@ -8,3 +8,4 @@ pub mod MapLays
 pub mod MapStays
 pub mod PlannedLies
 pub mod Shows
+pub mod ShotLines

@@ -14,6 +14,7 @@ ghost use Rattle.map_laws.specs.Lines.{LinesLaw};
 ghost use Rattle.map_laws.specs.MapLays.{AcceptedLaysLaw, LaysHeldLaw, LaysLaw, LaysStaysLaw, PlannedLaysLaw};
 ghost use Rattle.map_laws.specs.MapStays.{MapStaysLaw};
 ghost use Rattle.map_laws.specs.PlannedLies.{PlannedLaw};
+ghost use Rattle.map_laws.specs.ShotLines.{ShotIsReadLaw};
 ghost use Rattle.map_laws.specs.Shows.{ShowsLaw};
 
 /// Disks that show a menu boot as it says, for all keys and any memory.
@@ -112,4 +113,9 @@ pub fn map_that_stays_has_lays()
 /// An image that has Lays is Held.
 pub fn image_with_lays_is_held()
     ensures { LaysHeldLaw }
+{}
+
+/// A default line that was set for one boot is the one that the next boot reads.
+pub fn set_line_is_read()
+    ensures { ShotIsReadLaw }
 {}

@@ -1,5 +1,5 @@
 // The sectors of a new bitmap.
-ghost use Rattle.std.specs.Prelude.{◌≡◌, ◌+◌, ◌*◌, ◌≤◌, ◌<◌, ◌^◌};
+ghost use Rattle.std.specs.Prelude.{◌≡◌, ◌<◌, ◌^◌};
 ghost use Rattle.minix_format.specs.MinixFormat.{map_byte, map_sector};
 
 use sector_parts::Sector;

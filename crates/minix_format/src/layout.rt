@@ -1,9 +1,8 @@
 // The superblock of an empty volume.
-ghost use Rattle.std.specs.Prelude.{◌≡◌, ◌+◌, ◌*◌, ◌/◌, ◌≤◌, ◌<◌, ◌^◌, MatchOption};
+ghost use Rattle.std.specs.Prelude.{◌≡◌};
 ghost use Rattle.std.specs.Option.{option_map};
 ghost use Rattle.minix_layout.specs.View.{kind_view, super_view};
-ghost use Rattle.minix_format.specs.MinixFormat.{zones_for, map_blocks, size_for, format_layout};
-ghost use Rattle.minix_format.specs.Laid.{IsLaid};
+ghost use Rattle.minix_format.specs.MinixFormat.{zones_for, size_for, format_layout};
 
 use minix_layout::{FsKind, Super};
 

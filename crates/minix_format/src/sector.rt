@@ -1,5 +1,5 @@
 // The sectors of an empty volume.
-ghost use Rattle.std.specs.Prelude.{◌≡◌, ◌+◌, ◌*◌, ◌≤◌, ◌<◌, ◌^◌};
+ghost use Rattle.std.specs.Prelude.{◌≡◌};
 ghost use Rattle.lilo_model.specs.Bytes.{filled_bytes};
 ghost use Rattle.lilo_model.specs.MinixLayout.{super_bytes, inode_bytes};
 ghost use Rattle.minix_layout.specs.View.{kind_view, super_view, inode_view};

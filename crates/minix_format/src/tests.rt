@@ -109,7 +109,7 @@ fn try_row(rt: &impl Abort, alloc: Global, row: Row) -> Result<(), Fail> {
     let (kind, count, inodes, first, free) = row;
     let mut disks = disk_for(alloc, count, &[])?;
     assert!(rt; make(rt, &mut disks, count, kind, inodes) == Ok(()));
-    assert!(rt; disks.events() == 2 * first + 3);
+    assert!(rt; u64::from(disks.events()) == 2 * u64::from(first) + 3);
     assert!(rt; is_old(&mut disks, 7) && !is_old(&mut disks, 8) && !is_old(&mut disks, 9));
     assert!(rt; first > 20 || is_old(&mut disks, 10 + 2 * u64::from(first)));
     let mut volume = attach(rt, &mut disks, count)?;

@@ -1,5 +1,5 @@
 -- What suits a volume.
-use Rattle.std.proofs.Common.{◌≡◌, ◌≢◌, ◌≤◌, ◌<◌, ◌^◌, ◌/◌, ◌==◌, ℕ, true, false, Bool, List, [], length, get_or, take, drop, replicate, All, Some, None, Result, Ok, refl, sym, ap, ◌∙◌, subst, arith}
+use Rattle.std.proofs.Common.{◌≡◌, ◌≢◌, ◌≤◌, ◌<◌, ◌^◌, ◌/◌, ℕ, true, false, Bool, List, [], length, get_or, take, drop, replicate, All, None, Ok, sym, ap, ◌∙◌, subst, arith}
 use Rattle.std.specs.Prelude.{slice_index}
 use Rattle.std.proofs.Math.Path.{subst₂}
 use Rattle.std.proofs.lemmas.List.{get_or-replicate}
@@ -9,8 +9,8 @@ use Rattle.disk_trait.specs.Moments.{IsTold, now}
 use Rattle.disk_trait.proofs.MomentLemmas.{told_now}
 use Rattle.lilo_model.specs.MinixEntries.{entries_per_block, places, is_dots}
 use Rattle.lilo_model.specs.MinixNames.{entry, lookup}
-use Rattle.lilo_model.specs.MinixLayout.{Kind, V1Short, V1Long, V2Short, V2Long, Inode, FitsInode, is_size, most_links, number_size, numbers_in_zone, reach}
-use Rattle.lilo_model.specs.MinixParts.{blocks_for, is_directory, parts_of}
+use Rattle.lilo_model.specs.MinixLayout.{Kind, is_size, numbers_in_zone, reach}
+use Rattle.lilo_model.specs.MinixParts.{blocks_for, parts_of}
 use Rattle.minix_bits.proofs.BitmapLemmas.{fits}
 use Rattle.minix_choice_laws.proofs.Choose.{blocks_length, choice_law, file_law}
 use Rattle.minix_choice_laws.proofs.Growth.{free_growth_law}

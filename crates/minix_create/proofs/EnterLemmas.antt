@@ -1,5 +1,5 @@
 -- What the call leaves that makes the name of what is filled.
-use Rattle.std.proofs.Common.{◌≡◌, ◌≤◌, ◌<◌, ◌+◌, ◌*◌, ◌/◌, ◌%◌, ◌==◌, ℕ, Bool, true, false, List, ◌∷◌, Option, Some, None, Result, Ok, Err, OnOk, refl, sym, ap, ◌∙◌, subst, arith, inl, inr, ⊎_elim}
+use Rattle.std.proofs.Common.{◌≡◌, ◌≤◌, ◌<◌, ◌+◌, ◌*◌, ◌/◌, ◌%◌, ◌==◌, ℕ, Bool, true, false, List, [], ◌∷◌, Option, Some, None, Result, Ok, Err, OnOk, refl, sym, ap, ◌∙◌, subst, arith, inl, inr, ⊎_elim}
 use Rattle.std.proofs.Math.Path.{subst₂}
 use Rattle.disk_trait.specs.declared.disks.Disks.{Ghosts}
 use Rattle.disk_trait.specs.declared.disks.Span.{Span}
@@ -17,6 +17,9 @@ use Rattle.minix_choice_laws.specs.Choice.{HasNamePlace}
 use Rattle.minix_choice_laws.proofs.Stay.{lies, place_stays_law}
 use Rattle.minix_entry_bytes_laws.specs.Written.{entry_bytes}
 use Rattle.minix_entry_laws.specs.Only.{zone_of_entry}
+use Rattle.minix_grow.specs.Others.{KeepsOthers}
+use Rattle.minix_grow.proofs.KeepLemmas.{keeps_bytes}
+use Rattle.minix_growth_laws.specs.Changes.{ChangesZone}
 use Rattle.minix_layout.specs.View.{kind_view, super_view}
 use Rattle.minix_layout.specs.declared.superblock.Super.{Super}
 use Rattle.minix_sees_laws.specs.Sees.{SeenAsIn, with_links}
@@ -32,6 +35,7 @@ use Rattle.minix_turns.specs.Part.{TurnsNamedEntry, HasEntryPart, WithOrWithoutE
 use Rattle.minix_turns.proofs.JoinedLemmas.{unseen_then_leads}
 use Rattle.minix_write.specs.declared.write_fault.WriteFault.{WriteFault}
 use Rattle.minix_write.specs.declared.write_fault.WriteFault.TheVariants as refusals
+use Rattle.minix_zone_bytes_laws.specs.Part.{with_zone_part}
 use Rattle.minix_zone_bytes_laws.proofs.Part.{part_law}
 use Rattle.minix_zones.specs.Volume.{volume_view, past_of, faults_of}
 use Rattle.minix_zones.specs.declared.volume.Volume.{Volume}
@@ -43,7 +47,7 @@ use Rattle.minix_create.specs.Entered.{MayBeNamed, raised_links, IsDirectoryNow,
 use Rattle.minix_create.specs.Linked.{IsRaisedBefore}
 use Rattle.minix_create.specs.declared.chosen.Chosen.{Chosen}
 use Rattle.minix_create.proofs.BroughtLemmas.{rises, same_unseen, same_self}
-use Rattle.minix_create.proofs.NamedLemmas.{thing_kept, named_kept, not_named, fit_named}
+use Rattle.minix_create.proofs.NamedLemmas.{kept_join, thing_kept, named_kept, not_named, fit_named}
 use Rattle.minix_create.proofs.StandLemmas.{keeps_none, keeps_changed}
 
 -- ---- what is left at a moment
@@ -111,6 +115,7 @@ module _ {D : Type 0} {disks : Ghosts D} (old : Volume D disks) (chosen : Chosen
         any_moment = leaves_none (past_of old) (HasLinksOrAbove old chosen) (λ c left. let H : Image → Type 0 = λ image. HasLinksOrAbove old chosen image in subst H (sym (quiet c left)) (inl refl));
         links = λ told. sym (same ((parts_now old).node chosen.directory).links);
         keeps = λ told. keeps_none (super_view old.layout) (parts_now old) chosen.directory;
+        marks = λ told. record { inodes = λ number is'. refl; zones = λ z is'. refl };
         others = λ told d s above. not_written_none (past_of old) d s;
         device = λ told. tt;
       }
@@ -128,6 +133,7 @@ module _ {D : Type 0} {disks : Ghosts D} (old : Volume D disks) (chosen : Chosen
         keeps = λ told. on_ok result _ _ (raises.raised told) (λ change.
             keeps_changed (super_view old.layout) (parts_now old) (model.parts_of (volume_view old) (now (past_of mid))) chosen.directory (with_links ((parts_now old).node chosen.directory) more)
             (opened (volume_view old) (now (past_of old)) (is told).sound).parts (record { mode = refl; zones = refl }) (raises.unseen.held told).sees change);
+        marks = λ told. on_ok result _ _ (raises.raised told) (λ change. record { inodes = change.marks; zones = change.zone_marks });
         others = λ told d s above. raises.others told d s (above dir);
         device = raises.device;
       }
@@ -159,6 +165,8 @@ module _ {D : Type 0} {disks : Ghosts D} (old : Volume D disks) (outer : List (L
     leads = unseen_refused old mid (chosen.name ∷ outer) (Some chosen.choice.inode) (Some (thing (super_view old.layout) (parts_now old) chosen.choice.inode)) fault ready.unseen;
     links = first-moment mid ready.unseen ready.any_moment;
     above = λ told. tt;
+    marks = λ told. tt;
+    stays = λ told. tt;
     others = λ told d s off. ready.others told d s off.above;
     device = ready.device;
   }
@@ -251,6 +259,20 @@ module _ {D : Type 0} {disks : Ghosts D} (old : Volume D disks) (outer : List (L
           let L : model.Volume → Type 0 = λ view. ((model.parts_of view image).node chosen.directory).links ≡ ((model.parts_of view (now (past_of mid))).node chosen.directory).links in
           subst L view-mid (ap (λ (i : Inode). i.links) (change.nodes chosen.directory range))
 
+      -- all other inodes, and the bitmap bits
+      keeps-mid : IsTold (past_of mid) → HasEntryPart mid (now (past_of new)) zone index (entry_bytes (kind_view mid.layout.kind) chosen.choice.inode chosen.name)
+          → KeepsOthers (super_view old.layout) (model.parts_of (volume_view old) (now (past_of mid))) (model.parts_of (volume_view old) (now (past_of new))) chosen.directory []
+      keeps-mid told has =
+          let m = may_mid told in
+          let bytes : List ℕ = with_zone_part (parts_now mid) zone (entry_size (kind_view mid.layout.kind) * index) (entry_bytes (kind_view mid.layout.kind) chosen.choice.inode chosen.name) in
+          let change = (part_law (volume_view mid) (now (past_of mid)) (now (past_of new)) zone (entry_size (kind_view mid.layout.kind) * index) (entry_bytes (kind_view mid.layout.kind) chosen.choice.inode chosen.name) m.sound (from, below) has).change in
+          let C : ℕ → Type 0 = λ z. ChangesZone (super_view mid.layout) (parts_now mid) (model.parts_of (volume_view mid) (now (past_of new))) z bytes in
+          let V : model.Volume → Type 0 = λ view. KeepsOthers view.layout (model.parts_of view (now (past_of mid))) (model.parts_of view (now (past_of new))) chosen.directory [] in
+          let placed = m.place.placed in
+          subst V view-mid
+          (keeps_bytes (super_view mid.layout) (parts_now mid) (model.parts_of (volume_view mid) (now (past_of new))) chosen.directory chosen.choice.place bytes []
+          (opened (volume_view mid) (now (past_of mid)) m.sound).parts placed.named placed.is placed.some (subst C (sym m.lies) change))
+
       last-moment : LeavesOnly (past_of mid) (past_of new) (IsRaisedFirst old outer chosen)
       last-moment =
           leaves_told (past_of mid) (past_of new) _ _ any (λ told c either.
@@ -286,6 +308,22 @@ module _ {D : Type 0} {disks : Ghosts D} (old : Volume D disks) (outer : List (L
         above = λ told.
             let told-mid = ready.unseen.goes_on.told told in
             links-mid suits from below index slot new (Ok tt) turns any entry makes makes_directory (now (past_of new)) told-mid (entry told-mid) ∙ ready.links told;
+        marks = λ told.
+            let told-mid = ready.unseen.goes_on.told told in
+            let keeps = keeps-mid suits from below index slot new (Ok tt) turns any entry makes makes_directory told-mid (entry told-mid) in
+            let first = ready.marks told in
+            record {
+              inodes = λ number is. keeps.marks number is ∙ first.inodes number is;
+              zones = λ z is. keeps.zone_marks z is (λ at low same. absurd (omega (arith, low))) ∙ first.zones z is;
+            };
+        stays = λ told.
+            let told-mid = ready.unseen.goes_on.told told in
+            let keeps = keeps-mid suits from below index slot new (Ok tt) turns any entry makes makes_directory told-mid (entry told-mid) in
+            let m = may told in
+            kept_join (super_view old.layout) (parts_now old) (model.parts_of (volume_view old) (now (past_of mid))) (model.parts_of (volume_view old) (now (past_of new))) chosen.choice.inode (still told).kept
+            (keeps.others chosen.choice.inode (still told).fit
+            (not_named (super_view old.layout) (parts_now old) outer chosen.directory chosen.choice.inode m.place.placed.named m.place.placed.is m.named)
+            (λ at z to i low. absurd (omega (arith, low))));
         others = others suits from below index slot new (Ok tt) turns any entry makes makes_directory;
         device = λ told. tt;
       }
@@ -298,6 +336,8 @@ module _ {D : Type 0} {disks : Ghosts D} (old : Volume D disks) (outer : List (L
             (leads suits from below index slot new (Err fault) turns any (λ told. tt) makes makes_directory);
         links = links suits from below index slot new (Err fault) turns any (λ told. tt) makes makes_directory;
         above = λ told. tt;
+        marks = λ told. tt;
+        stays = λ told. tt;
         others = others suits from below index slot new (Err fault) turns any (λ told. tt) makes makes_directory;
         device = λ told. (refl, rises (faults_of old) (faults_of mid) (faults_of new) ready.unseen.goes_on.later turns.device.1);
       }

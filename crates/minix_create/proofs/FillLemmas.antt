@@ -8,7 +8,7 @@ use Rattle.disk_trait.specs.Moments.{IsTold}
 use Rattle.disk_trait.specs.NotWritten.{IsOther}
 use Rattle.disk_trait.specs.Range.{IsOutside}
 use Rattle.disk_trait.proofs.NotWrittenLemmas.{not_written_join}
-use Rattle.lilo_model.specs.MinixLayout.{Kind, Inode, inode_place, numbers_in_zone, reach, zone_sector}
+use Rattle.lilo_model.specs.MinixLayout.{Inode, inode_place, numbers_in_zone, reach, zone_sector}
 use Rattle.lilo_model.specs.MinixNames.{thing, block, blocks, content, zone_number}
 use Rattle.lilo_model.specs.MinixParts.{is_directory, zone_bytes, blocks_for, block_pointer}
 use Rattle.minix_choice_laws.specs.Choice.{file_of}
@@ -17,7 +17,7 @@ use Rattle.minix_fill.specs.Fill as fill
 use Rattle.minix_fill.specs.Fill.{FillsFile, AreMarked, IsOfSome, MayGetName, IsFitThen}
 use Rattle.minix_fill.proofs.FillLemmas.{KeepsFields, kept_fields}
 use Rattle.minix_fill.specs.Numbers.{tops_of}
-use Rattle.minix_fill_laws.specs.Laws.{MayBeFile, HasZones}
+use Rattle.minix_fill_laws.specs.Laws.{MayBeFile}
 use Rattle.minix_fill_laws.specs.Sources.{Source, Block, Indirect, zone_from, source_of}
 use Rattle.minix_fill_laws.proofs.Filled.{content_law, pointers_law}
 use Rattle.minix_laws.proofs.Inside.{is_pointer-block}

@@ -1,19 +1,17 @@
 -- What calls leave by which a directory grows for what is chosen.
-use Rattle.std.proofs.Common.{◌≡◌, ◌≢◌, ◌≤◌, ◌<◌, ◌+◌, ◌-◌, ◌/◌, ◌^◌, ◌==◌, ◌⊎◌, ℕ, Bool, true, false, List, [], length, Option, Result, Ok, Err, OnOk, refl, sym, ◌∙◌, ap, subst, arith, eq-eqb, inl, inr, ⊎_elim}
-use Rattle.std.specs.Prelude.{slice_index, IfErr}
+use Rattle.std.proofs.Common.{◌≡◌, ◌≢◌, ◌≤◌, ◌<◌, ◌-◌, ◌/◌, ◌^◌, ◌⊎◌, ℕ, true, List, [], Option, Result, Ok, Err, refl, sym, ◌∙◌, ap, subst, arith, inl, inr, ⊎_elim}
+use Rattle.std.specs.Prelude.{slice_index}
 use Rattle.std.proofs.lemmas.Bool.{cases_eq, cases_lt}
 use Rattle.disk_trait.specs.declared.disks.Disks.{Ghosts}
-use Rattle.disk_trait.specs.declared.disks.Span.{Span}
 use Rattle.disk_trait.specs.Past.{Image, Past}
 use Rattle.disk_trait.specs.Moments.{IsTold, now, begun, IsQuiet}
 use Rattle.disk_trait.specs.NotWritten.{NotWritten}
 use Rattle.disk_trait.proofs.LawLemmas.{quiet_begun}
 use Rattle.disk_trait.proofs.MomentLemmas.{on_ok}
 use Rattle.disk_trait.proofs.NotWrittenLemmas.{not_written_none, not_written_join}
-use Rattle.lilo_model.specs.Faults.{Rose}
 use Rattle.lilo_model.specs.MinixEntries.{entries_per_block, places}
-use Rattle.lilo_model.specs.MinixLayout.{Kind, V1Short, V1Long, V2Short, V2Long, Super, Inode, FitsInode, is_size, reach, numbers_in_zone}
-use Rattle.lilo_model.specs.MinixNames.{pointer, zone_number, Named, PointsTo, Refers, IsSound}
+use Rattle.lilo_model.specs.MinixLayout.{Kind, V1Short, V1Long, V2Short, V2Long, Super, Inode, FitsInode, is_size, numbers_in_zone}
+use Rattle.lilo_model.specs.MinixNames.{PointsTo, Refers, IsSound}
 use Rattle.lilo_model.specs.MinixParts as model
 use Rattle.lilo_model.specs.MinixParts.{Parts, Pointer, IsPointer, is_directory, blocks_for, parts_of, block_pointer, pointer_with}
 use Rattle.lilo_model.specs.MinixWalk.{branch_of, place_in_branch, stop_pointer}
@@ -26,10 +24,9 @@ use Rattle.minix_grow.specs.Grow as grow
 use Rattle.minix_grow.specs.Others.{KeepsOthers, KeepsOthersNow}
 use Rattle.minix_grow.specs.Places.{IsFreePlace}
 use Rattle.minix_grow.specs.Way.{depth_of, pointer_above, number_on_way, number_above}
-use Rattle.minix_grow.specs.Zones.{AreData, IsOffZones}
+use Rattle.minix_grow.specs.Zones.{AreData}
 use Rattle.minix_grow.proofs.CompleteLemmas.{way_is_pointer}
-use Rattle.minix_grow.proofs.GrowLemmas.{told_mid, told_old, keeps_since}
-use Rattle.minix_grow.proofs.KeepLemmas.{keeps_none, keeps_wider, one_of_none}
+use Rattle.minix_grow.proofs.KeepLemmas.{keeps_wider, one_of_none}
 use Rattle.minix_grow.proofs.KeepsNowLemmas.{no_call_keeps, keeps_after}
 use Rattle.minix_grow.proofs.OtherLemmas.{all_off_stay}
 use Rattle.minix_grow.proofs.WayLemmas.{pointer_highest}
@@ -47,16 +44,16 @@ use Rattle.minix_turns.proofs.JoinedLemmas.{unseen_join}
 use Rattle.minix_write.specs.View.{HasWriteCause}
 use Rattle.minix_write.specs.declared.write_fault.WriteFault.{WriteFault}
 use Rattle.minix_write.specs.declared.write_fault.WriteFault.TheVariants as refusals
-use Rattle.minix_zones.specs.Volume.{volume_view, past_of, faults_of, KeepsVolume, SameVolume}
+use Rattle.minix_zones.specs.Volume.{volume_view, past_of, faults_of, SameVolume}
 use Rattle.minix_zones.specs.declared.volume.Volume.{Volume}
 use Rattle.minix_zones.specs.declared.zone_fault.ZoneFault.{ZoneFault}
 use Rattle.minix_zones.proofs.WriteLemmas.{keeps_same}
 use Rattle.write_model.specs.Places.{most_places}
-use Rattle.minix_create.specs.Brought.{IsInDirectory, GivesPlace, MayBring, IsOffDirectory, IsBrought, Brings}
-use Rattle.minix_create.specs.Grown.{HasGrowth, MayGrowIn, MayGrowNow, LiesNow, MayGoTo, IsLastNow, HasRoom, IsOffGrowth, GrowsChosen}
+use Rattle.minix_create.specs.Brought.{IsInDirectory, GivesPlace, MayBring, IsOffDirectory, Brings}
+use Rattle.minix_create.specs.Grown.{MayGrowIn, MayGrowNow, LiesNow, MayGoTo, IsLastNow, GrowsChosen}
 use Rattle.minix_create.specs.declared.chosen.Chosen.{Chosen}
 use Rattle.minix_create.specs.declared.place_at.PlaceAt.{PlaceAt}
-use Rattle.minix_create.proofs.BroughtLemmas.{size_fits, near_most, rises, device_of, points_was, off_later, same_unseen, same_others, same_self}
+use Rattle.minix_create.proofs.BroughtLemmas.{near_most, device_of, points_was, off_later, same_unseen, same_others, same_self}
 
 -- ---- numbers on the way
 

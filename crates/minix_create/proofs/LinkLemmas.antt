@@ -1,11 +1,12 @@
 -- What the call leaves that makes the name of a file.
 use Rattle.std.proofs.Common.{◌≡◌, ◌≢◌, ◌≤◌, ◌<◌, ◌+◌, ◌*◌, ◌/◌, ◌%◌, ◌⊎◌, ℕ, true, List, ◌∷◌, Option, Some, None, Result, Ok, Err, OnOk, refl, sym, ap, ◌∙◌, subst, arith, inl, inr, ⊎_elim}
 use Rattle.std.proofs.lemmas.Bool.{cases_eq, cases_lt}
+use Rattle.std.specs.Prelude.{slice_index}
 use Rattle.std.proofs.Math.Path.{subst₂}
 use Rattle.disk_trait.specs.declared.disks.Disks.{Ghosts}
 use Rattle.disk_trait.specs.declared.disks.Span.{Span}
 use Rattle.disk_trait.specs.Past.{Image, Past}
-use Rattle.disk_trait.specs.Moments.{IsTold, now, LeavesOnly}
+use Rattle.disk_trait.specs.Moments.{IsTold, now, IsQuiet, LeavesOnly}
 use Rattle.disk_trait.specs.NotWritten.{IsOther, NotWritten}
 use Rattle.disk_trait.specs.Range.{IsOutside}
 use Rattle.disk_trait.proofs.LawLemmas.{quiet_begun}
@@ -17,7 +18,7 @@ use Rattle.lilo_model.specs.MinixLayout as layouts
 use Rattle.lilo_model.specs.MinixLayout.{Kind, V1Short, V1Long, V2Short, V2Long, Inode, entry_size, inode_place, zone_sector}
 use Rattle.lilo_model.specs.MinixNames.{reached, thing, zone_number, Named, PointsTo, IsSound}
 use Rattle.lilo_model.specs.MinixParts as model
-use Rattle.lilo_model.specs.MinixParts.{Parts, Pointer, block_pointer, is_directory}
+use Rattle.lilo_model.specs.MinixParts.{Parts, Pointer, block_pointer, has_zones, is_directory}
 use Rattle.minix_choice_laws.specs.Choice.{MayHavePlace, LiesThere, HasNamePlace}
 use Rattle.minix_choice_laws.proofs.Stay.{zone_lies, may_have_stays_law, place_lies_law}
 use Rattle.minix_beside_laws.specs.Beside.{Beside}
@@ -31,16 +32,17 @@ use Rattle.minix_grow.specs.Others.{IsOneOf, KeepsOthers}
 use Rattle.minix_grow.specs.Places.{IsFreePlace}
 use Rattle.minix_grow.proofs.KeepLemmas.{fit_kept}
 use Rattle.minix_grow.proofs.OtherLemmas.{all_off_stay}
-use Rattle.minix_layout.specs.View.{kind_view, super_view, inode_view}
+use Rattle.minix_laws.proofs.Inside.{is_pointer-block}
+use Rattle.minix_layout.specs.View.{kind_view, super_view}
 use Rattle.minix_layout.specs.declared.superblock.Super.{Super}
-use Rattle.minix_sees_laws.specs.Sees.{Sees, SeenAsIn}
+use Rattle.minix_sees_laws.specs.Sees.{Sees}
 use Rattle.minix_sees_laws.proofs.Inode.{same-node, keeps-above, points-old}
 use Rattle.minix_sees_laws.proofs.Seen.{opened}
 use Rattle.minix_sees_laws.proofs.Sees.{directory-same, named-new}
-use Rattle.minix_steps.specs.Steps.{IsReady, Steps}
+use Rattle.minix_steps.specs.Steps.{IsReady}
 use Rattle.minix_steps.specs.Written.{parts_now}
 use Rattle.minix_steps.proofs.ReadyLemmas.{quiet_ready}
-use Rattle.minix_steps.proofs.StepLemmas.{leaves_told, same_view, beside_before, now_beside, no_step, steps_join}
+use Rattle.minix_steps.proofs.StepLemmas.{leaves_told, same_view, beside_before, now_beside}
 use Rattle.minix_turns.specs.Joined.{Unseen}
 use Rattle.minix_turns.proofs.JoinedLemmas.{steps_unseen, unseen_join, unseen_then_leads}
 use Rattle.minix_write.specs.View.{HasWriteCause}
@@ -49,20 +51,18 @@ use Rattle.minix_write.specs.declared.write_fault.WriteFault.TheVariants as refu
 use Rattle.lilo_model.specs.Faults.{Rose}
 use Rattle.minix_zones.specs.Volume.{volume_view, past_of, faults_of, SameVolume}
 use Rattle.minix_zones.specs.declared.volume.Volume.{Volume}
-use Rattle.minix_zones.proofs.WriteLemmas.{keeps_same}
-use Rattle.write_model.specs.Places.{most_places}
 use Rattle.minix_create.specs.Brought.{IsInDirectory, GivesPlace}
-use Rattle.minix_create.specs.Chosen.{MayLinkNow, MayNest, thing_with}
-use Rattle.minix_create.specs.Created.{IsOffFile, IsFilled}
-use Rattle.minix_create.specs.Entered.{MayBeNamed, links_above, MayEnterNow, IsOffEntered, Enters}
+use Rattle.minix_create.specs.Chosen.{MayLinkNow, MayNest, new_inode, thing_with}
+use Rattle.minix_create.specs.Created.{MarksOnly, IsFilled}
+use Rattle.minix_create.specs.Entered.{SameMarks, MayBeNamed, links_above, MayEnterNow, IsOffEntered, Enters}
 use Rattle.minix_create.specs.Grown.{MayGrowNow, LiesNow, IsOffGrowth, GrowsChosen}
-use Rattle.minix_create.specs.Linked.{IsOffName, IsRaisedBefore, Creates}
+use Rattle.minix_create.specs.Linked.{IsOffName, IsRaisedBefore, MarksLinked, LiesAsChosen, Creates}
 use Rattle.minix_create.specs.declared.chosen.Chosen.{Chosen}
 use Rattle.minix_create.specs.declared.place_at.PlaceAt.{PlaceAt}
 use Rattle.minix_create.proofs.BroughtLemmas.{off_later, rises, device_of, same_unseen}
 use Rattle.minix_create.proofs.EnterLemmas.{leads_is, unseen_refused, unseen_before}
 use Rattle.minix_create.proofs.GrownLemmas.{same_at}
-use Rattle.minix_create.proofs.NamedLemmas.{thing_kept, named_kept, not_named, fit_named}
+use Rattle.minix_create.proofs.NamedLemmas.{points_kept, thing_kept, named_kept, not_named, fit_named}
 
 -- ---- the part of a zone with an entry
 
@@ -88,6 +88,8 @@ pub record IsLinkable {D : Type 0} {disks : Ghosts D} (start next : Volume D dis
   pub may : IsTold (past_of start) → MayEnterNow next outer chosen zone
   pub is : IsTold (past_of start) → thing (super_view next.layout) (parts_now next) chosen.choice.inode ≡ thing_with chosen given
   pub links : IsTold (past_of start) → ((model.parts_of (volume_view start) (now (past_of next))).node chosen.directory).links ≡ ((parts_now start).node chosen.directory).links
+  pub marks : IsTold (past_of start) → MarksLinked (super_view start.layout) (parts_now start) (model.parts_of (volume_view start) (now (past_of next))) chosen
+  pub blocks : IsTold (past_of start) → LiesAsChosen (super_view start.layout) (model.parts_of (volume_view start) (now (past_of next))) chosen
 
 -- ---- after a filled file
 
@@ -95,6 +97,15 @@ pub record IsLinkable {D : Type 0} {disks : Ghosts D} (start next : Volume D dis
 zone_pointed : (super : layouts.Super) (parts : Parts) (directory place zone : ℕ) → PointsTo super parts directory (block_pointer super.kind (place / entries_per_block super.kind)) zone → zone_of_entry super parts directory place ≡ zone
 unfolding zone_number
 zone_pointed super parts directory place zone to = to.is
+
+-- a block's pointer leads to its zone
+block_pointed : (super : layouts.Super) (parts : Parts) (number index zone : ℕ) → has_zones (parts.node number) ≡ true → zone_number super parts number index ≡ zone → zone ≢ 0 → PointsTo super parts number (block_pointer super.kind index) zone
+unfolding zone_number
+block_pointed super parts number index zone zones is some = record { kind = zones; place = is_pointer-block super.kind index; is = is; some = some }
+
+-- inodes of one mode are alike
+has_zones_by : (one other : Inode) → one.mode ≡ other.mode → has_zones other ≡ true → has_zones one ≡ true
+has_zones_by one other same is = rw same is
 
 -- a place lies below the size and in a zone, or it doesn't
 lies_or : (view : model.Volume) (image : Image) (directory place : ℕ) → LiesThere view image directory place ⊎ (LiesThere view image directory place → ⊥)
@@ -193,6 +204,8 @@ module _ {D : Type 0} {disks : Ghosts D} (start old next : Volume D disks) (oute
     leads = unseen_refused start new (chosen.name ∷ outer) (Some chosen.choice.inode) (Some (thing_with chosen given)) fault unseen';
     before = unseen_before start new outer chosen unseen' may;
     above = λ told. tt;
+    marks = λ told. tt;
+    lies = λ told. tt;
     others = others;
     device = cause;
   }
@@ -297,8 +310,8 @@ module _ {D : Type 0} {disks : Ghosts D} (start old next read : Volume D disks) 
       let v = from_old start old next outer chosen given filled (Ok tt) grows none V (
         ap (λ (i : Inode). i.mode) kept.node ∙ (filled.filled told).mode,
         named_kept (super_view old.layout) Old Next chosen.choice.inode kept (sees_old told)
-        (fit_kept (super_view old.layout) Old Next chosen.directory chosen.choice.growth (sees_old told) (keeps_old told) chosen.choice.inode (fit_old told) (apart_old told) (filled.filled told).clear)
-        outer chosen.directory (may_be_named told),
+            (fit_kept (super_view old.layout) Old Next chosen.directory chosen.choice.growth (sees_old told) (keeps_old told) chosen.choice.inode (fit_old told) (apart_old told) (filled.filled told).clear)
+            outer chosen.directory (may_be_named told),
         thing_kept (super_view old.layout) Old Next chosen.choice.inode kept ∙ (filled.filled told).is,
       ) in
       (sound_next told, has_place told, v.0, v.1, v.2)
@@ -376,6 +389,34 @@ module _ {D : Type 0} {disks : Ghosts D} (start old next read : Volume D disks) 
         subst I (sym same.same_disks.same_past)
         (at_start start old next outer chosen given filled (Ok tt) grows none V (keeps_old told).links ∙ ap (λ (i : Inode). i.links) (kept'.nodes chosen.directory (filled.free told).grows.named))
 
+    -- the bits that were set
+    marks_read : IsTold (past_of start) → MarksLinked (super_view start.layout) (parts_now start) (model.parts_of (volume_view start) (now (past_of read))) chosen
+    marks_read told =
+        let V : model.Volume → Type 0 = λ view. KeepsOthers view.layout (model.parts_of view (now (past_of old))) (model.parts_of view (now (past_of next))) chosen.directory chosen.choice.growth in
+        let O : model.Volume → Type 0 = λ view. MarksOnly start (parts_now start) (model.parts_of view (now (past_of old))) chosen in
+        let I : Option Past → Type 0 = λ past. MarksLinked (super_view start.layout) (parts_now start) (model.parts_of (volume_view start) (now past)) chosen in
+        let keeps' : V (volume_view start) = at_start start old next outer chosen given filled (Ok tt) grows none V (keeps_old told) in
+        let only : O (volume_view start) = at_start start old next outer chosen given filled (Ok tt) grows none O (filled.marks told) in
+        subst I (sym same.same_disks.same_past)
+        (record {
+          inodes = λ number is. keeps'.marks number is ∙ only.inodes number is.1;
+          zones = λ z is apart. keeps'.zone_marks z is apart ∙ only.zones z is;
+          stay_marked = λ z is set. keeps'.stay_marked z is (only.zones z is ∙ rw set refl);
+        })
+
+    -- where its blocks lie
+    blocks_read : IsTold (past_of start) → LiesAsChosen (super_view start.layout) (model.parts_of (volume_view start) (now (past_of read))) chosen
+    blocks_read told =
+        let f = filled.filled told in
+        let kept = kept_old told in
+        let L : model.Volume → Type 0 = λ view. LiesAsChosen view.layout (model.parts_of view (now (past_of next))) chosen in
+        let I : Option Past → Type 0 = λ past. LiesAsChosen (super_view start.layout) (model.parts_of (volume_view start) (now past)) chosen in
+        subst I (sym same.same_disks.same_past)
+        (at_start start old next outer chosen given filled (Ok tt) grows none L
+        (λ zones index low some.
+        points_kept (super_view old.layout) Old Next chosen.choice.inode kept (block_pointer (kind_view old.layout.kind) index) (slice_index chosen.choice.blocks index)
+        (block_pointed (super_view old.layout) Old chosen.choice.inode index (slice_index chosen.choice.blocks index) (has_zones_by (Old.node chosen.choice.inode) (new_inode chosen) f.mode zones) (f.lies index low) some)))
+
     pub linkable : IsLinkable start read outer chosen given at.zone
     linkable = record {
       unseen = unseen_read;
@@ -392,6 +433,8 @@ module _ {D : Type 0} {disks : Ghosts D} (start old next read : Volume D disks) 
           };
       is = λ told. (facts_read told).4;
       links = links_stay;
+      marks = marks_read;
+      blocks = blocks_read;
     }
 
 -- ---- the entry
@@ -445,6 +488,22 @@ module _ {D : Type 0} {disks : Ghosts D} (start mid : Volume D disks) (outer : L
         ≡ links_above view.layout.kind chosen ((model.parts_of view (now (past_of mid))).node chosen.directory).links) in
         on_ok result _ _ (subst L (same_view start mid ready.unseen.kept) (enters.above (told_mid told)))
         (λ above. above ∙ ap (links_above (kind_view start.layout.kind) chosen) (ready.links told));
+    marks = λ told.
+        let V : model.Volume → Type 0 = λ view. OnOk result (SameMarks view.layout (model.parts_of view (now (past_of mid))) (model.parts_of view (now (past_of new)))) in
+        on_ok result _ _ (subst V (same_view start mid ready.unseen.kept) (enters.marks (told_mid told)))
+        (λ stay.
+        let m = ready.marks told in
+        record {
+          inodes = λ number is. stay.inodes number is ∙ m.inodes number is;
+          zones = λ z is apart. stay.zones z is ∙ m.zones z is apart;
+          stay_marked = λ z is set. stay.zones z is ∙ m.stay_marked z is set;
+        });
+    lies = λ told.
+        let V : model.Volume → Type 0 = λ view. OnOk result (KeepsInode view.layout (model.parts_of view (now (past_of mid))) (model.parts_of view (now (past_of new))) chosen.choice.inode) in
+        on_ok result _ _ (subst V (same_view start mid ready.unseen.kept) (enters.stays (told_mid told)))
+        (λ kept zones index low some.
+        points_kept (super_view start.layout) (model.parts_of (volume_view start) (now (past_of mid))) (model.parts_of (volume_view start) (now (past_of new))) chosen.choice.inode kept
+        (block_pointer (kind_view start.layout.kind) index) (slice_index chosen.choice.blocks index) (ready.blocks told zones index low some));
     others = λ told d s off.
         not_written_join (past_of start) (past_of mid) (past_of new) d s (ready.others told d s off) (enters.others (told_mid told) d s (off_entered told d s off));
     device = λ told. device_of start mid new refusals.Device result ready.unseen.goes_on.later (enters.device (told_mid told));

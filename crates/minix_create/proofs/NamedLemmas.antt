@@ -53,6 +53,15 @@ module _ (super : Super) (old new : Parts) (number : ℕ) (kept : KeepsInode sup
     pub named_kept : (outer : List (List ℕ)) (directory : ℕ) → MayBeNamed super old outer directory number → MayBeNamed super new outer directory number
     named_kept outer directory may = ⊎_elim (λ stands. inl (stands-kept stands)) (λ stands. inr (directory-kept outer directory stands)) may
 
+-- what stays in two changes in a row stays
+pub kept_join : (super : Super) (old mid new : Parts) (number : ℕ) → KeepsInode super old mid number → KeepsInode super mid new number → KeepsInode super old new number
+kept_join super old mid new number one two = record {
+  node = two.node ∙ one.node;
+  mark = two.mark ∙ one.mark;
+  zones = λ at zone to. two.zones at zone (points_kept super old mid number one at zone to) ∙ one.zones at zone to;
+  zone_marks = λ at zone to. two.zone_marks at zone (points_kept super old mid number one at zone to) ∙ one.zone_marks at zone to;
+}
+
 -- it isn't a directory that has a name
 pub not_named : (super : Super) (parts : Parts) (outer : List (List ℕ)) (directory number : ℕ) → Named super parts directory → is_directory (parts.node directory) ≡ true
     → MayBeNamed super parts outer directory number → number ≢ directory

@@ -1,18 +1,16 @@
 -- What has no name yet stays where a directory gets a place in a zone that it has, below a greater size, or other links.
-use Rattle.std.proofs.Common.{◌≡◌, ◌≢◌, ℕ, true, List, refl, sym, ◌∙◌, subst}
+use Rattle.std.proofs.Common.{ℕ, refl, sym, ◌∙◌, subst}
 use Rattle.lilo_model.specs.MinixLayout.{Super, Inode}
-use Rattle.lilo_model.specs.MinixNames.{Named, PointsTo, Refers, Sound}
-use Rattle.lilo_model.specs.MinixParts.{Parts, Pointer, is_directory}
+use Rattle.lilo_model.specs.MinixNames.{Named, PointsTo, Sound}
+use Rattle.lilo_model.specs.MinixParts.{Parts, Pointer}
 use Rattle.minix_entry_laws.specs.Comes.{IsFit}
-use Rattle.minix_entry_laws.specs.Only.{zone_of_entry, KeepsInode}
-use Rattle.minix_entry_laws.proofs.Only.{directory-refers, above-kept}
-use Rattle.minix_growth_laws.specs.Changes.{ChangesZone, ChangesNode}
+use Rattle.minix_entry_laws.specs.Only.{KeepsInode}
+use Rattle.minix_growth_laws.specs.Changes.{ChangesNode}
 use Rattle.minix_growth_laws.proofs.Extends.{of-node}
 use Rattle.minix_sees_laws.specs.Sees.{Sees}
 use Rattle.minix_sees_laws.proofs.Inode.{HasSameNumbers, same-node, keeps-above, points-old}
-use Rattle.minix_sees_laws.proofs.Sees.{named-old, named-new}
+use Rattle.minix_sees_laws.proofs.Sees.{named-old}
 use Rattle.minix_create.specs.Brought.{StillFits, KeepsFiles}
-use Rattle.minix_create.proofs.NamedLemmas.{points_kept}
 
 -- ---- one inode
 

@@ -136,6 +136,8 @@ module _ {D : Type 0} {disks : Ghosts D} (start : Volume D disks) (chosen : Chos
     leads = unseen_refused start new _ _ _ fault (steps_unseen start new quiet (λ told. (free told).sound) wrong.steps);
     before = unseen_before start new outer chosen (steps_unseen start new quiet (λ told. (free told).sound) wrong.steps) may;
     above = λ told. tt;
+    marks = λ told. tt;
+    lies = λ told. tt;
     others = λ told d s off. wrong.others d s off.file;
     device = λ told. (wrong.device, wrong.rose);
   }

@@ -10,7 +10,6 @@ use Rattle.lilo_model.specs.MinixParts.{blocks_for, is_directory, is_file, is_li
 use Rattle.minix_choice_laws.specs.Choice.{file_of, MayHavePlace}
 use Rattle.minix_choice_laws.specs.Growth.{ArePromised}
 use Rattle.minix_entry_bytes_laws.specs.Written.{FitsEntry}
-use Rattle.minix_entry_laws.specs.Only.{zone_of_entry}
 use Rattle.minix_fill.specs.Fill.{IsOfFile}
 use Rattle.minix_fill_laws.specs.Laws.{MayBeFile}
 use Rattle.minix_fill_laws.specs.Sources.{Source, zone_from}

@@ -1,7 +1,7 @@
 -- What the calls leave of which a creation is made: the bits of what was chosen, its inode and its zones.
 use Rattle.std.specs.Prelude.{◌≡◌, ◌≢◌, ◌≤◌, ◌<◌, ◌+◌, ◌*◌, ◌==◌, ◌||◌, ℕ, true, List, slice_index, Result, OnOk}
 use Rattle.disk_trait.specs.declared.disks.Disks.{Ghosts}
-use Rattle.disk_trait.specs.Moments.{IsTold, IsQuiet}
+use Rattle.disk_trait.specs.Moments.{IsTold, begun, IsQuiet}
 use Rattle.disk_trait.specs.NotWritten.{IsOther, NotWritten}
 use Rattle.disk_trait.specs.Range.{IsOutside}
 use Rattle.lilo_model.specs.MinixLayout.{inode_place, reach, zone_sector}
@@ -16,7 +16,7 @@ use Rattle.minix_grow.specs.Others.{IsClearOf}
 use Rattle.minix_layout.specs.View.{kind_view, super_view}
 use Rattle.minix_steps.specs.Steps.{IsReady, IsUnnamedInode, Steps}
 use Rattle.minix_steps.specs.Written.{parts_now}
-use Rattle.minix_zones.specs.Volume.{past_of, HasDeviceCause}
+use Rattle.minix_zones.specs.Volume.{volume_view, past_of, HasDeviceCause}
 use Rattle.minix_zones.specs.declared.volume.Volume.{Volume}
 use Rattle.minix_zones.specs.declared.zone_fault.ZoneFault.{ZoneFault}
 use Rattle.minix_zones.specs.declared.zone_fault.ZoneFault.TheVariants.{Device}

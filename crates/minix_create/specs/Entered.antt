@@ -13,7 +13,8 @@ use Rattle.lilo_model.specs.MinixParts as model
 use Rattle.lilo_model.specs.MinixParts.{Parts, is_directory}
 use Rattle.minix_choice_laws.specs.Choice.{HasNamePlace}
 use Rattle.minix_entry_laws.specs.Enter.{MayStand, DirectoryMayStand}
-use Rattle.minix_entry_laws.specs.Only.{zone_of_entry}
+use Rattle.minix_beside_laws.specs.Beside.{IsInode, IsDataZone}
+use Rattle.minix_entry_laws.specs.Only.{zone_of_entry, KeepsInode}
 use Rattle.minix_grow.specs.Hook.{IsOffInode}
 use Rattle.minix_growth_laws.specs.Changes.{ChangesNode}
 use Rattle.minix_layout.specs.View.{kind_view, super_view}
@@ -31,6 +32,11 @@ use Rattle.minix_create.specs.declared.chosen.Chosen.{Chosen}
 -- an inode may get a name in the directory that a path leads to: it is that of a file, or of a new directory
 abbrev pub MayBeNamed : Super → Parts → List (List ℕ) → ℕ → ℕ → Type 0
 MayBeNamed super parts outer directory number = MayStand super parts number ⊎ DirectoryMayStand super parts outer directory number
+
+-- no bitmap bit is another
+pub record SameMarks (super : Super) (old new : Parts) : Type 0 where
+  pub inodes : (number : ℕ) → IsInode super number → new.has_inode number ≡ old.has_inode number
+  pub zones : (zone : ℕ) → IsDataZone super zone → new.has_zone zone ≡ old.has_zone zone
 
 -- ---- links
 
@@ -77,6 +83,7 @@ pub record Readies {D : Type 0} {disks : Ghosts D} (old new : Volume D disks) (c
   pub links : IsTold (past_of old) → OnOk result (((model.parts_of (volume_view old) (now (past_of new))).node chosen.directory).links
       ≡ links_above (kind_view old.layout.kind) chosen ((parts_now old).node chosen.directory).links)
   pub keeps : IsTold (past_of old) → OnOk result (KeepsFiles (super_view old.layout) (parts_now old) (model.parts_of (volume_view old) (now (past_of new))) chosen.directory)
+  pub marks : IsTold (past_of old) → OnOk result (SameMarks (super_view old.layout) (parts_now old) (model.parts_of (volume_view old) (now (past_of new))))
   pub others : IsTold (past_of old) → (d s : ℕ) → (is_directory (new_inode chosen) ≡ true → IsOffInode old chosen.directory d s) → NotWritten (past_of old) (past_of new) d s
   pub device : IsTold (past_of old) → IfErr result (λ fault. (fault ≡ Device) × Rose (faults_of old) (faults_of new))
 
@@ -105,12 +112,15 @@ IsRaisedFirst volume outer chosen c =
     × (reached (super_view volume.layout) (model.parts_of (volume_view volume) c) (chosen.name ∷ outer) ≡ None))
 
 -- A call made the name whole or not at all, and raised the links of the directory above before that where it is that of a
--- directory. No other sector was written, and it was refused where the disk failed.
+-- directory. Once it is done what is named stays with its zones, and so does each bitmap bit. No other sector was written, and it
+-- was refused where the disk failed.
 pub record Enters {D : Type 0} {disks : Ghosts D} (old new : Volume D disks) (outer : List (List ℕ)) (chosen : Chosen) (zone : ℕ) (result : Result (Unit {0}) WriteFault) : Type 0 where
   pub leads : LeadsPath old new (chosen.name ∷ outer) (Some chosen.choice.inode) (Some (thing (super_view old.layout) (parts_now old) chosen.choice.inode)) result
   pub links : LeavesOnly (past_of old) (past_of new) (IsRaisedFirst old outer chosen)
   pub above : IsTold (past_of old) → OnOk result (((model.parts_of (volume_view old) (now (past_of new))).node chosen.directory).links
       ≡ links_above (kind_view old.layout.kind) chosen ((parts_now old).node chosen.directory).links)
+  pub marks : IsTold (past_of old) → OnOk result (SameMarks (super_view old.layout) (parts_now old) (model.parts_of (volume_view old) (now (past_of new))))
+  pub stays : IsTold (past_of old) → OnOk result (KeepsInode (super_view old.layout) (parts_now old) (model.parts_of (volume_view old) (now (past_of new))) chosen.choice.inode)
   pub others : IsTold (past_of old) → (d s : ℕ) → IsOffEntered old chosen zone d s → NotWritten (past_of old) (past_of new) d s
   pub device : IsTold (past_of old) → IfErr result (λ fault. (fault ≡ Device) × Rose (faults_of old) (faults_of new))
 

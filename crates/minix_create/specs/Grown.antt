@@ -15,7 +15,7 @@ use Rattle.minix_grow.specs.Others.{KeepsOthersNow}
 use Rattle.minix_grow.specs.Places.{IsFreePlaceNow}
 use Rattle.minix_grow.specs.Way.{depth_of, number_above}
 use Rattle.minix_grow.specs.Zones.{AreData, IsOffZones}
-use Rattle.minix_layout.specs.View.{kind_view, super_view}
+use Rattle.minix_layout.specs.View.{kind_view}
 use Rattle.minix_layout.specs.declared.inode.Inode as inodes
 use Rattle.minix_layout.specs.declared.superblock.Super as layouts
 use Rattle.minix_steps.specs.Written.{parts_now}

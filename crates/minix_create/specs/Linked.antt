@@ -1,18 +1,20 @@
 -- A name that is made for a new file.
-use Rattle.std.specs.Prelude.{◌≡◌, ◌≤◌, ◌+◌, ◌⊎◌, ℕ, true, List, ◌∷◌, Some, None, Result, OnOk, IfErr}
+use Rattle.std.specs.Prelude.{◌≡◌, ◌≢◌, ◌<◌, ◌==◌, ◌||◌, ◌+◌, ◌⊎◌, ℕ, true, List, ◌∷◌, Some, None, slice_index, Result, OnOk, IfErr}
 use Rattle.disk_trait.specs.declared.disks.Disks.{Ghosts}
 use Rattle.disk_trait.specs.Past.{Image}
 use Rattle.disk_trait.specs.Moments.{IsTold, now, LeavesOnly}
 use Rattle.disk_trait.specs.NotWritten.{NotWritten}
 use Rattle.disk_trait.specs.Range.{IsOutside}
 use Rattle.lilo_model.specs.Faults.{Rose}
-use Rattle.lilo_model.specs.MinixLayout.{zone_sector}
-use Rattle.lilo_model.specs.MinixEntries.{places}
-use Rattle.lilo_model.specs.MinixNames.{reached}
+use Rattle.lilo_model.specs.MinixLayout.{Super, reach, zone_sector}
+use Rattle.lilo_model.specs.MinixNames.{reached, PointsTo}
 use Rattle.lilo_model.specs.MinixParts as model
-use Rattle.lilo_model.specs.MinixParts.{is_directory}
+use Rattle.lilo_model.specs.MinixParts.{Parts, is_directory, has_zones, block_pointer}
+use Rattle.minix_beside_laws.specs.Beside.{IsInode, IsDataZone}
+use Rattle.minix_bits.specs.Numbers.{has_number}
 use Rattle.minix_entry_laws.specs.Only.{zone_of_entry}
 use Rattle.minix_grow.specs.Hook.{IsOffInode}
+use Rattle.minix_grow.specs.Others.{IsNoneOf}
 use Rattle.minix_layout.specs.View.{kind_view, super_view}
 use Rattle.minix_steps.specs.Written.{parts_now}
 use Rattle.minix_turns.specs.Joined.{LeadsPath}
@@ -40,15 +42,29 @@ IsRaisedBefore volume outer chosen c =
     (reached (super_view volume.layout) (model.parts_of (volume_view volume) c) (chosen.name ∷ outer) ≡ None)
     ⊎ (((model.parts_of (volume_view volume) c).node chosen.directory).links ≡ links_above (kind_view volume.layout.kind) chosen ((parts_now volume).node chosen.directory).links)
 
+-- its bit is set and those of the zones that were chosen, and no other but for zones of growth, of which none is cleared
+pub record MarksLinked (super : Super) (old new : Parts) (chosen : Chosen) : Type 0 where
+  pub inodes : (number : ℕ) → IsInode super number → new.has_inode number ≡ (old.has_inode number || (number == chosen.choice.inode))
+  pub zones : (zone : ℕ) → IsDataZone super zone → IsNoneOf chosen.choice.growth zone → new.has_zone zone ≡ (old.has_zone zone || has_number chosen.choice.zones zone)
+  pub stay_marked : (zone : ℕ) → IsDataZone super zone → old.has_zone zone ≡ true → new.has_zone zone ≡ true
+
+-- each of its blocks that isn't a hole lies in the zone that was chosen for it
+abbrev pub LiesAsChosen : Super → Parts → Chosen → Type 0
+LiesAsChosen super parts chosen =
+    has_zones (new_inode chosen) ≡ true → (index : ℕ) → index < reach super.kind → slice_index chosen.choice.blocks index ≢ 0
+    → PointsTo super parts chosen.choice.inode (block_pointer super.kind index) (slice_index chosen.choice.blocks index)
+
 -- Since a volume was as it is here, a file was reserved, filled and linked. Whatever a stop left, at any moment, is seen as
 -- before or has the name, which leads to the whole of the file; where the name is there, the directory above a new one has a
--- link more, if it can have, and once it is done both are there. No other sector was written, and it was refused where the disk
--- failed alone.
+-- link more, if it can have, and once it is done both are there, each block lies where it was chosen, and no bitmap bit is set but
+-- those that were chosen. No other sector was written, and it was refused where the disk failed alone.
 pub record Creates {D : Type 0} {disks : Ghosts D} (start volume : Volume D disks) (outer : List (List ℕ)) (chosen : Chosen) (given : ℕ → List ℕ) (result : Result (Unit {0}) WriteFault) : Type 0 where
   pub leads : LeadsPath start volume (chosen.name ∷ outer) (Some chosen.choice.inode) (Some (thing_with chosen given)) result
   pub before : LeavesOnly (past_of start) (past_of volume) (IsRaisedBefore start outer chosen)
   pub above : IsTold (past_of start) → OnOk result (((model.parts_of (volume_view start) (now (past_of volume))).node chosen.directory).links
       ≡ links_above (kind_view start.layout.kind) chosen ((parts_now start).node chosen.directory).links)
+  pub marks : IsTold (past_of start) → OnOk result (MarksLinked (super_view start.layout) (parts_now start) (model.parts_of (volume_view start) (now (past_of volume))) chosen)
+  pub lies : IsTold (past_of start) → OnOk result (LiesAsChosen (super_view start.layout) (model.parts_of (volume_view start) (now (past_of volume))) chosen)
   pub others : IsTold (past_of start) → (d s : ℕ) → IsOffName start chosen d s → NotWritten (past_of start) (past_of volume) d s
   pub device : IsTold (past_of start) → IfErr result (λ fault. (fault ≡ Device) × Rose (faults_of start) (faults_of volume))
 

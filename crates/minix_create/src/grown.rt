@@ -52,7 +52,9 @@ fn has_room(layout: &Super, chosen: &Chosen, node: &Inode) -> bool
 {
     let kind = layout.kind;
     let place = chosen.choice.place();
-    place < most_places(kind) && place <= places(node, kind) && are_data(layout, chosen.choice.growth())
+    place < most_places(kind)
+        && place <= places(node, kind)
+        && are_data(layout, chosen.choice.growth())
 }
 
 /// Brings the place of what is chosen below the directory's size, where all before it lie there, with the zones that are
@@ -73,7 +75,13 @@ fn grow_last<D: Disks>(
     if !has_room(volume.layout(), chosen, node) {
         return Err(WriteFault::NoSpace { need: 1, found: 0 });
     }
-    match minix_grow::grow_directory(volume, chosen.directory, node, chosen.choice.place(), chosen.choice.growth()) {
+    match minix_grow::grow_directory(
+        volume,
+        chosen.directory,
+        node,
+        chosen.choice.place(),
+        chosen.choice.growth(),
+    ) {
         Ok(()) => Ok(()),
         Err(_) => Err(WriteFault::Device),
     }

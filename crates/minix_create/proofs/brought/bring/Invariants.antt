@@ -1,4 +1,4 @@
-use Rattle.std.proofs.Common.{◌≤◌, ◌+◌, Ok}
+use Rattle.std.proofs.Common.{◌≤◌, Ok}
 use Rattle.disk_trait.specs.Moments.{IsTold, IsQuiet}
 use Rattle.minix_write.specs.declared.write_fault.WriteFault.TheVariants.{Device}
 use Rattle.minix_zones.specs.Volume.{past_of, KeepsVolume}

@@ -1,11 +1,7 @@
-use Rattle.std.proofs.Common.{◌≡◌, ◌≢◌, ◌<◌, Err, Option, sym, subst, rules, arith}
-use Rattle.disk_trait.specs.Moments.{IsQuiet}
-use Rattle.disk_trait.specs.Past.{Past}
+use Rattle.std.proofs.Common.{◌≡◌, ◌<◌, Err, rules, arith}
 use Rattle.lilo_model.specs.MinixEntries.{places}
 use Rattle.minix_layout.specs.View.{kind_view, inode_view}
-use Rattle.minix_zones.proofs.WriteLemmas.{keeps_same}
 use Rattle.minix_create.proofs.GrownLemmas.{grows_unread, grows_there, not_there, may_go, grows_read}
-use Rattle.minix_create.proofs.OpenLemmas.{suits_kept}
 use Rattle.minix_create.proofs.grown.grow_chosen.Goals as goal
 use Rattle.minix_create.proofs.grown.grow_chosen.Goals.{else-place-have-via-then-place-have+else-at-ne0, else-place-have-via-else-place-have}
 
@@ -43,7 +39,7 @@ returns-clause-none g c told lies =
     let have : c.places-have.result ≡ places (kind_view old.layout.kind) (inode_view c.in_ok-at.at.node).size = rw (c.layout.ensures.value, c.place_at.ensures.same.same_layout) at c.places-have.ensures.value in
     let hole : c.args.chosen.now.choice.place < c.places-have.result → c.in_ok-at.at.zone ≡ 0 = λ low.
     elim c.else-place-have.branch [
-      else-place-have-via-then-place-have+else-at-ne0 w ↦ (let is = w.if-at-ne0.false in omega (arith, is))
+      | else-place-have-via-then-place-have+else-at-ne0 w ↦ (let is = w.if-at-ne0.false in omega (arith, is))
       | else-place-have-via-else-place-have w ↦ (let past = w.if-place-have.false in let e = c.place-place.ensures in absurd (omega (arith, past, low, e)))
     ] in
     absurd (not_there old c.place_at.new.volume c.args.chosen.now c.requires.quiet c.requires.may c.place_at.ensures.same c.place_at.ensures.later c.in_ok-at.at gives c.places-have.result have hole told lies)

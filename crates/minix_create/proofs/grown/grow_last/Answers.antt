@@ -1,4 +1,4 @@
-use Rattle.std.proofs.Common.{◌≡◌, true, rules}
+use Rattle.std.proofs.Common.{◌≡◌, true}
 use Rattle.minix_layout.specs.View.{inode_view}
 use Rattle.minix_create.specs.Grown.{HasRoom}
 use Rattle.minix_create.proofs.GrownLemmas.{last_may, last_unused, last_room, no_room, last_grown, last_failed}

@@ -1,7 +1,7 @@
 use Rattle.std.proofs.Common.{◌≡◌, Err, Option, sym, subst, rules}
 use Rattle.disk_trait.specs.Moments.{IsQuiet}
 use Rattle.disk_trait.specs.Past.{Past}
-use Rattle.lilo_model.specs.MinixLayout.{FitsInode, is_size}
+use Rattle.lilo_model.specs.MinixLayout.{FitsInode}
 use Rattle.minix_layout.specs.View.{kind_view, inode_view}
 use Rattle.minix_layout.specs.declared.superblock.Super.{Super}
 use Rattle.minix_zones.proofs.WriteLemmas.{keeps_join, keeps_same}

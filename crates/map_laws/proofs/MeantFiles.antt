@@ -67,7 +67,7 @@ module _ (volume : Volume) (image : Image) (sound : IsSound volume image) where
         (sound.parts.zone_range number (block_pointer volume.layout.kind (index / 2)) zone (record { named = named; to = to })).1
 
     -- each of the file's sectors has 512 bytes
-    sector-long : (index : ℕ) → length (sector_bytes volume image number index) ≡ 512
+    pub sector-long : (index : ℕ) → length (sector_bytes volume image number index) ≡ 512
     unfolding IsSound
     sector-long index = by-zone (zone_number volume.layout parts number (index / 2)) (zone_number volume.layout parts number (index / 2) == 0) refl refl
       where

@@ -1,2 +1,17 @@
 pub mod CheckLemmas
+pub mod DeviceLemmas
 pub mod FileLemmas
+pub mod FilesLemmas
+pub mod FitLemmas
+pub mod HeldLemmas
+pub mod KernelLemmas
+pub mod KindLemmas
+pub mod MiddleLemmas
+pub mod NamesLemmas
+pub mod PassLemmas
+pub mod PlannedLemmas
+pub mod SectionLemmas
+pub mod SoundLemmas
+pub mod StartLemmas
+pub mod TurnLemmas
+pub mod WholeLemmas

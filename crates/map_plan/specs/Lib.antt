@@ -1,3 +1,10 @@
+pub mod Devices
 pub mod Files
+pub mod Middle
 pub mod Named
+pub mod Names
+pub mod Sections
+pub mod Sound
+pub mod Starts
 pub mod View
+pub mod Whole

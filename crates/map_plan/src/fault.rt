@@ -6,6 +6,7 @@ ghost use Rattle.lilo_model.specs.MinixFind as model;
 ghost use Rattle.lilo_model.specs.PlanRefusal.{path_fault};
 ghost use Rattle.minix_tree.specs.View as trees;
 ghost use Rattle.minix_tree.specs.View.{HasFileCause};
+ghost use Rattle.map_plan.specs.Starts.{FileStart};
 ghost use Rattle.map_plan.specs.View.{Refuses, HasPlanCause};
 
 use conf_settings::Opt;
@@ -51,6 +52,7 @@ pub enum PlanFault {
 // How a path's refusal is reported.
 pub(crate) fn path_fault(alloc: Global, path: &[u8], fault: TreeFault) -> PlanFault
     ensures fault { (found : Result MappedFile model.TreeFault) → trees.Refuses fault found → Refuses result (with_fault (path_fault path.now) found) }
+    ensures start { (found : Result FileStart model.TreeFault) → trees.Refuses fault found → Refuses result (with_fault (path_fault path.now) found) }
     ensures cause { (before now : ℕ) → HasFileCause before now fault → HasPlanCause before now result }
 {
     match fault {

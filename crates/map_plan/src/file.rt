@@ -98,7 +98,7 @@ fn without_kernel(section: &Section, fault: PlanFault) -> Result<Option<KernelFi
 }
 
 // The file of a path that may be absent; an empty file isn't mapped.
-fn map_optional<D: Disks>(
+pub(crate) fn map_optional<D: Disks>(
     alloc: Global,
     volume: &mut Volume<'_, D>,
     path: &Option<Text>,

@@ -3,13 +3,30 @@
 #![tactic(auto)]
 
 mod check;
+mod copy;
+mod device;
 mod fault;
 mod file;
+mod files;
+mod held;
 mod laws;
+mod middle;
+mod names;
+mod section;
+mod start;
 #[cfg(test)]
 mod tests;
 
 pub use check::{check_geometry, check_map_places, check_mapped_file, check_message};
+pub use device::{SystemSectors, map_device, map_system};
 pub use fault::PlanFault;
 pub use file::{KernelFiles, map_kernel, map_path};
-pub use laws::{kernels_are_planned, optional_paths_are_planned, paths_are_planned};
+pub use files::{BootCode, PlanFiles, find_files};
+pub use held::{check_disks, check_kernel, check_sections, check_system};
+pub use laws::{
+    a_plan_is_its_files, a_section_is_planned, code_is_planned, headers_are_checked,
+    kernels_are_planned, optional_paths_are_planned, paths_are_planned, sections_are_planned,
+    systems_are_planned,
+};
+pub use names::NameList;
+pub use section::{PlannedSection, PlannedSections, SectionFiles, map_sections};

@@ -11,7 +11,8 @@ use Rattle.disk_trait.proofs.NotWrittenLemmas.{not_written_none}
 use Rattle.lilo_model.specs.MinixLayout.{reach, zone_sector}
 use Rattle.lilo_model.specs.MinixNames.{reached, PointsTo}
 use Rattle.lilo_model.specs.MinixParts.{Parts, Pointer, blocks_for}
-use Rattle.minix_create.proofs.LinkLemmas.{rose_later, unseen_refused}
+use Rattle.minix_create.proofs.BroughtLemmas.{rises}
+use Rattle.minix_create.proofs.EnterLemmas.{unseen_refused}
 use Rattle.minix_free.proofs.FileLemmas.{off_file_kept}
 use Rattle.minix_entry_laws.specs.Only.{zone_of_entry}
 use Rattle.minix_layout.specs.View.{super_view, inode_view}
@@ -159,4 +160,4 @@ module _ {D : Type 0} {disks : Ghosts D} (start mid : Volume D disks) (directory
     pub removes_failed : (new : Volume D disks) (fault : ZoneFault) → Takes mid new directory name target (Err fault) → Removes start new directory name (Err (zone_refusal fault))
     removes_failed new fault takes = removes-so new (Err fault) (Err (zone_refusal fault)) (λ P p. tt) takes (λ told.
         let device = takes.device (told_then start mid same told) in
-        inl (ap zone_refusal device.0, rose_later (faults_of start) (faults_of mid) (faults_of new) later device.1))
+        inl (ap zone_refusal device.0, rises (faults_of start) (faults_of mid) (faults_of new) later device.1))

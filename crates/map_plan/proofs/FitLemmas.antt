@@ -1,9 +1,8 @@
 -- What a plan asks of a kernel is what a layout of memory asks, but for the memory's size.
 use Rattle.std.proofs.Common.{◌≡◌, ℕ, Bool, true, false, Option, Some, None, if◌then◌else◌, Result, Ok, Err, refl, sym, ap, subst, ◌∙◌}
-use Rattle.std.specs.Prelude.{nat_le, not, ◌||◌}
 use Rattle.lilo_model.specs.Checks.{◌>>=◌, require}
 use Rattle.map_plan.specs.Starts.{is_room}
-use Rattle.lilo_model.specs.Header.{Header, Region, Layout, SetupFault, TooShort, NoBootFlag, SetupTooLarge, LowTooLarge, NoInitrd, NoRoom, LineTooLong, fit_checks, plan_memory, initrd_region}
+use Rattle.lilo_model.specs.Header.{Header, Region, Layout, SetupFault, LowTooLarge, NoInitrd, NoRoom, LineTooLong, fit_checks, plan_memory, initrd_region}
 
 -- what is asked of the initrd's place is the memory's size alone
 region-room : (header : Header) (len memory : ℕ) (initrd : Option ℕ) (fault : SetupFault) → initrd_region header len memory initrd ≡ Err fault → is_room fault ≡ true

@@ -1,5 +1,5 @@
 -- What is held of sections, by their kinds.
-use Rattle.std.proofs.Common.{◌≡◌, ◌<◌, ◌≤◌, ℕ, ◌^◌, ◌==◌, Bool, true, false, if◌then◌else◌, List, [], ◌∷◌, ◌+◌, length, take, Option, Some, None, Result, Ok, Err, refl, sym, ap, subst, ◌∙◌, arith, rules}
+use Rattle.std.proofs.Common.{◌≡◌, ◌<◌, ◌≤◌, ℕ, ◌^◌, ◌==◌, Bool, true, false, List, [], ◌∷◌, ◌+◌, length, take, Option, Some, None, Result, Ok, Err, refl, sym, ap, subst, ◌∙◌, arith, rules}
 use Rattle.std.specs.Prelude.{IsSome, is_some, not, ◌&&◌, All, slice_index_or}
 use Rattle.std.specs.Option.{option_map}
 use Rattle.disk_trait.specs.Past.{Past, Told, now_of}
@@ -18,7 +18,7 @@ use Rattle.lilo_model.specs.Header.{SetupFault}
 use Rattle.lilo_model.specs.Meant.{middle_text}
 use Rattle.lilo_model.specs.MinixParts.{Volume, parts_of}
 use Rattle.lilo_model.specs.MinixNames.{names_in, IsSound}
-use Rattle.lilo_model.specs.Plan.{MappedFile, MappedSection, kept_middle}
+use Rattle.lilo_model.specs.Plan.{MappedFile, MappedSection}
 use Rattle.lilo_model.specs.PlanRefusal as model
 use Rattle.lilo_model.specs.PlanRefusal.{Header, each_passes, system_check, kernel_check, mapped_check}
 use Rattle.lilo_conf.specs.View.{section_view}
@@ -92,7 +92,7 @@ module _ (sizes : ℕ → ℕ) (planned : PlannedSection) (fits : FitsSection si
     kind-of : FitsKind sizes planned.section (Kernel files)
     kind-of = subst (FitsKind sizes planned.section) is fits.kind
 
-    other-none : section.other ≡ None
+    pub other-none : section.other ≡ None
     other-none = rw kind-of.0 refl
 
     pub kernel-middle : planned.middle ≡ middle_text section

@@ -1,5 +1,5 @@
 -- A kernel's section whose kernel is refused is omitted, or refused.
-use Rattle.std.proofs.Common.{◌≡◌, ℕ, Bool, true, false, List, [], ◌∷◌, Option, Result, Ok, Err, sym, ◌∙◌}
+use Rattle.std.proofs.Common.{◌≡◌, Bool, true, false, List, [], ◌∷◌, Option, Result, Ok, Err}
 use Rattle.lilo_model.specs.Conf.{ConfSection}
 use Rattle.lilo_model.specs.Plan.{MappedFile, MappedSection}
 use Rattle.lilo_model.specs.PlanRefusal as model

@@ -1,11 +1,10 @@
 -- A section by its kind.
-use Rattle.std.proofs.Common.{◌≡◌, List, Option, Some, None, Result, Ok, Err, ap}
+use Rattle.std.proofs.Common.{◌≡◌, Some, None, Ok, ap}
 use Rattle.lilo_model.specs.Checks.{◌>>=◌}
 use Rattle.lilo_model.specs.Disks.{Image, Machine}
 use Rattle.lilo_model.specs.Devices.{Device}
 use Rattle.lilo_model.specs.Conf.{ConfSection}
 use Rattle.lilo_model.specs.MinixParts.{Volume, parts_of}
-use Rattle.lilo_model.specs.Plan.{MappedSection}
 use Rattle.map_plan.specs.Devices.{system_planned, system_section}
 use Rattle.map_plan.specs.Files.{kernel_planned}
 use Rattle.map_plan.specs.Sections.{planned_by, section_planned}

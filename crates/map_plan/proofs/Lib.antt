@@ -1,3 +1,4 @@
+pub mod AddressLemmas
 pub mod CheckLemmas
 pub mod DeviceLemmas
 pub mod FileLemmas
@@ -9,6 +10,7 @@ pub mod KindLemmas
 pub mod MiddleLemmas
 pub mod NamesLemmas
 pub mod PassLemmas
+pub mod PlanLemmas
 pub mod PlannedLemmas
 pub mod SectionLemmas
 pub mod SoundLemmas

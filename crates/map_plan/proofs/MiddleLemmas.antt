@@ -1,6 +1,6 @@
 -- The middle of a command line is short.
-use Rattle.std.proofs.Common.{◌≡◌, ◌<◌, ◌≤◌, ℕ, zero, suc, ◌+◌, ◌^◌, ◌/◌, ◌%◌, ◌==◌, Bool, true, false, if◌then◌else◌, List, [], ◌∷◌, ◌++◌, length, Option, Some, None, arith, length-append}
-use Rattle.std.specs.Prelude.{IfSome, unwrap_or, codes}
+use Rattle.std.proofs.Common.{◌<◌, ◌≤◌, ℕ, zero, suc, ◌+◌, ◌^◌, ◌/◌, ◌%◌, ◌==◌, Bool, true, false, if◌then◌else◌, List, [], ◌∷◌, ◌++◌, length, Option, Some, None, arith, length-append}
+use Rattle.std.specs.Prelude.{IfSome, unwrap_or}
 use Rattle.lilo_model.specs.Bytes.{hex_digit}
 use Rattle.lilo_model.specs.Conf.{ConfSection, Mount, Unsaid, ReadOnlyMount, ReadWriteMount}
 use Rattle.lilo_model.specs.ConfLawful.{IsImageSection, IsLineText}

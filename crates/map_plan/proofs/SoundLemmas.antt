@@ -1,15 +1,14 @@
 -- Facts on what a volume's disks hold, carried over calls that change none of them.
-use Rattle.std.proofs.Common.{◌≡◌, Option, None, Some, Result, Ok, Err, refl, sym, ap, subst}
+use Rattle.std.proofs.Common.{◌≡◌, Option, None, Some, Result, refl, subst}
 use Rattle.disk_trait.specs.declared.disks.Disks.{Ghosts}
 use Rattle.disk_trait.specs.Past.{Past, Told, now_of}
-use Rattle.sector_address.specs.Machine.{machine_with}
-use Rattle.lilo_model.specs.Checks.{◌>>=◌, with_fault}
+use Rattle.lilo_model.specs.Checks.{◌>>=◌}
 use Rattle.lilo_model.specs.Disks.{Image, Machine}
 use Rattle.lilo_model.specs.MinixNames.{IsSound}
 use Rattle.lilo_model.specs.MinixParts as model
 use Rattle.lilo_model.specs.PlanRefusal as plan
 use Rattle.minix_zones.specs.declared.volume.Volume.{Volume}
-use Rattle.minix_zones.specs.Volume.{volume_view, past_of, sizes_of, geometries_of, SameVolume}
+use Rattle.minix_zones.specs.Volume.{volume_view, past_of, SameVolume}
 use Rattle.minix_zones.proofs.SameLemmas.{same_view}
 use Rattle.map_plan.specs.declared.fault.PlanFault.{PlanFault}
 use Rattle.map_plan.specs.Sound.{machine_for, OnVolume, OnSound}

@@ -1,30 +1,28 @@
 -- The start of a file on a sound volume, and what is asked of it.
-use Rattle.std.proofs.Common.{◌≡◌, ◌≤◌, ℕ, zero, suc, ◌+◌, ◌*◌, ◌-◌, ◌/◌, Bool, true, false, List, [], ◌∷◌, ◌++◌, length, take, drop, Option, Some, None, Result, Ok, Err, refl, sym, ap, subst, if◌then◌else◌, ◌∙◌, arith, length-append}
-use Rattle.std.specs.Prelude.{min, unwrap_or, codes}
+use Rattle.std.proofs.Common.{◌≡◌, ◌≤◌, ℕ, zero, suc, ◌-◌, ◌/◌, Bool, true, false, List, [], ◌∷◌, length, take, Option, Some, None, Result, Ok, Err, refl, sym, ap, subst, if◌then◌else◌, ◌∙◌, arith, length-append}
+use Rattle.std.specs.Prelude.{min, unwrap_or}
 use Rattle.std.specs.Option.{option_map, option_and_then}
-use Rattle.std.specs.Result.{result_ok}
 use Rattle.std.proofs.Math.Seq.{take-nil}
-use Rattle.std.proofs.lemmas.List.{take-append-le, take-take, take_min, length-take, length-take-le}
-use Rattle.lilo_model.specs.Bytes.{filled_bytes}
+use Rattle.std.proofs.lemmas.List.{take-append-le, take-take, take_min, length-take}
 use Rattle.lilo_model.specs.Checks.{◌>>=◌, require, with_fault}
 use Rattle.lilo_model.specs.Disks.{Image}
 use Rattle.lilo_model.specs.Conf.{ConfSection}
 use Rattle.lilo_model.specs.ConfLawful.{names_of_section}
 use Rattle.lilo_model.specs.Header.{SetupFault, header_at, fit_checks}
 use Rattle.lilo_model.specs.MinixLayout.{Inode}
-use Rattle.lilo_model.specs.MinixParts.{Volume, Parts, parts_of, is_file, is_link, is_directory, has_zones, block_at, blocks_for}
+use Rattle.lilo_model.specs.MinixParts.{Volume, Parts, parts_of, is_file, is_link, is_directory, blocks_for}
 use Rattle.lilo_model.specs.MinixNames.{block, blocks, content, names_in, Named, IsSound}
 use Rattle.lilo_model.specs.MinixFind.{TreeFault, NotFile, find, file_block, first_of_block, bytes_in_block}
 use Rattle.lilo_model.specs.Meant.{file_of, filled_file, middle_text}
 use Rattle.lilo_model.specs.Place.{first_two, command_line, kernel_fit}
 use Rattle.lilo_model.specs.Plan.{MappedFile, MappedSection}
 use Rattle.lilo_model.specs.Planned.{code_in, file_inode, mapped_inode, optional_file, kernel_section}
-use Rattle.lilo_model.specs.PlanRefusal.{PlanFault, Header, Tree, path_fault, file_check, if_there, each_passes, kernel_check, name_check}
+use Rattle.lilo_model.specs.PlanRefusal.{PlanFault, Header, Tree, path_fault, file_check, each_passes, kernel_check, name_check}
 use Rattle.minix_laws.proofs.Inside.{sound_law}
-use Rattle.map_laws.proofs.FileAgain.{sectors_to, blocks-sectors, length-sectors}
+use Rattle.map_laws.proofs.FileAgain.{blocks-sectors, length-sectors}
 use Rattle.map_laws.proofs.MeantFiles.{zones-of, file-both, length-content, sector-long, inode-named, optional_file_law}
 use Rattle.map_plan.specs.Files.{file_planned, optional_planned, kernel_by, kernel_planned, passed}
-use Rattle.map_plan.specs.Starts.{FileStart, block_start, start_found, start_planned, code_planned, IsCodePlan, CodePlanLaw, fit_by, line_size, names_fit, HeaderLaw}
+use Rattle.map_plan.specs.Starts.{FileStart, block_start, start_found, start_planned, code_planned, CodePlanLaw, fit_by, line_size, names_fit, HeaderLaw}
 use Rattle.map_plan.proofs.FileLemmas.{kernel_plan_law}
 use Rattle.map_plan.proofs.KernelLemmas.{kernel-none}
 use Rattle.map_plan.proofs.SoundLemmas.{refused_first}

@@ -1,14 +1,12 @@
 -- A plan is its files, where what is held of them and their addresses are accepted.
-use Rattle.std.proofs.Common.{◌≡◌, ℕ, List, Option, Some, None, Result, Ok, Err, refl, sym, ap, ◌∙◌}
+use Rattle.std.proofs.Common.{◌≡◌, ℕ, List, Option, Result, Ok, Err, refl}
 use Rattle.std.specs.Prelude.{flat_map}
 use Rattle.lilo_model.specs.Checks.{◌>>=◌}
-use Rattle.lilo_model.specs.Disks.{Image, Machine, Span}
 use Rattle.lilo_model.specs.Conf.{Config}
-use Rattle.lilo_model.specs.MinixParts.{Volume, parts_of}
-use Rattle.lilo_model.specs.MinixNames.{IsSound}
+use Rattle.lilo_model.specs.MinixParts.{parts_of}
 use Rattle.lilo_model.specs.Plan.{MappedFile, MappedSection, Plan}
 use Rattle.lilo_model.specs.Planned.{mapped_section, code_in, optional_file, planned}
-use Rattle.lilo_model.specs.PlanRefusal.{PlanFault, if_there, file_check, each_passes, section_check, default_check, left_check, file_checks, held_checks, address_checks, plan_at}
+use Rattle.lilo_model.specs.PlanRefusal.{PlanFault, default_check, left_check, file_checks, held_checks, address_checks, plan_at}
 use Rattle.map_plan.specs.Files.{passed, optional_planned}
 use Rattle.map_plan.specs.Sections.{sections_planned}
 use Rattle.map_plan.specs.Starts.{code_planned}

@@ -8,6 +8,7 @@ use Rattle.sector_address.specs.View.{mode_view}
 use Rattle.slot_lists.specs.declared.runs.Run.{Run}
 use Rattle.slot_lists.specs.Runs.{places_in}
 use Rattle.run_sections.specs.declared.section.Naming.{Naming}
+use Rattle.map_plan.specs.declared.address.MapNaming.{MapNaming}
 
 -- a configuration names sectors so
 pub record NamesBy (naming : Naming) (config : Config) : Type 0 where
@@ -17,6 +18,11 @@ pub record NamesBy (naming : Naming) (config : Config) : Type 0 where
 -- a file of some bytes with these runs
 abbrev pub file_of_runs : ℕ → List Run → MappedFile
 file_of_runs size runs = record { size = size; places = places_in runs }
+
+-- a configuration names the sectors of a map so
+pub record NamesAs (naming : MapNaming) (config : Config) : Type 0 where
+  pub mode : config.mode ≡ mode_view naming.mode
+  pub compact : config.compact ≡ naming.compact
 
 -- a file's sectors lie on this disk
 abbrev pub LiesOnDisk : ℕ → MappedFile → Type 0

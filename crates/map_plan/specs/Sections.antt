@@ -1,5 +1,5 @@
 -- How sections are mapped on a sound volume, or why they are refused.
-use Rattle.std.specs.Prelude.{◌≡◌, ◌≤◌, ◌<◌, ℕ, List, [], ◌∷◌, ◌++◌, map, flat_map, All, IfSome, IsSome, Option, Some, None, Result, Ok}
+use Rattle.std.specs.Prelude.{◌≡◌, ℕ, List, [], ◌∷◌, ◌++◌, map, flat_map, IsSome, Option, Some, None, Result, Ok}
 use Rattle.std.specs.Option.{option_map}
 use Rattle.lilo_model.specs.Checks.{◌>>=◌}
 use Rattle.lilo_model.specs.Disks.{Image, Machine}
@@ -7,7 +7,6 @@ use Rattle.lilo_model.specs.Devices.{Device}
 use Rattle.lilo_model.specs.Conf.{ConfSection}
 use Rattle.lilo_model.specs.ConfLawful.{IsLawfulSection}
 use Rattle.lilo_model.specs.MinixParts.{Volume, parts_of}
-use Rattle.lilo_model.specs.Meant.{middle_text}
 use Rattle.lilo_model.specs.Plan.{MappedFile, MappedSection, kept_middle}
 use Rattle.lilo_model.specs.Planned.{mapped_section}
 use Rattle.lilo_model.specs.PlanRefusal.{PlanFault, section_check, each_passes}

@@ -9,7 +9,7 @@ use Rattle.lilo_model.specs.MinixNames.{content, names_in, IsSound}
 use Rattle.lilo_model.specs.MinixFind.{TreeFault, NotFile, find}
 use Rattle.lilo_model.specs.Header.{SetupFault, TooShort, NoBootFlag, SetupTooLarge, LowTooLarge, NoInitrd, NoRoom, LineTooLong, header_at, fit_checks}
 use Rattle.lilo_model.specs.Place.{first_two}
-use Rattle.lilo_model.specs.Plan.{MappedFile, MappedSection}
+use Rattle.lilo_model.specs.Plan.{MappedSection}
 use Rattle.lilo_model.specs.Planned.{code_in}
 use Rattle.lilo_model.specs.PlanRefusal.{PlanFault, Header, path_fault, each_passes, kernel_check, if_there, file_check}
 use Rattle.lilo_model.specs.Conf.{ConfSection}

@@ -1,5 +1,5 @@
 -- The plan as a whole: its files, what is held of them, and their addresses.
-use Rattle.std.specs.Prelude.{◌≡◌, ◌≤◌, ℕ, List, All, IfSome, take, unwrap_or, Option, Some, None, Result, Ok}
+use Rattle.std.specs.Prelude.{◌≡◌, ◌≤◌, ℕ, List, All, IfSome, take, Result, Ok}
 use Rattle.std.specs.Option.{option_map}
 use Rattle.lilo_model.specs.Checks.{◌>>=◌}
 use Rattle.lilo_model.specs.Disks.{Image, Machine, Span}
@@ -7,11 +7,11 @@ use Rattle.lilo_model.specs.Conf.{Config}
 use Rattle.lilo_model.specs.MinixParts.{Volume, parts_of}
 use Rattle.lilo_model.specs.MinixNames.{IsSound}
 use Rattle.lilo_model.specs.Plan.{Plan}
-use Rattle.lilo_model.specs.Planned.{planned}
 use Rattle.lilo_model.specs.PlanRefusal.{PlanFault, default_check, left_check, held_checks, address_checks, plan_at}
 use Rattle.file_runs.specs.Mapped.{file_view}
 use Rattle.map_plan.specs.declared.files.BootCode.{BootCode}
 use Rattle.map_plan.specs.declared.files.PlanFiles.{PlanFiles}
+use Rattle.map_plan.specs.declared.whole.MapPlan.{MapPlan}
 use Rattle.map_plan.specs.Files.{optional_planned, HasFewPlaces, HasRuns}
 use Rattle.map_plan.specs.Sections.{sections_planned, planned_views, FitsSection}
 use Rattle.map_plan.specs.Starts.{code_planned}
@@ -51,6 +51,9 @@ files_view config time files = record {
   message = option_map file_view files.message;
   sections = planned_views files.sections.items;
 }
+
+abbrev pub plan_view : Config → MapPlan → Plan
+plan_view config map = files_view config map.time map.files
 
 -- what is mapped is of its sections' kinds, and its sectors are there
 pub record FitsFiles (sizes : ℕ → ℕ) (files : PlanFiles) : Type 0 where

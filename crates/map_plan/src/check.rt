@@ -1,5 +1,5 @@
 // Checks that read no disk.
-ghost use Rattle.std.specs.Prelude.{◌≡◌, ◌≤◌, ◌<◌, ◌^◌, ℕ, All, List, map, length};
+ghost use Rattle.std.specs.Prelude.{◌≡◌, ◌≤◌, ◌<◌, ◌^◌, ℕ, All, IfErr, List, map, length};
 ghost use Rattle.std.specs.List.{AllByRecursion};
 ghost use Rattle.lilo_model.specs.Conf as model;
 ghost use Rattle.lilo_model.specs.Disks.{Machine};
@@ -11,7 +11,7 @@ ghost use Rattle.slot_lists.specs.Made.{place_view};
 ghost use Rattle.slot_lists.specs.Runs.{IsRun, places_in};
 ghost use Rattle.run_sections.specs.Counted.{LiesOn};
 ghost use Rattle.map_plan.specs.Named.{NamesBy, file_of_runs};
-ghost use Rattle.map_plan.specs.View.{Decides};
+ghost use Rattle.map_plan.specs.View.{Decides, HasPlanCause};
 
 use crate::fault::PlanFault;
 use conf_settings::Opt;
@@ -58,9 +58,10 @@ pub fn check_message(size: u32) -> Result<(), PlanFault>
 pub fn check_mapped_file(naming: Naming, option: Opt, runs: &RunList) -> Result<(), PlanFault>
     requires runs { All IsRun runs.now }
     requires room { length (places_in runs.now) < 2 ^ 32 }
-    ensures { (config : model.Config) (machine : Machine) (size : ℕ) → NamesBy naming config
+    ensures decided { (config : model.Config) (machine : Machine) (size : ℕ) → NamesBy naming config
         → LiesOn machine (geometry_view naming.geometry) (file_of_runs size runs.now)
         → Decides result (mapped_file_check config machine (opt_view option) (file_of_runs size runs.now)) }
+    ensures cause { (before now : ℕ) → IfErr result (HasPlanCause before now) }
 {
     match count_slots(naming, runs) {
         Ok(count) => {

@@ -1,5 +1,5 @@
 -- The check of slots is the check of the map's own places.
-use Rattle.std.proofs.Common.{◌≡◌, Ok, Err, Some, sym, ap, ◌∙◌, map}
+use Rattle.std.proofs.Common.{Ok, Err, Some, sym, ap, ◌∙◌, map}
 use Rattle.sector_address.specs.View.{geometry_view, address_fault_view}
 use Rattle.slot_lists.specs.Made.{place_view, places_check}
 use Rattle.map_plan.proofs.CheckLemmas.{places-are}

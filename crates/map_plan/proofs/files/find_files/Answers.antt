@@ -1,9 +1,7 @@
 -- The first refusal is that of the files.
-use Rattle.std.proofs.Common.{◌≡◌, ℕ, List, Option, Ok, Err, rules, sym, subst, ap, ◌∙◌}
+use Rattle.std.proofs.Common.{◌≡◌, ℕ, List, Ok, Err, rules, subst, ap, ◌∙◌}
 use Rattle.std.specs.Option.{option_map}
-use Rattle.disk_trait.specs.Past.{Told}
 use Rattle.lilo_model.specs.MinixParts.{parts_of}
-use Rattle.lilo_model.specs.MinixNames.{IsSound}
 use Rattle.lilo_model.specs.PlanRefusal.{left_check}
 use Rattle.lilo_conf.specs.declared.section.Section.{Section}
 use Rattle.lilo_conf.specs.View.{config_view, sections_view}

@@ -1,5 +1,5 @@
 -- The code is the first sector of its file.
-use Rattle.std.proofs.Common.{◌≡◌, ℕ, List, Option, Some, Ok, sym, subst}
+use Rattle.std.proofs.Common.{◌≡◌, ℕ, List, Option, Ok, sym, subst}
 use Rattle.disk_trait.specs.Past.{Told}
 use Rattle.lilo_model.specs.MinixParts.{parts_of}
 use Rattle.lilo_model.specs.MinixNames.{IsSound}

@@ -1,5 +1,5 @@
 -- What a layout refuses, but for the memory's size, is what is refused.
-use Rattle.std.proofs.Common.{◌≡◌, false, true, Ok, Err, Result, refl, sym, ap, ◌∙◌, rules}
+use Rattle.std.proofs.Common.{◌≡◌, Err, Result, refl, sym, ap, ◌∙◌, rules}
 use Rattle.lilo_model.specs.Checks.{◌>>=◌}
 use Rattle.lilo_model.specs.Header.{Header, SetupFault, fit_checks}
 use Rattle.setup_header.specs.View.{header_view, layout_view, setup_fault_view}

@@ -1,5 +1,5 @@
 -- A kernel is asked by its first bytes.
-use Rattle.std.proofs.Common.{◌≡◌, ℕ, List, Ok, Err, Some, sym, subst, refl, rules}
+use Rattle.std.proofs.Common.{◌≡◌, ℕ, List, Ok, Err, sym, subst, rules}
 use Rattle.std.specs.Option.{option_map}
 use Rattle.disk_trait.specs.Past.{Told}
 use Rattle.lilo_model.specs.MinixNames.{names_in, IsSound}

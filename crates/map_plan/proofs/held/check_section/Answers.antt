@@ -1,5 +1,5 @@
 -- A section by its kind.
-use Rattle.std.proofs.Common.{◌≡◌, List, ℕ, Ok, Err, Some, sym, subst}
+use Rattle.std.proofs.Common.{◌≡◌, List, ℕ, Ok, Some, sym, subst}
 use Rattle.lilo_model.specs.MinixNames.{names_in, IsSound}
 use Rattle.lilo_model.specs.MinixParts.{parts_of}
 use Rattle.lilo_model.specs.PlanRefusal.{kernel_check, mapped_check, system_check}

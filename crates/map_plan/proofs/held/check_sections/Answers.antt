@@ -1,6 +1,5 @@
 -- Section by section.
 use Rattle.std.proofs.Common.{◌≡◌, ℕ, Ok, Err, rules, sym, subst, arith}
-use Rattle.std.specs.Prelude.{All}
 use Rattle.lilo_model.specs.PlanRefusal.{mapped_check}
 use Rattle.mbr_table.specs.View.{span_view}
 use Rattle.minix_zones.specs.Volume.{volume_view, past_of}

@@ -1,5 +1,5 @@
 -- The boot device first, then the signature.
-use Rattle.std.proofs.Common.{◌≡◌, Err, sym, subst, refl, ap, ◌∙◌, rules}
+use Rattle.std.proofs.Common.{◌≡◌, sym, subst, ap, ◌∙◌}
 use Rattle.std.specs.Option.{option_map}
 use Rattle.lilo_model.specs.BootSector.{is_bootable}
 use Rattle.lilo_model.specs.Checks.{require}

@@ -1,5 +1,5 @@
 -- Four digits suffice.
-use Rattle.std.proofs.Common.{◌≡◌, ◌++◌, ap, ◌∙◌, arith, append_assoc}
+use Rattle.std.proofs.Common.{◌++◌, ap, ◌∙◌, arith, append_assoc}
 use Rattle.std.specs.Prelude.{codes}
 use Rattle.lilo_model.specs.Meant.{hex_digits}
 use Rattle.map_plan.proofs.middle.add_number.Goals as goal

@@ -1,5 +1,5 @@
 -- Section by section.
-use Rattle.std.proofs.Common.{◌≡◌, ◌++◌, sym, ap, ◌∙◌}
+use Rattle.std.proofs.Common.{◌++◌, sym, ap, ◌∙◌}
 use Rattle.lilo_model.specs.ConfLawful.{names_of_section}
 use Rattle.lilo_conf.specs.View.{section_view}
 use Rattle.map_plan.proofs.NamesLemmas.{names-more, names-all}

@@ -1,5 +1,5 @@
 -- A section is added, or its path is.
-use Rattle.std.proofs.Common.{◌≡◌, List, [], ◌∷◌, ◌++◌, Option, Some, None, Result, Ok, Err, subst}
+use Rattle.std.proofs.Common.{◌≡◌, List, [], ◌∷◌, ◌++◌, Option, Result, Ok, Err, subst}
 use Rattle.std.specs.Prelude.{All, IfSome, OnOk}
 use Rattle.std.proofs.lemmas.List.Elements.{All-same, All-push}
 use Rattle.lilo_conf.specs.View.{section_view}

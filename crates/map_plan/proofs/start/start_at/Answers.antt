@@ -1,5 +1,5 @@
 -- What was read of the first block is the file's start.
-use Rattle.std.proofs.Common.{◌≡◌, Ok, Err, rules, take, ◌∙◌}
+use Rattle.std.proofs.Common.{◌≡◌, Ok, Err, rules, take}
 use Rattle.lilo_model.specs.MinixParts.{parts_of}
 use Rattle.lilo_model.specs.MinixFind.{file_block}
 use Rattle.minix_layout.specs.View.{inode_view}

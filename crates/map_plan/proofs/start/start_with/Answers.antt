@@ -1,8 +1,8 @@
 -- The two sectors of a block are its bytes.
-use Rattle.std.proofs.Common.{◌≡◌, ◌++◌, ◌-◌, ℕ, List, length, take, drop, replicate, refl, sym, ap, ◌∙◌, arith, length-drop, length-take}
+use Rattle.std.proofs.Common.{◌≡◌, ◌++◌, ◌-◌, ℕ, List, length, take, drop, replicate, sym, ap, ◌∙◌, arith, length-drop, length-take}
 use Rattle.std.proofs.lemmas.List.{take-append-drop, take_all}
 use Rattle.lilo_model.specs.Bytes.{part_of}
-use Rattle.map_plan.specs.Starts.{FileStart, start_view, block_start}
+use Rattle.map_plan.specs.Starts.{FileStart}
 use Rattle.map_plan.proofs.start.start_with.Goals as goal
 
 halves : (bytes : List ℕ) → length bytes ≡ 1024 → part_of bytes 0 512 ++ part_of bytes 512 512 ≡ bytes

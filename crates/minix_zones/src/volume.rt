@@ -32,13 +32,13 @@ impl<'d, D: Disks> Volume<'d, D> {
     ghost use Rattle.std.specs.Prelude.{◌≡◌, ◌≢◌, ◌+◌, ◌≤◌, ◌<◌, ℕ, OnOk, OnErr, IfOk, IsErrOf};
     ghost use Rattle.std.specs.Fn.{FnOnceReturnsAtMut};
     ghost use Rattle.disk_trait.specs.Past.{Told};
-    ghost use Rattle.disk_trait.specs.Calls.{SameOf};
+    ghost use Rattle.disk_trait.specs.Calls.{EndsWithFlush, HasCauseOf, SameOf, Writes};
     ghost use Rattle.lilo_model.specs.Faults.{Rose};
     ghost use Rattle.lilo_model.specs.MinixLayout.{IsSuper, super_at, super_sector};
     ghost use Rattle.lilo_model.specs.MinixParts.{volume_at, sector_of, parts_of};
     ghost use Rattle.minix_layout.specs.View.{super_view};
     ghost use Rattle.minix_zones.specs.View.{span_view, Gives};
-    ghost use Rattle.minix_zones.specs.Volume.{volume_view, past_of, faults_of, SameVolume, HasDeviceCause, WritesSector, Syncs, attached, disks_in};
+    ghost use Rattle.minix_zones.specs.Volume.{volume_view, past_of, faults_of, KeepsVolume, SameVolume, HasDeviceCause, WritesSector, Syncs, attached, disks_in};
 
     /// Reads the superblock of the volume in a span of a disk, and takes the disks.
     ///
@@ -198,6 +198,23 @@ impl<'d, D: Disks> Volume<'d, D> {
             Ok(()) => Ok(()),
             Err(_) => Err(ZoneFault::Device),
         }
+    }
+
+    /// Writes a sector of any disk, which may lie outside the volume, and makes it durable with all writes before it, as
+    /// `disk_trait::write_and_flush` does. Where it is the superblock's, the volume goes on with the one that it read.
+    ///
+    /// # Errors
+    ///
+    /// `OutOfRange` exactly where there is no such disk or sector, and then nothing is written; `Failed`.
+    pub fn write_durably(&mut self, disk: u8, sector: u64, from: &Sector) -> Result<(), DiskFault>
+        ensures cause { HasCauseOf D.Disks self.old.disks.now self.new.disks.now disk sector result }
+        ensures out_of_range { IsErrOf result DiskFault.OutOfRange → past_of self.new ≡ past_of self.old }
+        ensures writes { Writes D.Disks self.old.disks.now self.new.disks.now disk sector from.now result }
+        ensures flushed { EndsWithFlush D.Disks self.old.disks.now self.new.disks.now result }
+        ensures kept { KeepsVolume self.old self.new }
+    {
+        self.holds = false;
+        disk_trait::write_and_flush(self.disks, disk, sector, from)
     }
 
     /// Reads the 1024 bytes of a zone. A refusal leaves `into` as it was.

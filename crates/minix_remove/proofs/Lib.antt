@@ -3,3 +3,7 @@ pub mod TargetLemmas
 pub mod ReleaseLemmas
 pub mod TakeLemmas
 pub mod RemoveLemmas
+pub mod MoveLemmas
+pub mod RenamedLemmas
+pub mod OverLemmas
+pub mod RenameLemmas

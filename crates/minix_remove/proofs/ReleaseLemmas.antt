@@ -100,20 +100,51 @@ module _ (volume : model.Volume) (old : Image) (is : IsSuper volume.layout volum
 
 -- ---- a turn of it
 
+-- the links of an inode change, whether it has a name or not
+module _ {D : Type 0} {disks : Ghosts D} (old new : Volume D disks) (number links : ℕ) (inode : Inode) (some : 1 ≤ number) (there : number ≤ old.layout.inodes)
+    (fit : FitsInode (kind_view old.layout.kind) inode) (few : links ≤ most_links (kind_view old.layout.kind)) (result : Result (Unit {0}) ZoneFault)
+    (turns : TurnsInode old new number (with_links inode links) Device result) (sound : IsTold (past_of old) → IsSound (volume_view old) (now (past_of old)))
+    (is : IsTold (past_of old) → (parts_now old).node number ≡ inode) (sized : is_size (kind_view old.layout.kind) inode.size ≡ true) where
+  abbrev pub image_with : Inode → Image
+  image_with node = with_sector_of (volume_view old) (now (past_of old)) (inode_place (super_view old.layout) number).sector (inode_rewritten old number (with_links node links))
+
+  pub fit_now : IsTold (past_of old) → FitsInode (kind_view old.layout.kind) ((parts_now old).node number)
+  fit_now told = subst (FitsInode (kind_view old.layout.kind)) (sym (is told)) fit
+
+  pub sized_now : IsTold (past_of old) → is_size (kind_view old.layout.kind) ((parts_now old).node number).size ≡ true
+  sized_now told = let S : Inode → Type 0 = λ i. is_size (kind_view old.layout.kind) i.size ≡ true in subst S (sym (is told)) sized
+
+  changes-with : IsTold (past_of old) → ChangesNode (super_view old.layout) (parts_now old) (parts_of (volume_view old) (image_with inode)) number (with_links inode links)
+  changes-with told =
+      let P : Inode → Type 0 = λ i. ChangesNode (super_view old.layout) (parts_now old) (parts_of (volume_view old) (image_with i)) number (with_links i links) in
+      subst P (is told)
+      (lowers_node (volume_view old) (now (past_of old)) old.whole (sound told) number some there links (fit_now told) few (sized_now told))
+
+  -- once it is done, on the volume as it was and as it is
+  pub links_changed_in : IsTold (past_of old) → OnOk result (ChangesNode (super_view old.layout) (parts_now old) (parts_of (volume_view old) (now (past_of new))) number (with_links inode links))
+  links_changed_in told =
+      let I : Image → Type 0 = λ image. ChangesNode (super_view old.layout) (parts_now old) (parts_of (volume_view old) image) number (with_links inode links) in
+      on_ok result _ _ (turns.written told) (λ is'. subst I (sym is') (changes-with told))
+
+  pub links_changed : IsTold (past_of old) → OnOk result (ChangesNode (super_view old.layout) (parts_now old) (parts_now new) number (with_links inode links))
+  links_changed told =
+      let V : model.Volume → Type 0 = λ view. ChangesNode (super_view old.layout) (parts_now old) (parts_of view (now (past_of new))) number (with_links inode links) in
+      on_ok result _ _ (links_changed_in told) (λ changes. subst V (sym (same_view old new turns.kept)) changes)
+
 module _ {D : Type 0} {disks : Ghosts D} (old new : Volume D disks) (number links : ℕ) (inode : Inode) (some : 1 ≤ number) (there : number ≤ old.layout.inodes)
     (fit : FitsInode (kind_view old.layout.kind) inode) (is_more : inode.links ≡ links + 1) (result : Result (Unit {0}) ZoneFault)
     (turns : TurnsInode old new number (with_links inode links) Device result) (may : IsTold (past_of old) → MayRelease old number inode) where
   few : links ≤ most_links (kind_view old.layout.kind)
   few = let low = fit.links_fit in omega (arith, low, is_more)
 
+  sized-told : IsTold (past_of old) → is_size (kind_view old.layout.kind) ((parts_now old).node number).size ≡ true
+  sized-told told = let S : Inode → Type 0 = λ i. is_size (kind_view old.layout.kind) i.size ≡ true in subst S (sym (may told).is) (may told).sized
+
+  fit-told : IsTold (past_of old) → FitsInode (kind_view old.layout.kind) ((parts_now old).node number)
+  fit-told told = subst (FitsInode (kind_view old.layout.kind)) (sym (may told).is) fit
+
   abbrev Image' : Inode → Image
   Image' node = with_sector_of (volume_view old) (now (past_of old)) (inode_place (super_view old.layout) number).sector (inode_rewritten old number (with_links node links))
-
-  fit-now : IsTold (past_of old) → FitsInode (kind_view old.layout.kind) ((parts_now old).node number)
-  fit-now told = subst (FitsInode (kind_view old.layout.kind)) (sym (may told).is) fit
-
-  sized-now : IsTold (past_of old) → is_size (kind_view old.layout.kind) ((parts_now old).node number).size ≡ true
-  sized-now told = let S : Inode → Type 0 = λ i. is_size (kind_view old.layout.kind) i.size ≡ true in subst S (sym (may told).is) (may told).sized
 
   pub lower_unseen : Unseen old new
   lower_unseen =
@@ -122,19 +153,11 @@ module _ {D : Type 0} {disks : Ghosts D} (old new : Volume D disks) (number link
       (λ told.
       let P : Inode → Type 0 = λ i. SeenAsIn (volume_view old) (now (past_of old)) (Image' i) in
       subst P (may told).is
-      (lowers_unseen (volume_view old) (now (past_of old)) old.whole (may told).sound number some there links (fit-now told) few (sized-now told) ((may told).enough links is_more)))
-
-  changes-with : IsTold (past_of old) → ChangesNode (super_view old.layout) (parts_now old) (parts_of (volume_view old) (Image' inode)) number (with_links inode links)
-  changes-with told =
-      let P : Inode → Type 0 = λ i. ChangesNode (super_view old.layout) (parts_now old) (parts_of (volume_view old) (Image' i)) number (with_links i links) in
-      subst P (may told).is
-      (lowers_node (volume_view old) (now (past_of old)) old.whole (may told).sound number some there links (fit-now told) few (sized-now told))
+      (lowers_unseen (volume_view old) (now (past_of old)) old.whole (may told).sound number some there links (fit-told told) few (sized-told told) ((may told).enough links is_more)))
 
   pub lower_changes : IsTold (past_of old) → OnOk result (ChangesNode (super_view old.layout) (parts_now old) (parts_now new) number (with_links inode links))
   lower_changes told =
-      let V : model.Volume → Type 0 = λ view. ChangesNode (super_view old.layout) (parts_now old) (parts_of view (now (past_of new))) number (with_links inode links) in
-      let I : Image → Type 0 = λ image. ChangesNode (super_view old.layout) (parts_now old) (parts_of (volume_view old) image) number (with_links inode links) in
-      on_ok result _ _ (turns.written told) (λ is. subst V (sym (same_view old new turns.kept)) (subst I (sym is) (changes-with told)))
+      links_changed old new number links inode some there fit few result turns (λ told'. (may told').sound) (λ told'. (may told').is) (may told).sized told
 
 -- ---- a link less
 

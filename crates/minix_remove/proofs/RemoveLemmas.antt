@@ -1,5 +1,5 @@
 -- The removal of a name, from what it leads to on.
-use Rattle.std.proofs.Common.{◌≡◌, ◌≤◌, ◌+◌, ℕ, Bool, true, false, List, ◌∷◌, Option, Some, None, Result, Ok, Err, OnOk, refl, sym, ◌∙◌, ap, subst, inl, inr}
+use Rattle.std.proofs.Common.{◌≡◌, ◌≤◌, ◌+◌, ℕ, Bool, true, false, List, ◌∷◌, Option, Some, None, Result, Ok, Err, OnOk, refl, sym, ◌∙◌, ap, subst, inl, inr, arith}
 use Rattle.disk_trait.specs.declared.disks.Disks.{Ghosts}
 use Rattle.disk_trait.specs.Past.{Past}
 use Rattle.disk_trait.specs.Moments.{IsTold, IsQuiet}
@@ -11,8 +11,6 @@ use Rattle.disk_trait.proofs.NotWrittenLemmas.{not_written_none}
 use Rattle.lilo_model.specs.MinixLayout.{reach, zone_sector}
 use Rattle.lilo_model.specs.MinixNames.{reached, PointsTo}
 use Rattle.lilo_model.specs.MinixParts.{Parts, Pointer, blocks_for}
-use Rattle.minix_create.proofs.BroughtLemmas.{rises}
-use Rattle.minix_create.proofs.EnterLemmas.{unseen_refused}
 use Rattle.minix_free.proofs.FileLemmas.{off_file_kept}
 use Rattle.minix_entry_laws.specs.Only.{zone_of_entry}
 use Rattle.minix_layout.specs.View.{super_view, inode_view}
@@ -35,6 +33,7 @@ use Rattle.minix_zones.proofs.WriteLemmas.{keeps_same, keeps_join}
 use Rattle.minix_remove.specs.Removed.{RemovesFile, IsOffRemoved, IsSomeTarget, Takes, AnswersRight, Removes}
 use Rattle.minix_remove.specs.Target.{IsDirectoryNow, refusal_of, IsTarget, FindsTarget, GivesTarget}
 use Rattle.minix_remove.specs.declared.target.Target.{Target}
+use Rattle.minix_remove.proofs.MoveLemmas.{leads_none}
 use Rattle.minix_remove.proofs.TakeLemmas.{leads_as}
 use Rattle.minix_remove.proofs.TargetLemmas.{at_same, then_same, told_then, directory_then, parts_at}
 
@@ -63,10 +62,10 @@ module _ {D : Type 0} {disks : Ghosts D} (start mid : Volume D disks) (directory
   pub quiet_then : IsQuiet (past_of mid)
   quiet_then = subst IsQuiet (sym same.same_disks.same_past) quiet
 
-  unseen : Unseen start mid
+  pub unseen : Unseen start mid
   unseen = steps_unseen start mid quiet (λ told. (may told).sound) (no_step start mid (quiet_ready start quiet (λ told. (may told).sound)) same later)
 
-  not_written_same : (d s : ℕ) → NotWritten (past_of start) (past_of mid) d s
+  pub not_written_same : (d s : ℕ) → NotWritten (past_of start) (past_of mid) d s
   not_written_same d s = let N : Option Past → Type 0 = λ p. NotWritten (past_of start) p d s in subst N (sym same.same_disks.same_past) (not_written_none (past_of start) d s)
 
   -- ---- the name leads to nothing that may go
@@ -85,7 +84,7 @@ module _ {D : Type 0} {disks : Ghosts D} (start mid : Volume D disks) (directory
 
     pub removes_refused : GivesTarget start directory name (Err fault) → Removes start mid directory name (Err (tree_refusal fault))
     removes_refused gives = record {
-      leads = λ outer leads. unseen_refused start mid (name ∷ outer) None None (tree_refusal fault) unseen;
+      leads = λ outer leads. leads_none start mid (name ∷ outer) None None (tree_refusal fault) unseen;
       file = λ told. tt;
       others = λ told number held d s off. not_written_same d s;
       answers = λ told. refused-right (gives told (may told));
@@ -160,4 +159,4 @@ module _ {D : Type 0} {disks : Ghosts D} (start mid : Volume D disks) (directory
     pub removes_failed : (new : Volume D disks) (fault : ZoneFault) → Takes mid new directory name target (Err fault) → Removes start new directory name (Err (zone_refusal fault))
     removes_failed new fault takes = removes-so new (Err fault) (Err (zone_refusal fault)) (λ P p. tt) takes (λ told.
         let device = takes.device (told_then start mid same told) in
-        inl (ap zone_refusal device.0, rises (faults_of start) (faults_of mid) (faults_of new) later device.1))
+        inl (ap zone_refusal device.0, λ below. let rose = device.1 below in omega (arith, later, rose)))

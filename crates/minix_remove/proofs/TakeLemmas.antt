@@ -1,17 +1,18 @@
 -- An entry that is cleared, and its inode that is let go.
-use Rattle.std.proofs.Common.{◌≡◌, ◌≢◌, ◌≤◌, ◌<◌, ◌+◌, ◌-◌, ◌*◌, ◌/◌, ◌%◌, ◌||◌, ℕ, Bool, true, false, List, ◌∷◌, Some, None, Result, Ok, Err, OnOk, IfErr, refl, sym, ◌∙◌, ap, subst, arith, ⊎_elim}
+use Rattle.std.proofs.Common.{◌≡◌, ◌≤◌, ◌<◌, ◌+◌, ◌-◌, ◌*◌, ◌/◌, ◌%◌, ◌||◌, ℕ, Bool, true, false, List, ◌∷◌, Some, None, Result, Ok, Err, OnOk, IfErr, refl, sym, ◌∙◌, ap, subst, arith, ⊎_elim}
 use Rattle.std.proofs.lemmas.Bool.{cases_lt, or_left, or_right}
 use Rattle.disk_trait.specs.declared.disks.Disks.{Ghosts}
 use Rattle.disk_trait.specs.Past.{Image}
 use Rattle.disk_trait.specs.Moments.{IsTold, now}
 use Rattle.disk_trait.specs.NotWritten.{IsOther}
+use Rattle.disk_trait.specs.Range.{IsOutside}
 use Rattle.disk_trait.proofs.CallLemmas.{goes_on_join, on_ok_held}
 use Rattle.disk_trait.proofs.MomentLemmas.{on_ok}
 use Rattle.disk_trait.proofs.NotWrittenLemmas.{not_written_join}
 use Rattle.disk_trait.proofs.RangeLemmas.{outside_is_other}
 use Rattle.lilo_model.specs.MinixEntries.{Entry, entries_per_block}
 use Rattle.lilo_model.specs.MinixLayout.{Inode, entry_size, is_size, zone_sector}
-use Rattle.lilo_model.specs.MinixNames.{reached, PointsTo, IsSound}
+use Rattle.lilo_model.specs.MinixNames.{reached, Named, PointsTo, IsSound}
 use Rattle.lilo_model.specs.MinixParts as model
 use Rattle.lilo_model.specs.MinixParts.{Parts, Pointer, has_zones, is_directory, is_file, is_link, parts_of}
 use Rattle.minix_beside_laws.specs.Beside.{IsInode, IsDataZone}
@@ -23,7 +24,9 @@ use Rattle.minix_free.proofs.ChangeLemmas.{cause_later}
 use Rattle.minix_free.proofs.FileLemmas.{off_file_kept}
 use Rattle.minix_growth_laws.specs.Changes.{AreEnough, ChangesZone}
 use Rattle.minix_layout.specs.View.{kind_view, super_view, inode_view}
+use Rattle.minix_remove_laws.specs.Files.{KeepsFiles, KeepsFile}
 use Rattle.minix_remove_laws.specs.Held.{is_removable, MayGoFrom, IsReleased}
+use Rattle.minix_remove_laws.proofs.Files.{keeps_zone}
 use Rattle.minix_remove_laws.proofs.Held.{held_law}
 use Rattle.minix_remove_laws.proofs.Released.{released_law}
 use Rattle.minix_sees_laws.proofs.Seen.{opened}
@@ -45,7 +48,7 @@ use Rattle.minix_zones.specs.declared.zone_fault.ZoneFault.{ZoneFault}
 use Rattle.minix_zones.specs.declared.zone_fault.ZoneFault.TheVariants.{Device}
 use Rattle.minix_zones.proofs.WriteLemmas.{cause_after, keeps_join}
 use Rattle.minix_remove.specs.Released.{MayRelease, LetsGo, Releases}
-use Rattle.minix_remove.specs.Removed.{RemovesFile, IsOffRemoved, Takes}
+use Rattle.minix_remove.specs.Removed.{RemovesFile, Takes}
 use Rattle.minix_remove.specs.Target.{IsTarget, FitsTarget}
 use Rattle.minix_remove.specs.declared.target.Target.{Target}
 
@@ -64,15 +67,9 @@ leads_as old new path result answer so leads = record {
 
 -- ---- in terms of parts
 
-module _ (view : model.Volume) (first next last : Parts) (directory number zone : ℕ) (bytes : List ℕ) (inode : Inode) (here : Pointer) (range : IsInode view.layout number)
-    (change : ChangesZone view.layout first next zone bytes) (released : IsReleased view.layout first next number) (goes : LetsGo number inode view next last)
-    (is : first.node number ≡ inode) (to : PointsTo view.layout first directory here zone) where
-  off-zone : (other : ℕ) → ((at : Pointer) → PointsTo view.layout first directory at other → ⊥) → other ≢ zone
-  off-zone other none same = none here (subst (λ z. PointsTo view.layout first directory here z) (sym same) to)
-
-  links : (n : ℕ) → (first.node number).links ≡ n → inode.links ≡ n
-  links n same = sym (ap (λ (i : Inode). i.links) is) ∙ same
-
+-- an inode is let go that lost a name in a directory
+module _ (view : model.Volume) (first next last : Parts) (directory number : ℕ) (inode : Inode) (range : IsInode view.layout number)
+    (keeps : KeepsFiles view.layout first next directory) (kept : KeepsFile view.layout first next number) (goes : LetsGo number inode view next last) (is : first.node number ≡ inode) where
   pub removes_file : RemovesFile view.layout first last directory number
   removes_file = record {
     lowered = λ more.
@@ -80,8 +77,8 @@ module _ (view : model.Volume) (first next last : Parts) (directory number zone 
         let changes = goes.lowered more' in
         record {
           node = changes.here ∙ ap (λ (i : Inode). record i { links = i.links - 1 }) (sym is);
-          marks = λ other in'. changes.marks other in' ∙ change.marks other in';
-          zone_marks = λ other in'. changes.zone_marks other in' ∙ change.zone_marks other in';
+          marks = λ other in'. changes.marks other in' ∙ keeps.marks other in';
+          zone_marks = λ other in'. changes.zone_marks other in' ∙ keeps.zone_marks other in';
         };
     freed = λ few.
         let few' : inode.links ≤ 1 = subst (λ (i : Inode). i.links ≤ 1) is few in
@@ -89,19 +86,56 @@ module _ (view : model.Volume) (first next last : Parts) (directory number zone 
         record {
           node = frees.node;
           mark = frees.mark;
-          zone_marks = λ at other points. frees.zone_marks at other (released.stays at other points);
-          other_marks = λ other in' apart. frees.other_marks other in'.1 apart ∙ change.marks other in';
-          other_zone_marks = λ other in' none. frees.other_zone_marks other in' (λ at points. none at (released.points at other points)) ∙ change.zone_marks other in';
+          zone_marks = λ at other points. frees.zone_marks at other (kept.stays at other points);
+          other_marks = λ other in' apart. frees.other_marks other in'.1 apart ∙ keeps.marks other in';
+          other_zone_marks = λ other in' none. frees.other_zone_marks other in' (λ at points. none at (kept.points at other points)) ∙ keeps.zone_marks other in';
         };
     others = λ other in' apart. ⊎_elim
-        (λ more. (goes.lowered more).others other in' apart ∙ change.nodes other in')
-        (λ few. (goes.freed few).other_nodes other in'.0 in'.1 apart ∙ change.nodes other in')
+        (λ more. (goes.lowered more).others other in' apart ∙ keeps.nodes other in')
+        (λ few. (goes.freed few).other_nodes other in'.0 in'.1 apart ∙ keeps.nodes other in')
         (cases_lt 1 inode.links);
     bytes = λ other in' none. ⊎_elim
-        (λ more. (goes.lowered more).zones other in' ∙ change.others other in' (off-zone other none))
-        (λ few. (goes.freed few).bytes other in'.0 ∙ change.others other in' (off-zone other none))
+        (λ more. (goes.lowered more).zones other in' ∙ keeps.bytes other in' none)
+        (λ few. (goes.freed few).bytes other in'.0 ∙ keeps.bytes other in' none)
         (cases_lt 1 inode.links);
   }
+
+-- ---- an inode that has a name
+
+-- a file or a link has zones
+has-by : (inode : Inode) (file : Bool) → is_file inode ≡ file → is_removable inode ≡ true → has_zones inode ≡ true
+has-by inode true f removable = or_left (is_directory inode || is_file inode) (is_link inode) (or_right (is_directory inode) (is_file inode) f)
+has-by inode false f removable = or_right (is_directory inode || is_file inode) (is_link inode) (rw f at removable)
+
+module _ {D : Type 0} {disks : Ghosts D} (old : Volume D disks) (directory : ℕ) (name : List ℕ) (target : Target) (is : IsTarget old directory name target) where
+  pub sound : IsSound (volume_view old) (now (past_of old))
+  sound = is.in_directory.sound
+
+  pub may_go : (outer : List (List ℕ)) → reached (super_view old.layout) (parts_now old) outer ≡ Some directory
+      → MayGoFrom (super_view old.layout) (parts_now old) outer directory target.place target.inode name
+  may_go outer leads = held_law (super_view old.layout) (parts_now old) outer directory target.place target.inode name (opened (volume_view old) (now (past_of old)) sound).parts leads is.holds
+
+  pub goes : MayGoFrom (super_view old.layout) (parts_now old) is.holds.entry.named.path directory target.place target.inode name
+  goes = may_go is.holds.entry.named.path is.holds.entry.named.leads
+
+  pub named_target : Named (super_view old.layout) (parts_now old) target.inode
+  named_target = record { path = name ∷ is.holds.entry.named.path; leads = goes.leads }
+
+  pub placed : IsPlaced (volume_view old) (now (past_of old)) directory target.place
+  placed = record { named = is.holds.entry.named; is = is.holds.entry.is; reached = is.reached; below = is.holds.entry.below; some = goes.lies }
+
+  pub points : PointsTo (super_view old.layout) (parts_now old) directory (Here (super_view old.layout) (parts_now old) directory target.place is.holds.entry.named is.holds.entry.is) target.zone
+  points =
+      let refers = directory-refers (super_view old.layout) (parts_now old) directory target.place is.holds.entry.named is.holds.entry.is target.zone (λ none. goes.lies (is.lies ∙ none)) (sym is.lies) in
+      refers.to
+
+  pub kind_is : has_zones (inode_view target.node) ≡ true
+  kind_is = let R : Inode → Type 0 = λ i. is_removable i ≡ true in has-by (inode_view target.node) _ refl (subst R is.node is.holds.removable)
+
+  pub sized_is : is_size (kind_view old.layout.kind) target.node.size ≡ true
+  sized_is =
+      let S : Inode → Type 0 = λ i. is_size (kind_view old.layout.kind) i.size ≡ true in
+      subst S is.node ((opened (volume_view old) (now (past_of old)) sound).parts.size target.inode named_target)
 
 -- ---- the entry
 
@@ -115,28 +149,11 @@ module _ {D : Type 0} {disks : Ghosts D} (old : Volume D disks) (directory : ℕ
 
   -- where it is
   module _ (is : IsTarget old directory name target) where
-    sound : IsSound View (now (past_of old))
-    sound = is.in_directory.sound
-
-    pub may_go : (outer : List (List ℕ)) → reached (super_view old.layout) Was outer ≡ Some directory → MayGoFrom (super_view old.layout) Was outer directory target.place target.inode name
-    may_go outer leads = held_law (super_view old.layout) Was outer directory target.place target.inode name (opened View (now (past_of old)) sound).parts leads is.holds
-
-    goes : MayGoFrom (super_view old.layout) Was is.holds.entry.named.path directory target.place target.inode name
-    goes = may_go is.holds.entry.named.path is.holds.entry.named.leads
-
-    placed : IsPlaced View (now (past_of old)) directory target.place
-    placed = record { named = is.holds.entry.named; is = is.holds.entry.is; reached = is.reached; below = is.holds.entry.below; some = goes.lies }
-
-    lies : IsEntryAt old directory target.place target.zone index
-    lies = record { at = record { sound = sound; lies = is.lies; slot = sym slot }; placed = placed }
+    pub lies : IsEntryAt old directory target.place target.zone index
+    lies = record { at = record { sound = sound old directory name target is; lies = is.lies; slot = sym slot }; placed = placed old directory name target is }
 
     pub may_remove_at : (outer : List (List ℕ)) → reached (super_view old.layout) Was outer ≡ Some directory → MayRemoveAt old outer directory target.place target.zone index target.inode name
-    may_remove_at outer leads = record { lies = lies; removes = (may_go outer leads).may }
-
-    pub points : PointsTo (super_view old.layout) Was directory (Here (super_view old.layout) Was directory target.place is.holds.entry.named is.holds.entry.is) target.zone
-    points =
-        let refers = directory-refers (super_view old.layout) Was directory target.place is.holds.entry.named is.holds.entry.is target.zone (λ none. goes.lies (is.lies ∙ none)) (sym is.lies) in
-        refers.to
+    may_remove_at outer leads = record { lies = lies; removes = (may_go old directory name target is outer leads).may }
 
     -- once it is clear
     abbrev Filled : List ℕ
@@ -144,36 +161,23 @@ module _ {D : Type 0} {disks : Ghosts D} (old : Volume D disks) (directory : ℕ
 
     module _ (image : Image) (has : HasEntryPart old image target.zone index (free_bytes (kind_view old.layout.kind))) where
       pub changes_zone : ChangesZone (super_view old.layout) Was (parts_of View image) target.zone Filled
-      changes_zone = (part_law View (now (past_of old)) image target.zone (entry_size (kind_view old.layout.kind) * index) (free_bytes (kind_view old.layout.kind)) sound (fits.zone.from, fits.zone.below) has).change
+      changes_zone = (part_law View (now (past_of old)) image target.zone (entry_size (kind_view old.layout.kind) * index) (free_bytes (kind_view old.layout.kind)) (sound old directory name target is) (fits.zone.from, fits.zone.below) has).change
 
       has-bytes : HasEntryBytes View (now (past_of old)) image directory target.place (free_bytes (kind_view old.layout.kind))
       has-bytes = entry_at View (now (past_of old)) image directory target.place target.zone index (free_bytes (kind_view old.layout.kind)) (free-long (kind_view old.layout.kind)) is.lies (sym slot) has
 
       becomes : BecomesFree (super_view old.layout) Was (parts_of View image) directory target.place
       becomes =
-          let written = written_law View (now (past_of old)) image directory target.place (free_bytes (kind_view old.layout.kind)) sound placed has-bytes in
+          let written = written_law View (now (past_of old)) image directory target.place (free_bytes (kind_view old.layout.kind)) (sound old directory name target is) (placed old directory name target is) has-bytes in
           record { only = written.only; free = ap (λ (e : Entry). e.inode) written.says ∙ free-inode (kind_view old.layout.kind) }
 
       pub is_released : IsReleased (super_view old.layout) Was (parts_of View image) target.inode
-      is_released = released_law (super_view old.layout) Was (parts_of View image) directory target.place target.inode name (opened View (now (past_of old)) sound).parts is.holds becomes
+      is_released = released_law (super_view old.layout) Was (parts_of View image) directory target.place target.inode name (opened View (now (past_of old)) (sound old directory name target is)).parts is.holds becomes
 
     -- ---- then its inode may go
 
-    -- a file or a link has zones
-    has-by : (inode : Inode) (file : Bool) → is_file inode ≡ file → is_removable inode ≡ true → has_zones inode ≡ true
-    has-by inode true f removable = or_left (is_directory inode || is_file inode) (is_link inode) (or_right (is_directory inode) (is_file inode) f)
-    has-by inode false f removable = or_right (is_directory inode || is_file inode) (is_link inode) (rw f at removable)
-
     abbrev Node : Inode
     Node = inode_view target.node
-
-    kind-is : has_zones Node ≡ true
-    kind-is = let R : Inode → Type 0 = λ i. is_removable i ≡ true in has-by Node _ refl (subst R is.node is.holds.removable)
-
-    sized-is : is_size (kind_view old.layout.kind) Node.size ≡ true
-    sized-is =
-        let S : Inode → Type 0 = λ i. is_size (kind_view old.layout.kind) i.size ≡ true in
-        subst S is.node ((opened View (now (past_of old)) sound).parts.size target.inode (record { path = name ∷ is.holds.entry.named.path; leads = goes.leads }))
 
     module _ (mid : Volume D disks) (kept : KeepsVolume old mid) (sound-mid : IsSound View (now (past_of mid)))
         (has : HasEntryPart old (now (past_of mid)) target.zone index (free_bytes (kind_view old.layout.kind))) where
@@ -190,8 +194,8 @@ module _ {D : Type 0} {disks : Ghosts D} (old : Volume D disks) (directory : ℕ
       may_release = record {
         sound = after (λ view. IsSound view (now (past_of mid))) sound-mid;
         is = after (λ view. (Next view).node target.inode ≡ Node) (released.is ∙ is.node);
-        sized = after (λ view. is_size view.layout.kind Node.size ≡ true) sized-is;
-        kind = kind-is;
+        sized = after (λ view. is_size view.layout.kind Node.size ≡ true) (sized_is old directory name target is);
+        kind = kind_is old directory name target is;
         enough = after (λ view. (links : ℕ) → Node.links ≡ links + 1 → AreEnough view.layout (Next view) target.inode links)
             (λ links more. released.enough links (ap (λ (i : Inode). i.links) is.node ∙ more));
         left = after (λ view. Node.links ≤ 1 → IsLeft view.layout (Next view) target.inode)
@@ -203,21 +207,23 @@ module _ {D : Type 0} {disks : Ghosts D} (old : Volume D disks) (directory : ℕ
           → RemovesFile (super_view old.layout) Was (parts_now new) directory target.inode
       file_removed new lets =
           let L : model.Volume → Type 0 = λ view. LetsGo target.inode Node view (Next view) (parts_now new) in
-          removes_file View Was (Next View) (parts_now new) directory target.inode target.zone Filled Node _ (fits.some, fits.there) (changes_zone (now (past_of mid)) has) released
-          (subst L (same_view old mid kept) lets) is.node points
+          let here = points old directory name target is in
+          removes_file View Was (Next View) (parts_now new) directory target.inode Node (fits.some, fits.there)
+          (keeps_zone (super_view old.layout) Was (Next View) directory target.zone Filled (changes_zone (now (past_of mid)) has) _ here)
+          (record { node = released.is; points = released.points; stays = released.stays }) (subst L (same_view old mid kept) lets) is.node
 
     -- ---- sectors
 
     half : entry_size (kind_view old.layout.kind) * index / 512 < 2
     half = let fit = entry_fits (kind_view old.layout.kind) index (free_bytes (kind_view old.layout.kind)) low (free-long (kind_view old.layout.kind)) in omega (arith, fit.0)
 
-    pub off_entry : (d s : ℕ) → IsOffRemoved old directory target.inode d s
+    pub off_entry : (d s : ℕ) → ((at : Pointer) (zone : ℕ) → PointsTo (super_view old.layout) Was directory at zone → IsOutside old.span.disk (old.span.start + zone_sector zone) 2 d s)
         → IsOther old.span.disk (old.span.start + (zone_sector target.zone + entry_size (kind_view old.layout.kind) * index / 512)) d s
     off_entry d s off =
         let at : ℕ = entry_size (kind_view old.layout.kind) * index / 512 in
         let same_place : old.span.start + zone_sector target.zone + at ≡ old.span.start + (zone_sector target.zone + at) = omega arith in
         let S : ℕ → Type 0 = λ n. IsOther old.span.disk n d s in
-        subst S same_place (outside_is_other old.span.disk (old.span.start + zone_sector target.zone) 2 at d s half (off.zones _ target.zone points))
+        subst S same_place (outside_is_other old.span.disk (old.span.start + zone_sector target.zone) 2 at d s half (off _ target.zone (points old directory name target is)))
 
   -- ---- the calls
 
@@ -231,7 +237,7 @@ module _ {D : Type 0} {disks : Ghosts D} (old : Volume D disks) (directory : ℕ
     takes_refused mid fault turns removes = record {
       leads = λ outer leads. led mid (Err fault) removes outer leads;
       file = λ told. tt;
-      others = λ told d s off. turns.others d s (off_entry (may told) d s off);
+      others = λ told d s off. turns.others d s (off_entry (may told) d s off.zones);
       device = λ told. turns.device;
       goes_on = turns.goes_on;
       kept = turns.kept;
@@ -255,7 +261,7 @@ module _ {D : Type 0} {disks : Ghosts D} (old : Volume D disks) (directory : ℕ
         leads = λ outer leads. leads_as old new (name ∷ outer) (Ok tt) result (λ P p. on_ok_held result P p)
             (leads_then_unseen old mid new (name ∷ outer) None None {E = ZoneFault} (led mid (Ok tt) removes outer leads) releases.unseen);
         file = λ told. on_ok result _ _ (releases.changed (turns.goes_on.told told)) (file_removed (may told) mid turns.kept (sound-now told) (entry told) new);
-        others = λ told d s off. not_written_join (past_of old) (past_of mid) (past_of new) d s (turns.others d s (off_entry (may told) d s off))
+        others = λ told d s off. not_written_join (past_of old) (past_of mid) (past_of new) d s (turns.others d s (off_entry (may told) d s off.zones))
             (releases.others d s (off_file_kept old mid target.inode turns.kept d s off.file));
         device = λ told. cause_after old mid new Device result turns.goes_on.later (releases.device (turns.goes_on.told told));
         goes_on = goes_on_join disks old.disks.now mid.disks.now new.disks.now turns.goes_on releases.unseen.goes_on;

@@ -9,8 +9,7 @@ ghost use Rattle.minix_zones.specs.Volume.{past_of, faults_of};
 use crate::take::take_away;
 use crate::target::find_target;
 use disk_trait::Disks;
-use minix_create::WriteHalt;
-use minix_write::WriteFault;
+use minix_write::{WriteFault, WriteHalt};
 use minix_zones::Volume;
 
 /// Removes the name of a regular file or a symbolic link from a directory that is the root or has a name, on a sound

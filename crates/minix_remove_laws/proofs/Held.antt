@@ -1,10 +1,11 @@
 -- A name that a directory holds and that leads to a file or a link.
-use Rattle.std.proofs.Common.{◌≡◌, ◌≢◌, ◌/◌, ◌⊎◌, ℕ, Bool, true, false, List, [], ◌∷◌, bytes_eq, Option, Some, None, refl, sym, ◌∙◌, ap, subst, inl, inr, ⊎_elim, arith}
-use Rattle.std.proofs.lemmas.Bool.{eqb-true}
+use Rattle.std.proofs.Common.{◌≡◌, ◌≢◌, ◌<◌, ◌/◌, ◌⊎◌, ℕ, zero, suc, Bool, true, false, List, [], ◌∷◌, bytes_eq, Option, Some, None, refl, sym, ◌∙◌, ap, subst, inl, inr, ⊎_elim, arith}
+use Rattle.std.specs.Option.{option_or}
+use Rattle.std.proofs.lemmas.Bool.{cases_eq, eqb-true}
 use Rattle.std.proofs.lemmas.Slice.Eq.{bytes_eq-Decides}
-use Rattle.lilo_model.specs.MinixEntries.{Entry, entry_with, named_inode, here_name, above_name, is_dots}
+use Rattle.lilo_model.specs.MinixEntries.{Entry, entry_with, named_inode, here_name, above_name, places, is_dots}
 use Rattle.lilo_model.specs.MinixLayout.{Super, Inode}
-use Rattle.lilo_model.specs.MinixNames.{entry, lookup, then_lookup, reached, zone_number, Named, HasEntry, HasSomeEntry, Sound}
+use Rattle.lilo_model.specs.MinixNames.{entry, first_named, lookup, then_lookup, reached, zone_number, Named, HasEntry, HasSomeEntry, Sound}
 use Rattle.lilo_model.specs.MinixParts.{Parts, is_directory, is_file}
 use Rattle.minix_beside_laws.specs.Change.{ChangesEntry}
 use Rattle.minix_beside_laws.proofs.Entries.{entry_law}
@@ -12,8 +13,8 @@ use Rattle.minix_entry_laws.specs.Enter.{MayRemove}
 use Rattle.minix_entry_laws.proofs.Finds.{named-is, leaf-file}
 use Rattle.minix_entry_laws.proofs.Replace.{stood_law}
 use Rattle.minix_growth_laws.proofs.Holes.{hole_law}
-use Rattle.minix_remove_laws.specs.Held.{is_removable, HoldsEntry}
-use Rattle.minix_remove_laws.specs.Laws.{EntryLaw, HeldLaw}
+use Rattle.minix_remove_laws.specs.Held.{held_name, is_removable, HoldsEntry}
+use Rattle.minix_remove_laws.specs.Laws.{AbsentLaw, EntryLaw, HeldLaw}
 
 -- ---- a file or a link is no directory
 
@@ -144,3 +145,47 @@ held_law super parts outer directory place number name sound leads holds =
       root = stood.1;
       lies = λ hole. holds.entry.some (sym (ap (λ (e : Entry). e.inode) holds.entry.says) ∙ hole_law super parts directory place hole);
     }
+
+-- ---- a name that isn't held
+
+both-none : (first second : Option ℕ) → option_or first second ≡ None → (first ≡ None) × (second ≡ None)
+both-none None second none = (refl, none)
+both-none (Some number) second none = absurd (cc)
+
+-- then no entry below has it
+not-held : (at : ℕ → Entry) (name : List ℕ) (count place inode : ℕ) → first_named at name count ≡ None → place < count → at place ≡ entry_with inode name → inode ≢ 0 → ⊥
+unfolding first_named
+not-held at name zero place inode none below says some = absurd (omega (arith, below))
+not-held at name (suc count) place inode none below says some =
+    let parts = both-none (first_named at name count) (named_inode name (at count)) none in
+    ⊎_elim
+    (λ same.
+    let last : named_inode name (at count) ≡ Some inode = ap (named_inode name) (sym (ap at same) ∙ says) ∙ named-is name inode some in
+    let both : Some inode ≡ None = sym last ∙ parts.1 in
+    cc)
+    (λ apart. not-held at name count place inode parts.0 (omega (arith, below, apart)) says some)
+    (cases_eq place count)
+
+module _ (super : Super) (parts : Parts) (directory : ℕ) (name : List ℕ) (sound : Sound super parts) (named : Named super parts directory) (is : is_directory (parts.node directory) ≡ true)
+    (none : held_name super parts directory name ≡ None) where
+  no-entry : (called : List ℕ) (other : ℕ) → called ≡ name → Named super parts other → HasSomeEntry super parts directory (entry_with other called) → ⊥
+  no-entry called other same named' has =
+      let has' : HasEntry super parts directory has.0 (entry_with other name) = subst (λ n. HasEntry super parts directory has.0 (entry_with other n)) same has.1 in
+      not-held (entry super parts directory) name (places super.kind (parts.node directory).size) has.0 other none has'.below has'.is (some-named super parts sound other named')
+
+  plain-by : (here up : Bool) → bytes_eq here_name name ≡ here → bytes_eq above_name name ≡ up → is_dots name ≡ false
+  unfolding is_dots
+  plain-by true up h a = absurd (no-entry here_name directory ((bytes_eq-Decides here_name name).0 h) named (sound.here directory named is))
+  plain-by false true h a =
+      let up = above-of super parts sound named.path directory named.leads is in
+      absurd (no-entry above_name up.outer ((bytes_eq-Decides above_name name).0 a) up.named up.has)
+  plain-by false false h a = rw (h, a) refl
+
+  absent-by : is_dots name ≡ false → lookup super parts name directory ≡ None
+  unfolding lookup
+  absent-by plain = rw (is, plain) none
+
+pub absent_law : AbsentLaw
+absent_law super parts directory name sound named is none =
+    let plain = plain-by super parts directory name sound named is none _ _ refl refl in
+    record { plain = plain; absent = absent-by super parts directory name sound named is none plain }

@@ -1,3 +1,4 @@
 pub mod Held
 pub mod Released
 pub mod Links
+pub mod Files

@@ -15,7 +15,7 @@ use Rattle.minix_remove_laws.proofs.Held.{held_law}
 
 -- ---- with one link it had one name
 
-only-name : (super : Super) (parts : Parts) (path : List (List ℕ)) (number : ℕ) → Sound super parts → reached super parts path ≡ Some number → number ≢ 1
+pub only-name : (super : Super) (parts : Parts) (path : List (List ℕ)) (number : ℕ) → Sound super parts → reached super parts path ≡ Some number → number ≢ 1
     → (parts.node number).links ≤ 1 → IsOnlyName super parts path number
 only-name super parts path number sound leads root few = record {
   leads = leads;

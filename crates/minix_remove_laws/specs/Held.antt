@@ -1,9 +1,9 @@
 -- A name that a directory of a sound Minix volume holds, and its inode once the name is gone (a rule of this project's
 -- own). A path is a list of components, the last one first.
-use Rattle.std.specs.Prelude.{◌≡◌, ◌≢◌, ◌≤◌, ◌<◌, ◌+◌, ◌||◌, ℕ, Bool, true, List, ◌∷◌, Option, Some}
-use Rattle.lilo_model.specs.MinixEntries.{entry_with, places}
+use Rattle.std.specs.Prelude.{◌≡◌, ◌≢◌, ◌≤◌, ◌<◌, ◌+◌, ◌||◌, ℕ, Bool, true, false, List, ◌∷◌, Option, Some, None}
+use Rattle.lilo_model.specs.MinixEntries.{entry_with, places, is_dots}
 use Rattle.lilo_model.specs.MinixLayout.{Super, Inode}
-use Rattle.lilo_model.specs.MinixNames.{entry, first_named, reached, Named, PointsTo}
+use Rattle.lilo_model.specs.MinixNames.{entry, first_named, lookup, reached, Named, PointsTo}
 use Rattle.lilo_model.specs.MinixParts.{Parts, Pointer, is_directory, is_file, is_link}
 use Rattle.minix_beside_laws.specs.Beside.{IsDataZone}
 use Rattle.minix_entry_laws.specs.Enter.{MayRemove, IsLeft}
@@ -37,6 +37,11 @@ pub record MayGoFrom (super : Super) (parts : Parts) (outer : List (List ℕ)) (
   pub leads : reached super parts (name ∷ outer) ≡ Some number
   pub root : number ≢ 1
   pub lies : zone_of_entry super parts directory place ≢ 0
+
+-- a name that a directory doesn't hold is neither `.` nor `..`, and is found nowhere in it
+pub record IsAbsent (super : Super) (parts : Parts) (directory : ℕ) (name : List ℕ) : Type 0 where
+  pub plain : is_dots name ≡ false
+  pub absent : lookup super parts name directory ≡ None
 
 -- Once the entry is free: the inode is as before, points where it pointed, and to data zones alone. One link less is enough
 -- for the names that it has left; where it had but one link it has none left, and no named inode refers to its zones.

@@ -1,12 +1,12 @@
 -- What the removal of a name does to a sound Minix volume.
-use Rattle.std.specs.Prelude.{◌≡◌, ℕ, List, Some}
+use Rattle.std.specs.Prelude.{◌≡◌, ℕ, true, List, Some, None}
 use Rattle.lilo_model.specs.MinixLayout.{Super}
 use Rattle.lilo_model.specs.MinixNames.{reached, Named, Sound}
-use Rattle.lilo_model.specs.MinixParts.{Parts}
+use Rattle.lilo_model.specs.MinixParts.{Parts, is_directory}
 use Rattle.minix_entry_laws.specs.Enter.{BecomesFree}
 use Rattle.minix_growth_laws.specs.Changes.{AreEnough, ChangesNode}
 use Rattle.minix_sees_laws.specs.Sees.{with_links, Sees}
-use Rattle.minix_remove_laws.specs.Held.{HoldsEntry, HoldsName, MayGoFrom, IsReleased}
+use Rattle.minix_remove_laws.specs.Held.{held_name, HoldsEntry, HoldsName, MayGoFrom, IsAbsent, IsReleased}
 
 -- an inode of which a directory has an entry has a name or is the root: also that of `.` and `..`
 abbrev pub EntryLaw : Type 0
@@ -21,7 +21,14 @@ HeldLaw =
     → Sound super parts → reached super parts outer ≡ Some directory → HoldsName super parts directory place number name
     → MayGoFrom super parts outer directory place number name
 
--- and then its inode may have a link less, or is left without a name
+-- a name that it doesn't hold is neither `.` nor `..`, and is found nowhere in it
+abbrev pub AbsentLaw : Type 0
+AbsentLaw =
+    (super : Super) (parts : Parts) (directory : ℕ) (name : List ℕ)
+    → Sound super parts → Named super parts directory → is_directory (parts.node directory) ≡ true → held_name super parts directory name ≡ None
+    → IsAbsent super parts directory name
+
+-- once a name is gone, its inode may have a link less, or is left without a name
 abbrev pub ReleasedLaw : Type 0
 ReleasedLaw =
     (super : Super) (old new : Parts) (directory place number : ℕ) (name : List ℕ)

@@ -27,7 +27,7 @@ use Rattle.minix_steps.proofs.StepLemmas.{leaves_told, same_view}
 use Rattle.minix_turns.specs.Joined.{LeadsPath}
 use Rattle.minix_turns.specs.Names.{RedirectsName}
 use Rattle.minix_turns.specs.Part.{TurnsEntry, HasEntryPart}
-use Rattle.minix_turns.specs.Replace.{MayReplaceAt, IsReplaced, IsReplacing, Replaces, IsOffEntry}
+use Rattle.minix_turns.specs.Replace.{MayReplaceAt, IsReplaced, IsReplacing, Replaces, HasBothEntries, IsOffEntry}
 use Rattle.minix_turns.specs.declared.replace.EntryPlace.{EntryPlace}
 use Rattle.minix_turns.proofs.EntryLemmas.{free-long, free-inode}
 use Rattle.minix_turns.proofs.PartLemmas.{entry_fits}
@@ -39,7 +39,7 @@ use Rattle.minix_zones.proofs.WriteLemmas.{keeps_join}
 use Rattle.minix_zones.specs.declared.volume.Volume.{Volume}
 
 -- a directory that keeps its name keeps the zone of a block
-zone_stays : (super : Super) (old new : Parts) (directory place : ℕ) → KeepsNamed super old new → Named super old directory → Named super new directory → is_directory (old.node directory) ≡ true
+pub zone_stays : (super : Super) (old new : Parts) (directory place : ℕ) → KeepsNamed super old new → Named super old directory → Named super new directory → is_directory (old.node directory) ≡ true
     → zone_of_entry super old directory place ≢ 0 → zone_of_entry super new directory place ≡ zone_of_entry super old directory place
 unfolding zone_number
 zone_stays super old new directory place keeps was now is some =
@@ -167,3 +167,12 @@ off_entry_stays old mid place d s kept off =
     let B : layout.Super → Type 0 = λ l. IsOther mid.span.disk (mid.span.start + (zone_sector place.zone + entry_size (kind_view l.kind) * place.index / 512)) d s in
     let P : Span → Type 0 = λ p. IsOther p.disk (p.start + (zone_sector place.zone + entry_size (kind_view old.layout.kind) * place.index / 512)) d s in
     subst B (sym kept.same_layout) (subst P (sym kept.same_span) off)
+
+-- the two entries, once both turns are done
+pub both_entries : {D E : Type 0} {disks : Ghosts D} (old mid new : Volume D disks) (to from : EntryPlace) (number : ℕ) (name : List ℕ) (result : Result (Unit {0}) E)
+    → KeepsVolume old mid → HasEntryPart old (now (past_of mid)) to.zone to.index (entry_bytes (kind_view old.layout.kind) number name)
+    → OnOk result (HasEntryPart mid (now (past_of new)) from.zone from.index (free_bytes (kind_view mid.layout.kind)))
+    → OnOk result (HasBothEntries old (now (past_of new)) to from number name)
+both_entries old mid new to from number name result kept led freed =
+    let P : model.Volume → Type 0 = λ v. HasZonePart v (now (past_of mid)) (now (past_of new)) from.zone (entry_size v.layout.kind * from.index) (free_bytes v.layout.kind) in
+    on_ok result _ _ freed (λ free. record { mid = now (past_of mid); led = led; freed = subst P (same_view old mid kept) free })

@@ -10,7 +10,7 @@ use Rattle.lilo_model.specs.MinixLayout.{entry_size, zone_sector}
 use Rattle.lilo_model.specs.MinixNames.{thing}
 use Rattle.lilo_model.specs.MinixParts as model
 use Rattle.minix_entry_bytes_laws.specs.Replaced.{ReplacedIn}
-use Rattle.minix_entry_bytes_laws.specs.Written.{FitsEntry}
+use Rattle.minix_entry_bytes_laws.specs.Written.{FitsEntry, entry_bytes}
 use Rattle.minix_entry_laws.specs.Enter.{MayStand, MayRemove}
 use Rattle.minix_layout.specs.View.{kind_view, super_view}
 use Rattle.minix_layout.specs.declared.superblock.Super.{Super}
@@ -18,7 +18,9 @@ use Rattle.minix_sees_laws.specs.Sees.{SeenAsIn}
 use Rattle.minix_sees_laws.specs.Tree.{HasTreeWith}
 use Rattle.minix_steps.specs.Written.{parts_now}
 use Rattle.minix_turns.specs.Names.{IsEntryAt}
+use Rattle.minix_turns.specs.Part.{HasEntryPart}
 use Rattle.minix_turns.specs.declared.replace.EntryPlace.{EntryPlace}
+use Rattle.minix_zone_bytes_laws.specs.Part.{HasZonePart, free_bytes}
 use Rattle.minix_zones.specs.Volume.{volume_view, past_of, KeepsVolume}
 use Rattle.minix_zones.specs.declared.volume.Volume.{Volume}
 
@@ -65,6 +67,14 @@ ReplacesName old new to from number name result =
     (outer : List (List ℕ)) (directory to_place from_place former : ℕ) (gone : List ℕ)
     → (IsTold (past_of old) → MayReplaceAt old outer directory to_place from_place former number to from name gone)
     → Replaces old new outer former number name gone result
+
+-- ---- what the two entries say
+
+-- one entry has an inode and a name in an image, and then the other is free: all other bytes are as they are now
+pub record HasBothEntries {D : Type 0} {disks : Ghosts D} (volume : Volume D disks) (image : Image) (to from : EntryPlace) (number : ℕ) (name : List ℕ) : Type 0 where
+  pub mid : Image
+  pub led : HasEntryPart volume mid to.zone to.index (entry_bytes (kind_view volume.layout.kind) number name)
+  pub freed : HasZonePart (volume_view volume) mid image from.zone (entry_size (kind_view volume.layout.kind) * from.index) (free_bytes (kind_view volume.layout.kind))
 
 -- ---- what isn't written
 

@@ -1,5 +1,5 @@
 // The bytes of an inode that may have a name, and a flush.
-ghost use Rattle.std.specs.Prelude.{◌≤◌, List};
+ghost use Rattle.std.specs.Prelude.{◌≡◌, ◌≤◌, List};
 ghost use Rattle.disk_trait.specs.Moments.{IsTold, IsQuiet};
 ghost use Rattle.lilo_model.specs.MinixLayout.{FitsInode, most_links};
 ghost use Rattle.minix_growth_laws.specs.Changes.{with_size, with_top};
@@ -12,7 +12,7 @@ ghost use Rattle.minix_zones.specs.Volume.{past_of};
 
 use crate::sector::turn;
 use disk_trait::Disks;
-use minix_layout::{Inode, where_inode};
+use minix_layout::{FsKind, Inode, where_inode};
 use minix_steps::put_inode;
 use minix_zones::{Volume, ZoneFault};
 
@@ -39,6 +39,13 @@ pub fn turn_inode<D: Disks>(
     volume.read_sector(place.sector, &mut bytes)?;
     put_inode(&mut bytes, usize::from(place.at), inode, kind);
     turn(volume, place.sector, &bytes)
+}
+
+/// The most links that an inode of a kind can have.
+pub fn most_links(kind: FsKind) -> u16
+    ensures { result ≡ most_links (kind_view kind) }
+{
+    if kind.is_v1() { 255 } else { 65535 }
 }
 
 /// Writes an inode with other links, and makes it durable, from a quiet moment on.

@@ -12,7 +12,7 @@ mod replace;
 mod sector;
 
 pub use entry::{turn_entry, turn_free};
-pub use inode::{turn_inode, turn_links, turn_pointer, turn_size};
+pub use inode::{most_links, turn_inode, turn_links, turn_pointer, turn_size};
 pub use joined::{path_is_led_after, path_stays_led, steps_are_unseen, unseen_calls_join};
 pub use laws::{lowered_links_are_enough, raised_links_are_enough};
 pub use number::turn_number;

@@ -1,10 +1,10 @@
 // One name in the place of another in the same directory.
 ghost use Rattle.std.specs.Prelude.{◌≤◌, ◌<◌, length, OnOk};
-ghost use Rattle.disk_trait.specs.Moments.{IsQuiet};
+ghost use Rattle.disk_trait.specs.Moments.{IsTold, now, IsQuiet};
 ghost use Rattle.lilo_model.specs.MinixEntries.{entries_per_block};
 ghost use Rattle.lilo_model.specs.MinixLayout.{name_size};
 ghost use Rattle.minix_layout.specs.View.{kind_view};
-ghost use Rattle.minix_turns.specs.Replace.{IsEntryPlace, ReplacesName, WritesEntriesAlone};
+ghost use Rattle.minix_turns.specs.Replace.{IsEntryPlace, ReplacesName, HasBothEntries, WritesEntriesAlone};
 ghost use Rattle.minix_zones.specs.Volume.{past_of, HasDeviceCause};
 
 use crate::entry::{turn_entry, turn_free};
@@ -36,6 +36,8 @@ pub fn turn_replace<D: Disks>(
     requires short { length name.now ≤ name_size (kind_view volume.old.layout.kind) }
     requires quiet { IsQuiet (past_of volume.old) }
     ensures replaces { ReplacesName volume.old volume.new to from number name.now result }
+    ensures entries { IsTold (past_of volume.old)
+        → OnOk result (HasBothEntries volume.old (now (past_of volume.new)) to from number name.now) }
     ensures others { WritesEntriesAlone volume.old volume.new to from }
     ensures quiet { OnOk result (IsQuiet (past_of volume.new)) }
     ensures device { HasDeviceCause volume.old volume.new ZoneFault.Device result }

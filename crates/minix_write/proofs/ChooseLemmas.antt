@@ -211,6 +211,7 @@ refused_then (writevariants.NoSpace need short) found next refused = rw refused 
 refused_then writevariants.NoInode found next refused = rw refused refl
 refused_then writevariants.NameTooLong found next refused = rw refused refl
 refused_then writevariants.Exists found next refused = rw refused refl
+refused_then writevariants.Links found next refused = refused
 refused_then (writevariants.Tree (treevariants.NotFound position)) found next refused = refused
 refused_then (writevariants.Tree (treevariants.NotDirectory position)) found next refused = refused
 refused_then (writevariants.Tree treevariants.NotFile) found next refused = refused

@@ -7,6 +7,7 @@
 mod directory;
 mod file_zones;
 mod growth;
+mod halt;
 mod pick;
 mod taken;
 #[cfg(test)]
@@ -14,6 +15,7 @@ mod tests;
 mod wish;
 mod write_fault;
 
+pub use halt::WriteHalt;
 pub use pick::{Choice, choose};
 pub use taken::Taken;
 pub use wish::Wish;

@@ -15,6 +15,8 @@ pub enum WriteFault {
     NameTooLong,
     /// The directory has the name.
     Exists,
+    /// The inode has as many links as one of the volume can have.
+    Links,
     /// A zone's number or an inode's size is refused: on a sound volume whose disks report their past none is.
     Tree(TreeFault),
     /// The disk failed.

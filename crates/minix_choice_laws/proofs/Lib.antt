@@ -3,3 +3,5 @@ pub mod Growth
 pub mod Place
 pub mod Rising
 pub mod Stay
+pub mod Apart
+pub mod NewPlace

@@ -1,3 +1,4 @@
 pub mod Choice
 pub mod Growth
 pub mod Laws
+pub mod Apart

@@ -1,4 +1,5 @@
 // What holds of a choice.
+ghost use Rattle.minix_choice_laws.specs.Apart.{HeldLaw, HeldStaysLaw, ApartLaw};
 ghost use Rattle.minix_choice_laws.specs.Growth.{FreeGrowthLaw, PromisesLaw};
 ghost use Rattle.minix_choice_laws.specs.Laws.{ChoiceLaw, FileLaw, PlaceLaw, PlaceStaysLaw, MayHaveStaysLaw, PlaceLiesLaw};
 
@@ -40,4 +41,19 @@ pub fn growth_is_free()
 /// What was promised stays so with one choice more.
 pub fn promises_stay()
     ensures { PromisesLaw }
+{}
+
+/// What is chosen is held, once it is taken.
+pub fn choice_is_held()
+    ensures { HeldLaw }
+{}
+
+/// And it still is with one choice more.
+pub fn held_choice_stays()
+    ensures { HeldStaysLaw }
+{}
+
+/// What is chosen has nothing in common with an earlier choice that is held, but for zones of growth of the same step.
+pub fn choices_are_apart()
+    ensures { ApartLaw }
 {}

@@ -5,6 +5,7 @@
 mod laws;
 
 pub use laws::{
-    choice_is_free, choice_may_be_a_file, growth_is_free, place_may_get_the_name, place_stays,
-    promises_stay,
+    choice_is_free, choice_is_held, choice_may_be_a_file, choices_are_apart, growth_is_free,
+    held_choice_stays, place_lies_there, place_may_get_the_name, place_stays,
+    place_still_may_be_had, promises_stay,
 };

@@ -13,7 +13,9 @@ use Rattle.lilo_model.specs.MinixLayout.{Kind, is_size, numbers_in_zone, reach}
 use Rattle.lilo_model.specs.MinixParts.{blocks_for, parts_of}
 use Rattle.minix_bits.proofs.BitmapLemmas.{fits}
 use Rattle.minix_choice_laws.proofs.Choose.{blocks_length, choice_law, file_law}
-use Rattle.minix_choice_laws.proofs.Growth.{free_growth_law}
+use Rattle.minix_choice_laws.specs.Apart.{IsHeld, AreApart}
+use Rattle.minix_choice_laws.proofs.Apart.{held_law, held_stays_law, apart_law}
+use Rattle.minix_choice_laws.proofs.Growth.{free_growth_law, promises_law}
 use Rattle.minix_choice_laws.proofs.Place.{place_law}
 use Rattle.minix_fill_laws.proofs.Chosen.{few_by}
 use Rattle.minix_fill_laws.proofs.Given.{given_length, given_at, count_before}
@@ -28,16 +30,20 @@ use Rattle.minix_tree.proofs.StatLemmas.{blocks_reached}
 use Rattle.minix_entry_bytes_laws.specs.Written.{FitsEntry}
 use Rattle.minix_write.specs.Suits.{SuitsWish}
 use Rattle.minix_write.specs.declared.wish.Wish.{Wish}
+use Rattle.minix_write.specs.Taken.{with_choice}
 use Rattle.minix_write.specs.View.{Promised, taken_view}
 use Rattle.minix_zones.specs.Volume.{volume_view, past_of}
 use Rattle.minix_zones.specs.declared.volume.Volume.{Volume}
 use Rattle.disk_trait.specs.declared.disks.Span.{Span}
-use Rattle.write_model.specs.Choice.{choose, file_need}
+use Rattle.write_model.specs.Choice.{choose, file_need, taken_with}
 use Rattle.write_model.specs.FileZones.{count_made, data_blocks, made_indirect}
 use Rattle.write_model.specs.Places.{most_places}
 use Rattle.write_model.specs.Wish as model
+use Rattle.write_model.specs.Wish.{Taken}
 use Rattle.minix_create.specs.Chosen.{Suits, IsPromisedNow, IsFreeWhereSound, LinksWhereSound}
+use Rattle.minix_create.specs.Several.{PromisesMore, PromisesWhereFree}
 use Rattle.minix_create.specs.declared.chosen.Chosen.{Chosen}
+use Rattle.minix_create.proofs.TakenLemmas.{taken_as, promised_as, held_as}
 
 -- an inode can name the blocks
 pub few_blocks : (layout : Super) (span : Span) (chosen : Chosen) → Suits layout span chosen → blocks_for chosen.length ≤ reach (kind_view layout.kind)
@@ -124,6 +130,27 @@ module _ {D : Type 0} {disks : Ghosts D} (volume : Volume D disks) (taken : Prom
       let is : slice_index chosen.choice.blocks index ≡ slice_index chosen.choice.zones (count_made (take index made)) =
       ap (λ (zones : FileZones). slice_index zones.blocks index) free.file ∙ given_at made chosen.choice.zones index one in
       λ zero. free.rising.some (count_made (take index made)) (omega (arith, before, enough)) (sym is ∙ zero)
+
+  -- and what it has in common with what was chosen before
+  pub promises_more : wish.directory ≡ chosen.directory → (new : Promised) → new ≡ with_choice taken wish.directory chosen.choice → PromisesWhereFree volume (taken_view taken) (taken_view new) chosen
+  promises_more in_it new taken_is told promised =
+      let now_is = chosen_now told in
+      let same = taken_as taken wish.directory chosen.choice in
+      let One : Taken = taken_view (with_choice taken wish.directory chosen.choice) in
+      let Other : Taken = taken_with (taken_view taken) wish.directory chosen.choice in
+      let N : Promised → Type 0 = λ t. PromisesMore volume (taken_view taken) (taken_view t) chosen in
+      let H : ℕ → Type 0 = λ d. IsHeld Other d chosen.choice in
+      subst N (sym taken_is)
+      (record {
+        promised = promised_as One Other same (super_view volume.layout) (parts_now volume) (promises_law (super_view volume.layout) (parts_now volume) (taken_view taken) wish chosen.choice first_some promised now_is);
+        held = held_as One Other same chosen.directory chosen.choice (subst H in_it (held_law (super_view volume.layout) (parts_now volume) (taken_view taken) wish chosen.choice first_some promised now_is));
+        stays = λ one held.
+            held_as One Other same one.directory one.choice
+            (held_stays_law (super_view volume.layout) (parts_now volume) (taken_view taken) wish chosen.choice one.directory one.choice first_some promised now_is held);
+        apart = λ one held.
+            let A : ℕ → Type 0 = λ d. AreApart (kind_view volume.layout.kind) one.directory one.choice d chosen.choice in
+            subst A in_it (apart_law (super_view volume.layout) (parts_now volume) (taken_view taken) wish chosen.choice one.directory one.choice first_some promised now_is held);
+      })
 
   pub links : wish.directory ≡ chosen.directory → wish.name ≡ chosen.name → LinksWhereSound volume (taken_view taken) chosen
   links in_it named outer told needs =

@@ -1,5 +1,5 @@
 -- What the call leaves that makes the name of what is filled.
-use Rattle.std.proofs.Common.{◌≡◌, ◌≤◌, ◌<◌, ◌+◌, ◌*◌, ◌/◌, ◌%◌, ◌==◌, ℕ, Bool, true, false, List, [], ◌∷◌, Option, Some, None, Result, Ok, Err, OnOk, refl, sym, ap, ◌∙◌, subst, arith, inl, inr, ⊎_elim}
+use Rattle.std.proofs.Common.{◌≡◌, ◌≢◌, ◌≤◌, ◌<◌, ◌+◌, ◌*◌, ◌/◌, ◌%◌, ◌==◌, ℕ, Bool, true, false, List, [], ◌∷◌, Option, Some, None, Result, Ok, Err, OnOk, refl, sym, ap, ◌∙◌, subst, arith, inl, inr, ⊎_elim}
 use Rattle.std.proofs.Math.Path.{subst₂}
 use Rattle.disk_trait.specs.declared.disks.Disks.{Ghosts}
 use Rattle.disk_trait.specs.declared.disks.Span.{Span}
@@ -9,14 +9,17 @@ use Rattle.disk_trait.specs.NotWritten.{IsOther, NotWritten}
 use Rattle.disk_trait.proofs.MomentLemmas.{leaves_none, leaves_weaker, leaves_join, on_ok}
 use Rattle.disk_trait.proofs.NotWrittenLemmas.{not_written_none, not_written_join}
 use Rattle.lilo_model.specs.MinixEntries.{entries_per_block}
+use Rattle.lilo_model.specs.MinixLayout as layouts
 use Rattle.lilo_model.specs.MinixLayout.{Inode, entry_size, zone_sector}
-use Rattle.lilo_model.specs.MinixNames.{Thing, Directory, then_lookup, reached, thing, IsSound}
+use Rattle.lilo_model.specs.MinixNames.{Thing, Directory, then_lookup, reached, thing, zone_number, Named, PointsTo, Sound, IsSound}
 use Rattle.lilo_model.specs.MinixParts as model
-use Rattle.lilo_model.specs.MinixParts.{Parts, is_directory}
+use Rattle.lilo_model.specs.MinixParts.{Parts, Pointer, is_directory}
 use Rattle.minix_choice_laws.specs.Choice.{HasNamePlace}
 use Rattle.minix_choice_laws.proofs.Stay.{lies, place_stays_law}
 use Rattle.minix_entry_bytes_laws.specs.Written.{entry_bytes}
-use Rattle.minix_entry_laws.specs.Only.{zone_of_entry}
+use Rattle.minix_entry_bytes_laws.proofs.Written.{written_law}
+use Rattle.minix_entry_laws.specs.Only.{zone_of_entry, ChangesOnlyEntry}
+use Rattle.minix_entry_laws.proofs.Only.{directory-refers, named-node, named-above}
 use Rattle.minix_grow.specs.Others.{KeepsOthers}
 use Rattle.minix_grow.proofs.KeepLemmas.{keeps_bytes}
 use Rattle.minix_growth_laws.specs.Changes.{ChangesZone}
@@ -24,15 +27,18 @@ use Rattle.minix_layout.specs.View.{kind_view, super_view}
 use Rattle.minix_layout.specs.declared.superblock.Super.{Super}
 use Rattle.minix_sees_laws.specs.Sees.{SeenAsIn, with_links}
 use Rattle.minix_sees_laws.specs.Tree.{HasTreeWith}
-use Rattle.minix_sees_laws.proofs.Inode.{thing-directory}
+use Rattle.minix_made_laws.proofs.Places.{seen_places_law, entry_places_law, join_places_law}
+use Rattle.minix_sees_laws.proofs.Inode.{thing-directory, points-old, points-new}
 use Rattle.minix_sees_laws.proofs.Seen.{opened}
-use Rattle.minix_sees_laws.proofs.Sees.{reached-same}
+use Rattle.minix_sees_laws.proofs.Sees.{reached-same, named-new}
 use Rattle.minix_steps.specs.Written.{parts_now}
 use Rattle.minix_steps.proofs.StepLemmas.{leaves_told, same_view}
 use Rattle.minix_turns.specs.Joined.{Unseen, LeadsPath}
 use Rattle.minix_turns.specs.Names.{MakesName, MakesDirectory, IsEntryAt}
 use Rattle.minix_turns.specs.Part.{TurnsNamedEntry, HasEntryPart, WithOrWithoutEntry}
+use Rattle.minix_turns.proofs.EntryLemmas.{entry-long}
 use Rattle.minix_turns.proofs.JoinedLemmas.{unseen_then_leads}
+use Rattle.minix_turns.proofs.NameLemmas.{entry_at}
 use Rattle.minix_write.specs.declared.write_fault.WriteFault.{WriteFault}
 use Rattle.minix_write.specs.declared.write_fault.WriteFault.TheVariants as refusals
 use Rattle.minix_zone_bytes_laws.specs.Part.{with_zone_part}
@@ -43,7 +49,7 @@ use Rattle.minix_zones.specs.declared.zone_fault.ZoneFault.{ZoneFault}
 use Rattle.minix_zones.specs.declared.zone_fault.ZoneFault.TheVariants as zones
 use Rattle.minix_create.specs.Brought.{StillFits}
 use Rattle.minix_create.specs.Chosen.{Suits, MayLinkNow}
-use Rattle.minix_create.specs.Entered.{MayBeNamed, raised_links, IsDirectoryNow, RaisesLinks, links_above, HasLinksOrAbove, Readies, MayEnterNow, IsOffEntered, IsRaisedFirst, Enters}
+use Rattle.minix_create.specs.Entered.{MayBeNamed, raised_links, IsDirectoryNow, RaisesLinks, links_above, HasLinksOrAbove, Readies, MayEnterNow, IsOffEntered, IsRaisedFirst, KeepsDirectories, Enters}
 use Rattle.minix_create.specs.Linked.{IsRaisedBefore}
 use Rattle.minix_create.specs.declared.chosen.Chosen.{Chosen}
 use Rattle.minix_create.proofs.BroughtLemmas.{rises, same_unseen, same_self}
@@ -102,6 +108,23 @@ answered old new path found what leads = record { any_moment = leads.any_moment;
 
 refused : {D E F : Type 0} {disks : Ghosts D} (old new : Volume D disks) (path : List (List ℕ)) (found : Option ℕ) (what : Option Thing) (fault : E) (fault' : F) → LeadsPath old new path found what (Err fault) → LeadsPath old new path found what (Err fault')
 refused old new path found what fault fault' leads = record { any_moment = leads.any_moment; held = leads.held; done = λ told. tt; goes_on = leads.goes_on; kept = leads.kept }
+
+-- ---- where one entry changes
+
+module _ (super : layouts.Super) (old new : Parts) (directory place : ℕ) (sound : Sound super old) (only : ChangesOnlyEntry super old new directory place) where
+  -- its place lies where it lay
+  lies_still : zone_of_entry super old directory place ≢ 0 → zone_of_entry super new directory place ≢ 0
+  unfolding zone_number
+  lies_still some none =
+      let refers = directory-refers super old directory place only.change.named only.change.is _ some refl in
+      let to = points-new super old new directory (named-node super old new directory place sound only directory only.change.named).numbers
+      (named-above super old new directory place sound only directory only.change.named) _ _ refers.to in
+      some (sym to.is ∙ none)
+
+  -- no pointer comes
+  points_before : (number : ℕ) → Named super old number → (at : Pointer) (zone : ℕ) → PointsTo super new number at zone → PointsTo super old number at zone
+  points_before number named =
+      points-old super old new number (named-node super old new directory place sound only number named).numbers (named-above super old new directory place sound only number named)
 
 -- ---- before the entry
 
@@ -167,6 +190,7 @@ module _ {D : Type 0} {disks : Ghosts D} (old : Volume D disks) (outer : List (L
     above = λ told. tt;
     marks = λ told. tt;
     stays = λ told. tt;
+    directories = λ told. tt;
     others = λ told d s off. ready.others told d s off.above;
     device = ready.device;
   }
@@ -273,6 +297,40 @@ module _ {D : Type 0} {disks : Ghosts D} (old : Volume D disks) (outer : List (L
           (keeps_bytes (super_view mid.layout) (parts_now mid) (model.parts_of (volume_view mid) (now (past_of new))) chosen.directory chosen.choice.place bytes []
           (opened (volume_view mid) (now (past_of mid)) m.sound).parts placed.named placed.is placed.some (subst C (sym m.lies) change))
 
+      -- one entry changed
+      only-mid : IsTold (past_of mid) → HasEntryPart mid (now (past_of new)) zone index (entry_bytes (kind_view mid.layout.kind) chosen.choice.inode chosen.name)
+          → ChangesOnlyEntry (super_view old.layout) (model.parts_of (volume_view old) (now (past_of mid))) (model.parts_of (volume_view old) (now (past_of new))) chosen.directory chosen.choice.place
+      only-mid told has =
+          let m = may_mid told in
+          let bytes : List ℕ = entry_bytes (kind_view mid.layout.kind) chosen.choice.inode chosen.name in
+          let V : model.Volume → Type 0 = λ view. ChangesOnlyEntry view.layout (model.parts_of view (now (past_of mid))) (model.parts_of view (now (past_of new))) chosen.directory chosen.choice.place in
+          subst V view-mid
+          (written_law (volume_view mid) (now (past_of mid)) (now (past_of new)) chosen.directory chosen.choice.place bytes m.sound m.place.placed
+          (entry_at (volume_view mid) (now (past_of mid)) (now (past_of new)) chosen.directory chosen.choice.place zone index bytes
+          (entry-long (kind_view mid.layout.kind) chosen.choice.inode chosen.name suits.name.short) m.lies (sym slot) has)).only
+
+      directories-kept : IsTold (past_of old) → HasEntryPart mid (now (past_of new)) zone index (entry_bytes (kind_view mid.layout.kind) chosen.choice.inode chosen.name)
+          → KeepsDirectories (super_view old.layout) (parts_now old) (model.parts_of (volume_view old) (now (past_of new))) chosen
+      directories-kept told has =
+          let super = super_view old.layout in
+          let Mid : Parts = model.parts_of (volume_view old) (now (past_of mid)) in
+          let New : Parts = model.parts_of (volume_view old) (now (past_of new)) in
+          let told-mid = ready.unseen.goes_on.told told in
+          let seen = ready.unseen.held told in
+          let S : model.Volume → Type 0 = λ view. HasNamePlace view (now (past_of mid)) outer chosen.directory chosen.choice.place chosen.name in
+          let place : HasNamePlace (volume_view old) (now (past_of mid)) outer chosen.directory chosen.choice.place chosen.name = subst S view-mid (may_mid told-mid).place in
+          let sound-mid = (opened (volume_view old) (now (past_of mid)) seen.sound).parts in
+          let only = only-mid told-mid has in
+          record {
+            lies = lies_still super Mid New chosen.directory chosen.choice.place sound-mid only place.placed.some;
+            keeps = join_places_law super (parts_now old) Mid New chosen.directory chosen.choice.place seen.sees
+                (seen_places_law super (parts_now old) Mid chosen.directory chosen.choice.place seen.sees)
+                (entry_places_law super Mid New chosen.directory chosen.choice.place sound-mid only);
+            points = λ number at z named to.
+                (ready.keeps told).points number at z named
+                (points_before super Mid New chosen.directory chosen.choice.place sound-mid only number (named-new super (parts_now old) Mid seen.sees number named) at z to);
+          }
+
       last-moment : LeavesOnly (past_of mid) (past_of new) (IsRaisedFirst old outer chosen)
       last-moment =
           leaves_told (past_of mid) (past_of new) _ _ any (λ told c either.
@@ -324,6 +382,9 @@ module _ {D : Type 0} {disks : Ghosts D} (old : Volume D disks) (outer : List (L
             (keeps.others chosen.choice.inode (still told).fit
             (not_named (super_view old.layout) (parts_now old) outer chosen.directory chosen.choice.inode m.place.placed.named m.place.placed.is m.named)
             (λ at z to i low. absurd (omega (arith, low))));
+        directories = λ told.
+            let told-mid = ready.unseen.goes_on.told told in
+            directories-kept suits from below index slot new (Ok tt) turns any entry makes makes_directory told (entry told-mid);
         others = others suits from below index slot new (Ok tt) turns any entry makes makes_directory;
         device = λ told. tt;
       }
@@ -338,6 +399,7 @@ module _ {D : Type 0} {disks : Ghosts D} (old : Volume D disks) (outer : List (L
         above = λ told. tt;
         marks = λ told. tt;
         stays = λ told. tt;
+        directories = λ told. tt;
         others = others suits from below index slot new (Err fault) turns any (λ told. tt) makes makes_directory;
         device = λ told. (refl, rises (faults_of old) (faults_of mid) (faults_of new) ready.unseen.goes_on.later turns.device.1);
       }

@@ -9,8 +9,8 @@ use Rattle.disk_trait.specs.NotWritten.{IsOther}
 use Rattle.disk_trait.specs.Range.{IsOutside}
 use Rattle.disk_trait.proofs.NotWrittenLemmas.{not_written_join}
 use Rattle.lilo_model.specs.MinixLayout.{Inode, inode_place, numbers_in_zone, reach, zone_sector}
-use Rattle.lilo_model.specs.MinixNames.{thing, block, blocks, content, zone_number}
-use Rattle.lilo_model.specs.MinixParts.{is_directory, zone_bytes, blocks_for, block_pointer}
+use Rattle.lilo_model.specs.MinixNames.{thing, block, blocks, content, zone_number, PointsTo}
+use Rattle.lilo_model.specs.MinixParts.{Pointer, is_directory, zone_bytes, blocks_for, block_pointer}
 use Rattle.minix_choice_laws.specs.Choice.{file_of}
 use Rattle.minix_entry_laws.specs.Enter.{DirectoryMayStand}
 use Rattle.minix_fill.specs.Fill as fill
@@ -106,13 +106,18 @@ module _ {D : Type 0} {disks : Ghosts D} (start old new : Volume D disks) (chose
         (is_pointer-block (kind_view old.layout.kind) index)
         ∙ ap (zone_from (file_of chosen.choice)) (block_leads (kind_view old.layout.kind) index near)
 
-    -- and no pointer leads to a zone of growth
+    -- each pointer leads to a zone of the file
+    own_is : (at : Pointer) (zone : ℕ) → PointsTo (super_view old.layout) (parts_now new) chosen.choice.inode at zone → (source : Source) × (zone_from (file_of chosen.choice) source ≡ zone)
+    own_is at zone to = (
+      source_of (numbers_in_zone (kind_view old.layout.kind)) at,
+      sym (pointers_law (super_view old.layout) (parts_now new) chosen.choice.inode (file_of chosen.choice) at file is.has to.place) ∙ to.is,
+    )
+
+    -- and none to a zone of growth
     clear_is : IsClearOf (super_view old.layout) (parts_now new) chosen.choice.inode chosen.choice.growth
     clear_is at zone to level low same =
-        let source : Source = source_of (numbers_in_zone (kind_view old.layout.kind)) at in
-        let from : zone ≡ zone_from (file_of chosen.choice) source =
-        sym to.is ∙ pointers_law (super_view old.layout) (parts_now new) chosen.choice.inode (file_of chosen.choice) at file is.has to.place in
-        may.clear (told_old told) source level (λ none. to.some (from ∙ none)) low (same ∙ from)
+        let own = own_is at zone to in
+        may.clear (told_old told) own.0 level (λ none. to.some (sym own.1 ∙ none)) low (same ∙ sym own.1)
 
     -- the first block of a directory
     first_block : block (super_view old.layout) (parts_now new) chosen.choice.inode 0 ≡ block_with chosen.choice.blocks given 0
@@ -142,6 +147,7 @@ module _ {D : Type 0} {disks : Ghosts D} (start old new : Volume D disks) (chose
         mode = fields.mode;
         named = at_new (λ layout. (outer : List (List ℕ)) → MayNest outer chosen → MayBeNamed (super_view layout) (parts_now new) outer chosen.directory chosen.choice.inode)
             (λ outer nests. ⊎_elim (λ of. inl (stands of (told_old told) marked)) (λ of. inr (of_directory outer nests of)) made);
+        own = at_new (λ layout. (at : Pointer) (zone : ℕ) → PointsTo (super_view layout) (parts_now new) chosen.choice.inode at zone → (source : Source) × (zone_from (file_of chosen.choice) source ≡ zone)) own_is;
         clear = at_new (λ layout. IsClearOf (super_view layout) (parts_now new) chosen.choice.inode chosen.choice.growth) clear_is;
         is = at_new (λ layout. thing (super_view layout) (parts_now new) chosen.choice.inode ≡ thing_with chosen given) (thing_is few);
         lies = at_new (λ layout. (index : ℕ) → index < reach (kind_view layout.kind) → zone_number (super_view layout) (parts_now new) chosen.choice.inode index ≡ slice_index chosen.choice.blocks index) zone_is;

@@ -14,3 +14,5 @@ pub mod OpenLemmas
 pub mod RaisedLemmas
 pub mod StandLemmas
 pub mod StateLemmas
+pub mod SeveralLemmas
+pub mod TakenLemmas

@@ -19,7 +19,7 @@ use Rattle.lilo_model.specs.MinixLayout.{Kind, V1Short, V1Long, V2Short, V2Long,
 use Rattle.lilo_model.specs.MinixNames.{reached, thing, zone_number, Named, PointsTo, IsSound}
 use Rattle.lilo_model.specs.MinixParts as model
 use Rattle.lilo_model.specs.MinixParts.{Parts, Pointer, block_pointer, has_zones, is_directory}
-use Rattle.minix_choice_laws.specs.Choice.{MayHavePlace, LiesThere, HasNamePlace}
+use Rattle.minix_choice_laws.specs.Choice.{file_of, MayHavePlace, LiesThere, HasNamePlace}
 use Rattle.minix_choice_laws.proofs.Stay.{zone_lies, may_have_stays_law, place_lies_law}
 use Rattle.minix_beside_laws.specs.Beside.{Beside}
 use Rattle.minix_beside_laws.specs.Keeps.{Keeps}
@@ -32,7 +32,10 @@ use Rattle.minix_grow.specs.Others.{IsOneOf, KeepsOthers}
 use Rattle.minix_grow.specs.Places.{IsFreePlace}
 use Rattle.minix_grow.proofs.KeepLemmas.{fit_kept}
 use Rattle.minix_grow.proofs.OtherLemmas.{all_off_stay}
+use Rattle.minix_fill_laws.specs.Sources.{Source, zone_from}
 use Rattle.minix_laws.proofs.Inside.{is_pointer-block}
+use Rattle.minix_made_laws.specs.Made.{KeepsPlaces}
+use Rattle.minix_made_laws.proofs.Places.{seen_places_law, join_places_law}
 use Rattle.minix_layout.specs.View.{kind_view, super_view}
 use Rattle.minix_layout.specs.declared.superblock.Super.{Super}
 use Rattle.minix_sees_laws.specs.Sees.{Sees}
@@ -54,7 +57,7 @@ use Rattle.minix_zones.specs.declared.volume.Volume.{Volume}
 use Rattle.minix_create.specs.Brought.{IsInDirectory, GivesPlace}
 use Rattle.minix_create.specs.Chosen.{MayLinkNow, MayNest, new_inode, thing_with}
 use Rattle.minix_create.specs.Created.{MarksOnly, IsFilled}
-use Rattle.minix_create.specs.Entered.{SameMarks, MayBeNamed, links_above, MayEnterNow, IsOffEntered, Enters}
+use Rattle.minix_create.specs.Entered.{SameMarks, KeepsDirectories, MayBeNamed, links_above, MayEnterNow, IsOffEntered, Enters}
 use Rattle.minix_create.specs.Grown.{MayGrowNow, LiesNow, IsOffGrowth, GrowsChosen}
 use Rattle.minix_create.specs.Linked.{IsOffName, IsRaisedBefore, MarksLinked, LiesAsChosen, Creates}
 use Rattle.minix_create.specs.declared.chosen.Chosen.{Chosen}
@@ -90,6 +93,12 @@ pub record IsLinkable {D : Type 0} {disks : Ghosts D} (start next : Volume D dis
   pub links : IsTold (past_of start) → ((model.parts_of (volume_view start) (now (past_of next))).node chosen.directory).links ≡ ((parts_now start).node chosen.directory).links
   pub marks : IsTold (past_of start) → MarksLinked (super_view start.layout) (parts_now start) (model.parts_of (volume_view start) (now (past_of next))) chosen
   pub blocks : IsTold (past_of start) → LiesAsChosen (super_view start.layout) (model.parts_of (volume_view start) (now (past_of next))) chosen
+  pub places : IsTold (past_of start) → KeepsPlaces (super_view start.layout) (parts_now start) (model.parts_of (volume_view start) (now (past_of next))) chosen.directory chosen.choice.place
+  pub points : IsTold (past_of start) → (number : ℕ) (at : Pointer) (zone : ℕ) → Named (super_view start.layout) (parts_now start) number
+      → PointsTo (super_view start.layout) (model.parts_of (volume_view start) (now (past_of next))) number at zone
+      → PointsTo (super_view start.layout) (parts_now start) number at zone ⊎ IsOneOf chosen.choice.growth zone
+  pub own : IsTold (past_of start) → (at : Pointer) (zone : ℕ) → PointsTo (super_view start.layout) (model.parts_of (volume_view start) (now (past_of next))) chosen.choice.inode at zone
+      → (source : Source) × (zone_from (file_of chosen.choice) source ≡ zone)
 
 -- ---- after a filled file
 
@@ -162,14 +171,18 @@ module _ {D : Type 0} {disks : Ghosts D} (start old next : Volume D disks) (oute
   named : IsTold (past_of start) → Named (super_view start.layout) (parts_now start) chosen.directory
   named told = (may_grow told).named
 
-  -- its pointers lead where they led
+  -- the pointers of what has a name lead where they led
+  points_named : IsTold (past_of start) → (number : ℕ) → Named (super_view start.layout) (parts_now start) number → (at : Pointer) (zone : ℕ)
+      → PointsTo (super_view start.layout) (model.parts_of (volume_view start) (now (past_of old))) number at zone → PointsTo (super_view start.layout) (parts_now start) number at zone
+  points_named told number named' =
+      let keeps' = kept_named told in
+      points-old (super_view start.layout) (parts_now start) (model.parts_of (volume_view start) (now (past_of old))) number
+      (same-node ((parts_now start).node number) ((model.parts_of (volume_view start) (now (past_of old))).node number) (keeps'.nodes number named')).numbers
+      (keeps-above (super_view start.layout) (parts_now start) (model.parts_of (volume_view start) (now (past_of old))) number (λ at zone to. keeps'.zones number at zone (record { named = named'; to = to })))
+
   points_start : IsTold (past_of start) → (at : Pointer) (zone : ℕ) → PointsTo (super_view start.layout) (model.parts_of (volume_view start) (now (past_of old))) chosen.directory at zone
       → PointsTo (super_view start.layout) (parts_now start) chosen.directory at zone
-  points_start told =
-      let keeps' = kept_named told in
-      points-old (super_view start.layout) (parts_now start) (model.parts_of (volume_view start) (now (past_of old))) chosen.directory
-      (same-node ((parts_now start).node chosen.directory) ((model.parts_of (volume_view start) (now (past_of old))).node chosen.directory) (keeps'.nodes chosen.directory (named told))).numbers
-      (keeps-above (super_view start.layout) (parts_now start) (model.parts_of (volume_view start) (now (past_of old))) chosen.directory (λ at zone to. keeps'.zones chosen.directory at zone (record { named = named told; to = to })))
+  points_start told = points_named told chosen.directory (named told)
 
   off_old : IsTold (past_of start) → (d s : ℕ) → IsOffGrowth start chosen d s → IsOffGrowth old chosen d s
   off_old told d s off = record {
@@ -205,6 +218,7 @@ module _ {D : Type 0} {disks : Ghosts D} (start old next : Volume D disks) (oute
     before = unseen_before start new outer chosen unseen' may;
     above = λ told. tt;
     marks = λ told. tt;
+    made = λ told. tt;
     lies = λ told. tt;
     others = others;
     device = cause;
@@ -417,6 +431,32 @@ module _ {D : Type 0} {disks : Ghosts D} (start old next read : Volume D disks) 
         points_kept (super_view old.layout) Old Next chosen.choice.inode kept (block_pointer (kind_view old.layout.kind) index) (slice_index chosen.choice.blocks index)
         (block_pointed (super_view old.layout) Old chosen.choice.inode index (slice_index chosen.choice.blocks index) (has_zones_by (Old.node chosen.choice.inode) (new_inode chosen) f.mode zones) (f.lies index low) some)))
 
+    -- pointers that came are those of growth
+    points_read : IsTold (past_of start) → (number : ℕ) (to_it : Pointer) (zone : ℕ) → Named (super_view start.layout) (parts_now start) number
+        → PointsTo (super_view start.layout) (model.parts_of (volume_view start) (now (past_of read))) number to_it zone
+        → PointsTo (super_view start.layout) (parts_now start) number to_it zone ⊎ IsOneOf chosen.choice.growth zone
+    points_read told number to_it zone named' to =
+        let seen = (unseen start old next outer chosen given filled (Ok tt) grows none).held told in
+        let K : model.Volume → Type 0 = λ view. KeepsOthers view.layout (model.parts_of view (now (past_of old))) (model.parts_of view (now (past_of next))) chosen.directory chosen.choice.growth in
+        let keeps' : K (volume_view start) = at_start start old next outer chosen given filled (Ok tt) grows none K (keeps_old told) in
+        let I : Option Past → Type 0 = λ past. PointsTo (super_view start.layout) (model.parts_of (volume_view start) (now past)) number to_it zone in
+        ⊎_elim
+        (λ was. inl (points_named start old next outer chosen given filled (Ok tt) grows none told number named' to_it zone was))
+        (λ one. inr one)
+        (keeps'.points number to_it zone (named-new (super_view start.layout) (parts_now start) (model.parts_of (volume_view start) (now (past_of old))) seen.sees number named') (subst I same.same_disks.same_past to))
+
+    -- the file points to its own zones
+    own_read : IsTold (past_of start) → (to_it : Pointer) (zone : ℕ) → PointsTo (super_view start.layout) (model.parts_of (volume_view start) (now (past_of read))) chosen.choice.inode to_it zone
+        → (source : Source) × (zone_from (file_of chosen.choice) source ≡ zone)
+    own_read told to_it zone to =
+        let kept = kept_old told in
+        let V : model.Volume → Type 0 = λ view. PointsTo view.layout (model.parts_of view (now (past_of next))) chosen.choice.inode to_it zone in
+        let I : Option Past → Type 0 = λ past. PointsTo (super_view start.layout) (model.parts_of (volume_view start) (now past)) chosen.choice.inode to_it zone in
+        let next_to : PointsTo (super_view old.layout) Next chosen.choice.inode to_it zone = at_old start old next outer chosen given filled (Ok tt) grows none V (subst I same.same_disks.same_past to) in
+        (filled.filled told).own to_it zone
+        (points-old (super_view old.layout) Old Next chosen.choice.inode (same-node (Old.node chosen.choice.inode) (Next.node chosen.choice.inode) kept.node).numbers
+        (keeps-above (super_view old.layout) Old Next chosen.choice.inode kept.zones) to_it zone next_to)
+
     pub linkable : IsLinkable start read outer chosen given at.zone
     linkable = record {
       unseen = unseen_read;
@@ -435,9 +475,17 @@ module _ {D : Type 0} {disks : Ghosts D} (start old next read : Volume D disks) 
       links = links_stay;
       marks = marks_read;
       blocks = blocks_read;
+      places = λ told. seen_places_law (super_view start.layout) (parts_now start) (model.parts_of (volume_view start) (now (past_of read))) chosen.directory chosen.choice.place (unseen_read.held told).sees;
+      points = points_read;
+      own = own_read;
     }
 
 -- ---- the entry
+
+-- what is so once a call is done
+both_ok : {E : Type 0} (result : Result (Unit {0}) E) (A B : Type 0) → OnOk result A → OnOk result B → OnOk result (A × B)
+both_ok (Ok value) A B one two = (one, two)
+both_ok (Err fault) A B one two = tt
 
 module _ {D : Type 0} {disks : Ghosts D} (start mid : Volume D disks) (outer : List (List ℕ)) (chosen : Chosen) (given : ℕ → List ℕ) (zone : ℕ) (ready : IsLinkable start mid outer chosen given zone) where
   told_mid : IsTold (past_of start) → IsTold (past_of mid)
@@ -504,6 +552,24 @@ module _ {D : Type 0} {disks : Ghosts D} (start mid : Volume D disks) (outer : L
         (λ kept zones index low some.
         points_kept (super_view start.layout) (model.parts_of (volume_view start) (now (past_of mid))) (model.parts_of (volume_view start) (now (past_of new))) chosen.choice.inode kept
         (block_pointer (kind_view start.layout.kind) index) (slice_index chosen.choice.blocks index) (ready.blocks told zones index low some));
+    made = λ told.
+        let super = super_view start.layout in
+        let Mid : Parts = model.parts_of (volume_view start) (now (past_of mid)) in
+        let New : Parts = model.parts_of (volume_view start) (now (past_of new)) in
+        let K : model.Volume → Type 0 = λ view. OnOk result (KeepsInode view.layout (model.parts_of view (now (past_of mid))) (model.parts_of view (now (past_of new))) chosen.choice.inode) in
+        let D : model.Volume → Type 0 = λ view. OnOk result (KeepsDirectories view.layout (model.parts_of view (now (past_of mid))) (model.parts_of view (now (past_of new))) chosen) in
+        on_ok result _ _
+        (both_ok result _ _ (subst K (same_view start mid ready.unseen.kept) (enters.stays (told_mid told))) (subst D (same_view start mid ready.unseen.kept) (enters.directories (told_mid told))))
+        (λ both.
+        let sees = (ready.unseen.held told).sees in
+        record {
+          lies = both.1.lies;
+          keeps = join_places_law super (parts_now start) Mid New chosen.directory chosen.choice.place sees (ready.places told) both.1.keeps;
+          points = λ number at z named to. ready.points told number at z named (both.1.points number at z (named-new super (parts_now start) Mid sees number named) to);
+          own = λ at z to. ready.own told at z
+              (points-old super Mid New chosen.choice.inode (same-node (Mid.node chosen.choice.inode) (New.node chosen.choice.inode) both.0.node).numbers
+              (keeps-above super Mid New chosen.choice.inode both.0.zones) at z to);
+        });
     others = λ told d s off.
         not_written_join (past_of start) (past_of mid) (past_of new) d s (ready.others told d s off) (enters.others (told_mid told) d s (off_entered told d s off));
     device = λ told. device_of start mid new refusals.Device result ready.unseen.goes_on.later (enters.device (told_mid told));

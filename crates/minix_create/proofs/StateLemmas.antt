@@ -34,8 +34,8 @@ use Rattle.minix_create.specs.Linked.{LinksFilled}
 use Rattle.minix_create.specs.States.{IsInHand, IsReservedSince, Reserves, WritesBlock, Fills, GoesWrong, Links, LinkHalts, CreatesOn, CreatesFile, CreationHalts}
 use Rattle.minix_create.specs.declared.chosen.Chosen.{Chosen}
 use Rattle.minix_create.specs.declared.filled.Filled.{Filled}
-use Rattle.minix_create.specs.declared.halt.Linked.{Linked}
-use Rattle.minix_create.specs.declared.halt.WriteHalt.{WriteHalt}
+use Rattle.minix_create.specs.declared.linked.Linked.{Linked}
+use Rattle.minix_write.specs.declared.halt.WriteHalt.{WriteHalt}
 use Rattle.minix_create.specs.declared.reserved.Reserved.{Reserved}
 use Rattle.minix_create.proofs.ChosenLemmas.{few_blocks}
 use Rattle.minix_create.proofs.FillLemmas.{filled_with, fill_done, off_indirect_of}
@@ -137,6 +137,7 @@ module _ {D : Type 0} {disks : Ghosts D} (start : Volume D disks) (chosen : Chos
     before = unseen_before start new outer chosen (steps_unseen start new quiet (λ told. (free told).sound) wrong.steps) may;
     above = λ told. tt;
     marks = λ told. tt;
+    made = λ told. tt;
     lies = λ told. tt;
     others = λ told d s off. wrong.others d s off.file;
     device = λ told. (wrong.device, wrong.rose);

@@ -5,13 +5,14 @@ use Rattle.disk_trait.specs.Moments.{IsTold, begun, IsQuiet}
 use Rattle.disk_trait.specs.NotWritten.{IsOther, NotWritten}
 use Rattle.disk_trait.specs.Range.{IsOutside}
 use Rattle.lilo_model.specs.MinixLayout.{inode_place, reach, zone_sector}
-use Rattle.lilo_model.specs.MinixNames.{zone_number, thing}
-use Rattle.lilo_model.specs.MinixParts.{Parts}
+use Rattle.lilo_model.specs.MinixNames.{zone_number, thing, PointsTo}
+use Rattle.lilo_model.specs.MinixParts.{Parts, Pointer}
 use Rattle.minix_beside_laws.specs.Beside.{IsDataZone}
 use Rattle.minix_bits.specs.Numbers.{has_number}
 use Rattle.minix_choice_laws.specs.Choice.{file_of}
 use Rattle.minix_fill.specs.Fill.{MayHoldFile, AreMarked}
 use Rattle.minix_fill_laws.specs.Laws.{MayBeFile}
+use Rattle.minix_fill_laws.specs.Sources.{Source, zone_from}
 use Rattle.minix_grow.specs.Others.{IsClearOf}
 use Rattle.minix_layout.specs.View.{kind_view, super_view}
 use Rattle.minix_steps.specs.Steps.{IsReady, IsUnnamedInode, Steps}
@@ -82,11 +83,13 @@ pub record IsReserved {D : Type 0} {disks : Ghosts D} (start volume : Volume D d
 
 -- ---- the whole file
 
--- it was filled too: its inode may get a name, points to no zone of growth, is what was given, and each block lies in the zone
--- that was chosen
+-- it was filled too: its inode may get a name, points to zones of the file alone and to none of growth, is what was given, and
+-- each block lies in the zone that was chosen
 pub record IsFilledWith {D : Type 0} {disks : Ghosts D} (volume : Volume D disks) (chosen : Chosen) (given : ℕ → List ℕ) : Type 0 where
   pub mode : ((parts_now volume).node chosen.choice.inode).mode ≡ chosen.mode
   pub named : (outer : List (List ℕ)) → MayNest outer chosen → MayBeNamed (super_view volume.layout) (parts_now volume) outer chosen.directory chosen.choice.inode
+  pub own : (at : Pointer) (zone : ℕ) → PointsTo (super_view volume.layout) (parts_now volume) chosen.choice.inode at zone
+      → (source : Source) × (zone_from (file_of chosen.choice) source ≡ zone)
   pub clear : IsClearOf (super_view volume.layout) (parts_now volume) chosen.choice.inode chosen.choice.growth
   pub is : thing (super_view volume.layout) (parts_now volume) chosen.choice.inode ≡ thing_with chosen given
   pub lies : (index : ℕ) → index < reach (kind_view volume.layout.kind) → zone_number (super_view volume.layout) (parts_now volume) chosen.choice.inode index ≡ slice_index chosen.choice.blocks index

@@ -1,6 +1,6 @@
 -- The name of what is filled is made: where it is a directory the links of the one above are raised first (a rule of this
 -- project's own). A path is a list of components, the last one first.
-use Rattle.std.specs.Prelude.{◌≡◌, ◌+◌, ◌*◌, ◌/◌, ◌%◌, ◌==◌, ◌⊎◌, ℕ, true, nat_lt, if◌then◌else◌, List, ◌∷◌, Some, None, Result, OnOk, IfErr}
+use Rattle.std.specs.Prelude.{◌≡◌, ◌≢◌, ◌+◌, ◌*◌, ◌/◌, ◌%◌, ◌==◌, ◌⊎◌, ℕ, true, nat_lt, if◌then◌else◌, List, ◌∷◌, Some, None, Result, OnOk, IfErr}
 use Rattle.disk_trait.specs.declared.disks.Disks.{Ghosts}
 use Rattle.disk_trait.specs.Past.{Image}
 use Rattle.disk_trait.specs.Moments.{IsTold, now, LeavesOnly}
@@ -8,9 +8,9 @@ use Rattle.disk_trait.specs.NotWritten.{IsOther, NotWritten}
 use Rattle.lilo_model.specs.Faults.{Rose}
 use Rattle.lilo_model.specs.MinixEntries.{entries_per_block}
 use Rattle.lilo_model.specs.MinixLayout.{Kind, Super, entry_size, most_links, zone_sector}
-use Rattle.lilo_model.specs.MinixNames.{reached, thing, Named, IsSound}
+use Rattle.lilo_model.specs.MinixNames.{reached, thing, Named, PointsTo, IsSound}
 use Rattle.lilo_model.specs.MinixParts as model
-use Rattle.lilo_model.specs.MinixParts.{Parts, is_directory}
+use Rattle.lilo_model.specs.MinixParts.{Parts, Pointer, is_directory}
 use Rattle.minix_choice_laws.specs.Choice.{HasNamePlace}
 use Rattle.minix_entry_laws.specs.Enter.{MayStand, DirectoryMayStand}
 use Rattle.minix_beside_laws.specs.Beside.{IsInode, IsDataZone}
@@ -18,6 +18,7 @@ use Rattle.minix_entry_laws.specs.Only.{zone_of_entry, KeepsInode}
 use Rattle.minix_grow.specs.Hook.{IsOffInode}
 use Rattle.minix_growth_laws.specs.Changes.{ChangesNode}
 use Rattle.minix_layout.specs.View.{kind_view, super_view}
+use Rattle.minix_made_laws.specs.Made.{KeepsPlaces}
 use Rattle.minix_sees_laws.specs.Sees.{with_links}
 use Rattle.minix_steps.specs.Written.{parts_now}
 use Rattle.minix_turns.specs.Joined.{Unseen, LeadsPath}
@@ -111,9 +112,16 @@ IsRaisedFirst volume outer chosen c =
     ⊎ ((((model.parts_of (volume_view volume) c).node chosen.directory).links ≡ ((parts_now volume).node chosen.directory).links)
     × (reached (super_view volume.layout) (model.parts_of (volume_view volume) c) (chosen.name ∷ outer) ≡ None))
 
+-- one entry of a directory changed, which lies in a zone; else directories have the places that they had, and nothing that has a
+-- name has a pointer more
+pub record KeepsDirectories (super : Super) (old new : Parts) (chosen : Chosen) : Type 0 where
+  pub lies : zone_of_entry super new chosen.directory chosen.choice.place ≢ 0
+  pub keeps : KeepsPlaces super old new chosen.directory chosen.choice.place
+  pub points : (number : ℕ) (at : Pointer) (zone : ℕ) → Named super old number → PointsTo super new number at zone → PointsTo super old number at zone
+
 -- A call made the name whole or not at all, and raised the links of the directory above before that where it is that of a
--- directory. Once it is done what is named stays with its zones, and so does each bitmap bit. No other sector was written, and it
--- was refused where the disk failed.
+-- directory. Once it is done what is named stays with its zones, and so do each bitmap bit and all other places of directories. No
+-- other sector was written, and it was refused where the disk failed.
 pub record Enters {D : Type 0} {disks : Ghosts D} (old new : Volume D disks) (outer : List (List ℕ)) (chosen : Chosen) (zone : ℕ) (result : Result (Unit {0}) WriteFault) : Type 0 where
   pub leads : LeadsPath old new (chosen.name ∷ outer) (Some chosen.choice.inode) (Some (thing (super_view old.layout) (parts_now old) chosen.choice.inode)) result
   pub links : LeavesOnly (past_of old) (past_of new) (IsRaisedFirst old outer chosen)
@@ -121,6 +129,7 @@ pub record Enters {D : Type 0} {disks : Ghosts D} (old new : Volume D disks) (ou
       ≡ links_above (kind_view old.layout.kind) chosen ((parts_now old).node chosen.directory).links)
   pub marks : IsTold (past_of old) → OnOk result (SameMarks (super_view old.layout) (parts_now old) (model.parts_of (volume_view old) (now (past_of new))))
   pub stays : IsTold (past_of old) → OnOk result (KeepsInode (super_view old.layout) (parts_now old) (model.parts_of (volume_view old) (now (past_of new))) chosen.choice.inode)
+  pub directories : IsTold (past_of old) → OnOk result (KeepsDirectories (super_view old.layout) (parts_now old) (model.parts_of (volume_view old) (now (past_of new))) chosen)
   pub others : IsTold (past_of old) → (d s : ℕ) → IsOffEntered old chosen zone d s → NotWritten (past_of old) (past_of new) d s
   pub device : IsTold (past_of old) → IfErr result (λ fault. (fault ≡ Device) × Rose (faults_of old) (faults_of new))
 

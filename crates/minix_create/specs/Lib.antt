@@ -6,3 +6,4 @@ pub mod Entered
 pub mod Linked
 pub mod States
 pub mod Grown
+pub mod Several

@@ -16,6 +16,7 @@ use Rattle.minix_entry_laws.specs.Only.{zone_of_entry}
 use Rattle.minix_grow.specs.Hook.{IsOffInode}
 use Rattle.minix_grow.specs.Others.{IsNoneOf}
 use Rattle.minix_layout.specs.View.{kind_view, super_view}
+use Rattle.minix_made_laws.specs.Made.{HasMade}
 use Rattle.minix_steps.specs.Written.{parts_now}
 use Rattle.minix_turns.specs.Joined.{LeadsPath}
 use Rattle.minix_write.specs.declared.write_fault.WriteFault.{WriteFault}
@@ -56,14 +57,16 @@ LiesAsChosen super parts chosen =
 
 -- Since a volume was as it is here, a file was reserved, filled and linked. Whatever a stop left, at any moment, is seen as
 -- before or has the name, which leads to the whole of the file; where the name is there, the directory above a new one has a
--- link more, if it can have, and once it is done both are there, each block lies where it was chosen, and no bitmap bit is set but
--- those that were chosen. No other sector was written, and it was refused where the disk failed alone.
+-- link more, if it can have, and once it is done both are there, each block lies where it was chosen, all other places of
+-- directories are kept, and no bitmap bit is set but those that were chosen. No other sector was written, and it was refused where
+-- the disk failed alone.
 pub record Creates {D : Type 0} {disks : Ghosts D} (start volume : Volume D disks) (outer : List (List ℕ)) (chosen : Chosen) (given : ℕ → List ℕ) (result : Result (Unit {0}) WriteFault) : Type 0 where
   pub leads : LeadsPath start volume (chosen.name ∷ outer) (Some chosen.choice.inode) (Some (thing_with chosen given)) result
   pub before : LeavesOnly (past_of start) (past_of volume) (IsRaisedBefore start outer chosen)
   pub above : IsTold (past_of start) → OnOk result (((model.parts_of (volume_view start) (now (past_of volume))).node chosen.directory).links
       ≡ links_above (kind_view start.layout.kind) chosen ((parts_now start).node chosen.directory).links)
   pub marks : IsTold (past_of start) → OnOk result (MarksLinked (super_view start.layout) (parts_now start) (model.parts_of (volume_view start) (now (past_of volume))) chosen)
+  pub made : IsTold (past_of start) → OnOk result (HasMade (super_view start.layout) (parts_now start) (model.parts_of (volume_view start) (now (past_of volume))) chosen.directory chosen.choice)
   pub lies : IsTold (past_of start) → OnOk result (LiesAsChosen (super_view start.layout) (model.parts_of (volume_view start) (now (past_of volume))) chosen)
   pub others : IsTold (past_of start) → (d s : ℕ) → IsOffName start chosen d s → NotWritten (past_of start) (past_of volume) d s
   pub device : IsTold (past_of start) → IfErr result (λ fault. (fault ≡ Device) × Rose (faults_of start) (faults_of volume))

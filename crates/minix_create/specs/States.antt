@@ -16,8 +16,8 @@ use Rattle.minix_create.specs.Grown.{MayGrowNow}
 use Rattle.minix_create.specs.Linked.{LinksFilled, Creates}
 use Rattle.minix_create.specs.declared.chosen.Chosen.{Chosen}
 use Rattle.minix_create.specs.declared.filled.Filled.{Filled}
-use Rattle.minix_create.specs.declared.halt.Linked.{Linked}
-use Rattle.minix_create.specs.declared.halt.WriteHalt.{WriteHalt}
+use Rattle.minix_create.specs.declared.linked.Linked.{Linked}
+use Rattle.minix_write.specs.declared.halt.WriteHalt.{WriteHalt}
 use Rattle.minix_create.specs.declared.reserved.Reserved.{Reserved}
 
 -- a file that is reserved may be gone on with: its next block is no hole, or there is none

@@ -10,6 +10,7 @@ ghost use Rattle.minix_create.specs.Chosen.{
   IsFreeWhereSound,
   LinksWhereSound,
 };
+ghost use Rattle.minix_create.specs.Several.{PromisesWhereFree};
 ghost use Rattle.minix_layout.specs.View.{kind_view, super_view};
 ghost use Rattle.minix_write.specs.Taken.{with_choice};
 ghost use Rattle.minix_write.specs.View.{taken_view, wish_view, Gives, HasWriteCause};
@@ -66,6 +67,9 @@ pub fn choose<D: Disks>(
     // What may be done with it.
     ensures free { IfOk result (IsFreeWhereSound volume.new (taken_view taken.old)) }
     ensures name { IfOk result (LinksWhereSound volume.new (taken_view taken.old)) }
+
+    // What it has in common with what was chosen before.
+    ensures promises { IfOk result (PromisesWhereFree volume.new (taken_view taken.old) (taken_view taken.new)) }
 
     // When it is refused.
     ensures refused { OnErr result (taken.new ≡ taken.old) }

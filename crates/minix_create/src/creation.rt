@@ -7,8 +7,9 @@ ghost use Rattle.minix_layout.specs.View.{kind_view};
 ghost use Rattle.minix_zones.specs.Volume.{past_of};
 
 use crate::chosen::Chosen;
-use crate::halt::{Linked, WriteHalt};
+use crate::linked::Linked;
 use disk_trait::Disks;
+use minix_write::WriteHalt;
 use minix_zones::Volume;
 
 /// Makes a file of what was chosen, or a directory with nothing in it but `.` and `..`. Its blocks are given, also those of

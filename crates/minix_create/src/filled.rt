@@ -1,8 +1,9 @@
 // A file that is there but for its name.
 use crate::chosen::Chosen;
-use crate::halt::{Linked, WriteHalt};
+use crate::linked::Linked;
 use crate::steps::link_chosen;
 use disk_trait::Disks;
+use minix_write::WriteHalt;
 use minix_zones::Volume;
 
 /// A file that is there but for its name.

@@ -11,12 +11,11 @@ ghost use Rattle.minix_zones.specs.Volume.{past_of, SameVolume};
 
 use crate::brought::{bring, most_places};
 use crate::chosen::Chosen;
-use crate::halt::WriteHalt;
 use crate::place_at::place_at;
 use disk_trait::Disks;
 use minix_layout::{Inode, Super};
 use minix_tree::places;
-use minix_write::WriteFault;
+use minix_write::{WriteFault, WriteHalt};
 use minix_zones::Volume;
 
 /// Whether a zone is among the first of some.

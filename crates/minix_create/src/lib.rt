@@ -9,18 +9,18 @@ mod creation;
 mod dots;
 mod filled;
 mod grown;
-mod halt;
+mod laws;
+mod linked;
 mod place_at;
 mod raised;
 mod reserved;
 mod steps;
-#[cfg(test)]
-mod tests;
 
 pub use chosen::{Chosen, choose};
 pub use creation::create;
 pub use dots::directory_block;
 pub use filled::Filled;
 pub use grown::grow_directory;
-pub use halt::{Linked, WriteHalt};
+pub use laws::other_is_left_free;
+pub use linked::Linked;
 pub use reserved::Reserved;

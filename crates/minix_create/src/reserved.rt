@@ -7,11 +7,10 @@ ghost use Rattle.minix_zones.specs.Volume.{past_of};
 
 use crate::chosen::Chosen;
 use crate::filled::Filled;
-use crate::halt::WriteHalt;
 use crate::steps::{fill_chosen, mark_chosen};
 use disk_trait::Disks;
 use minix_steps::write_zone;
-use minix_write::WriteFault;
+use minix_write::{WriteFault, WriteHalt};
 use minix_zones::Volume;
 
 /// A file whose inode and zones are marked, and of whose blocks the first are written.

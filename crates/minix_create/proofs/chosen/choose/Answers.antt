@@ -5,7 +5,7 @@ use Rattle.minix_write.specs.View.{taken_view, wish_view}
 use Rattle.minix_zones.proofs.SameLemmas.{told_forth}
 use Rattle.minix_zones.proofs.WriteLemmas.{keeps_same}
 use Rattle.write_model.specs.Choice.{choose}
-use Rattle.minix_create.proofs.ChosenLemmas.{suits_made, is_free, each_zone, links}
+use Rattle.minix_create.proofs.ChosenLemmas.{suits_made, is_free, each_zone, links, promises_more}
 use Rattle.minix_create.proofs.OpenLemmas.{suits_kept}
 use Rattle.minix_create.proofs.chosen.choose.Goals as goal
 
@@ -38,3 +38,11 @@ returns-clause-name g c =
     (told_forth c.args.volume.now c.choose.new.volume (λ volume image. choose volume.layout (parts_of volume image) (taken_view c.args.taken.now) (wish_view c.args.wish.now) ≡ Ok c.in_ok-choice.choice)
     c.choose.ensures.same c.in_ok-choice.ensures.choice)
     refl (sym c.in_ok-name.ensures)
+
+pub returns-clause-promises : goal.returns-clause-promises
+returns-clause-promises g c =
+    let suits = suits_kept c.args.volume.now c.choose.new.volume _ (keeps_same c.args.volume.now c.choose.new.volume c.choose.ensures.same) (returns-clause-suits g c) in
+    promises_more c.choose.new.volume c.args.taken.now (wish_view c.args.wish.now) _ suits
+    (told_forth c.args.volume.now c.choose.new.volume (λ volume image. choose volume.layout (parts_of volume image) (taken_view c.args.taken.now) (wish_view c.args.wish.now) ≡ Ok c.in_ok-choice.choice)
+    c.choose.ensures.same c.in_ok-choice.ensures.choice)
+    refl c.choose.new.taken c.in_ok-choice.ensures.taken

@@ -1,8 +1,11 @@
+// Files and directories that are made, and what each stop leaves of them.
 ghost use Rattle.std.specs.Prelude.{◌≢◌, ◌≤◌, All, IfOk};
 ghost use Rattle.minix_create.specs.Chosen.{Suits};
 
-use crate::{Chosen, choose, create, directory_block};
-use disk_trait::{DiskFault, Disks, Geometry, MemDisks};
+use crate::fixture::{choices, left};
+use crate::untold::Untold;
+use disk_trait::{Disks, MemDisks};
+use minix_create::{Chosen, choose, create, directory_block};
 use minix_layout::FsKind;
 use minix_stops::{SMALL_SPAN, small_disks};
 use minix_survey::survey;
@@ -10,55 +13,9 @@ use minix_tree::{TreeFault, entry_size, lookup_name, read_file, stat_of};
 use minix_turns::{turn_free, turn_links, turn_size};
 use minix_write::{Taken, Wish, WriteFault};
 use minix_zones::Volume;
-use sector_parts::Sector;
-use std::alloc::{AllocError, Global};
+use std::alloc::Global;
 use std::process::Abort;
 use std::test::Fail;
-
-// Disks in memory that report no past: so the conditions of a creation hold of any volume.
-#[derive(Drop)]
-struct Untold {
-    disks: MemDisks,
-}
-
-impl Disks for Untold {
-    ghost use Rattle.std.specs.Prelude.{None, length};
-    ghost use Rattle.disk_trait.specs.MemDisks.{sizes_of, geometries_of};
-
-    ghost past = { λ _. None };
-
-    ghost faults = { λ untold. untold.disks.faults };
-
-    ghost size_of = { λ untold. sizes_of untold.disks.start };
-
-    ghost count_of = { λ untold. length untold.disks.start };
-
-    ghost geometry_of = { λ untold. geometries_of untold.disks.start };
-
-    fn read(&mut self, disk: u8, sector: u64, into: &mut Sector) -> Result<(), DiskFault> {
-        self.disks.read(disk, sector, into)
-    }
-
-    fn write(&mut self, disk: u8, sector: u64, from: &Sector) -> Result<(), DiskFault> {
-        self.disks.write(disk, sector, from)
-    }
-
-    fn flush(&mut self) -> Result<(), DiskFault> {
-        self.disks.flush()
-    }
-
-    fn count(&self) -> u8 {
-        self.disks.count()
-    }
-
-    fn size(&self, disk: u8) -> u64 {
-        self.disks.size(disk)
-    }
-
-    fn geometry(&self, disk: u8) -> Geometry {
-        self.disks.geometry(disk)
-    }
-}
 
 // The second block is a hole: zones 6 and 7 are chosen.
 const LENGTH: u32 = 3000;
@@ -87,7 +44,7 @@ fn make_place(rt: &impl Abort, volume: &mut Volume<'_, Untold>) -> Result<(), Wr
     Ok(())
 }
 
-#[tactic(auto, using(crate::proofs::OpenLemmas::suits_kept, minix_zones::proofs::WriteLemmas::keeps_same))]
+#[tactic(auto, using(minix_create::proofs::OpenLemmas::suits_kept, minix_zones::proofs::WriteLemmas::keeps_same))]
 fn choose_new(
     rt: &impl Abort,
     alloc: Global,
@@ -112,7 +69,8 @@ fn make(rt: &impl Abort, alloc: Global, disks: &mut Untold) -> Result<(u64, u64)
     };
     make_place(rt, &mut volume)?;
     let chosen = choose_new(rt, alloc, &mut volume)?;
-    assert!(rt; chosen.blocks() == [6, 0, 7].as_slice() && chosen.start == SMALL_SPAN.start);
+    assert!(rt; chosen.blocks() == [6, 0, 7].as_slice() && chosen.inode() == 2);
+    assert!(rt; volume.span().start == SMALL_SPAN.start);
     let ends = (chosen.sector_of(0), chosen.sector_of(5));
     match create(volume, chosen, &BLOCKS) {
         Ok((_, linked)) => {
@@ -169,46 +127,6 @@ fn is_there(alloc: Global, image: &mut MemDisks) -> Option<bool> {
     }
 }
 
-// Says of each unflushed write whether it was made, by the bits of a number, the lowest first.
-fn keep_by(keep: &mut [bool], choice: u32) {
-    let mut rest = choice;
-    for kept in keep {
-        *kept = rest % 2 == 1;
-        rest /= 2;
-    }
-}
-
-// What a stop after so many events leaves, with these of the unflushed writes made.
-fn left(
-    alloc: Global,
-    disks: &MemDisks,
-    prefix: u32,
-    choice: u32,
-) -> Result<Option<MemDisks>, AllocError> {
-    if prefix > disks.events() {
-        return Ok(None);
-    }
-    let mut keep = vec![in alloc; false; disks.unflushed(prefix) as usize]?;
-    keep_by(keep.as_mut_slice(), choice);
-    Ok(Some(disks.left(alloc, prefix, keep.as_slice(), 0, &[])?))
-}
-
-// How many choices of at most five unflushed writes there are.
-fn choices(disks: &MemDisks, prefix: u32) -> u32 {
-    if prefix > disks.events() {
-        return 0;
-    }
-    match disks.unflushed(prefix) {
-        0 => 1,
-        1 => 2,
-        2 => 4,
-        3 => 8,
-        4 => 16,
-        5 => 32,
-        _ => 0,
-    }
-}
-
 // The place takes four events, the marks three, two blocks with the inode and a flush six, the entry two: the name comes
 // with the fourteenth.
 #[test]
@@ -227,10 +145,8 @@ fn each_stop_has_the_file_whole_or_not_at_all(rt: HostRuntime) -> Result<(), Fai
         let Untold { disks } = disks;
         assert_eq!(rt; disks.events(), 15);
         for prefix in 0..16 {
-            for choice in 0..choices(&disks, prefix) {
-                let Some(mut image) = left(alloc, &disks, prefix, choice)? else {
-                    return Err(Fail::new("no such moment"));
-                };
+            for choice in 0..choices(&rt, &disks, prefix) {
+                let mut image = left(&rt, alloc, &disks, prefix, choice)?;
                 let found = is_there(alloc, &mut image);
                 let named = prefix == 15 || prefix == 14 && choice == 1;
                 assert!(rt;
@@ -385,10 +301,8 @@ fn each_stop_has_whole_directories(rt: HostRuntime) -> Result<(), Fail> {
         let Untold { disks } = disks;
         assert_eq!(rt; disks.events(), 30);
         for prefix in 0..31 {
-            for choice in 0..choices(&disks, prefix) {
-                let Some(mut image) = left(alloc, &disks, prefix, choice)? else {
-                    return Err(Fail::new("no such moment"));
-                };
+            for choice in 0..choices(&rt, &disks, prefix) {
+                let mut image = left(&rt, alloc, &disks, prefix, choice)?;
                 let found = links_in(alloc, &mut image);
                 assert!(rt;
                     found == Some(links_then(prefix, choice)),

@@ -13,6 +13,7 @@ pub mod PassLemmas
 pub mod PlanLemmas
 pub mod PlannedLemmas
 pub mod SectionLemmas
+pub mod SkippedLemmas
 pub mod SoundLemmas
 pub mod StartLemmas
 pub mod TurnLemmas

@@ -4,6 +4,7 @@ pub mod Middle
 pub mod Named
 pub mod Names
 pub mod Sections
+pub mod Skipped
 pub mod Sound
 pub mod Starts
 pub mod View

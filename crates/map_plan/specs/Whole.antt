@@ -11,7 +11,6 @@ use Rattle.lilo_model.specs.PlanRefusal.{PlanFault, default_check, left_check, h
 use Rattle.file_runs.specs.Mapped.{file_view}
 use Rattle.map_plan.specs.declared.files.BootCode.{BootCode}
 use Rattle.map_plan.specs.declared.files.PlanFiles.{PlanFiles}
-use Rattle.map_plan.specs.declared.whole.MapPlan.{MapPlan}
 use Rattle.map_plan.specs.Files.{optional_planned, HasFewPlaces, HasRuns}
 use Rattle.map_plan.specs.Sections.{sections_planned, planned_views, FitsSection}
 use Rattle.map_plan.specs.Starts.{code_planned}
@@ -51,9 +50,6 @@ files_view config time files = record {
   message = option_map file_view files.message;
   sections = planned_views files.sections.items;
 }
-
-abbrev pub plan_view : Config → MapPlan → Plan
-plan_view config map = files_view config map.time map.files
 
 -- what is mapped is of its sections' kinds, and its sectors are there
 pub record FitsFiles (sizes : ℕ → ℕ) (files : PlanFiles) : Type 0 where

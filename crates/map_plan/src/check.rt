@@ -25,7 +25,7 @@ use slot_lists::{DiskSector, RunList, check_places};
 const MOST_MESSAGE: u32 = 65_535;
 
 /// The most slots of a file: as many as 65,535 section sectors have.
-const MOST_SLOTS: u32 = 4_128_705;
+pub const MOST_SLOTS: u32 = 4_128_705;
 
 /// Whether what is said of a disk is so of its geometry: the sectors of a track first, then the heads.
 pub fn check_geometry(disk: &DiskSection, geometry: Geometry) -> Result<(), PlanFault>

@@ -1,12 +1,13 @@
 // The files and devices of a configuration.
-ghost use Rattle.std.specs.Prelude.{◌≡◌, ◌≤◌, ℕ, IfOk, IfErr, min, take};
+ghost use Rattle.std.specs.Prelude.{◌≡◌, ◌≤◌, ℕ, IfOk, IfErr, length, min, take};
 ghost use Rattle.lilo_model.specs.ConfLawful.{IsLawful};
 ghost use Rattle.lilo_model.specs.MinixParts.{parts_of};
 ghost use Rattle.lilo_model.specs.PlanRefusal.{left_check};
-ghost use Rattle.lilo_conf.specs.View.{config_view};
+ghost use Rattle.lilo_conf.specs.View.{config_view, sections_view};
 ghost use Rattle.minix_zones.specs.Volume.{volume_view, sizes_of, faults_of, SameVolume};
 ghost use Rattle.map_plan.specs.Names.{names_of, default_among};
 ghost use Rattle.map_plan.specs.Sections.{planned_views};
+ghost use Rattle.map_plan.specs.Skipped.{skipped_paths};
 ghost use Rattle.map_plan.specs.Sound.{OnSound};
 ghost use Rattle.map_plan.specs.Starts.{start_view, code_planned};
 ghost use Rattle.map_plan.specs.View.{Gives, HasPlanCause};
@@ -67,6 +68,9 @@ pub fn find_files<D: Disks>(
         (files_planned now machine (volume_view volume.old) (config_view config.now) time)) }
     ensures names { IfOk result (λ files. files.names ≡ names_of (planned_views files.sections.items)) }
     ensures fits { IfOk result (FitsFiles (sizes_of volume.old)) }
+    ensures few { IfOk result (λ files. length files.sections.items ≤ 19) }
+    ensures skipped { IfOk result (λ files. OnSound volume.old (λ now machine. files.skipped
+        ≡ skipped_paths now machine (volume_view volume.old) (sections_view config.now.sections))) }
 
     // When it is refused.
     ensures cause { IfErr result (HasPlanCause (faults_of volume.old) (faults_of volume.new)) }

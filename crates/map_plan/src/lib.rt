@@ -20,11 +20,11 @@ mod tests;
 mod whole;
 
 pub use address::{MapNaming, check_addresses, check_optional_addresses};
-pub use check::{check_geometry, check_map_places, check_mapped_file, check_message};
+pub use check::{MOST_SLOTS, check_geometry, check_map_places, check_mapped_file, check_message};
 pub use device::{SystemSectors, map_device, map_system};
 pub use fault::PlanFault;
 pub use file::{KernelFiles, map_kernel, map_path};
-pub use files::{PlanFiles, find_files};
+pub use files::{BootCode, PlanFiles, find_files};
 pub use held::{check_disks, check_kernel, check_sections, check_system};
 pub use laws::{
     a_plan_is_its_files, a_section_is_planned, code_is_planned, headers_are_checked,
@@ -33,4 +33,4 @@ pub use laws::{
 };
 pub use names::NameList;
 pub use section::{PlannedSection, PlannedSections, SectionFiles, map_sections};
-pub use whole::{MapPlan, plan};
+pub use whole::{disk_of, plan_files};

@@ -1,10 +1,12 @@
 // Sections: what is mapped of them.
-ghost use Rattle.std.specs.Prelude.{◌≡◌, ◌≤◌, ◌++◌, ◌∷◌, [], All, IfOk, IfErr, IfSome, OnOk};
+ghost use Rattle.std.specs.Prelude.{◌≡◌, ◌≤◌, ◌+◌, ◌++◌, ◌∷◌, [], length, All, IfOk, IfErr, IfSome, OnOk};
 ghost use Rattle.lilo_model.specs.ConfLawful.{IsLawfulSection};
 ghost use Rattle.lilo_model.specs.Plan.{kept_middle};
+ghost use Rattle.lilo_model.specs.Planned.{mapped_section};
 ghost use Rattle.lilo_conf.specs.View.{section_view, sections_view};
 ghost use Rattle.minix_zones.specs.Volume.{volume_view, sizes_of, faults_of, SameVolume};
 ghost use Rattle.map_plan.specs.Sections.{section_planned, sections_planned, found_view, files_view, planned_views, with_section, FitsKind, FitsSection};
+ghost use Rattle.map_plan.specs.Skipped.{skipped_path, skipped_paths};
 ghost use Rattle.map_plan.specs.Sound.{OnSound};
 ghost use Rattle.map_plan.specs.View.{Gives, HasPlanCause};
 
@@ -61,6 +63,9 @@ pub fn map_sections<D: Disks>(
     ensures sections { OnSound volume.old (λ now machine. Gives (λ found. planned_views found.planned.items) result
         (sections_planned now machine (volume_view volume.old) (sections_view sections.now))) }
     ensures fits { IfOk result (λ found. All (FitsSection (sizes_of volume.old)) found.planned.items) }
+    ensures few { IfOk result (λ found. length found.planned.items ≤ length sections.now) }
+    ensures skipped { IfOk result (λ found. OnSound volume.old (λ now machine. found.skipped.items
+        ≡ skipped_paths now machine (volume_view volume.old) (sections_view sections.now))) }
 
     // When it is refused.
     ensures cause { IfErr result (HasPlanCause (faults_of volume.old) (faults_of volume.new)) }
@@ -91,6 +96,9 @@ fn add_section<D: Disks>(
         (section_planned now machine (volume_view volume.old) (section_view section.now)))) }
     ensures fits { All (FitsSection (sizes_of volume.old)) found.old.planned.items
         → OnOk result (All (FitsSection (sizes_of volume.old)) found.new.planned.items) }
+    ensures few { OnOk result (length found.new.planned.items ≤ length found.old.planned.items + 1) }
+    ensures skipped { OnOk result (OnSound volume.old (λ now machine. found.new.skipped.items ≡ found.old.skipped.items
+        ++ skipped_path (section_view section.now) (mapped_section now machine (volume_view volume.old) (section_view section.now)))) }
     ensures cause { IfErr result (HasPlanCause (faults_of volume.old) (faults_of volume.new)) }
     ensures later { faults_of volume.old ≤ faults_of volume.new }
     ensures same { SameVolume volume.old volume.new }

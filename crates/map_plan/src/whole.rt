@@ -1,17 +1,19 @@
-// The plan of a map.
-ghost use Rattle.std.specs.Prelude.{◌≡◌, ◌≤◌, ℕ, All, IfErr, IfSome, Ok};
+// All that is mapped.
+ghost use Rattle.std.specs.Prelude.{◌≡◌, ◌≤◌, ℕ, All, IfErr, IfOk, IfSome, Ok, length};
 ghost use Rattle.std.specs.Option.{option_map};
 ghost use Rattle.lilo_model.specs.ConfLawful.{IsLawful};
 ghost use Rattle.lilo_model.specs.PlanRefusal.{if_there, message_check, held_checks, address_checks, plan_at};
-ghost use Rattle.lilo_conf.specs.View.{config_view};
+ghost use Rattle.lilo_conf.specs.View.{config_view, sections_view};
 ghost use Rattle.mbr_table.specs.View.{span_view};
 ghost use Rattle.minix_zones.specs.Volume.{volume_view, sizes_of, faults_of, SameVolume};
 ghost use Rattle.file_runs.specs.Mapped.{file_view};
 ghost use Rattle.map_plan.specs.Named.{LiesOnDisk, SectionLiesOnDisk};
-ghost use Rattle.map_plan.specs.Sections.{planned_view};
+ghost use Rattle.map_plan.specs.Names.{names_of};
+ghost use Rattle.map_plan.specs.Sections.{planned_view, planned_views};
+ghost use Rattle.map_plan.specs.Skipped.{skipped_paths};
 ghost use Rattle.map_plan.specs.Sound.{OnSound, machine_for};
 ghost use Rattle.map_plan.specs.View.{Gives, Decides, HasPlanCause};
-ghost use Rattle.map_plan.specs.Whole.{FitsFiles, files_planned, files_view, plan_view};
+ghost use Rattle.map_plan.specs.Whole.{FitsFiles, files_planned, files_view};
 
 use crate::address::{MapNaming, check_addresses, check_optional_addresses};
 use crate::check::check_message;
@@ -25,31 +27,29 @@ use lilo_conf::Config;
 use minix_zones::Volume;
 use std::alloc::Global;
 
-/// What a map is made of: what a configuration plans for a moment.
-#[derive(Drop)]
-pub struct MapPlan {
-    pub(crate) files: PlanFiles,
-    pub(crate) time: u32,
-}
-
-/// Plans the map of a configuration for the boot device that lies in a span.
+/// What a configuration maps for the boot device that lies in a span.
 ///
 /// # Errors
 ///
 /// The first that is met: of files and devices in the order of the configuration, then of what they hold, then of their
 /// addresses.
-pub fn plan<D: Disks>(
+pub fn plan_files<D: Disks>(
     alloc: Global,
     config: &Config,
     volume: &mut Volume<'_, D>,
     boot: Span,
     now: u32,
-) -> Result<MapPlan, PlanFault>
+) -> Result<PlanFiles, PlanFault>
     requires { IsLawful (config_view config.now) }
 
     // What is planned.
-    ensures plan { OnSound volume.old (λ image machine. Gives (plan_view (config_view config.now)) result
+    ensures plan { OnSound volume.old (λ image machine. Gives (files_view (config_view config.now) now) result
         (plan_at image machine (volume_view volume.old) (span_view boot) (config_view config.now) now)) }
+    ensures fits { IfOk result (FitsFiles (sizes_of volume.old)) }
+    ensures few { IfOk result (λ files. length files.sections.items ≤ 19) }
+    ensures names { IfOk result (λ files. files.names ≡ names_of (planned_views files.sections.items)) }
+    ensures skipped { IfOk result (λ files. OnSound volume.old (λ image machine. files.skipped
+        ≡ skipped_paths image machine (volume_view volume.old) (sections_view config.now.sections))) }
 
     // When it is refused.
     ensures cause { IfErr result (HasPlanCause (faults_of volume.old) (faults_of volume.new)) }
@@ -60,11 +60,11 @@ pub fn plan<D: Disks>(
     let files = find_files(alloc, config, volume)?;
     check_held(alloc, config, volume, boot, &files)?;
     check_places(config, volume, &files)?;
-    Ok(MapPlan { files, time: now })
+    Ok(files)
 }
 
-// The disk of a volume, which has sectors and is thus one of four.
-fn disk_of<D: Disks>(volume: &Volume<'_, D>) -> u8
+/// The disk of a volume, which has sectors and is thus one of four.
+pub fn disk_of<D: Disks>(volume: &Volume<'_, D>) -> u8
     ensures value { result ≡ volume.now.span.disk }
     ensures few { result ≤ 3 }
 {

@@ -141,8 +141,8 @@ fn joined_slot(naming: Naming, held: Option<Slot>, next: Slot) -> Option<Slot>
     }
 }
 
-// The slot of two, where one slot could name both.
-fn both_slots(naming: Naming, slot: Slot, next: Slot) -> Option<Slot>
+/// The slot of two, where slots are to be joined and one could name both; the geometry is that of the first's disk.
+pub fn both_slots(naming: Naming, slot: Slot, next: Slot) -> Option<Slot>
     requires slot { IsWritable slot }
     requires next { IsWritable next }
     ensures joined { option_map slot_view result

@@ -8,7 +8,7 @@ mod section;
 #[cfg(test)]
 mod tests;
 
-pub use count::count_slots;
+pub use count::{both_slots, count_slots};
 pub use laws::{
     counted_slots_are_planned, counting_asks_what_the_plan_asks, section_sectors_are_the_plans,
     slots_are_the_plans,

@@ -1,20 +1,22 @@
 -- The first refusal is that of the files.
-use Rattle.std.proofs.Common.{◌≡◌, ℕ, List, Ok, Err, rules, subst, ap, ◌∙◌}
+use Rattle.std.proofs.Common.{◌≡◌, ℕ, List, Ok, Err, rules, sym, subst, length, ap, ◌∙◌, arith}
 use Rattle.std.specs.Option.{option_map}
 use Rattle.lilo_model.specs.MinixParts.{parts_of}
 use Rattle.lilo_model.specs.PlanRefusal.{left_check}
 use Rattle.lilo_conf.specs.declared.section.Section.{Section}
-use Rattle.lilo_conf.specs.View.{config_view, sections_view}
+use Rattle.lilo_conf.specs.View.{config_view, section_view, sections_view}
 use Rattle.minix_zones.specs.Volume.{volume_view, past_of, faults_of, SameVolume}
 use Rattle.file_runs.specs.Mapped.{file_view}
 use Rattle.map_plan.specs.declared.section.PlannedSection.{PlannedSection}
 use Rattle.map_plan.specs.Files.{optional_planned}
 use Rattle.map_plan.specs.Names.{names_of, default_among}
 use Rattle.map_plan.specs.Sections.{sections_planned, planned_views}
+use Rattle.map_plan.specs.Skipped.{skipped_paths}
 use Rattle.map_plan.specs.Sound.{machine_for, OnSound}
 use Rattle.map_plan.specs.View.{Refuses}
 use Rattle.map_plan.specs.Whole.{code_view}
 use Rattle.map_plan.proofs.SoundLemmas.{sound_back}
+use Rattle.map_plan.proofs.SkippedLemmas.{few-lawful, length-view}
 use Rattle.map_plan.proofs.FilesLemmas.{code-refuses, message-refuses, sections-refuse, default-refuses, left-refuses, files-made}
 use Rattle.map_plan.proofs.files.find_files.Goals as goal
 
@@ -126,3 +128,22 @@ pub returns-in_err-check_left-clause-cause : goal.returns-in_err-check_left-clau
 returns-in_err-check_left-clause-cause g c =
     let given : c.from_residual-in_err-check_left.result ≡ Err (c.in_err-check_left.field-0.0) = search rules in
     rw given (c.in_err-check_left.ensures.cause (faults_of c.args.volume.now) (faults_of c.map_sections.new.volume))
+
+pub returns-clause-skipped : goal.returns-clause-skipped
+returns-clause-skipped g c =
+    let both : SameVolume c.args.volume.now c.map_optional.new.volume = search rules in
+    let found = sound_back c.args.volume.now c.map_optional.new.volume
+    (λ volume now machine. c.in_ok-found.found.skipped.items ≡ skipped_paths now machine volume (sections_view c.items.result.now))
+    both c.in_ok-found.ensures.skipped in
+    subst (λ (skipped : List (List ℕ)). OnSound c.args.volume.now (λ now machine. skipped ≡ skipped_paths now machine (volume_view c.args.volume.now) (sections_view c.args.config.now.sections)))
+    (sym c.new.ensures)
+    (subst (λ (sections : List Section). OnSound c.args.volume.now (λ now machine. c.in_ok-found.found.skipped.items
+    ≡ skipped_paths now machine (volume_view c.args.volume.now) (sections_view sections)))
+    c.items.ensures found)
+
+pub returns-clause-few : goal.returns-clause-few
+returns-clause-few g c =
+    let given = ap (λ (sections : List Section). length sections) c.items.ensures in
+    let same = length-view section_view c.args.config.now.sections in
+    let few = few-lawful (config_view c.args.config.now) c.requires.lawful in
+    omega (arith, c.in_ok-found.ensures.few, given, same, few)

@@ -12,7 +12,7 @@ use Rattle.map_plan.specs.Whole.{FitsFiles, files_planned, files_view}
 use Rattle.map_plan.proofs.PassLemmas.{decides-gives}
 use Rattle.map_plan.proofs.PlanLemmas.{files-refuse, held-refuse, places-refuse, plan-made, message-on, all-on}
 use Rattle.map_plan.proofs.SoundLemmas.{sound_back, told_all}
-use Rattle.map_plan.proofs.whole.plan.Goals as goal
+use Rattle.map_plan.proofs.whole.plan_files.Goals as goal
 
 pub check_held-requires-clause-fits : goal.check_held-requires-clause-fits
 check_held-requires-clause-fits g c =
@@ -93,3 +93,6 @@ pub returns-in_err-check_places-clause-cause : goal.returns-in_err-check_places-
 returns-in_err-check_places-clause-cause g c =
     let given : c.from_residual-in_err-check_places.result ≡ Err (c.in_err-check_places.field-0.0) = search rules in
     rw given (c.in_err-check_places.ensures.cause _ _)
+
+pub returns-clause-skipped : goal.returns-clause-skipped
+returns-clause-skipped g c = c.in_ok-files.ensures.skipped

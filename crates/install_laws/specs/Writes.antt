@@ -1,7 +1,8 @@
 -- Which sectors a writer of files may write, and what a Clear map has of it.
-use Rattle.std.specs.Prelude.{◌≡◌, ◌<◌, ◌≤◌, ◌⊎◌, ℕ, ◌+◌, ◌*◌, Bool, true, List, All, Option}
+use Rattle.std.specs.Prelude.{◌≡◌, ◌≢◌, ◌<◌, ◌≤◌, ◌⊎◌, ℕ, ◌+◌, ◌*◌, Bool, true, List, length, All, Option}
 use Rattle.disk_trait.specs.Past.{Past}
-use Rattle.disk_trait.specs.Moments.{now, LeavesOnly}
+use Rattle.disk_trait.specs.Moments.{now, IsQuiet, LeavesOnly}
+use Rattle.disk_trait.specs.NotWritten.{NotWritten}
 use Rattle.lilo_model.specs.Disks.{Image, Machine, Span, DiskSector, bytes_at, with_sector}
 use Rattle.lilo_model.specs.MinixLayout.{table_start, table_blocks, super_sector}
 use Rattle.lilo_model.specs.MinixParts.{Volume, Pointer, parts_of, is_directory}
@@ -56,3 +57,29 @@ OutsideLaw =
     (volume : Volume) (old : Image) (disk sector : ℕ) (bytes : List ℕ)
     → IsSound volume old → IsOutside volume disk sector
     → SoundAsIn volume old (with_sector old (record { disk = disk; sector = sector }) bytes)
+
+-- a sector of a disk isn't one of a volume's past its block 0
+abbrev pub IsApartSector : Volume → ℕ → ℕ → Type 0
+IsApartSector volume disk sector =
+    (disk ≢ volume.span.disk)
+    ⊎ ((sector < volume.span.start + 2) ⊎ (volume.span.start + 2 * volume.layout.zones ≤ sector))
+
+-- and so does one to such a sector: a boot sector may lie in block 0
+abbrev pub ApartWriteLaw : Type 0
+ApartWriteLaw =
+    (volume : Volume) (old : Image) (disk sector : ℕ) (bytes : List ℕ)
+    → IsSound volume old → length bytes ≡ 512 → IsApartSector volume disk sector
+    → SoundAsIn volume old (with_sector old (record { disk = disk; sector = sector }) bytes)
+
+-- a run that begins quiet leaves what it found in each sector that it doesn't write; some sector is one of them
+abbrev pub UnwrittenLaw : Type 0
+UnwrittenLaw =
+    (old new : Option Past) (disk sector : ℕ) → IsQuiet old → NotWritten old new disk sector
+    → LeavesOnly old new (λ c. (d s : ℕ) → NotWritten old new d s → c d s ≡ now old d s)
+
+-- so one that writes no event outside of what a writer of files may write writes only that
+abbrev pub WritesOnlyLaw : Type 0
+WritesOnlyLaw =
+    (volume : Volume) (chosen : ℕ → Bool) (old new : Option Past)
+    → IsQuiet old → ((place : DiskSector) → (IsWritable volume (now old) chosen place → ⊥) → NotWritten old new place.disk place.sector)
+    → WritesOnly volume chosen old new

@@ -3,7 +3,7 @@ ghost use Rattle.install_laws.specs.Answered.{AnsweredLaw, RefusedLaw};
 ghost use Rattle.install_laws.specs.ClearTest.{ClearTestLaw};
 ghost use Rattle.install_laws.specs.Headline.{HeadlineLaw};
 ghost use Rattle.install_laws.specs.Planned.{AcceptedMeansLaw, MeansLaw};
-ghost use Rattle.install_laws.specs.Writes.{OutsideLaw, SparesLaw};
+ghost use Rattle.install_laws.specs.Writes.{ApartWriteLaw, OutsideLaw, SparesLaw, UnwrittenLaw, WritesOnlyLaw};
 
 /// At every moment of an installation whose steps promise what is stated, a stop leaves what boots as before or as is
 /// meant, the same of the two for all keys and any memory; and from the commit on only as is meant.
@@ -27,9 +27,24 @@ pub fn clear_map_is_spared()
     ensures { SparesLaw }
 {}
 
+/// A run that begins quiet leaves in each sector that it doesn't write what it found there, at every moment.
+pub fn unwritten_sectors_stay()
+    ensures { UnwrittenLaw }
+{}
+
+/// So one whose events write nothing but what a writer of files may writes only there.
+pub fn unwritten_rest_is_a_writer_of_files()
+    ensures { WritesOnlyLaw }
+{}
+
 /// A write to a sector that isn't a volume's leaves it sound, with the same Names.
 pub fn write_outside_keeps_a_volume()
     ensures { OutsideLaw }
+{}
+
+/// So does one to its block 0, where a boot sector may lie.
+pub fn write_to_a_boot_block_keeps_a_volume()
+    ensures { ApartWriteLaw }
 {}
 
 /// An installation that is answered passed each of its checks: it is sound and apart, its names may be replaced, what

@@ -1,0 +1,14 @@
+//! The names that an installation replaces, found before anything is written: where they are, and what is there, by this
+//! project's own rules.
+#![tactic(auto)]
+
+mod backup;
+mod fault;
+mod name;
+mod own;
+#[cfg(test)]
+mod tests;
+
+pub use fault::NameFault;
+pub use name::{NamePair, OwnName};
+pub use own::{OwnNames, own_names};

@@ -1,3 +1,4 @@
+pub mod BackupLemmas
 pub mod ConfLemmas
 pub mod DumpLemmas
 pub mod EffectLemmas

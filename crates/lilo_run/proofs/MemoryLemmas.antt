@@ -8,7 +8,7 @@ use Rattle.lilo_model.specs.Devices.{Device}
 use Rattle.lilo_model.specs.Words as words
 use Rattle.lilo_model.specs.Words.{Command, Part, run_at}
 use Rattle.loader_core.specs.Report.{image_with}
-use Rattle.lilo_run.specs.Verdict.{query_effect, report_effect, boot_effect, install_effect, line_effect, conf_query_effect, command_effect, part_effect, parts_effects, words_effects, effects_of, run_left, is_boot, has_boot, run_boots}
+use Rattle.lilo_run.specs.Verdict.{query_effect, report_effect, boot_effect, install_effect, line_effect, restore_effect, conf_query_effect, command_effect, part_effect, parts_effects, words_effects, effects_of, run_left, is_boot, has_boot, run_boots}
 use Rattle.lilo_run.proofs.RunLemmas.{no_boot_first}
 
 boot_boots :
@@ -22,7 +22,7 @@ boot_boots now machine memory dump (Err fault) keys = refl
 pub boots_by :
     (now : Image) (machine : Machine) (memory : ℕ) (root : Option Device) (path : List ℕ) (command : Command) (keys : List Key)
     → (command_effect now machine memory root path command keys).boots ≡ is_boot command
-unfolding command_effect query_effect conf_query_effect install_effect line_effect
+unfolding command_effect query_effect conf_query_effect install_effect line_effect restore_effect
 boots_by now machine memory root path words.Install keys = refl
 boots_by now machine memory root path words.Test keys = refl
 boots_by now machine memory root path (words.Query None) keys = refl

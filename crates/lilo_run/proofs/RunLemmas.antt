@@ -206,7 +206,7 @@ zero_status size_of words.Test is = refl
 zero_status size_of (words.Query None) is = refl
 zero_status size_of (words.Query (Some device)) is = zero_at (size_of device.disk == 0) is
 zero_status size_of (words.SetLine line) is = refl
-zero_status size_of (words.Restore device) is = absurd (omega (arith, is))
+zero_status size_of (words.Restore device) is = zero_at (size_of device.disk == 0) is
 zero_status size_of (words.Boot device dump) is = zero_at (size_of device.disk == 0) is
 
 -- the loop is at the first part, or nothing is known of it but what it does

@@ -22,6 +22,8 @@ use Rattle.lilo_model.specs.Reason.{Reason}
 use Rattle.lilo_model.specs.Verdict.{Verdict, verdict_of}
 use Rattle.one_shot.specs.declared.shot.ShotFault.{ShotFault}
 use Rattle.one_shot.specs.declared.shot.ShotFault.TheVariants as shots
+use Rattle.boot_backup.specs.declared.restore_fault.RestoreFault.{RestoreFault}
+use Rattle.boot_backup.specs.declared.restore_fault.RestoreFault.TheVariants as restores
 use Rattle.section_loader.specs.View.{reason_view}
 use Rattle.lilo_run.specs.declared.refusal.PlaceFault.{PlaceFault}
 use Rattle.lilo_run.specs.declared.refusal.PlaceFault.TheVariants.{NoDisk, NoPartition, BadTable}
@@ -38,7 +40,7 @@ place_fault_view BadTable = model.BadTable
 abbrev pub not_built : Verdict
 not_built = record { status = 15; text = codes "lilo: not built\n" }
 
--- what is answered and printed where a disk failed before the write of the default line
+-- what is answered and printed where a disk failed before anything was written
 abbrev pub device_failed : Verdict
 device_failed = record { status = 8; text = codes "lilo: device\n" }
 
@@ -109,6 +111,14 @@ shot_verdict (shots.Device phase) = shot_phase_verdict phase
 abbrev pub table_verdict : TableFault → Verdict
 table_verdict tables.Device = device_failed
 table_verdict fault = verdict_of (Err (model.Device (told_fault fault)))
+
+-- what is answered and printed where a boot sector isn't restored
+abbrev pub restore_verdict : RestoreFault → Verdict
+restore_verdict restores.NotOurs = verdict_of (Err model.NotOurs)
+restore_verdict restores.NoVolume = verdict_of (Err model.NoVolume)
+restore_verdict (restores.Place fault) = table_verdict fault
+restore_verdict restores.Layout = verdict_of (Err model.Layout)
+restore_verdict (restores.Device phase) = shot_phase_verdict phase
 
 -- what is answered and printed of a text that is refused, or for which there is no memory
 abbrev pub text_verdict : Option ConfRefusal → Verdict

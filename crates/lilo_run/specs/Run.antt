@@ -279,7 +279,7 @@ pub record TellsNone {D : Type 0} (status : ℕ) (keys left : List Key) (old new
 
 -- Parts in order showed their texts: those that answer 0 whole, and then the one that answers otherwise, at which the run
 -- ends. Memory has what they put there where the status is 0 or 12, and what the parts before it put there where the
--- part at which the run ended doesn't boot. Each part that answers 0 wrote its default line, where that is another.
+-- part at which the run ended doesn't boot. Each part that answers 0 wrote what it is to write.
 abbrev pub TellsRun : {D : Type 0} → Ghosts D → List Effect → ℕ → List Key → List Key → Scene D → Scene D → Type 0
 TellsRun g [] status keys left old new = TellsNone status keys left old new
 TellsRun {D} g (part ∷ parts) status keys left old new =
@@ -297,17 +297,17 @@ TellsAll g i o parts status keys left old new = TellsRun g parts status keys lef
 
 -- ---- what is left of the disks
 
--- the disks hold what they held, with the default lines of some parts
+-- the disks hold what they held, with what some parts wrote
 abbrev pub HoldsWritten : {D : Type 0} → Ghosts D → List Effect → D → D → Type 0
 HoldsWritten g parts old new = now (g.past new) ≡ run_image (now (g.past old)) parts
 
 -- an image is what disks held, or what they hold once the first of some parts, or the first two, and so on, have written
--- their default lines
+-- what they write
 abbrev pub IsWritten : List Effect → Image → Image → Type 0
 IsWritten [] now c = c ≡ now
 IsWritten (part ∷ parts) now c = (c ≡ now) ⊎ IsWritten parts (image_with now part.write) c
 
--- a sector isn't one that a default line is written to
+-- a sector isn't the one that is written
 abbrev pub IsBeside : ℕ → ℕ → Option LineWrite → Type 0
 IsBeside d s None = Unit {0}
 IsBeside d s (Some write) = IsOther write.place.disk write.place.sector d s
@@ -316,7 +316,7 @@ IsBeside d s (Some write) = IsOther write.place.disk write.place.sector d s
 abbrev pub LeavesWritten : {D : Type 0} → Ghosts D → List Effect → D → D → Type 0
 LeavesWritten g parts old new = IsQuiet (g.past old) → LeavesOnly (g.past old) (g.past new) (IsWritten parts (now (g.past old)))
 
--- every sector but those of the default lines is never written
+-- every sector but those that the parts write is never written
 abbrev pub LeavesOthers : {D : Type 0} → Ghosts D → List Effect → D → D → Type 0
 LeavesOthers g parts old new =
     (d s : ℕ) → All (λ part. IsBeside d s part.write) parts → NotWritten (g.past old) (g.past new) d s
@@ -328,6 +328,14 @@ is_plain_status status = list_any (λ known. known == status) (0 ∷ 3 ∷ 6 ∷
 -- whether one that reads a configuration may
 abbrev pub is_conf_status : ℕ → Bool
 is_conf_status status = list_any (λ known. known == status) (0 ∷ 2 ∷ 3 ∷ 6 ∷ 7 ∷ 8 ∷ 13 ∷ 15 ∷ [])
+
+-- whether a device that isn't found may
+abbrev pub is_place_status : ℕ → Bool
+is_place_status status = list_any (λ known. known == status) (3 ∷ 8 ∷ [])
+
+-- whether `-u` may
+abbrev pub is_restore_status : ℕ → Bool
+is_restore_status status = list_any (λ known. known == status) (0 ∷ 3 ∷ 6 ∷ 8 ∷ 9 ∷ [])
 
 -- whether `-R` may
 abbrev pub is_line_status : ℕ → Bool

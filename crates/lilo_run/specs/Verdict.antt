@@ -3,6 +3,7 @@
 -- own.)
 use Rattle.std.specs.Prelude.{ℕ, ◌==◌, Bool, true, false, if◌then◌else◌, List, [], ◌∷◌, ◌++◌, map, flat_map, Option, None, Some, Result, Ok, Err}
 use Rattle.std.specs.List.{list_any}
+use Rattle.std.specs.Result.{result_ok}
 use Rattle.lilo_model.specs.Boot.{Ending}
 use Rattle.lilo_model.specs.Reason.{Reason}
 use Rattle.lilo_model.specs.Checks.{◌>>=◌, with_fault}
@@ -19,6 +20,7 @@ use Rattle.lilo_model.specs.Verdict.{Verdict, verdict_of, verdict_behind, query_
 use Rattle.lilo_model.specs.Words as words
 use Rattle.lilo_model.specs.Words.{Command, Part, run_at, usage_text}
 use Rattle.loader_core.specs.Report.{LineWrite, Report, boot_report, image_with}
+use Rattle.boot_backup.specs.Restore.{boot_place, restored_in}
 use Rattle.lilo_run.specs.Refusal.{not_built, device_failed, failed_at_commit, failed_after_commit, keys_failed, no_memory, reason_verdict, line_refused}
 
 -- what a command does
@@ -39,7 +41,7 @@ pub record Effect : Type 0 where
   pub written : List Written
   -- the keys that it leaves
   pub left : List Key
-  -- what it writes of a default line
+  -- the sector that it writes: of a default line, or a boot sector
   pub write : Option LineWrite
   -- whether it boots: no other command changes memory
   pub boots : Bool
@@ -156,6 +158,34 @@ shot_effect text place =
 unfoldable pub line_effect : Image → Machine → Option Device → List ℕ → List ℕ → Effect
 line_effect now machine root path text = shot_effect text (line_by now machine text (conf_device now machine root path))
 
+-- bytes, and the sector where they are to be written
+abbrev pub written_at : DiskSector → Result (List ℕ) refusals.Refusal → Result LineWrite refusals.Refusal
+written_at place bytes = bytes >>= λ found. Ok (record { place = place; bytes = found })
+
+-- the boot sector that is restored where a device lies, by the device that is named for the volume
+abbrev pub restored_at : Image → Machine → Option Device → Device → Span → Result LineWrite refusals.Refusal
+restored_at now machine root device span = written_at (boot_place span) (restored_in now machine root device span)
+
+-- the same where the device is looked for, or the first refusal
+abbrev pub restored_on : Image → Machine → Option Device → Device → Result Span refusals.DeviceFault → Result LineWrite refusals.Refusal
+restored_on now machine root device place = do
+  span ← with_fault refusals.Device place
+  restored_at now machine root device span
+
+-- what is answered and printed of a boot sector that is restored: nothing is printed of one that is written
+abbrev pub restored_verdict : Result LineWrite refusals.Refusal → Verdict
+restored_verdict (Ok write) = verdict_of (Ok [])
+restored_verdict (Err refusal) = verdict_of (Err refusal)
+
+-- a command that writes this boot sector; nothing comes after the write that may fail
+abbrev pub restored_effect : Result LineWrite refusals.Refusal → Effect
+restored_effect found =
+    record (plain_effect (restored_verdict found) (device_failed.text ∷ [])) { at_commit = failed_at_commit.text ∷ []; write = result_ok found }
+
+-- `-u` with a device
+unfoldable pub restore_effect : Image → Machine → Option Device → Device → Result Span refusals.DeviceFault → Effect
+restore_effect now machine root device place = restored_effect (restored_on now machine root device place)
+
 -- a command that writes no disk, whose volume lies on this device, where one is named, and has its configuration at this
 -- path
 abbrev pub plain_command : Image → Machine → Option Device → List ℕ → Command → Effect
@@ -172,7 +202,7 @@ command_effect now machine memory root path words.Install keys = keeping keys (p
 command_effect now machine memory root path words.Test keys = keeping keys (plain_command now machine root path words.Test)
 command_effect now machine memory root path (words.Query device) keys = keeping keys (plain_command now machine root path (words.Query device))
 command_effect now machine memory root path (words.SetLine line) keys = leaving keys (line_effect now machine root path (joined_words line))
-command_effect now machine memory root path (words.Restore device) keys = keeping keys (plain_command now machine root path (words.Restore device))
+command_effect now machine memory root path (words.Restore device) keys = leaving keys (restore_effect now machine root device (place_at now machine device))
 
 -- a part
 abbrev pub part_effect : Machine → ℕ → Image → Part → List Key → Effect
@@ -210,21 +240,21 @@ run_left keys (part ∷ parts) = run_left part.left parts
 abbrev pub run_written : List Effect → List Written
 run_written parts = flat_map (λ part. part.written) parts
 
--- what disks hold once they wrote the default lines that are others from then on
+-- what disks hold once they wrote what they write
 abbrev pub run_image : Image → List Effect → Image
 run_image now [] = now
 run_image now (part ∷ parts) = run_image (image_with now part.write) parts
 
 -- ---- what is known of words, whatever disks hold
 
--- what is answered whatever a disk holds: 15 for `-u`, which isn't built, and 3 for a device of a disk without sectors
+-- what is answered whatever a disk holds: 3 for a device of a disk without sectors
 abbrev pub early_at : (ℕ → ℕ) → Device → Option ℕ
 early_at size_of device = if size_of device.disk == 0 then Some 3 else None
 
 unfoldable pub early_status : (ℕ → ℕ) → Command → Option ℕ
 early_status size_of (words.Query (Some device)) = early_at size_of device
 early_status size_of (words.Boot device dump) = early_at size_of device
-early_status size_of (words.Restore device) = Some 15
+early_status size_of (words.Restore device) = early_at size_of device
 early_status size_of _ = None
 
 -- the same of parts, by the first
@@ -250,6 +280,7 @@ has_boot parts = list_any (λ part. is_boot part.command) parts
 abbrev pub is_write : Command → Bool
 is_write (words.Boot device dump) = true
 is_write (words.SetLine line) = true
+is_write (words.Restore device) = true
 is_write _ = false
 
 -- whether one of some parts may

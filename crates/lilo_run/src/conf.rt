@@ -149,9 +149,9 @@ pub(crate) fn say_conf<O: Sink>(out: &mut Shown<'_, O>, halt: ConfHalt, path: &[
     }
 }
 
-// The same of its file.
+/// The same of its file.
 #[tactic(auto, unfolding(lilo_model::specs::Refusal::refusal_line))]
-fn say_file<O: Sink>(out: &mut Shown<'_, O>, fault: FileFault, path: &[u8]) -> u8
+pub(crate) fn say_file<O: Sink>(out: &mut Shown<'_, O>, fault: FileFault, path: &[u8]) -> u8
     ensures status { result ≡ (file_verdict path.now fault).status }
     ensures known { IsTrue (is_conf_status result) }
     ensures some { 1 ≤ result }

@@ -3,6 +3,7 @@
 //! [`lilo`] is the top call.
 #![tactic(auto)]
 
+mod backup;
 mod boot;
 mod conf;
 mod dump;

@@ -6,10 +6,10 @@ ghost use Rattle.loader_core.specs.Leaves.{WritesAndAsks};
 ghost use Rattle.lilo_run.specs.Run.{is_part_status, CarriesOn, IsLost, IsWriteLost};
 ghost use Rattle.lilo_run.specs.Verdict.{part_effect, early_status, is_boot, is_write, reads_conf};
 
+use crate::backup::put_back;
 use crate::boot::boot_device;
 use crate::conf::{conf_path, install, query, say_memory};
 use crate::line::{joined, put_line};
-use crate::refusal::{Halt, say};
 use bios_model::{Bios, Ram};
 use disk_trait::Disks;
 use lilo_words::{Command, Part};
@@ -59,6 +59,6 @@ pub(crate) fn carry_out<D: Disks, I: Source, O: Sink>(
             Ok(text) => put_line(alloc, bios.disks, part.root, path, text.as_slice(), out),
             Err(_) => say_memory(out),
         },
-        Command::Restore(_) => say(out, Halt::NotBuilt),
+        Command::Restore(device) => put_back(bios.disks, part.root, device, out),
     }
 }

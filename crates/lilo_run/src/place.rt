@@ -1,8 +1,9 @@
 // Where a device lies.
-ghost use Rattle.std.specs.Prelude.{◌≡◌, ◌<◌, Err, IfOk, IsErrOf};
+ghost use Rattle.std.specs.Prelude.{◌≡◌, ◌<◌, Err, IfOk, IfErr, IsErrOf, IsTrue};
 ghost use Rattle.sector_address.specs.Machine.{OnDisks};
 ghost use Rattle.mbr_table.specs.View.{device_view};
-ghost use Rattle.lilo_run.specs.Run.{GivesPlace, IsPlaceHalt};
+ghost use Rattle.lilo_run.specs.Refusal.{halt_verdict};
+ghost use Rattle.lilo_run.specs.Run.{GivesPlace, IsPlaceHalt, is_place_status};
 ghost use Rattle.lilo_model.specs.ConfVerdict.{place_at};
 ghost use Rattle.bios_model.specs.Reads.{OnlyReads};
 
@@ -17,6 +18,7 @@ pub(crate) fn find_device<D: Disks>(disks: &mut D, device: Device) -> Result<Spa
         GivesPlace result (place_at now machine (device_view device))) }
     ensures inside { IfOk result (λ span. span.start < D.size_of disks.old span.disk) }
     ensures no_disk { D.size_of disks.old device.disk ≡ 0 → result ≡ Err (Halt.NoPlace PlaceFault.NoDisk) }
+    ensures known { IfErr result (λ halt. IsTrue (is_place_status (halt_verdict halt).status)) }
     ensures reads { OnlyReads D.Disks disks.old disks.new (IsErrOf result Halt.Device) }
 {
     match place_of(disks, device) {
@@ -28,6 +30,7 @@ pub(crate) fn find_device<D: Disks>(disks: &mut D, device: Device) -> Result<Spa
 // How a refusal of partition tables is reported.
 pub(crate) fn place_halt(fault: TableFault) -> Halt
     ensures told { IsPlaceHalt fault result }
+    ensures known { IsTrue (is_place_status (halt_verdict result).status) }
 {
     match fault {
         TableFault::Device => Halt::Device,

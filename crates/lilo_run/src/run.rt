@@ -37,10 +37,12 @@ use stream_trait::{Sink, Source, Words, answer};
 /// after `-C`, on the volume of the device after `--root`, or on the first that is found.
 /// `-R WORD..` makes the words, with a space between each two, the default line of that device for one boot, by
 /// [`one_shot::set_line`], and without words clears it; it prints nothing.
+/// `-u DEVICE` restores the boot sector that it had before the first installation, by [`boot_backup::restore`], from the
+/// backup on the volume of the device after `--root`, or on the first that is found; it prints nothing.
 /// `boot DEVICE` boots it, by [`loader_core::boot`], and with `--dump` prints what was put into memory. Where the boot
 /// makes the default line another, that line's sector is written and made durable. The options `-C`, `--root` and `-v`
-/// before `-q DEVICE` and `boot` have no effect. An installation and `-t` read their configuration so far. What else the
-/// grammar has isn't built yet.
+/// before `-q DEVICE` and `boot` have no effect, nor have `-C` and `-v` before `-u`. An installation and `-t` read their
+/// configuration so far; what they do then isn't built yet.
 ///
 /// | status | comes | text |
 /// |---|---|---|
@@ -50,19 +52,19 @@ use stream_trait::{Sink, Source, Words, answer};
 /// | 3 | the device isn't found | `lilo: volume: no disk`, `no partition` or `table` |
 /// | 3 | the volume or the configuration's file isn't | `lilo: volume: no volume`, `layout`, `missing PATH`, `path PATH` |
 /// | 4 | the words after `-R` make N bytes, which are too many | `lilo: address: line N over 255` |
-/// | 6 | `-q` or `-R` finds a foreign boot sector, or one of another version | `lilo: not ours` |
+/// | 6 | `-q`, `-R` or `-u` finds a foreign boot sector, or one of another version; `-u` no backup | `lilo: not ours` |
 /// | 7 | the boot is refused, or the map is | `lilo: boot: REASON` |
 /// | 8 | a disk failed before the part wrote | `lilo: device` |
-/// | 9 | a disk failed in the write of the default line or the flush of it | `lilo: device at commit` |
+/// | 9 | a disk failed in the write of the default line or the boot sector, or the flush of it | `lilo: device at commit` |
 /// | 10 | a disk failed after that | `lilo: device after commit` |
 /// | 11 | the source of keys failed | `lilo: keys` |
 /// | 12 | the sink failed at a part that would answer 0 | |
 /// | 13 | there is no memory for a configuration, or for the words after `-R` | `lilo: memory` |
 /// | 15 | the part isn't built yet | `lilo: not built` |
 ///
-/// After the sink failed nothing is put, and the part that runs is the last. Only boots take keys. Only boots and `-R`
-/// write: the sector of the default line, and no other. Memory is allocated for a configuration and the words after `-R`
-/// alone.
+/// After the sink failed nothing is put, and the part that runs is the last. Only boots take keys. Only boots, `-R` and
+/// `-u` write: the sector of the default line, or with `-u` the boot sector, and no other. Memory is allocated for a
+/// configuration and the words after `-R` alone.
 pub fn lilo<D: Disks, I: Source, O: Sink>(
     alloc: Global,
     words: &Words,
@@ -101,8 +103,8 @@ pub fn lilo<D: Disks, I: Source, O: Sink>(
         TellsBoot D.Disks I.Source O.Sink now machine (length ram.old) (place_at now machine device) dump all left result
         (disks.old, keys.old, ram.old, out.old) (disks.new, keys.new, ram.new, out.new))) }
 
-    // Each part that answers 0 wrote its default line, and a stop at any moment leaves what the disks held before one of
-    // the parts or after it: the sector of a default line has its old bytes or its new ones, and no other is written.
+    // Each part that answers 0 wrote its default line or boot sector, and a stop at any moment leaves what the disks held
+    // before one of the parts or after it: that sector has its old bytes or its new ones, and no other is written.
     ensures lines { result ≡ 0 → OnParts D.Disks I.Source disks.old (keys.old, keys.new) (length ram.old) words.now
         (λ parts _ _. HoldsWritten D.Disks parts disks.old disks.new) }
     ensures moments { OnParts D.Disks I.Source disks.old (keys.old, keys.new) (length ram.old) words.now
@@ -127,7 +129,7 @@ pub fn lilo<D: Disks, I: Source, O: Sink>(
     ensures no_run { IsErr (run_at words.now) → (ram.new ≡ ram.old) × (keys.new ≡ keys.old) }
     ensures size { length ram.new ≡ length ram.old }
 
-    // Without a boot and `-R` no disk is written, whatever the disks report; and their sizes and shapes always stay.
+    // Without a boot, `-R` and `-u` no disk is written, whatever the disks report; and their sizes and shapes always stay.
     ensures same { IfOk (run_at words.now) (λ parts. has_write parts ≡ false → SameOf D.Disks disks.old disks.new) }
     ensures same_no_run { IsErr (run_at words.now) → SameOf D.Disks disks.old disks.new }
     ensures keeps { KeepsDisks D.Disks disks.old disks.new }

@@ -3,7 +3,7 @@ ghost use Rattle.std.specs.Prelude.{◌≡◌, ◌≤◌, [], length};
 use crate::fixture::{LINUX, OPTIONS, SECTION, boot_sector, first_sector, second_sector};
 use crate::{Ram, boots, lilo};
 use disk_trait::{Disks, Failing, Geometry, MemDisk, MemDisks};
-use sector_parts::{Sector, put_part};
+use sector_parts::{Sector, part, put_part, put_u16};
 use std::alloc::{AllocError, Global};
 use std::test::Fail;
 use stream_trait::{MemSink, MemSource, Words};
@@ -22,6 +22,8 @@ struct Case<'a> {
     falls_back: bool,
     // The text of the file `/c` on a volume from the disk's first sector on, where one lies there.
     conf: &'a [u8],
+    // The size of the file `/boot/boot.0300` on such a volume, where it is there; its bytes are all 0xB7.
+    backup: u16,
     // Whether memory has more than a mebibyte.
     is_large: bool,
     keys: &'a [u8],
@@ -70,6 +72,7 @@ fn installation(alloc: Global, case: &Case<'_>) -> Result<MemDisks, AllocError> 
     put_sector(&mut disks, case, 600, &logical_table());
     put_sector(&mut disks, case, 610, &boot_sector());
     put_volume(&mut disks, case);
+    put_backup(&mut disks, case);
     Ok(disks)
 }
 
@@ -102,6 +105,44 @@ fn put_volume(disks: &mut MemDisks, case: &Case<'_>)
         b"\x01\0.\0\0\0\0\0\0\0\0\0\0\0\0\0\x01\0..\0\0\0\0\0\0\0\0\0\0\0\0\x02\0c",
     );
     put_text(disks, case, 12, case.conf);
+}
+
+// Such a volume with the directory `/boot` in inode 2 and zone 6, and the backup in inode 3 and zone 7.
+fn put_backup(disks: &mut MemDisks, case: &Case<'_>)
+    requires { disks.old.events ≡ [] }
+    ensures { disks.new.events ≡ [] }
+{
+    if case.backup == 0 {
+        return;
+    }
+    let mut inodes = [0; 512];
+    put_part(&mut inodes, 0, b"\xED\x41\0\0\x30\0\0\0");
+    put_part(&mut inodes, 14, b"\x05");
+    put_part(&mut inodes, 32, b"\xED\x41\0\0\x30\0\0\0");
+    put_part(&mut inodes, 46, b"\x06");
+    put_part(&mut inodes, 64, b"\xA4\x81");
+    put_u16(&mut inodes, 68, case.backup);
+    put_part(&mut inodes, 78, b"\x07");
+    put_text(
+        disks,
+        case,
+        2,
+        b"\x10\0\x20\0\x01\0\x01\0\x05\0\0\0\0\0\0\0\x7F\x13",
+    );
+    put_sector(disks, case, 8, &inodes);
+    put_text(
+        disks,
+        case,
+        10,
+        b"\x01\0.\0\0\0\0\0\0\0\0\0\0\0\0\0\x01\0..\0\0\0\0\0\0\0\0\0\0\0\0\x02\0boot",
+    );
+    put_text(
+        disks,
+        case,
+        12,
+        b"\x02\0.\0\0\0\0\0\0\0\0\0\0\0\0\0\x01\0..\0\0\0\0\0\0\0\0\0\0\0\0\x03\0boot.0300",
+    );
+    put_sector(disks, case, 14, &[0xB7; 512]);
 }
 
 // A table with a partition of 20 sectors from its tenth on. Its second entry is a link to this very table, of no
@@ -168,12 +209,13 @@ fn words_of(alloc: Global, line: &[&str]) -> Result<Words, AllocError> {
     Ok(words)
 }
 
-// What came of a run: the status, the text, and the default line's sector.
+// What came of a run: the status, the text, the default line's sector and the boot sector.
 #[derive(Drop)]
 struct RunEnd {
     status: u8,
     text: Vec<u8>,
     line: Sector,
+    boot: Sector,
 }
 
 // Runs a case.
@@ -187,10 +229,13 @@ fn end_of(alloc: Global, case: &Case<'_>) -> Result<RunEnd, AllocError> {
     let status = lilo(alloc, &words, &mut disks, &mut keys, &mut out, &mut ram, 0);
     let mut line = [0; 512];
     let _ = disks.read(0, 94, &mut line);
+    let mut boot = [0; 512];
+    let _ = disks.read(0, 0, &mut boot);
     Ok(RunEnd {
         status,
         text: Vec::from_slice(alloc, out.bytes())?,
         line,
+        boot,
     })
 }
 
@@ -219,6 +264,7 @@ const WHOLE: Case<'static> = Case {
     line: b"LINE",
     falls_back: false,
     conf: b"",
+    backup: 0,
     is_large: true,
     keys: b"",
     failing_keys: &[],
@@ -402,8 +448,8 @@ const RUNS: [Case<'static>; 12] = [
     },
     Case {
         words: &["-u", "/dev/hda"],
-        status: 15,
-        text: b"lilo: not built\n",
+        status: 3,
+        text: b"lilo: volume: no volume\n",
         ..WHOLE
     },
 ];
@@ -751,7 +797,7 @@ const SHOT: Case<'static> = Case {
 };
 
 // Runs of `-R`, and the default line's sector after them: where there is a refusal it stays.
-const SHOTS: [(Case<'static>, &[u8]); 13] = [
+const SHOTS: [(Case<'static>, &[u8]); 7] = [
     (SHOT, ONCE),
     (
         Case {
@@ -812,6 +858,10 @@ const SHOTS: [(Case<'static>, &[u8]); 13] = [
         },
         KEPT,
     ),
+];
+
+// Others, of which most are refused.
+const OTHER_SHOTS: [(Case<'static>, &[u8]); 6] = [
     (
         Case {
             words: LONG,
@@ -891,24 +941,31 @@ const LONG: &[&str] = &[
 
 const WORD: &str = "aaaaaaaaaaaaaaaaaaaaaaaaaaaaaaa";
 
+// Whether a run ends as a case says, and with this line.
+fn ends_so(alloc: Global, case: &Case<'_>, line: &[u8]) -> Result<bool, AllocError> {
+    let end = end_of(alloc, case)?;
+    let is_shown = end.text.as_slice() == case.text;
+    Ok(end.status == case.status && is_shown && end.line == line_sector(line))
+}
+
 #[test]
 fn lines_are_set_and_cleared(rt: HostRuntime) -> Result<(), Fail> {
     for (case, line) in SHOTS {
-        let end = end_of(rt.alloc(), &case)?;
-        assert_eq!(rt;
-            end.status,
-            case.status,
-            "{:?}, {:?}",
-            case.words, case.conf
-        );
         assert!(rt;
-            end.text.as_slice() == case.text,
+            ends_so(rt.alloc(), &case, line)?,
             "{:?}, {:?}",
             case.words,
             case.conf
         );
+    }
+    Ok(())
+}
+
+#[test]
+fn lines_are_refused(rt: HostRuntime) -> Result<(), Fail> {
+    for (case, line) in OTHER_SHOTS {
         assert!(rt;
-            end.line == line_sector(line),
+            ends_so(rt.alloc(), &case, line)?,
             "{:?}, {:?}",
             case.words,
             case.conf
@@ -939,6 +996,213 @@ fn a_write_of_a_set_line_may_fail(rt: HostRuntime) -> Result<(), Fail> {
         assert_eq!(rt; end.status, status, "call {call}");
         assert!(rt; end.text.as_slice() == text, "call {call}");
         assert!(rt; end.line == line_sector(line), "call {call}");
+    }
+    Ok(())
+}
+
+const BACK: &[&str] = &["-u", "/dev/hda"];
+
+// A boot sector with a byte in its partition table, and a backup.
+const BACKED: Case<'static> = Case {
+    words: BACK,
+    at: 446,
+    byte: 0x80,
+    backup: 512,
+    text: b"",
+    ..WHOLE
+};
+
+const NOT_OURS: &[u8] = b"lilo: not ours\n";
+
+// Runs of `-u`, and whether the boot sector is restored then: else it stays.
+const BACKS: [(Case<'static>, bool); 14] = [
+    (BACKED, true),
+    // What there is then is another system's, and a boot finds it.
+    (
+        Case {
+            words: &["-u", "/dev/hda", "--then", "-u", "/dev/hda"],
+            status: 6,
+            text: NOT_OURS,
+            ..BACKED
+        },
+        true,
+    ),
+    (
+        Case {
+            words: &[
+                "-q", "/dev/hda", "--then", "-u", "/dev/hda", "--then", "boot", "/dev/hda",
+            ],
+            status: 7,
+            text: b"linux *\nlilo: boot: not bootable\n",
+            ..BACKED
+        },
+        true,
+    ),
+    // Nothing is printed, so a sink that fails isn't asked.
+    (
+        Case {
+            words: &["-C", "/none", "-v", "--root", "/dev/hda", "-u", "/dev/hda"],
+            failing_puts: &[0],
+            ..BACKED
+        },
+        true,
+    ),
+    // A broken boot sector isn't foreign.
+    (
+        Case {
+            at: 0x12,
+            byte: 20,
+            ..BACKED
+        },
+        true,
+    ),
+    // Each refusal comes before those after it.
+    (
+        Case {
+            words: &["--root", "/dev/hdb", "-u", "/dev/hda9"],
+            status: 3,
+            text: b"lilo: volume: no partition\n",
+            ..BACKED
+        },
+        false,
+    ),
+    (
+        Case {
+            words: &["--root", "/dev/hdb", "-u", "/dev/hda"],
+            at: 0,
+            byte: 0,
+            status: 6,
+            text: NOT_OURS,
+            ..BACKED
+        },
+        false,
+    ),
+    (
+        Case {
+            words: &["--root", "/dev/hdb", "-u", "/dev/hda"],
+            status: 3,
+            text: b"lilo: volume: no disk\n",
+            ..BACKED
+        },
+        false,
+    ),
+    (
+        Case {
+            backup: 0,
+            status: 3,
+            text: b"lilo: volume: no volume\n",
+            ..BACKED
+        },
+        false,
+    ),
+    (
+        Case {
+            sector: 2,
+            at: 0,
+            byte: 0,
+            status: 3,
+            text: b"lilo: volume: layout\n",
+            ..BACKED
+        },
+        false,
+    ),
+    (
+        Case {
+            backup: 0,
+            conf: CONF,
+            status: 6,
+            text: NOT_OURS,
+            ..BACKED
+        },
+        false,
+    ),
+    (
+        Case {
+            backup: 511,
+            status: 6,
+            text: NOT_OURS,
+            ..BACKED
+        },
+        false,
+    ),
+    // The backup of hda isn't that of its partition 5, which has a map too.
+    (
+        Case {
+            words: &["-u", "/dev/hda5"],
+            status: 6,
+            text: NOT_OURS,
+            ..BACKED
+        },
+        false,
+    ),
+    // The part after a refusal doesn't run.
+    (
+        Case {
+            words: &["-u", "/dev/hdb", "--then", "-u", "/dev/hda"],
+            status: 3,
+            text: b"lilo: volume: no disk\n",
+            ..BACKED
+        },
+        false,
+    ),
+];
+
+// Whether a boot sector is the backup's, with the partition table that was there.
+fn is_restored(boot: &Sector) -> bool {
+    part(boot, 0, 440) == [0xB7; 440].as_slice()
+        && part(boot, 440, 6) == [0; 6].as_slice()
+        && part(boot, 0x1C2, 12) == b"\x05\0\0\0\x58\x02\0\0\xE8\x03\0\0".as_slice()
+        && part(boot, 510, 2) == b"\xB7\xB7".as_slice()
+}
+
+#[test]
+fn boot_sectors_are_restored(rt: HostRuntime) -> Result<(), Fail> {
+    for (case, restored) in BACKS {
+        let end = end_of(rt.alloc(), &case)?;
+        assert_eq!(rt; end.status, case.status, "{:?}, {}", case.words, case.at);
+        assert!(rt;
+            end.text.as_slice() == case.text,
+            "{:?}, {}",
+            case.words,
+            case.at
+        );
+        assert_eq!(rt;
+            is_restored(&end.boot),
+            restored,
+            "{:?}, {}",
+            case.words,
+            case.at
+        );
+        if case.at == 446 {
+            assert_eq!(rt; end.boot[446], 0x80, "{:?}", case.words);
+        }
+    }
+    Ok(())
+}
+
+// The call that fails, whether its write is made, the status, the text, and whether the boot sector is restored then.
+// Call 0 reads the boot sector, call 1 finds the volume, and calls 2 to 11 read its superblock, three inodes, two
+// directories and the backup; then come the write and the flush.
+const BROKEN_BACKS: [(u64, bool, u8, &[u8], bool); 5] = [
+    (0, false, 8, b"lilo: device\n", false),
+    (11, false, 8, b"lilo: device\n", false),
+    (12, false, 9, b"lilo: device at commit\n", false),
+    (12, true, 9, b"lilo: device at commit\n", true),
+    (13, false, 9, b"lilo: device at commit\n", true),
+];
+
+#[test]
+fn a_write_of_a_boot_sector_may_fail(rt: HostRuntime) -> Result<(), Fail> {
+    for (call, is_made, status, text, restored) in BROKEN_BACKS {
+        let case = Case {
+            failing_calls: &[call],
+            is_made,
+            ..BACKED
+        };
+        let end = end_of(rt.alloc(), &case)?;
+        assert_eq!(rt; end.status, status, "call {call}");
+        assert!(rt; end.text.as_slice() == text, "call {call}");
+        assert_eq!(rt; is_restored(&end.boot), restored, "call {call}");
     }
     Ok(())
 }

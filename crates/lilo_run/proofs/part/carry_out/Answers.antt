@@ -63,3 +63,10 @@ returns-in-Err-clause-does g c =
     rw c.in-SetLine.is
     (told_all (g.D.Disks.past disks) _ (λ now. keys_still g.I.Source c.args.bios.now.keys.now _
     (λ keys. Starved (record { answer = c.say_memory.ensures.status; shown = inl c.say_memory.ensures.shown }) (same_self g.D.Disks disks))))
+
+pub returns-in-Restore-clause-does : goal.returns-in-Restore-clause-does
+unfolding command_effect
+returns-in-Restore-clause-does g c =
+    rw c.in-Restore.is
+    (told_map (g.D.Disks.past c.args.bios.now.disks.now) _ _ (λ now carries. keys_still g.I.Source c.args.bios.now.keys.now _ (λ keys. carries keys (g.I.Source.faults c.args.bios.now.keys.now)))
+    (c.put_back.ensures.does (memory_of c.args.ram.now)))

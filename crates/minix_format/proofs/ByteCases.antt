@@ -1,7 +1,7 @@
 -- Bytes of empty volumes that mkfs.minix of util-linux made, of all four kinds.
 use Rattle.std.proofs.Common.{◌≡◌, ℕ, List, [], ◌∷◌, ◌++◌, replicate, refl}
 use Rattle.lilo_model.specs.MinixLayout.{V1Short, V1Long, V2Short, V2Long, with_counts, super_bytes, v1_inode_bytes, v2_inode_bytes, inode_bytes}
-use Rattle.minix_format.specs.MinixFormat.{new_layout, map_byte, map_sector, formatted_sector}
+use Rattle.ldisk_model.specs.MinixFormat.{new_layout, map_byte, map_sector, formatted_sector}
 
 -- ---- version 1 with short names, 4096 sectors, 64 inodes
 

@@ -1,7 +1,7 @@
 -- Layouts of empty volumes.
 use Rattle.std.proofs.Common.{◌≡◌, ℕ, Some, None, refl}
 use Rattle.lilo_model.specs.MinixLayout.{Kind, V1Short, V1Long, V2Short, V2Long, Super}
-use Rattle.minix_format.specs.MinixFormat.{new_layout, has_room, format_layout}
+use Rattle.ldisk_model.specs.MinixFormat.{new_layout, has_room, format_layout}
 
 abbrev laid : Kind → ℕ → ℕ → ℕ → ℕ → ℕ → ℕ → Super
 laid kind inodes zones imap zmap first max_size = record {

@@ -15,7 +15,7 @@ use Rattle.lilo_model.specs.MinixNames.{Directory, zone_number, block, entry, lo
 use Rattle.minix_laws.proofs.RootOnly.{RootOnly, root_only-sound}
 use Rattle.minix_laws.proofs.FirstNamed.{first_named-none}
 use Rattle.minix_layout.proofs.Reading.{super_law, inode_law}
-use Rattle.minix_format.specs.MinixFormat.{zeros, map_sector, first_inode, root_entry, formatted_sector, formatted}
+use Rattle.ldisk_model.specs.MinixFormat.{zeros, map_sector, first_inode, root_entry, formatted_sector, formatted}
 use Rattle.minix_format.specs.Laid.{IsLaid}
 use Rattle.minix_format.specs.Laws.{HasRootAlone, HasWholeSpan, FormatLaw}
 use Rattle.minix_format.proofs.MapLemmas.{map_law}
@@ -202,12 +202,12 @@ module _ (span : Span) (layout : Super) (time : ℕ) (image : Image) (laid : IsL
   after = after-table layout laid.some_inode laid.follows
 
   -- a sector that was written
-  in-sector : (sector : ℕ) → sector < 2 * layout.first + 2 → sector_of volume made sector ≡ formatted_sector layout time sector
-  in-sector sector below = formatted-in span layout time image sector below
+  in-sector : (sector : ℕ) → 2 ≤ sector → sector < 2 + 2 * layout.first → sector_of volume made sector ≡ formatted_sector layout time sector
+  in-sector sector from below = formatted-in span layout time image sector from below
 
   super-read : super_at (sector_of volume made 2) span.count ≡ Ok layout
   super-read =
-      ap (λ bytes. super_at bytes span.count) (in-sector 2 (omega (arith, after)) ∙ at-super layout time)
+      ap (λ bytes. super_at bytes span.count) (in-sector 2 (omega arith) (omega (arith, after)) ∙ at-super layout time)
       ∙ super_law layout span.count zeros (laid-super layout span.count laid within) refl
 
   found : volume_at made span ≡ Ok volume
@@ -221,7 +221,7 @@ module _ (span : Span) (layout : Super) (time : ℕ) (image : Image) (laid : IsL
   inode-marked number there =
       let k : number / 4096 < 2 * layout.imap = omega (arith, there, laid.imap_holds) in
       let is : sector_of volume made (4 + number / 4096) ≡ map_sector layout.inodes (number / 4096) =
-      in-sector (4 + number / 4096) (omega (arith, k, after)) ∙ at-inode_map layout time (number / 4096) k in
+      in-sector (4 + number / 4096) (omega arith) (omega (arith, k, after)) ∙ at-inode_map layout time (number / 4096) k in
       let n : 4096 * (number / 4096) + number % 4096 ≡ number = omega arith in
       let last : nat_lt layout.inodes number ≡ false = le-ltb layout.inodes number there in
       ap (λ bytes. bit bytes (number % 4096)) is
@@ -237,7 +237,7 @@ module _ (span : Span) (layout : Super) (time : ℕ) (image : Image) (laid : IsL
       let last : ℕ = layout.zones - layout.first in
       let k : b / 4096 < 2 * layout.zmap = omega (arith, from, below, laid.zmap_holds, laid.follows) in
       let is : sector_of volume made (2 * (2 + layout.imap) + b / 4096) ≡ map_sector last (b / 4096) =
-      in-sector (2 * (2 + layout.imap) + b / 4096) (omega (arith, k, after)) ∙ at-zone_map layout time (2 * (2 + layout.imap) + b / 4096) (b / 4096) k refl in
+      in-sector (2 * (2 + layout.imap) + b / 4096) (omega arith) (omega (arith, k, after)) ∙ at-zone_map layout time (2 * (2 + layout.imap) + b / 4096) (b / 4096) k refl in
       let n : 4096 * (b / 4096) + b % 4096 ≡ b = omega arith in
       let past : nat_lt last b ≡ false = le-ltb last b (omega (arith, from, below)) in
       ap (λ bytes. bit bytes (b % 4096)) is
@@ -253,7 +253,7 @@ module _ (span : Span) (layout : Super) (time : ℕ) (image : Image) (laid : IsL
   unfolding parts_of
   root-is =
       let is : sector_of volume made (2 * table_start layout) ≡ filled_bytes 512 (inode_bytes layout.kind (first_inode layout time)) =
-      in-sector (2 * table_start layout) (omega (arith, after)) ∙ at-table layout time in
+      in-sector (2 * table_start layout) (omega arith) (omega (arith, after)) ∙ at-table layout time in
       ap (λ place. inode_of layout.kind (inode_part volume made place)) (first_place layout)
       ∙ ap (λ bytes. inode_of layout.kind (part_of bytes 0 (inode_size layout.kind))) is
       ∙ ap (inode_of layout.kind) (part-filled (inode_bytes layout.kind (first_inode layout time)) (inode_size layout.kind) (length-first_inode layout.kind layout time))
@@ -262,8 +262,8 @@ module _ (span : Span) (layout : Super) (time : ℕ) (image : Image) (laid : IsL
   zone-is : parts.zone layout.first ≡ root_block layout.kind
   unfolding parts_of
   zone-is =
-      let one = in-sector (zone_sector layout.first) (omega arith) ∙ at-root layout time after in
-      let two = in-sector (zone_sector layout.first + 1) (omega arith) ∙ at-root_end layout time after in
+      let one = in-sector (zone_sector layout.first) (omega (arith, after)) (omega arith) ∙ at-root layout time after in
+      let two = in-sector (zone_sector layout.first + 1) (omega (arith, after)) (omega arith) ∙ at-root_end layout time after in
       rw (one, two) refl
 
   root-zone : zone_number layout parts 1 0 ≡ layout.first

@@ -5,7 +5,7 @@ use Rattle.std.proofs.lemmas.Bool.{le-leb, lt-ltb, le-ltb, leb-true, ltb-true}
 use Rattle.std.proofs.lemmas.Bool.Decides.{nat_tests}
 use Rattle.lilo_model.specs.MinixLayout.{Kind, V1Short, V1Long, V2Short, V2Long, Super, IsSuper, inode_size, table_start, table_blocks, super_checks}
 use Rattle.minix_format.specs.Laid.{IsLaid}
-use Rattle.minix_format.specs.MinixFormat.{zones_for, map_blocks, size_for, new_layout, has_room, where_room, format_layout}
+use Rattle.ldisk_model.specs.MinixFormat.{zones_for, map_blocks, size_for, new_layout, has_room, where_room, format_layout}
 
 where_room-is : (room : Bool) (super layout : Super) → has_room super ≡ room → where_room super ≡ Some layout → (has_room super ≡ true) × (super ≡ layout)
 where_room-is true super layout room is = (room, let e : (if has_room super then Some super else None) ≡ Some super = rw room refl in cc)

@@ -7,7 +7,7 @@ use Rattle.std.proofs.lemmas.Bool.Decides.{nat_tests}
 use Rattle.std.proofs.lemmas.List.{ext_get_or}
 use Rattle.std.proofs.lemmas.List.FromFn.{get_or-map-range_with_len, length-map-range_with_len}
 use Rattle.lilo_model.specs.MinixParts.{bit}
-use Rattle.minix_format.specs.MinixFormat.{map_byte, map_sector}
+use Rattle.ldisk_model.specs.MinixFormat.{map_byte, map_sector}
 use Rattle.minix_format.specs.Laws.{MapLaw}
 
 -- ---- one byte, by what it may be

@@ -8,28 +8,20 @@ use Rattle.lilo_model.specs.MinixLayout.{Kind, V1Short, V1Long, V2Short, V2Long,
 use Rattle.lilo_model.specs.MinixParts.{volume_with, sector_of}
 use Rattle.lilo_model.specs.MinixEntries.{here_name, above_name}
 use Rattle.minix_laws.proofs.RootBytes.{length-choice}
-use Rattle.minix_format.specs.MinixFormat.{zeros, map_sector, first_inode, root_entry, formatted_sector, formatted_count, formatted}
+use Rattle.ldisk_model.specs.MinixFormat.{zeros, map_sector, first_inode, root_entry, formatted_sector, formatted_count, formatted}
 use Rattle.minix_format.proofs.MapLemmas.{length-map_sector}
 
 -- ---- in an image
 
 module _ (span : Span) (layout : Super) (time : ℕ) (image : Image) where
-  pub formatted-in : (sector : ℕ) → sector < formatted_count layout → sector_of (volume_with span layout) (formatted span layout time image) sector ≡ formatted_sector layout time sector
+  pub formatted-in : (sector : ℕ) → 2 ≤ sector → sector < 2 + formatted_count layout → sector_of (volume_with span layout) (formatted span layout time image) sector ≡ formatted_sector layout time sector
   unfolding formatted
-  formatted-in sector below =
+  formatted-in sector from below =
       let a : (span.disk == span.disk) ≡ true = eq-eqb span.disk span.disk refl in
-      let b : nat_le span.start (span.start + sector) ≡ true = le-leb span.start (span.start + sector) (omega arith) in
-      let c : nat_lt (span.start + sector) (span.start + formatted_count layout) ≡ true = lt-ltb (span.start + sector) (span.start + formatted_count layout) (omega (arith, below)) in
+      let b : nat_le (span.start + 2) (span.start + sector) ≡ true = le-leb (span.start + 2) (span.start + sector) (omega (arith, from)) in
+      let c : nat_lt (span.start + sector) (span.start + 2 + formatted_count layout) ≡ true = lt-ltb (span.start + sector) (span.start + 2 + formatted_count layout) (omega (arith, below)) in
       let d : span.start + sector - span.start ≡ sector = omega arith in
       rw (a, b, c, d) refl
-
-  pub formatted-out : (sector : ℕ) → formatted_count layout ≤ sector → sector_of (volume_with span layout) (formatted span layout time image) sector ≡ image span.disk (span.start + sector)
-  unfolding formatted
-  formatted-out sector above =
-      let a : (span.disk == span.disk) ≡ true = eq-eqb span.disk span.disk refl in
-      let b : nat_le span.start (span.start + sector) ≡ true = le-leb span.start (span.start + sector) (omega arith) in
-      let c : nat_lt (span.start + sector) (span.start + formatted_count layout) ≡ false = le-ltb (span.start + sector) (span.start + formatted_count layout) (omega (arith, above)) in
-      rw (a, b, c) refl
 
 -- ---- what lies where
 
@@ -136,7 +128,7 @@ pub length-formatted : (span : Span) (layout : Super) (time : ℕ) (image : Imag
     → length (sector_of (volume_with span layout) (formatted span layout time image) sector) ≡ 512
 unfolding formatted
 length-formatted span layout time image sector long =
-    length-choice (span.disk == span.disk && nat_le span.start (span.start + sector) && nat_lt (span.start + sector) (span.start + formatted_count layout))
+    length-choice (span.disk == span.disk && nat_le (span.start + 2) (span.start + sector) && nat_lt (span.start + sector) (span.start + 2 + formatted_count layout))
     (formatted_sector layout time (span.start + sector - span.start)) (image span.disk (span.start + sector))
     (length-formatted_sector layout time (span.start + sector - span.start)) long
 

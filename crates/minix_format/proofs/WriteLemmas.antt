@@ -6,16 +6,16 @@ use Rattle.disk_trait.specs.Range.{IsOutside, IsWritten}
 use Rattle.lilo_model.specs.Disks.{Image, Span}
 use Rattle.lilo_model.specs.MinixLayout.{Kind, Super}
 use Rattle.lilo_model.specs.MinixParts.{volume_with}
-use Rattle.minix_format.specs.MinixFormat.{format_layout, formatted_sector, formatted_count, formatted_sectors, formatted, format_at}
+use Rattle.ldisk_model.specs.MinixFormat.{format_layout, formatted_sector, formatted_count, formatted_sectors, formatted, format_at}
 use Rattle.minix_format.specs.Laws.{HasRootAlone, HasWholeSpan, IsEmptyVolume}
 use Rattle.minix_format.proofs.LayoutLemmas.{layout-laid, layout-within}
 use Rattle.minix_format.proofs.FormatLemmas.{format_law}
 
 pub sectors-count : (layout : Super) (time : ℕ) → length (formatted_sectors layout time) ≡ formatted_count layout
-sectors-count layout time = length-map-range_with_len (formatted_sector layout time) 0 (formatted_count layout)
+sectors-count layout time = length-map-range_with_len (formatted_sector layout time) 2 (formatted_count layout)
 
-pub sectors-at : (layout : Super) (time i : ℕ) → i < formatted_count layout → formatted_sector layout time i ≡ slice_index_or (formatted_sectors layout time) i []
-sectors-at layout time i below = sym (get_or-map-range_with_len (formatted_sector layout time) 0 (formatted_count layout) i i [] below (omega arith))
+pub sectors-at : (layout : Super) (time i : ℕ) → i < formatted_count layout → formatted_sector layout time (2 + i) ≡ slice_index_or (formatted_sectors layout time) i []
+sectors-at layout time i below = sym (get_or-map-range_with_len (formatted_sector layout time) 2 (formatted_count layout) i (2 + i) [] below (omega arith))
 
 -- what holds once so many are written holds once all are
 pub all_written : (disk start : ℕ) (layout : Super) (time count : ℕ) (old new : Image) → count ≡ formatted_count layout
@@ -24,42 +24,43 @@ all_written disk start layout time count old new is written =
     subst (λ n. IsWritten disk start (formatted_sectors layout time) n old new) (is ∙ sym (sectors-count layout time)) written
 
 -- they lie in the volume's sectors
-pub count-within : (kind : Kind) (sectors inodes : ℕ) (layout : Super) → Some layout ≡ format_layout kind sectors inodes → formatted_count layout ≤ sectors
+pub count-within : (kind : Kind) (sectors inodes : ℕ) (layout : Super) → Some layout ≡ format_layout kind sectors inodes → 2 + formatted_count layout ≤ sectors
 count-within kind sectors inodes layout chosen =
     let laid = layout-laid kind sectors inodes layout (sym chosen) in
     omega (arith, laid.below, layout-within kind sectors inodes layout (sym chosen))
 
 -- so what lies outside the volume lies outside them
-pub outside-span : (disk start count : ℕ) (layout : Super) (time d s : ℕ) → formatted_count layout ≤ count → IsOutside disk start count d s
-    → IsOutside disk start (length (formatted_sectors layout time)) d s
+pub outside-span : (disk start count : ℕ) (layout : Super) (time d s : ℕ) → 2 + formatted_count layout ≤ count → IsOutside disk start count d s
+    → IsOutside disk (start + 2) (length (formatted_sectors layout time)) d s
 outside-span disk start count layout time d s within (inl other) = inl other
-outside-span disk start count layout time d s within (inr (inl before)) = inr (inl before)
+outside-span disk start count layout time d s within (inr (inl before)) = inr (inl (omega (arith, before)))
 outside-span disk start count layout time d s within (inr (inr after)) = inr (inr (omega (arith, within, after, sectors-count layout time)))
 
 -- ---- the image
 
-module _ (span : Span) (layout : Super) (time : ℕ) (old new : Image) (written : IsWritten span.disk span.start (formatted_sectors layout time) (length (formatted_sectors layout time)) old new) where
-  inside : (d s : ℕ) → span.disk ≡ d → span.start ≤ s → s < span.start + formatted_count layout → new d s ≡ formatted_sector layout time (s - span.start)
+module _ (span : Span) (layout : Super) (time : ℕ) (old new : Image) (written : IsWritten span.disk (span.start + 2) (formatted_sectors layout time) (length (formatted_sectors layout time)) old new) where
+  inside : (d s : ℕ) → span.disk ≡ d → span.start + 2 ≤ s → s < span.start + 2 + formatted_count layout → new d s ≡ formatted_sector layout time (s - span.start)
   inside d s same from below =
-      let k : s - span.start < formatted_count layout = omega (arith, from, below) in
-      let at : span.start + (s - span.start) ≡ s = omega (arith, from) in
-      let here : new span.disk (span.start + (s - span.start)) ≡ formatted_sector layout time (s - span.start) =
-      written.inside (s - span.start) (omega (arith, k, sectors-count layout time)) ∙ sym (sectors-at layout time (s - span.start) k) in
-      sym (ap (λ n. new n s) same) ∙ sym (ap (new span.disk) at) ∙ here
+      let k : s - (span.start + 2) < formatted_count layout = omega (arith, from, below) in
+      let at : span.start + 2 + (s - (span.start + 2)) ≡ s = omega (arith, from) in
+      let number : 2 + (s - (span.start + 2)) ≡ s - span.start = omega (arith, from) in
+      let here : new span.disk (span.start + 2 + (s - (span.start + 2))) ≡ formatted_sector layout time (2 + (s - (span.start + 2))) =
+      written.inside (s - (span.start + 2)) (omega (arith, k, sectors-count layout time)) ∙ sym (sectors-at layout time (s - (span.start + 2)) k) in
+      sym (ap (λ n. new n s) same) ∙ sym (ap (new span.disk) at) ∙ here ∙ ap (formatted_sector layout time) number
 
-  outside : (d s : ℕ) → IsOutside span.disk span.start (formatted_count layout) d s → new d s ≡ old d s
-  outside d s out = written.outside d s (subst (λ n. IsOutside span.disk span.start n d s) (sym (sectors-count layout time)) out)
+  outside : (d s : ℕ) → IsOutside span.disk (span.start + 2) (formatted_count layout) d s → new d s ≡ old d s
+  outside d s out = written.outside d s (subst (λ n. IsOutside span.disk (span.start + 2) n d s) (sym (sectors-count layout time)) out)
 
-  new-at : (d s : ℕ) (one two three : Bool) → (span.disk == d) ≡ one → nat_le span.start s ≡ two → nat_lt s (span.start + formatted_count layout) ≡ three
+  new-at : (d s : ℕ) (one two three : Bool) → (span.disk == d) ≡ one → nat_le (span.start + 2) s ≡ two → nat_lt s (span.start + 2 + formatted_count layout) ≡ three
       → new d s ≡ (if one && two && three then formatted_sector layout time (s - span.start) else old d s)
-  new-at d s true true true a b c = inside d s (eqb-true span.disk d a) (leb-true span.start s b) (ltb-true s (span.start + formatted_count layout) c)
+  new-at d s true true true a b c = inside d s (eqb-true span.disk d a) (leb-true (span.start + 2) s b) (ltb-true s (span.start + 2 + formatted_count layout) c)
   new-at d s false two three a b c = outside d s (inl (λ same. let t = eq-eqb span.disk d (sym same) in cc))
-  new-at d s true false three a b c = outside d s (inr (inl (leb-false span.start s b)))
-  new-at d s true true false a b c = outside d s (inr (inr (ltb-false s (span.start + formatted_count layout) c)))
+  new-at d s true false three a b c = outside d s (inr (inl (leb-false (span.start + 2) s b)))
+  new-at d s true true false a b c = outside d s (inr (inr (ltb-false s (span.start + 2 + formatted_count layout) c)))
 
   made-is : new ≡ formatted span layout time old
   unfolding formatted
-  made-is = λ i d s. new-at d s (span.disk == d) (nat_le span.start s) (nat_lt s (span.start + formatted_count layout)) refl refl refl i
+  made-is = λ i d s. new-at d s (span.disk == d) (nat_le (span.start + 2) s) (nat_lt s (span.start + 2 + formatted_count layout)) refl refl refl i
 
   module _ (kind : Kind) (inodes : ℕ) (chosen : Some layout ≡ format_layout kind span.count inodes) where
     pub made_at : format_at span kind inodes time old ≡ Some new

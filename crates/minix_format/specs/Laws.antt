@@ -4,7 +4,7 @@ use Rattle.lilo_model.specs.Disks.{Image, Span}
 use Rattle.lilo_model.specs.MinixLayout.{Kind, Super}
 use Rattle.lilo_model.specs.MinixParts.{Volume, parts_of, volume_at, volume_with, bit}
 use Rattle.lilo_model.specs.MinixNames.{Directory, names_in, IsSound}
-use Rattle.minix_format.specs.MinixFormat.{format_layout, map_sector, formatted}
+use Rattle.ldisk_model.specs.MinixFormat.{format_layout, map_sector, formatted}
 
 -- a bit of a bitmap is set where its number is 0, 1 or past the last number
 abbrev pub MapLaw : Type 0

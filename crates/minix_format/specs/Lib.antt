@@ -1,3 +1,2 @@
-pub mod MinixFormat
 pub mod Laid
 pub mod Laws

@@ -1,6 +1,6 @@
 // The sectors of a new bitmap.
 ghost use Rattle.std.specs.Prelude.{◌≡◌, ◌<◌, ◌^◌};
-ghost use Rattle.minix_format.specs.MinixFormat.{map_byte, map_sector};
+ghost use Rattle.ldisk_model.specs.MinixFormat.{map_byte, map_sector};
 
 use sector_parts::Sector;
 
@@ -18,7 +18,7 @@ pub(crate) fn map_sector(last: u32, sector: u64) -> Sector
 }
 
 // A byte of a bitmap, by the number of its first bit.
-#[tactic(auto, unfolding(crate::specs::MinixFormat::map_byte))]
+#[tactic(auto, unfolding(ldisk_model::specs::MinixFormat::map_byte))]
 fn map_byte(last: u32, number: u64) -> u8
     ensures { result ≡ map_byte last number }
 {

@@ -2,7 +2,7 @@
 ghost use Rattle.std.specs.Prelude.{◌≡◌};
 ghost use Rattle.std.specs.Option.{option_map};
 ghost use Rattle.minix_layout.specs.View.{kind_view, super_view};
-ghost use Rattle.minix_format.specs.MinixFormat.{zones_for, size_for, format_layout};
+ghost use Rattle.ldisk_model.specs.MinixFormat.{zones_for, size_for, format_layout};
 
 use minix_layout::{FsKind, Super};
 

@@ -1,7 +1,7 @@
 //! An empty Minix volume is written, versions 1 and 2.
 //!
-//! The boot block becomes zeros; then come the superblock, the bitmaps, the table of inodes with the root, and the
-//! root's zone with its two entries. No other zone is written. No call takes memory.
+//! The superblock, the bitmaps, the table of inodes with the root, and the root's zone with its two entries. The boot
+//! block and all other zones stay as they are. No call takes memory.
 #![tactic(auto)]
 
 mod bitmap;

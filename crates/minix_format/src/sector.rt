@@ -3,7 +3,7 @@ ghost use Rattle.std.specs.Prelude.{◌≡◌};
 ghost use Rattle.lilo_model.specs.Bytes.{filled_bytes};
 ghost use Rattle.lilo_model.specs.MinixLayout.{super_bytes, inode_bytes};
 ghost use Rattle.minix_layout.specs.View.{kind_view, super_view, inode_view};
-ghost use Rattle.minix_format.specs.MinixFormat.{zeros, first_inode, root_entries, formatted_sector};
+ghost use Rattle.ldisk_model.specs.MinixFormat.{zeros, first_inode, root_entries, formatted_sector};
 ghost use Rattle.minix_format.specs.Laid.{IsLaid};
 
 use crate::bitmap::map_sector;
@@ -13,7 +13,7 @@ use minix_tree::entry_size;
 use sector_parts::{Sector, put_name, put_u16};
 
 /// The sector of block 1 that has the superblock.
-const SUPER_SECTOR: u64 = 2;
+pub(crate) const SUPER_SECTOR: u64 = 2;
 
 /// The first sector of the inode bitmap.
 const INODE_MAP: u64 = 4;
@@ -22,7 +22,7 @@ const INODE_MAP: u64 = 4;
 const ROOT_MODE: u16 = 0o040755;
 
 // A sector of an empty volume that is made at a time.
-#[tactic(auto, unfolding(crate::specs::MinixFormat::formatted_sector))]
+#[tactic(auto, unfolding(ldisk_model::specs::MinixFormat::formatted_sector))]
 pub(crate) fn sector_at(layout: &Super, time: u32, sector: u64) -> Sector
     requires { IsLaid (super_view layout.now) }
     ensures { result ≡ formatted_sector (super_view layout.now) time sector }

@@ -109,8 +109,8 @@ fn try_row(rt: &impl Abort, alloc: Global, row: Row) -> Result<(), Fail> {
     let (kind, count, inodes, first, free) = row;
     let mut disks = disk_for(alloc, count, &[])?;
     assert!(rt; make(rt, &mut disks, count, kind, inodes) == Ok(()));
-    assert!(rt; u64::from(disks.events()) == 2 * u64::from(first) + 3);
-    assert!(rt; is_old(&mut disks, 7) && !is_old(&mut disks, 8) && !is_old(&mut disks, 9));
+    assert!(rt; u64::from(disks.events()) == 2 * u64::from(first) + 1);
+    assert!(rt; is_old(&mut disks, 8) && is_old(&mut disks, 9) && !is_old(&mut disks, 10));
     assert!(rt; first > 20 || is_old(&mut disks, 10 + 2 * u64::from(first)));
     let mut volume = attach(rt, &mut disks, count)?;
     assert!(rt; volume.layout().first == first && volume.layout().inodes == u32::from(inodes));
@@ -157,13 +157,13 @@ fn nothing_is_written_without_room(rt: HostRuntime) -> Result<(), Fail> {
 
 #[test]
 fn each_call_fails_in_turn(rt: HostRuntime) -> Result<(), Fail> {
-    for call in 0..13 {
+    for call in 0..11 {
         let failing = Failing { call, made: true };
         let mut disks = disk_for(rt.alloc(), 12, &[failing])?;
         assert!(rt; make(&rt, &mut disks, 12, FsKind::V1Short, 1) == Err(FormatFault::Device));
     }
     let late = Failing {
-        call: 13,
+        call: 11,
         made: true,
     };
     let mut disks = disk_for(rt.alloc(), 12, &[late])?;

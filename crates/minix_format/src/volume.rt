@@ -7,18 +7,19 @@ ghost use Rattle.disk_trait.specs.Range.{IsOutside};
 ghost use Rattle.lilo_model.specs.Faults.{Rose};
 ghost use Rattle.minix_layout.specs.View.{kind_view, super_view};
 ghost use Rattle.minix_zones.specs.View.{span_view};
-ghost use Rattle.minix_format.specs.MinixFormat.{format_layout, formatted_count, formatted_sectors, format_at};
+ghost use Rattle.ldisk_model.specs.MinixFormat.{format_layout, formatted_count, formatted_sectors, format_at};
 ghost use Rattle.minix_format.specs.Laid.{IsLaid};
 ghost use Rattle.minix_format.specs.Laws.{IsEmptyVolume};
 
 use crate::format_fault::FormatFault;
 use crate::layout::format_layout;
-use crate::sector::sector_at;
+use crate::sector::{SUPER_SECTOR, sector_at};
 use disk_trait::{DiskFault, Disks, Span, flush, write};
 use minix_layout::{FsKind, Super, where_zone};
 
-/// Makes an empty volume in a span of a disk, with so many inodes, at a time: its first sectors are written in order,
-/// up to the root's zone, and then made durable. What a stop before that leaves isn't said.
+/// Makes an empty volume in a span of a disk, with so many inodes, at a time: its sectors from the superblock's on are
+/// written in order, up to the root's zone, and then made durable. The boot block stays. What a stop before that leaves
+/// isn't said.
 ///
 /// # Errors
 ///
@@ -68,10 +69,10 @@ fn write_volume<D: Disks>(
     time: u32,
 ) -> Result<(), DiskFault>
     requires laid { IsLaid (super_view layout.now) }
-    requires there { span.start + formatted_count (super_view layout.now) ≤ D.size_of disks.old span.disk }
-    requires numbered { span.start + formatted_count (super_view layout.now) < 2 ^ 64 }
+    requires there { span.start + 2 + formatted_count (super_view layout.now) ≤ D.size_of disks.old span.disk }
+    requires numbered { span.start + 2 + formatted_count (super_view layout.now) < 2 ^ 64 }
     ensures cause { HasFlushCauseOf D.Disks disks.old disks.new result }
-    ensures writes { WritesRange D.Disks disks.old disks.new span.disk span.start
+    ensures writes { WritesRange D.Disks disks.old disks.new span.disk (span.start + 2)
         (formatted_sectors (super_view layout.now) time) result }
     ensures quiet { OnOk result (IsQuiet (D.past disks.new)) }
 {
@@ -87,19 +88,20 @@ fn write_each<D: Disks>(
     time: u32,
 ) -> Result<(), DiskFault>
     requires laid { IsLaid (super_view layout.now) }
-    requires there { span.start + formatted_count (super_view layout.now) ≤ D.size_of disks.old span.disk }
-    requires numbered { span.start + formatted_count (super_view layout.now) < 2 ^ 64 }
+    requires there { span.start + 2 + formatted_count (super_view layout.now) ≤ D.size_of disks.old span.disk }
+    requires numbered { span.start + 2 + formatted_count (super_view layout.now) < 2 ^ 64 }
     ensures cause { HasFlushCauseOf D.Disks disks.old disks.new result }
-    ensures writes { WritesRange D.Disks disks.old disks.new span.disk span.start
+    ensures writes { WritesRange D.Disks disks.old disks.new span.disk (span.start + 2)
         (formatted_sectors (super_view layout.now) time) result }
 {
-    let count = where_zone(layout.first) + 2;
-    for sector in 0..count {
+    let start = span.start + SUPER_SECTOR;
+    let count = where_zone(layout.first);
+    for index in 0..count {
         write(
             disks,
             span.disk,
-            span.start + sector,
-            &sector_at(layout, time, sector),
+            start + index,
+            &sector_at(layout, time, SUPER_SECTOR + index),
         )?;
     }
     Ok(())

@@ -1,5 +1,5 @@
 use Rattle.std.proofs.Common.{◌≡◌, ◌<◌, ◌+◌, ◌*◌, ℕ, get_or}
-use Rattle.minix_format.specs.MinixFormat.{map_byte}
+use Rattle.ldisk_model.specs.MinixFormat.{map_byte}
 use Rattle.minix_format.proofs.bitmap.map_sector.Given as goal
 
 abbrev pub invariant-loop-at : goal.invariant-loop-at

@@ -1,7 +1,7 @@
 use Rattle.std.proofs.Common.{◌+◌, ◌*◌, refl, ◌∙◌, ap, arith}
 use Rattle.std.specs.Int.{div_ceil}
 use Rattle.minix_layout.specs.View.{kind_view}
-use Rattle.minix_format.specs.MinixFormat.{size_for}
+use Rattle.ldisk_model.specs.MinixFormat.{size_for}
 use Rattle.minix_format.proofs.LayoutLemmas.{layout-none, layout-some}
 use Rattle.minix_format.proofs.layout.format_layout.Goals as goal
 

@@ -93,8 +93,8 @@ zone_map_start super = 4 + 2 * super.imap
 abbrev pub last_bit : Super → ℕ
 last_bit super = super.zones - super.first
 
--- a sector of an empty volume, made at a time: the boot block is zeros; in the bitmaps inode 1 and the first data
--- zone are marked; the root is the one inode, and its entries lie in that zone
+-- a sector of an empty volume after its boot block, made at a time: in the bitmaps inode 1 and the first data zone are
+-- marked; the root is the one inode, and its entries lie in that zone
 unfoldable pub formatted_sector : Super → ℕ → ℕ → List ℕ
 formatted_sector super time sector =
     if sector == super_sector then super_bytes super zeros else
@@ -105,18 +105,20 @@ formatted_sector super time sector =
     if sector == zone_sector super.first then filled_bytes 512 (root_entries super.kind) else
     zeros
 
--- how many sectors are written, from the volume's first on: up to the root's zone
+-- how many sectors are written, from the superblock's on: up to the end of the root's zone
 abbrev pub formatted_count : Super → ℕ
-formatted_count super = zone_sector super.first + 2
+formatted_count super = zone_sector super.first
 
--- these sectors
+-- these sectors; the boot block isn't among them
 abbrev pub formatted_sectors : Super → ℕ → List (List ℕ)
-formatted_sectors super time = map (formatted_sector super time) (range_with_len 0 (formatted_count super))
+formatted_sectors super time = map (formatted_sector super time) (range_with_len super_sector (formatted_count super))
 
--- an image with an empty volume in a span; the data zones but the root's are as before, and what lies outside
+-- an image with an empty volume in a span; the boot block and the data zones but the root's are as before, and what lies
+-- outside
 unfoldable pub formatted : Span → Super → ℕ → Image → Image
 formatted span super time image disk sector =
-    if span.disk == disk && nat_le span.start sector && nat_lt sector (span.start + formatted_count super)
+    if span.disk == disk && nat_le (span.start + super_sector) sector
+    && nat_lt sector (span.start + super_sector + formatted_count super)
     then formatted_sector super time (sector - span.start)
     else image disk sector
 

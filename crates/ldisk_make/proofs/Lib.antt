@@ -1,0 +1,3 @@
+pub mod MakeLemmas
+pub mod TableLemmas
+pub mod VolumeLemmas

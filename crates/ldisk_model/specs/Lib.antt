@@ -1,0 +1,4 @@
+pub mod MinixFormat
+pub mod Arguments
+pub mod DiskTable
+pub mod Verdict

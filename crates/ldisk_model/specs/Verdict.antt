@@ -1,0 +1,153 @@
+-- What `ldisk` answers and prints, as if nothing failed, and what the disks hold then: for each command a list of checks
+-- in order, of which the first refusal decides. They speak of what the disks hold, and read no device. (This project's
+-- own; the volume: Minix file system.)
+use Rattle.std.specs.Prelude.{ℕ, ◌+◌, ◌==◌, nat_le, nat_lt, Bool, true, false, not, ◌&&◌, List, Option, None, Some, ok_or, Result, Ok, Err}
+use Rattle.lilo_model.specs.Checks.{◌>>=◌, require, with_fault}
+use Rattle.lilo_model.specs.Devices.{Device}
+use Rattle.lilo_model.specs.Disks.{Image, Machine, Span, DiskSector, with_sector}
+use Rattle.lilo_model.specs.Partitions.{TableFault, span_of}
+use Rattle.lilo_model.specs.MinixLayout.{Kind}
+use Rattle.lilo_model.specs.Verdict.{Verdict}
+use Rattle.lilo_model.specs.LdiskWords as reads
+use Rattle.lilo_model.specs.LdiskVerdict.{silent}
+use Rattle.lilo_model.specs.LdiskVerdict as reads_verdict
+use Rattle.ldisk_model.specs.Arguments.{PartWish, Command, Make, Mkfs, Put, Get, Ls, Rm, Mkdir, Ln, Asked, asked_at}
+use Rattle.ldisk_model.specs.DiskTable.{are_placed, table_sector}
+use Rattle.ldisk_model.specs.MinixFormat.{format_layout, format_at}
+
+-- why a table or a volume isn't made
+pub data Refusal : Type 0 where
+  -- partitions overlap, lie outside the disk or touch its first sector
+  Misplaced : Refusal
+  -- disk 0 isn't there
+  NoDisk : Refusal
+  -- the device can't be found
+  NoPlace : TableFault → Refusal
+  -- the sectors don't suffice for the tables and the root, or the first data zone doesn't fit its field
+  NoSpace : Refusal
+
+abbrev pub refusal_status : Refusal → ℕ
+refusal_status Misplaced = 1
+refusal_status NoDisk = 3
+refusal_status (NoPlace fault) = 3
+refusal_status NoSpace = 5
+
+-- the status of what was checked
+abbrev pub status_of : {A : Type 0} → Result A Refusal → ℕ
+status_of (Ok value) = 0
+status_of (Err refusal) = refusal_status refusal
+
+-- ---- make
+
+-- the partitions may lie so on a new disk, and there is one
+unfoldable pub make_check : Machine → ℕ → List PartWish → Result (Unit {0}) Refusal
+make_check machine sectors parts = do
+  placed ← require (are_placed sectors parts) Misplaced
+  require (not (machine.size_of 0 == 0)) NoDisk
+
+-- the sector of the table
+abbrev pub table_place : DiskSector
+table_place = record { disk = 0; sector = 0 }
+
+-- ---- mkfs
+
+-- the sectors of a device
+unfoldable pub place_check : Image → Machine → Device → Result Span Refusal
+place_check now machine device = do
+  there ← require (not (machine.size_of 0 == 0)) NoDisk
+  with_fault NoPlace (span_of now machine device)
+
+-- the sectors of the new volume, which have room for it
+unfoldable pub mkfs_check : Image → Machine → Device → Kind → ℕ → Result Span Refusal
+mkfs_check now machine device kind inodes = do
+  span ← place_check now machine device
+  layout ← ok_or (format_layout kind span.count inodes) NoSpace
+  Ok span
+
+-- ---- the whole
+
+-- a command on an image with so many sectors where it is new; those that aren't built yet are as arguments that ask for
+-- nothing
+unfoldable pub command_verdict : Image → Machine → ℕ → Command → Verdict
+command_verdict now machine sectors (Make parts) = silent (status_of (make_check machine sectors parts))
+command_verdict now machine sectors (Mkfs device kind inodes) =
+    silent (status_of (mkfs_check now machine device kind inodes))
+command_verdict now machine sectors (Get device path) =
+    reads_verdict.command_verdict now machine (reads.Get device path)
+command_verdict now machine sectors (Ls device path) =
+    reads_verdict.command_verdict now machine (reads.Ls device path)
+command_verdict now machine sectors (Put device path) = silent 1
+command_verdict now machine sectors (Rm device path) = silent 1
+command_verdict now machine sectors (Mkdir device path) = silent 1
+command_verdict now machine sectors (Ln device path target) = silent 1
+
+-- whether a command may be carried out, whatever the disks hold
+unfoldable pub is_carried_out : ℕ → Command → Bool
+is_carried_out sectors (Make parts) = are_placed sectors parts
+is_carried_out sectors (Mkfs device kind inodes) = true
+is_carried_out sectors (Get device path) = true
+is_carried_out sectors (Ls device path) = true
+is_carried_out sectors command = false
+
+-- arguments that ask for something that may be carried out
+abbrev pub are_carried_out : Option Asked → Bool
+are_carried_out (Some asked) = is_carried_out asked.sectors asked.command
+are_carried_out None = false
+
+-- arguments that ask for something, or are of no grammar
+abbrev pub asked_verdict : Image → Machine → Option Asked → Verdict
+asked_verdict now machine (Some asked) = command_verdict now machine asked.sectors asked.command
+asked_verdict now machine None = silent 1
+
+-- what `ldisk` answers and prints for arguments, over disks that hold this image
+unfoldable pub ldisk_verdict : Image → Machine → List (List ℕ) → Verdict
+ldisk_verdict now machine words = asked_verdict now machine (asked_at words)
+
+-- ---- what the disks hold
+
+-- an empty volume in a device's sectors, where these can be found
+abbrev pub formatted_on : Result Span TableFault → Kind → ℕ → ℕ → Image → Option Image
+formatted_on (Ok span) kind inodes time now = format_at span kind inodes time now
+formatted_on (Err fault) kind inodes time now = None
+
+-- what the disks hold after a command that answered 0 at a time
+unfoldable pub image_after : Image → Machine → ℕ → Command → Option Image
+image_after now machine time (Make parts) = Some (with_sector now table_place (table_sector parts))
+image_after now machine time (Mkfs device kind inodes) =
+    formatted_on (span_of now machine device) kind inodes time now
+image_after now machine time command = Some now
+
+-- the same after arguments
+abbrev pub asked_after : Image → Machine → ℕ → Option Asked → Option Image
+asked_after now machine time (Some asked) = image_after now machine time asked.command
+asked_after now machine time None = Some now
+
+-- whether a sector is one of a span
+abbrev pub is_in : Span → ℕ → ℕ → Bool
+is_in span disk sector = span.disk == disk && nat_le span.start sector && nat_lt sector (span.start + span.count)
+
+abbrev pub is_in_found : Result Span TableFault → ℕ → ℕ → Bool
+is_in_found (Ok span) disk sector = is_in span disk sector
+is_in_found (Err fault) disk sector = false
+
+-- whether a command may write a sector: `make` that of the table, `mkfs` those of the device, and others none
+unfoldable pub may_write : Image → Machine → Command → ℕ → ℕ → Bool
+may_write now machine (Make parts) disk sector = disk == 0 && sector == 0
+may_write now machine (Mkfs device kind inodes) disk sector = is_in_found (span_of now machine device) disk sector
+may_write now machine command disk sector = false
+
+-- the same of arguments
+abbrev pub asked_may_write : Image → Machine → Option Asked → ℕ → ℕ → Bool
+asked_may_write now machine (Some asked) disk sector = may_write now machine asked.command disk sector
+asked_may_write now machine None disk sector = false
+
+-- whether a command only reads
+unfoldable pub only_reads : Command → Bool
+only_reads (Make parts) = false
+only_reads (Mkfs device kind inodes) = false
+only_reads command = true
+
+-- the same of arguments
+abbrev pub asked_only_read : Option Asked → Bool
+asked_only_read (Some asked) = only_reads asked.command
+asked_only_read None = true

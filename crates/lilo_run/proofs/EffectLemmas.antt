@@ -28,7 +28,7 @@ use Rattle.section_loader.specs.View.{reason_view}
 use Rattle.section_loader.specs.declared.reason.Reason.{Reason}
 use Rattle.loader_core.specs.declared.outcome.Outcome.TheVariants as outcomes
 use Rattle.stream_trait.proofs.ShowsLemmas.{shows_join}
-use Rattle.lilo_run.specs.Dump as dumps
+use Rattle.memory_dump.specs.Dump as dumps
 use Rattle.lilo_run.specs.Refusal.{device_failed, failed_at_commit, failed_after_commit, phase_verdict, keys_failed, halt_verdict, reason_verdict}
 use Rattle.lilo_run.specs.Run.{State, IsDone, Carries, CarriedOut, LostBefore, LostAtCommit, LostAfter, Unheard, HaltsAt}
 use Rattle.lilo_run.specs.Verdict.{report_effect, boot_effect, regions_text}

@@ -1,6 +1,5 @@
 pub mod BackupLemmas
 pub mod ConfLemmas
-pub mod DumpLemmas
 pub mod EffectLemmas
 pub mod LawLemmas
 pub mod MemoryLemmas

@@ -1,4 +1,3 @@
-pub mod Dump
 pub mod Laws
 pub mod Line
 pub mod Refusal

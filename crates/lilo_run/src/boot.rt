@@ -4,20 +4,20 @@ ghost use Rattle.mbr_table.specs.View.{device_view, span_view};
 ghost use Rattle.stream_trait.specs.Shows.{Shows, sink_of};
 ghost use Rattle.loader_core.specs.Report.{boot_report};
 ghost use Rattle.setup_header.specs.Words.{LiesIn};
-ghost use Rattle.lilo_run.specs.Dump.{regions_of, boot_sector_in};
+ghost use Rattle.memory_dump.specs.Dump.{regions_of, boot_sector_in};
 ghost use Rattle.loader_core.specs.Leaves.{WritesAndAsks};
 ghost use Rattle.lilo_run.specs.Refusal.{keys_failed, phase_verdict};
 ghost use Rattle.lilo_run.specs.Run.{is_boot_status, CarriesOn, IsLost};
 ghost use Rattle.lilo_model.specs.ConfVerdict.{place_at};
 ghost use Rattle.lilo_run.specs.Verdict.{early_at, boot_effect, report_effect, regions_text};
 
-use crate::dump::{dump_memory, dump_sector};
 use crate::place::find_device;
 use crate::refusal::{Halt, say};
 use bios_model::{Bios, Ram};
 use disk_trait::{Disks, Phase, Span};
 use loader_core::{Outcome, Shown, boot};
 use mbr_table::Device;
+use memory_dump::{dump_memory, dump_sector};
 use setup_header::Layout;
 use stream_trait::{Sink, Source};
 

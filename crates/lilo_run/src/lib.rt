@@ -6,9 +6,6 @@
 mod backup;
 mod boot;
 mod conf;
-mod dump;
-#[cfg(test)]
-mod fixture;
 mod laws;
 mod line;
 mod memory;

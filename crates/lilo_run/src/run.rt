@@ -232,6 +232,3 @@ fn say_usage<O: Sink>(out: &mut Shown<'_, O>, word: &str)
     out.put(word.as_bytes());
     out.put(b"\n");
 }
-
-#[cfg(test)]
-mod tests;

@@ -15,8 +15,6 @@ mod middle;
 mod names;
 mod section;
 mod start;
-#[cfg(test)]
-mod tests;
 mod whole;
 
 pub use address::{MapNaming, check_addresses, check_optional_addresses};

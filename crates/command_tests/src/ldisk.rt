@@ -1,7 +1,10 @@
-// `ls` and `get` over disks in memory: what is printed, and which call fails.
+// Commands over disks in memory: what is printed and written, and which call fails.
+use arrayvec::ArrayVec;
 use disk_trait::{Disks, Failing, Geometry, MemDisk, MemDisks};
-use ldisk_run::{Asked, Command, ask, ldisk};
+use ldisk_run::ldisk;
+use ldisk_words::{Asked, Command, PartWish, ask};
 use mbr_table::Device;
+use minix_layout::FsKind;
 use sector_parts::{Sector, put_part, put_u16, put_u32};
 use std::alloc::{AllocError, Global};
 use std::test::Fail;
@@ -135,6 +138,52 @@ fn a_sink_that_fails(rt: HostRuntime) -> Result<(), Fail> {
     Ok(())
 }
 
+// An empty disk of so many sectors.
+fn empty_disk(alloc: Global, sectors: u32, failing: &[Failing]) -> Result<MemDisks, AllocError> {
+    let Ok(geometry) = Geometry::new(16, 63) else {
+        return Err(AllocError);
+    };
+    MemDisks::new(alloc, &[MemDisk { sectors, geometry }], 40, failing)
+}
+
+// The status of arguments over a disk, and how many events there were so far.
+fn status_on(alloc: Global, line: &[&str], disks: &mut MemDisks) -> Result<(u8, u32), Fail> {
+    let words = words_of(alloc, line)?;
+    let mut source = MemSource::new(alloc, b"", &[])?;
+    let mut sink = MemSink::new(alloc, 64, &[])?;
+    let status = ldisk(alloc, &words, disks, &mut source, &mut sink, 7);
+    if !sink.bytes().is_empty() {
+        return Err(Fail::from("a text"));
+    }
+    Ok((status, disks.events()))
+}
+
+const MAKE: &[&str] = &["make", "x.img", "64", "1:12:81", "13:20:81"];
+
+const MKFS: &[&str] = &["mkfs", "x.img", "/dev/hda1", "v1-14", "1"];
+
+#[test]
+fn makes_a_table_and_a_volume(rt: HostRuntime) -> Result<(), Fail> {
+    let mut disks = empty_disk(rt.alloc(), 64, &[])?;
+    // The sector and a flush; and ten from the superblock's on, up to the root's zone, and a flush.
+    assert_eq!(rt; status_on(rt.alloc(), MAKE, &mut disks)?, (0, 2));
+    assert_eq!(rt; status_on(rt.alloc(), MKFS, &mut disks)?, (0, 13));
+    let mut none = empty_disk(rt.alloc(), 0, &[])?;
+    assert_eq!(rt; status_on(rt.alloc(), MAKE, &mut none)?, (3, 0));
+    assert_eq!(rt; status_on(rt.alloc(), MKFS, &mut none)?, (3, 0));
+    Ok(())
+}
+
+#[test]
+fn each_write_that_fails(rt: HostRuntime) -> Result<(), Fail> {
+    for call in 0..2 {
+        let failing = [Failing { call, made: false }];
+        let mut disks = empty_disk(rt.alloc(), 64, &failing)?;
+        assert_eq!(rt; status_on(rt.alloc(), MAKE, &mut disks)?.0, 8, "{call}");
+    }
+    Ok(())
+}
+
 #[test]
 fn words_that_ask(rt: HostRuntime) -> Result<(), Fail> {
     let words = words_of(rt.alloc(), &["ls", "a b", "/dev/sdb15", "/"])?;
@@ -150,6 +199,49 @@ fn words_that_ask(rt: HostRuntime) -> Result<(), Fail> {
             command: Command::Ls { device, path: b"/" }
         })
     );
+    let mkfs = words_of(rt.alloc(), MKFS)?;
+    let command = Command::Mkfs {
+        device: Device {
+            disk: 0,
+            partition: 1,
+        },
+        kind: FsKind::V1Short,
+        inodes: 1,
+    };
+    assert_eq!(rt;
+        ask(&mkfs),
+        Some(Asked {
+            image: "x.img",
+            sectors: 0,
+            command
+        })
+    );
+    Ok(())
+}
+
+#[test]
+fn words_that_make(rt: HostRuntime) -> Result<(), Fail> {
+    let words = words_of(rt.alloc(), &["make", "x", "9", "1:2:0a"])?;
+    let mut parts: ArrayVec<PartWish, 4> = ArrayVec::new();
+    let part = PartWish {
+        start: 1,
+        count: 2,
+        kind: 10,
+    };
+    assert!(rt; parts.try_push(part).is_ok());
+    assert_eq!(rt;
+        ask(&words),
+        Some(Asked {
+            image: "x",
+            sectors: 9,
+            command: Command::Make { parts }
+        })
+    );
+    Ok(())
+}
+
+#[test]
+fn words_that_ask_for_nothing(rt: HostRuntime) -> Result<(), Fail> {
     let none: [&[&str]; 8] = [
         &[],
         &["ls", "x", "/dev/hda"],
@@ -158,7 +250,7 @@ fn words_that_ask(rt: HostRuntime) -> Result<(), Fail> {
         &["ls", "x", "/dev/hda64", "/"],
         &["get", "x", "/dev/hda", "/a\0"],
         &["get", "x", "/dev/hda", "/a", "/b"],
-        &["rm", "x", "/dev/hda", "/a"],
+        &["move", "x", "/dev/hda", "/a"],
     ];
     for line in none {
         let words = words_of(rt.alloc(), line)?;

@@ -2,7 +2,7 @@
 ghost use Rattle.std.specs.Prelude.{◌≤◌, IfSome};
 
 use disk_trait::{FileDisk, Geometry};
-use std::fs::{File, OpenOptions};
+use std::fs::{File, OpenFile, OpenOptions};
 use std::io;
 
 /// The most sectors of a disk, 2 TiB in all.
@@ -20,6 +20,32 @@ pub fn open_image(rt: &HostRuntime, path: &str, geometry: Geometry) -> Option<Fi
     }
     let disk = FileDisk::new(file, geometry).ok()?;
     (disk.sectors() <= MOST_SECTORS).then_some(disk)
+}
+
+/// Makes the file at a path an image of so many sectors of zeros, whether or not it was there before. A folder, a file
+/// that can't be written, and a size that the file system refuses leave it as it was, and can't be used.
+pub fn create_image(
+    rt: &HostRuntime,
+    path: &str,
+    sectors: u32,
+    geometry: Geometry,
+) -> Option<FileDisk<File>>
+    ensures few { IfSome result (λ disk. disk.sectors ≤ 4294967296) }
+{
+    let file = create_file(rt, path, u64::from(sectors) * 512).ok()?;
+    let disk = FileDisk::new(file, geometry).ok()?;
+    (disk.sectors() <= MOST_SECTORS).then_some(disk)
+}
+
+/// A file of so many zeros. Only once it can have as many bytes are those that it held dropped.
+fn create_file(rt: &HostRuntime, path: &str, bytes: u64) -> io::Result<File> {
+    let mut options = OpenOptions::new();
+    options.read(true).write(true).create(true);
+    let file = options.open(rt, path)?;
+    file.set_len(bytes)?;
+    file.set_len(0)?;
+    file.set_len(bytes)?;
+    Ok(file)
 }
 
 fn open_file(rt: &HostRuntime, path: &str) -> io::Result<File> {

@@ -6,5 +6,5 @@ mod image;
 mod start;
 
 pub use clock::now_seconds;
-pub use image::open_image;
+pub use image::{create_image, open_image};
 pub use start::{StartFault, arguments};

@@ -1,13 +1,16 @@
-//! `ldisk COMMAND IMAGE ..`: files on a Minix volume in a disk image.
+//! `ldisk COMMAND IMAGE ..`: Minix volumes in a disk image.
 //!
-//! `ls IMAGE DEVICE PATH` lists a directory, and `get IMAGE DEVICE PATH` prints a file. The image is the disk hda. All
-//! text goes to standard output, and the exit status is that of the arguments, 14 for an image that can't be used, or
-//! 13 where memory doesn't suffice.
+//! `make IMAGE SECTORS [START:COUNT:TYPE ..]` makes an image with a partition table, and `mkfs IMAGE DEVICE KIND INODES` an
+//! empty volume in it. `ls IMAGE DEVICE PATH` lists a directory, and `get IMAGE DEVICE PATH` prints a file. The image is
+//! the disk hda. All text goes to standard output, and the exit status is that of the arguments, 14 for an image that
+//! can't be used, or 13 where memory doesn't suffice.
 #![tactic(auto)]
 
-use disk_trait::{FileDisks, Geometry};
-use host_parts::{StartFault, arguments, now_seconds, open_image};
-use ldisk_run::{ask, ldisk};
+use disk_trait::{FileDisk, FileDisks, Geometry};
+use host_parts::{StartFault, arguments, create_image, now_seconds, open_image};
+use ldisk_make::are_placed;
+use ldisk_run::ldisk;
+use ldisk_words::{Asked, Command, ask};
 use std::fs::File;
 use std::process::ExitCode;
 use stream_trait::{StdSink, StdSource, Words};
@@ -34,8 +37,8 @@ fn run(rt: &HostRuntime) -> Result<u8, StartFault> {
     let mut words = Words::new(alloc);
     read_arguments(rt, &mut words)?;
     let mut disks = match ask(&words) {
-        Some(asked) => open_disk(rt, asked.image)?,
-        None => FileDisks::new(alloc),
+        Some(asked) if is_carried_out(&asked) => open_disks(rt, &asked)?,
+        _ => FileDisks::new(alloc),
     };
     let mut source = StdSource::new(rt.stdin());
     let mut out = StdSink::new(rt.stdout());
@@ -50,16 +53,29 @@ fn read_arguments(rt: &HostRuntime, words: &mut Words) -> Result<(), StartFault>
     Ok(())
 }
 
-/// Opens an image as the only disk, with 16 heads and 63 sectors on a track.
-fn open_disk(rt: &HostRuntime, path: &str) -> Result<FileDisks<File>, StartFault> {
-    let disk = match Geometry::new(16, 63) {
-        Ok(geometry) => open_image(rt, path, geometry),
-        Err(_) => None,
-    };
-    let Some(disk) = disk else {
-        return Err(StartFault::Image(String::from_str(rt.alloc(), path)?));
+/// Whether the image is looked at: partitions that can't lie so leave it as it is.
+fn is_carried_out(asked: &Asked<'_>) -> bool {
+    match &asked.command {
+        Command::Make { parts } => are_placed(asked.sectors, parts.as_slice()),
+        _ => true,
+    }
+}
+
+/// The image that arguments name as the only disk.
+fn open_disks(rt: &HostRuntime, asked: &Asked<'_>) -> Result<FileDisks<File>, StartFault> {
+    let Some(disk) = open_disk(rt, asked) else {
+        return Err(StartFault::Image(String::from_str(rt.alloc(), asked.image)?));
     };
     let mut disks = FileDisks::new(rt.alloc());
     disks.push(Some(disk))?;
     Ok(disks)
+}
+
+/// The image, which is made where it is to be a new one, with 16 heads and 63 sectors on a track.
+fn open_disk(rt: &HostRuntime, asked: &Asked<'_>) -> Option<FileDisk<File>> {
+    let geometry = Geometry::new(16, 63).ok()?;
+    match &asked.command {
+        Command::Make { .. } => create_image(rt, asked.image, asked.sectors, geometry),
+        _ => open_image(rt, asked.image, geometry),
+    }
 }

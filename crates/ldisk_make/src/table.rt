@@ -1,11 +1,11 @@
 // A partition table is written.
-ghost use Rattle.std.specs.Prelude.{◌≡◌, ◌≤◌, length, map, true, OnOk, IfErr};
+ghost use Rattle.std.specs.Prelude.{◌≡◌, ◌↔◌, ◌≤◌, length, map, true, false, Err, OnOk, IfErr};
 ghost use Rattle.disk_trait.specs.Moments.{IsTold, now, IsQuiet};
 ghost use Rattle.disk_trait.specs.Calls.{GoesOn};
 ghost use Rattle.disk_trait.specs.NotWritten.{WritesNoOther};
 ghost use Rattle.disk_trait.specs.Past.{with_sector};
 ghost use Rattle.sector_address.specs.Machine.{machine_of};
-ghost use Rattle.ldisk_model.specs.DiskTable.{entry_bytes, table_sector};
+ghost use Rattle.ldisk_model.specs.DiskTable.{entry_bytes, table_sector, are_placed};
 ghost use Rattle.ldisk_model.specs.Verdict.{make_check};
 ghost use Rattle.ldisk_words.specs.View.{part_view};
 ghost use Rattle.ldisk_make.specs.Answer.{Answers, is_refusal, HasMakeCause};
@@ -25,6 +25,10 @@ use sector_parts::{FieldMut, Sector, put_part, put_u16};
 pub fn make<D: Disks>(disks: &mut D, sectors: u32, parts: &[PartWish]) -> Result<(), MakeFault>
     requires { length parts.now ≤ 4 }
     ensures status { Answers (make_check (machine_of D.Disks disks.old) sectors (map part_view parts.now)) result }
+    ensures misplaced { (result ≡ Err MakeFault.Misplaced)
+        ↔ (are_placed sectors (map part_view parts.now) ≡ false) }
+    ensures no_disk { D.size_of disks.old 0 ≡ 0 → are_placed sectors (map part_view parts.now) ≡ true
+        → result ≡ Err MakeFault.NoPlace }
     ensures made { IsTold (D.past disks.old) → OnOk result (now (D.past disks.new)
         ≡ with_sector (now (D.past disks.old)) 0 0 (table_sector (map part_view parts.now))) }
     ensures quiet { OnOk result (IsQuiet (D.past disks.new)) }

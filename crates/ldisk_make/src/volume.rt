@@ -1,5 +1,5 @@
 // An empty volume is made on a device.
-ghost use Rattle.std.specs.Prelude.{◌≡◌, ℕ, ◌≤◌, ◌+◌, Some, true, false, OnOk, IfOk, IfErr};
+ghost use Rattle.std.specs.Prelude.{◌≡◌, ◌≢◌, ℕ, ◌≤◌, ◌+◌, Some, true, false, Err, OnOk, IfOk, IfErr};
 ghost use Rattle.disk_trait.specs.Moments.{IsTold, now, IsQuiet, IsWholeImage};
 ghost use Rattle.disk_trait.specs.Calls.{GoesOn, SameOf};
 ghost use Rattle.disk_trait.specs.NotWritten.{NotWritten};
@@ -35,6 +35,8 @@ pub fn mkfs<D: Disks>(
 ) -> Result<(), MakeFault>
     ensures status { OnDisks D.Disks disks.old (λ now machine.
         Answers (mkfs_check now machine (device_view device) (kind_view kind) inodes) result) }
+    ensures never { result ≢ Err MakeFault.Misplaced }
+    ensures no_disk { D.size_of disks.old 0 ≡ 0 → result ≡ Err MakeFault.NoPlace }
     ensures made { OnOk result (OnDisks D.Disks disks.old (λ old machine.
         formatted_on (span_of old machine (device_view device)) (kind_view kind) inodes time old
         ≡ Some (now (D.past disks.new)))) }
@@ -64,6 +66,7 @@ fn format_in<D: Disks>(
 ) -> Result<(), MakeFault>
     requires { span.start + span.count ≤ D.size_of disks.old span.disk }
     ensures fits { IsFormatted (format_layout (kind_view kind) span.count inodes) result }
+    ensures never { result ≢ Err MakeFault.Misplaced }
     ensures made { IsTold (D.past disks.old)
         → OnOk result (format_at (span_view span) (kind_view kind) inodes time (now (D.past disks.old))
         ≡ Some (now (D.past disks.new))) }
@@ -87,6 +90,8 @@ fn format_in<D: Disks>(
 fn find_place<D: Disks>(disks: &mut D, device: Device) -> Result<Span, MakeFault>
     ensures place { OnDisks D.Disks disks.old (λ now machine. Finds result (place_check now machine (device_view device))
         (span_of now machine (device_view device))) }
+    ensures never { result ≢ Err MakeFault.Misplaced }
+    ensures no_disk { D.size_of disks.old 0 ≡ 0 → result ≡ Err MakeFault.NoPlace }
     ensures on_disk { IfOk result (λ span. span.start + span.count ≤ D.size_of disks.old span.disk) }
     ensures cause { IfErr result (HasMakeCause (D.faults disks.old) (D.faults disks.new)) }
     ensures later { D.faults disks.old ≤ D.faults disks.new }

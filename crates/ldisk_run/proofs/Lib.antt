@@ -5,5 +5,5 @@ pub mod EntryLemmas
 pub mod HaltLemmas
 pub mod LawLemmas
 pub mod ListingLemmas
+pub mod MadeLemmas
 pub mod StepLemmas
-pub mod WordLemmas

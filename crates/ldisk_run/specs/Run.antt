@@ -80,8 +80,8 @@ Tells verdict status old new before now =
 
 -- whether a command may end with this status, but for the sink
 abbrev pub is_command_status : ℕ → Bool
-is_command_status status = list_any (λ known. known == status) (0 ∷ 1 ∷ 3 ∷ 8 ∷ [])
+is_command_status status = list_any (λ known. known == status) (0 ∷ 1 ∷ 3 ∷ 5 ∷ 8 ∷ [])
 
 -- whether a call may end with this status
 abbrev pub is_status : ℕ → Bool
-is_status status = list_any (λ known. known == status) (0 ∷ 1 ∷ 3 ∷ 8 ∷ 12 ∷ [])
+is_status status = list_any (λ known. known == status) (0 ∷ 1 ∷ 3 ∷ 5 ∷ 8 ∷ 12 ∷ [])

@@ -1,4 +1,4 @@
-// A command on a device.
+// A command that reads a device.
 ghost use Rattle.std.specs.Prelude.{◌≡◌, ◌≤◌, Err, IfErr};
 ghost use Rattle.disk_trait.specs.Past.{Told};
 ghost use Rattle.disk_trait.specs.Calls.{SameOf};
@@ -12,28 +12,28 @@ ghost use Rattle.minix_zones.specs.Volume.{volume_view, past_of, faults_of, Same
 ghost use Rattle.mbr_table.specs.View.{device_view};
 ghost use Rattle.ldisk_run.specs.Pieces.{sink_of, held_by};
 ghost use Rattle.ldisk_run.specs.Run.{HasCause, IsZoneHalt, Does};
-ghost use Rattle.ldisk_run.specs.View.{command_view};
+ghost use Rattle.ldisk_run.specs.View.{reading_view};
 
-use crate::asked::Command;
 use crate::get::get;
 use crate::halt::{Halt, zone_halt};
 use crate::ls::ls;
 use crate::pieces::Pieces;
+use crate::reading::Reading;
 use crate::room::find_room;
 use disk_trait::Disks;
 use mbr_table::Device;
 use minix_zones::{Volume, ZoneFault};
 use stream_trait::Sink;
 
-/// Carries out a command.
+/// Carries out a command that only reads.
 #[tactic(auto, unfolding(lilo_model::specs::LdiskVerdict::command_verdict, lilo_model::specs::LdiskVerdict::volume_on))]
 pub(crate) fn carry_out<D: Disks, O: Sink>(
-    command: Command<'_>,
+    reading: Reading<'_>,
     disks: &mut D,
     out: &mut Pieces<'_, O>,
 ) -> Result<(), Halt>
     ensures does { OnDisks D.Disks disks.old (λ now machine.
-        Does (command_verdict now machine (command_view command.entry)) result
+        Does (command_verdict now machine (reading_view reading.entry)) result
         (held_by O.Sink out.old) (held_by O.Sink out.new)) }
     ensures no_disk { D.size_of disks.old 0 ≡ 0 → result ≡ Err Halt.Refused }
     ensures cause { IfErr result (HasCause (D.faults disks.old) (D.faults disks.new)) }
@@ -42,9 +42,9 @@ pub(crate) fn carry_out<D: Disks, O: Sink>(
     ensures sink { HasFailed (sink_of O.Sink out.old) (sink_of O.Sink out.new) }
     ensures same_reference { out.new.out.out.ghost_name ≡ out.old.out.out.ghost_name }
 {
-    let span = find_room(disks, device_of(&command))?;
+    let span = find_room(disks, device_of(&reading))?;
     match Volume::attach(disks, span) {
-        Ok(mut volume) => carry_out_on(command, &mut volume, out),
+        Ok(mut volume) => carry_out_on(reading, &mut volume, out),
         Err((disks, fault)) => Err(refused(disks, fault)),
     }
 }
@@ -60,13 +60,13 @@ fn refused<D: Disks>(disks: &mut D, fault: ZoneFault) -> Halt
 /// Carries out a command on a volume.
 #[tactic(auto, unfolding(lilo_model::specs::LdiskVerdict::verdict_on))]
 fn carry_out_on<D: Disks, O: Sink>(
-    command: Command<'_>,
+    reading: Reading<'_>,
     volume: &mut Volume<'_, D>,
     out: &mut Pieces<'_, O>,
 ) -> Result<(), Halt>
     ensures does { Told (past_of volume.old) (λ now. Does
         (verdict_on (super_view volume.old.layout) (parts_of (volume_view volume.old) now)
-        (command_view command.entry)) result
+        (reading_view reading.entry)) result
         (held_by O.Sink out.old) (held_by O.Sink out.new)) }
     ensures cause { IfErr result (HasCause (faults_of volume.old) (faults_of volume.new)) }
     ensures later { faults_of volume.old ≤ faults_of volume.new }
@@ -74,17 +74,17 @@ fn carry_out_on<D: Disks, O: Sink>(
     ensures sink { HasFailed (sink_of O.Sink out.old) (sink_of O.Sink out.new) }
     ensures same_reference { out.new.out.out.ghost_name ≡ out.old.out.out.ghost_name }
 {
-    match command {
-        Command::Get { path, .. } => get(volume, path, out),
-        Command::Ls { path, .. } => ls(volume, path, out),
+    match reading {
+        Reading::Get { path, .. } => get(volume, path, out),
+        Reading::Ls { path, .. } => ls(volume, path, out),
     }
 }
 
 /// The device of a command.
-fn device_of(command: &Command<'_>) -> Device
-    ensures { device_view result ≡ device_of (command_view command.now) }
+fn device_of(reading: &Reading<'_>) -> Device
+    ensures { device_view result ≡ device_of (reading_view reading.now) }
 {
-    match command {
-        Command::Get { device, .. } | Command::Ls { device, .. } => *device,
+    match reading {
+        Reading::Get { device, .. } | Reading::Ls { device, .. } => *device,
     }
 }

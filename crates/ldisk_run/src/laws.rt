@@ -1,11 +1,5 @@
 // Laws of what is done, which no code needs to call.
-ghost use Rattle.lilo_model.specs.LdiskWords.{AskedLaw};
 ghost use Rattle.ldisk_run.specs.Laws.{ContentLaw, ListingLaw};
-
-/// Arguments ask for something exactly where the grammar says so.
-pub fn words_ask_as_the_grammar_says()
-    ensures { AskedLaw }
-{}
 
 /// Where `ls` answers 0, it prints the lines of the entries of the directory that the path leads to.
 pub fn ls_prints_the_lines_of_the_entries()

@@ -1,21 +1,19 @@
-//! What the program `ldisk` does with its arguments, over disks and a sink of text that the caller gives: it lists
-//! directories and prints files of a Minix volume.
+//! What the program `ldisk` does with its arguments, over disks and a sink of text that the caller gives: it makes a
+//! partition table and empty Minix volumes, lists directories and prints files.
 //!
-//! [`ldisk`] is the top call, and [`ask`] says what arguments ask for.
+//! [`ldisk`] is the top call; ldisk_words says what arguments ask for.
 #![tactic(auto)]
 
-mod asked;
 mod command;
 mod get;
 mod halt;
 mod laws;
 mod ls;
+mod made;
 mod pieces;
+mod reading;
 mod room;
 mod run;
 
-pub use asked::{Asked, Command, ask};
-pub use laws::{
-    get_prints_the_file, ls_prints_the_lines_of_the_entries, words_ask_as_the_grammar_says,
-};
+pub use laws::{get_prints_the_file, ls_prints_the_lines_of_the_entries};
 pub use run::ldisk;

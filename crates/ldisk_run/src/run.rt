@@ -1,48 +1,58 @@
 // The top call: what the program `ldisk` does with its arguments.
-ghost use Rattle.std.specs.Prelude.{◌≡◌, ◌↔◌, ◌≤◌, None, IsSome, IsTrue};
-ghost use Rattle.disk_trait.specs.Calls.{SameOf};
+ghost use Rattle.std.specs.Prelude.{◌≡◌, ◌≢◌, ◌↔◌, ◌≤◌, ℕ, true, false, IsTrue};
+ghost use Rattle.disk_trait.specs.Calls.{SameOf, GoesOn};
+ghost use Rattle.disk_trait.specs.Moments.{IsQuiet, IsWholeImage};
+ghost use Rattle.disk_trait.specs.NotWritten.{NotWritten};
 ghost use Rattle.sector_address.specs.Machine.{OnDisks};
 ghost use Rattle.lilo_model.specs.Faults.{Rose};
 ghost use Rattle.stream_trait.specs.Sink.{Takes};
 ghost use Rattle.stream_trait.specs.Shows.{HasFailed};
-ghost use Rattle.lilo_model.specs.LdiskWords.{asked_at};
-ghost use Rattle.lilo_model.specs.LdiskVerdict.{ldisk_verdict};
+ghost use Rattle.ldisk_model.specs.Arguments.{asked_at};
+ghost use Rattle.ldisk_model.specs.Verdict.{command_verdict, ldisk_verdict, is_carried_out, are_carried_out, asked_may_write, asked_only_read};
+ghost use Rattle.lilo_model.specs.LdiskVerdict as reads;
+ghost use Rattle.ldisk_words.specs.View.{command_view};
+ghost use Rattle.ldisk_run.specs.Left.{IsDone, is_refusal, LeavesBy, LeavesAsked, IsAskedDone, HasAskedVolume, held_now};
 ghost use Rattle.ldisk_run.specs.Pieces.{sink_of, held_by};
-ghost use Rattle.ldisk_run.specs.Run.{Does, DoesAs, Answers, Tells, is_status, is_command_status};
+ghost use Rattle.ldisk_run.specs.Run.{DoesAs, Answers, Tells, is_status, is_command_status};
+ghost use Rattle.ldisk_run.specs.View.{reading_view};
 
-use crate::asked::ask;
 use crate::command::carry_out;
 use crate::halt::status_of;
+use crate::made::{make, mkfs};
 use crate::pieces::Pieces;
+use crate::reading::Reading;
 use disk_trait::Disks;
+use ldisk_words::{Command, ask};
 use std::alloc::Global;
 use stream_trait::{Shown, Sink, Source, Words, answer};
 
-/// Carries out what arguments ask for over disk 0, and answers the exit status.
+/// Carries out what arguments ask for over disk 0 at a time, in seconds since 1970, and answers the exit status.
 ///
-/// `ls IMAGE DEVICE PATH` lists a directory of the Minix volume on a device: a line for each entry in the directory's
-/// order, but for `.` and `..`, with `f`, `d`, `l` or `o`, the size and the name. `get IMAGE DEVICE PATH` prints a
-/// file. Both follow a link in the last component. The image is the caller's matter.
+/// `make IMAGE SECTORS [START:COUNT:TYPE ..]` writes a partition table into the first sector of a new image, which has so
+/// many sectors; the image is the caller's matter. `mkfs IMAGE DEVICE KIND INODES` makes an empty Minix volume. `ls IMAGE
+/// DEVICE PATH` lists a directory: a line for each entry in the directory's order, but for `.` and `..`, with `f`, `d`,
+/// `l` or `o`, the size and the name. `get IMAGE DEVICE PATH` prints a file. Both follow a link in the last component.
 ///
 /// | status | comes |
 /// |---|---|
 /// | 0 | done |
-/// | 1 | the arguments ask for nothing |
+/// | 1 | the arguments ask for nothing; of `make`, partitions overlap, lie outside the disk or touch its first sector |
 /// | 3 | disk 0 isn't there; a table, the volume, the path or the kind is refused, or an inode of an entry |
+/// | 5 | the device has too few sectors for the volume's tables and root, or too many inodes are asked for |
 /// | 8 | a disk failed |
 /// | 12 | the sink failed, and the status would be 0 |
 ///
 /// No text is put for a fault. What was printed before a refusal stays printed: the blocks of a file or the lines of
-/// entries before it. Once the sink failed nothing more is put, and the command goes on. No disk is written, the source
-/// isn't asked, and nothing is allocated.
-#[tactic(auto, unfolding(lilo_model::specs::LdiskVerdict::ldisk_verdict))]
+/// entries before it. Once the sink failed nothing more is put, and the command goes on. `make` and `mkfs` write only
+/// once all their checks passed; what a stop leaves of them isn't said. The source isn't asked, and nothing is allocated.
+#[tactic(auto, unfolding(ldisk_model::specs::Verdict::ldisk_verdict))]
 pub fn ldisk<D: Disks, I: Source, O: Sink>(
     alloc: Global,
     words: &Words,
     disks: &mut D,
     source: &mut I,
     out: &mut O,
-    now: u32,
+    time: u32,
 ) -> u8
     // Where the disks report what they hold, the status is the verdict's, but for faults.
     ensures status { OnDisks D.Disks disks.old (λ now machine. Answers (ldisk_verdict now machine words.now) result) }
@@ -57,37 +67,102 @@ pub fn ldisk<D: Disks, I: Source, O: Sink>(
 
     // Whatever the disks report, these are the statuses, and what arguments or an absent disk decide is known.
     ensures statuses { IsTrue (is_status result) }
-    ensures usage { (result ≡ 1) ↔ (asked_at words.now ≡ None) }
-    ensures no_disk { D.size_of disks.old 0 ≡ 0 → IsSome (asked_at words.now) → result ≡ 3 }
+    ensures usage { (result ≡ 1) ↔ (are_carried_out (asked_at words.now) ≡ false) }
+    ensures no_disk { D.size_of disks.old 0 ≡ 0 → are_carried_out (asked_at words.now) ≡ true → result ≡ 3 }
+
+    // What the disks hold then.
+    ensures done { OnDisks D.Disks disks.old (λ now machine. IsDone result
+        → IsAskedDone now machine time (asked_at words.now) (held_now D.Disks disks.new)) }
+    ensures volume { OnDisks D.Disks disks.old (λ now machine. IsDone result → IsWholeImage (D.size_of disks.old) now
+        → HasAskedVolume now machine (asked_at words.now) (held_now D.Disks disks.new)) }
+    ensures quiet { IsDone result → asked_only_read (asked_at words.now) ≡ false → IsQuiet (D.past disks.new) }
+
+    // What isn't written.
+    ensures refused { is_refusal result ≡ true → D.past disks.new ≡ D.past disks.old }
+    ensures outside { OnDisks D.Disks disks.old (λ now machine. (d s : ℕ)
+        → asked_may_write now machine (asked_at words.now) d s ≡ false
+        → NotWritten (D.past disks.old) (D.past disks.new) d s) }
+    ensures reads { asked_only_read (asked_at words.now) ≡ true → SameOf D.Disks disks.old disks.new }
 
     // Nothing else happens.
-    ensures same { SameOf D.Disks disks.old disks.new }
-    ensures later { D.faults disks.old ≤ D.faults disks.new }
+    ensures goes_on { GoesOn D.Disks disks.old disks.new }
     ensures source { source.new ≡ source.old }
 {
     let mut pieces = Pieces::new(Shown::new(out));
-    let status = run_words(words, disks, &mut pieces);
+    let status = run_words(words, disks, &mut pieces, time);
     pieces.show();
     let sink_failed = pieces.out.failed();
     answer(status, sink_failed)
 }
 
 /// Carries out what arguments ask for, and answers the status, whether or not the sink failed.
-#[tactic(auto, unfolding(lilo_model::specs::LdiskVerdict::ldisk_verdict))]
-fn run_words<D: Disks, O: Sink>(words: &Words, disks: &mut D, out: &mut Pieces<'_, O>) -> u8
+#[tactic(auto, unfolding(ldisk_model::specs::Verdict::ldisk_verdict))]
+fn run_words<D: Disks, O: Sink>(
+    words: &Words,
+    disks: &mut D,
+    out: &mut Pieces<'_, O>,
+    time: u32,
+) -> u8
     ensures does { OnDisks D.Disks disks.old (λ now machine. DoesAs (ldisk_verdict now machine words.now) result
         (held_by O.Sink out.old) (held_by O.Sink out.new)) }
     ensures known { IsTrue (is_command_status result) }
-    ensures usage { (result ≡ 1) ↔ (asked_at words.now ≡ None) }
-    ensures no_disk { D.size_of disks.old 0 ≡ 0 → IsSome (asked_at words.now) → result ≡ 3 }
+    ensures usage { (result ≡ 1) ↔ (are_carried_out (asked_at words.now) ≡ false) }
+    ensures no_disk { D.size_of disks.old 0 ≡ 0 → are_carried_out (asked_at words.now) ≡ true → result ≡ 3 }
+    ensures leaves { LeavesAsked D.Disks disks.old disks.new time (asked_at words.now) result }
+    ensures sink { HasFailed (sink_of O.Sink out.old) (sink_of O.Sink out.new) }
+    ensures same_reference { out.new.out.out.ghost_name ≡ out.old.out.out.ghost_name }
+{
+    match ask(words) {
+        Some(asked) => run_command(asked.sectors, asked.command, disks, out, time),
+        None => 1,
+    }
+}
+
+/// Carries out a command on an image that has so many sectors where it is new.
+fn run_command<D: Disks, O: Sink>(
+    sectors: u32,
+    command: Command<'_>,
+    disks: &mut D,
+    out: &mut Pieces<'_, O>,
+    time: u32,
+) -> u8
+    ensures does { OnDisks D.Disks disks.old (λ now machine.
+        DoesAs (command_verdict now machine sectors (command_view command.entry)) result
+        (held_by O.Sink out.old) (held_by O.Sink out.new)) }
+    ensures known { IsTrue (is_command_status result) }
+    ensures usage { (result ≡ 1) ↔ (is_carried_out sectors (command_view command.entry) ≡ false) }
+    ensures no_disk { D.size_of disks.old 0 ≡ 0 → is_carried_out sectors (command_view command.entry) ≡ true
+        → result ≡ 3 }
+    ensures leaves { LeavesBy D.Disks disks.old disks.new time (command_view command.entry) result }
+    ensures sink { HasFailed (sink_of O.Sink out.old) (sink_of O.Sink out.new) }
+    ensures same_reference { out.new.out.out.ghost_name ≡ out.old.out.out.ghost_name }
+{
+    match command {
+        Command::Make { parts } => make(disks, sectors, parts.as_slice()),
+        Command::Mkfs {
+            device,
+            kind,
+            inodes,
+        } => mkfs(disks, device, kind, inodes, time),
+        Command::Get { device, path } => read(Reading::Get { device, path }, disks, out),
+        Command::Ls { device, path } => read(Reading::Ls { device, path }, disks, out),
+        Command::Put { .. } | Command::Rm { .. } | Command::Mkdir { .. } | Command::Ln { .. } => 1,
+    }
+}
+
+/// Carries out a command that only reads, and answers the status.
+fn read<D: Disks, O: Sink>(reading: Reading<'_>, disks: &mut D, out: &mut Pieces<'_, O>) -> u8
+    ensures does { OnDisks D.Disks disks.old (λ now machine.
+        DoesAs (reads.command_verdict now machine (reading_view reading.entry)) result
+        (held_by O.Sink out.old) (held_by O.Sink out.new)) }
+    ensures known { IsTrue (is_command_status result) }
+    ensures usage { result ≢ 1 }
+    ensures no_disk { D.size_of disks.old 0 ≡ 0 → result ≡ 3 }
     ensures device { result ≡ 8 → Rose (D.faults disks.old) (D.faults disks.new) }
     ensures later { D.faults disks.old ≤ D.faults disks.new }
     ensures same { SameOf D.Disks disks.old disks.new }
     ensures sink { HasFailed (sink_of O.Sink out.old) (sink_of O.Sink out.new) }
     ensures same_reference { out.new.out.out.ghost_name ≡ out.old.out.out.ghost_name }
 {
-    match ask(words) {
-        Some(asked) => status_of(carry_out(asked.command, disks, out)),
-        None => 1,
-    }
+    status_of(carry_out(reading, disks, out))
 }

@@ -8,7 +8,7 @@ use Rattle.mbr_table.proofs.ToldLemmas.{told_before, same_twice}
 use Rattle.minix_zones.specs.View.{Refuses}
 use Rattle.ldisk_run.specs.Pieces.{held_by}
 use Rattle.ldisk_run.specs.Run.{Halts, HasCause, Does}
-use Rattle.ldisk_run.specs.View.{command_view}
+use Rattle.ldisk_run.specs.View.{reading_view}
 use Rattle.ldisk_run.proofs.CommandLemmas.{held_of, rose_before, room_halted, volume_halted}
 use Rattle.ldisk_run.proofs.HaltLemmas.{zone_cause}
 use Rattle.disk_trait.proofs.ToldLemmas.{told_map, told_both}
@@ -19,7 +19,7 @@ pub returns-in_err-span-clause-does : goal.returns-in_err-span-clause-does
 returns-in_err-span-clause-does g c =
     let disks = c.args.disks.now in
     let machine = machine_of g.D.Disks disks in
-    let command = command_view c.args.command in
+    let command = reading_view c.args.reading in
     let device = device_view c.device_of.result in
     let held = held_by g.O.Sink c.args.out.now in
     let halt = c.in_err-span.field-0.0 in
@@ -33,7 +33,7 @@ returns-in-Err-clause-does g c =
     let disks = c.args.disks.now in
     let mid = c.find_room.new.disks in
     let machine = machine_of g.D.Disks disks in
-    let command = command_view c.args.command in
+    let command = reading_view c.args.reading in
     let device = device_view c.device_of.result in
     let span = span_view c.in_ok-span.span in
     let held = held_by g.O.Sink c.args.out.now in

@@ -1,11 +1,13 @@
--- The sink hadn't failed before, and nothing was held.
+-- The sink hadn't failed before, and nothing was held. What is left is left by the status of the command.
 use Rattle.std.proofs.Common.{◌≡◌, false, rules}
 use Rattle.disk_trait.specs.Past.{Told}
 use Rattle.stream_trait.specs.Shows.{answer_of}
-use Rattle.lilo_model.specs.LdiskVerdict.{ldisk_verdict}
+use Rattle.ldisk_model.specs.Arguments.{asked_at}
+use Rattle.ldisk_model.specs.Verdict.{ldisk_verdict}
 use Rattle.ldisk_run.specs.Pieces.{sink_of, held_by}
 use Rattle.ldisk_run.specs.Run.{DoesAs, Tells}
 use Rattle.ldisk_run.proofs.CommandLemmas.{held_of, tells}
+use Rattle.ldisk_run.proofs.MadeLemmas.{asked_done, asked_volume, asked_quiet, asked_refused, asked_outside, asked_same, asked_goes_on, asked_device}
 use Rattle.disk_trait.proofs.ToldLemmas.{told_map}
 use Rattle.sector_address.specs.Machine.{machine_of}
 use Rattle.ldisk_run.proofs.run.ldisk.Goals as goal
@@ -31,3 +33,48 @@ returns-clause-text g c =
     c.run_words-status.ensures.does)
     (search rules))
     (search rules))
+
+pub returns-clause-device : goal.returns-clause-device
+returns-clause-device g c =
+    rw c.answer.ensures
+    (asked_device g.D.Disks c.args.disks.now c.run_words-status.new.disks c.args.time c.run_words-status.result c.failed-sink_failed.result
+    c.run_words-status.ensures.known (asked_at c.args.words.now) c.run_words-status.ensures.leaves)
+
+pub returns-clause-done : goal.returns-clause-done
+returns-clause-done g c =
+    rw c.answer.ensures
+    (asked_done g.D.Disks c.args.disks.now c.run_words-status.new.disks c.args.time c.run_words-status.result c.failed-sink_failed.result
+    c.run_words-status.ensures.known (asked_at c.args.words.now) c.run_words-status.ensures.leaves)
+
+pub returns-clause-volume : goal.returns-clause-volume
+returns-clause-volume g c =
+    rw c.answer.ensures
+    (asked_volume g.D.Disks c.args.disks.now c.run_words-status.new.disks c.args.time c.run_words-status.result c.failed-sink_failed.result
+    c.run_words-status.ensures.known (asked_at c.args.words.now) c.run_words-status.ensures.leaves)
+
+pub returns-clause-quiet : goal.returns-clause-quiet
+returns-clause-quiet g c =
+    rw c.answer.ensures
+    (asked_quiet g.D.Disks c.args.disks.now c.run_words-status.new.disks c.args.time c.run_words-status.result c.failed-sink_failed.result
+    c.run_words-status.ensures.known (asked_at c.args.words.now) c.run_words-status.ensures.leaves)
+
+pub returns-clause-refused : goal.returns-clause-refused
+returns-clause-refused g c =
+    rw c.answer.ensures
+    (asked_refused g.D.Disks c.args.disks.now c.run_words-status.new.disks c.args.time c.run_words-status.result c.failed-sink_failed.result
+    c.run_words-status.ensures.known (asked_at c.args.words.now) c.run_words-status.ensures.leaves)
+
+pub returns-clause-outside : goal.returns-clause-outside
+returns-clause-outside g c =
+    asked_outside g.D.Disks c.args.disks.now c.run_words-status.new.disks c.args.time c.run_words-status.result c.failed-sink_failed.result
+    c.run_words-status.ensures.known (asked_at c.args.words.now) c.run_words-status.ensures.leaves
+
+pub returns-clause-reads : goal.returns-clause-reads
+returns-clause-reads g c =
+    asked_same g.D.Disks c.args.disks.now c.run_words-status.new.disks c.args.time c.run_words-status.result c.failed-sink_failed.result
+    c.run_words-status.ensures.known (asked_at c.args.words.now) c.run_words-status.ensures.leaves
+
+pub returns-clause-goes_on : goal.returns-clause-goes_on
+returns-clause-goes_on g c =
+    asked_goes_on g.D.Disks c.args.disks.now c.run_words-status.new.disks c.args.time c.run_words-status.result c.failed-sink_failed.result
+    c.run_words-status.ensures.known (asked_at c.args.words.now) c.run_words-status.ensures.leaves

@@ -1,0 +1,312 @@
+-- `make` and `mkfs`: their statuses, and what they leave.
+use Rattle.std.proofs.Common.{◌≡◌, ◌⊎◌, ◌↔◌, ◌==◌, ◌∙◌, inl, inr, ℕ, Bool, true, false, List, [], Option, None, Some, Result, Ok, Err, refl, sym, ap, subst, arith}
+use Rattle.std.specs.Prelude.{◌&&◌, ◌≤◌, IsTrue, OnOk, IfErr}
+use Rattle.disk_trait.specs.declared.disks.Disks.{Ghosts}
+use Rattle.disk_trait.specs.Calls.{SameOf, GoesOn}
+use Rattle.disk_trait.specs.Past.{Past, Image, Told, now_of}
+use Rattle.disk_trait.specs.Past as past
+use Rattle.disk_trait.specs.Moments.{IsTold, now, IsQuiet, IsWholeImage}
+use Rattle.disk_trait.specs.NotWritten.{NotWritten, WritesNoOther}
+use Rattle.disk_trait.specs.NotWritten as written
+use Rattle.disk_trait.proofs.CallLemmas.{goes_on_same}
+use Rattle.disk_trait.proofs.NotWrittenLemmas.{not_written_flushed}
+use Rattle.disk_trait.proofs.ToldLemmas.{told_all, told_map}
+use Rattle.lilo_model.specs.Devices as devices
+use Rattle.lilo_model.specs.Disks.{Machine}
+use Rattle.lilo_model.specs.MinixLayout.{Kind}
+use Rattle.lilo_model.specs.Partitions.{span_of}
+use Rattle.lilo_model.specs.Faults.{Rose}
+use Rattle.sector_address.specs.Machine.{OnDisks, machine_of}
+use Rattle.ldisk_model.specs.Arguments.{PartWish, Command, Make, Mkfs, Put, Get, Ls, Rm, Mkdir, Ln, Asked}
+use Rattle.ldisk_model.specs.DiskTable.{table_sector}
+use Rattle.ldisk_model.specs.Verdict.{Refusal, status_of, command_verdict, formatted_on, is_in_found, image_after, may_write, asked_may_write, only_reads, asked_only_read, is_carried_out}
+use Rattle.lilo_model.specs.LdiskVerdict.{silent}
+use Rattle.ldisk_make.specs.Answer.{Answers, HasEmptyVolume, HasMakeCause, is_refusal as is_make_refusal}
+use Rattle.ldisk_make.specs.declared.fault.MakeFault.{MakeFault}
+use Rattle.ldisk_make.specs.declared.fault.MakeFault.TheVariants as faults
+use Rattle.lilo_model.specs.Verdict.{Verdict}
+use Rattle.stream_trait.specs.Shows.{answer_of}
+use Rattle.stream_trait.proofs.ShowsLemmas.{answered as answered_sink}
+use Rattle.std.specs.Borrow.{Bor}
+use Rattle.mbr_table.specs.declared.device.Device.{Device}
+use Rattle.ldisk_words.specs.View.{command_view}
+use Rattle.ldisk_words.specs.declared.asked.Command as words
+use Rattle.ldisk_words.specs.declared.asked.Command.TheVariants as others
+use Rattle.ldisk_run.specs.Left.{IsDone, is_refusal, AnswersAs, HasVolumeOf, LeavesBy, LeavesAsked, IsAskedDone, HasAskedVolume, held_now}
+use Rattle.ldisk_run.specs.Pieces.{Held}
+use Rattle.ldisk_run.specs.Run.{DoesAs, is_command_status}
+use Rattle.ldisk_run.proofs.AddsLemmas.{adds_nothing, adds_same}
+use Rattle.ldisk_run.specs.Made.{made_status}
+
+-- ---- statuses
+
+pub answered : {A : Type 0} (check : Result A Refusal) (result : Result (Unit {0}) MakeFault) → Answers check result
+    → AnswersAs (silent (status_of check)) (made_status result)
+answered check (Ok done) is = inl (sym is)
+answered check (Err faults.Misplaced) is = inl (sym is)
+answered check (Err faults.NoPlace) is = inl (sym is)
+answered check (Err faults.NoSpace) is = inl (sym is)
+answered check (Err faults.Device) is = inr refl
+
+pub is_known : (result : Result (Unit {0}) MakeFault) → IsTrue (is_command_status (made_status result))
+is_known (Ok done) = refl
+is_known (Err faults.Misplaced) = refl
+is_known (Err faults.NoPlace) = refl
+is_known (Err faults.NoSpace) = refl
+is_known (Err faults.Device) = refl
+
+pub is_misplaced : (result : Result (Unit {0}) MakeFault) → made_status result ≡ 1 → result ≡ Err faults.Misplaced
+is_misplaced (Ok done) is = absurd cc
+is_misplaced (Err faults.Misplaced) is = refl
+is_misplaced (Err faults.NoPlace) is = absurd cc
+is_misplaced (Err faults.NoSpace) is = absurd cc
+is_misplaced (Err faults.Device) is = absurd cc
+
+pub misplaced_as : (result : Result (Unit {0}) MakeFault) (placed : Bool) → (result ≡ Err faults.Misplaced) ↔ (placed ≡ false)
+    → (made_status result ≡ 1) ↔ (placed ≡ false)
+misplaced_as result placed is = (λ one. is.0 (is_misplaced result one), λ none. ap made_status (is.1 none))
+
+-- ---- what is left
+
+-- a fact of what disks hold now, where they report it
+pub told_from : (past : Option Past) (P : Image → Type 0) → (IsTold past → P (now past)) → Told past P
+unfolding IsTold now
+told_from None P f = tt
+told_from (Some past) P f = f tt
+
+done_by : {P : Type 0} (result : Result (Unit {0}) MakeFault) → OnOk result P → made_status result ≡ 0 → P
+done_by (Ok done) held is = held
+done_by (Err faults.Misplaced) held is = absurd cc
+done_by (Err faults.NoPlace) held is = absurd cc
+done_by (Err faults.NoSpace) held is = absurd cc
+done_by (Err faults.Device) held is = absurd cc
+
+refused_by : {P : Type 0} (result : Result (Unit {0}) MakeFault) → IfErr result (λ fault. is_make_refusal fault ≡ true → P)
+    → is_refusal (made_status result) ≡ true → P
+refused_by (Ok done) refused is = absurd cc
+refused_by (Err faults.Misplaced) refused is = refused refl
+refused_by (Err faults.NoPlace) refused is = refused refl
+refused_by (Err faults.NoSpace) refused is = refused refl
+refused_by (Err faults.Device) refused is = absurd cc
+
+device_by : (before after : ℕ) (result : Result (Unit {0}) MakeFault) → IfErr result (HasMakeCause before after)
+    → made_status result ≡ 8 → Rose before after
+device_by before after (Ok done) cause is = absurd cc
+device_by before after (Err faults.Misplaced) cause is = absurd cc
+device_by before after (Err faults.NoPlace) cause is = absurd cc
+device_by before after (Err faults.NoSpace) cause is = absurd cc
+device_by before after (Err faults.Device) cause is = cause
+
+-- a fact that is told where a status is another's
+by_status : {S : Type 0} (past : Option Past) (P : Image → Type 0) → (S → Told past P) → Told past (λ image. S → P image)
+by_status None P f = tt
+by_status (Some past) P f = f
+
+elsewhere_by : (d s : ℕ) (one other : Bool) → (d == 0) ≡ one → (s == 0) ≡ other → (one && other) ≡ false → written.IsOther 0 0 d s
+elsewhere_by d s false other is zs out = inl (λ same. let e = rw same at is in cc)
+elsewhere_by d s true false is zs out = inr (λ same. let e = rw same at zs in cc)
+elsewhere_by d s true true is zs out = absurd cc
+
+module _ {D : Type 0} (disks : Ghosts D) (old new : D) (result : Result (Unit {0}) MakeFault)
+    (refused : IfErr result (λ fault. is_make_refusal fault ≡ true → disks.past new ≡ disks.past old))
+    (quiet : OnOk result (IsQuiet (disks.past new)))
+    (cause : IfErr result (HasMakeCause (disks.faults old) (disks.faults new)))
+    (goes_on : GoesOn disks old new) where
+  pub make_leaves : (time : ℕ) (parts : List PartWish)
+      → (IsTold (disks.past old) → OnOk result (now (disks.past new) ≡ past.with_sector (now (disks.past old)) 0 0 (table_sector parts)))
+      → WritesNoOther 0 0 (disks.past old) (disks.past new)
+      → LeavesBy disks old new time (Make parts) (made_status result)
+  unfolding image_after may_write only_reads
+  make_leaves time parts made others = record {
+    done = told_from (disks.past old) _ (λ told is. ap Some (sym (done_by result (made told) is)));
+    empty = told_all (disks.past old) _ (λ image is whole. tt);
+    quiet = λ is writes. done_by result quiet is;
+    refused = refused_by result refused;
+    outside = told_all (disks.past old) _ (λ image d s out. others d s (elsewhere_by d s (d == 0) (s == 0) refl refl out));
+    same = λ is. absurd cc;
+    goes_on = goes_on;
+    device = device_by (disks.faults old) (disks.faults new) result cause;
+  }
+
+  pub mkfs_leaves : (time : ℕ) (device : devices.Device) (kind : Kind) (inodes : ℕ)
+      → OnOk result (OnDisks disks old (λ image machine. formatted_on (span_of image machine device) kind inodes time image ≡ Some (now (disks.past new))))
+      → OnOk result (OnDisks disks old (λ image machine. IsWholeImage (disks.size_of old) image
+      → HasEmptyVolume (span_of image machine device) kind inodes (now (disks.past new))))
+      → OnDisks disks old (λ image machine. (d s : ℕ) → is_in_found (span_of image machine device) d s ≡ false → NotWritten (disks.past old) (disks.past new) d s)
+      → LeavesBy disks old new time (Mkfs device kind inodes) (made_status result)
+  unfolding image_after may_write only_reads
+  mkfs_leaves time device kind inodes made empty outside = record {
+    done = by_status (disks.past old) _ (λ is. done_by result made is);
+    empty = by_status (disks.past old) _ (λ is. done_by result empty is);
+    quiet = λ is writes. done_by result quiet is;
+    refused = refused_by result refused;
+    outside = outside;
+    same = λ is. absurd cc;
+    goes_on = goes_on;
+    device = device_by (disks.faults old) (disks.faults new) result cause;
+  }
+
+-- ---- commands that only read
+
+module _ {D : Type 0} (disks : Ghosts D) (old new : D) (same : SameOf disks old new) (later : disks.faults old ≤ disks.faults new) where
+  now_same : now (disks.past old) ≡ now (disks.past new)
+  now_same = ap now (sym same.same_past)
+
+  goes_on : GoesOn disks old new
+  goes_on = goes_on_same disks old new same.same_past
+      record { later = later; size = same.same_size; count = same.same_count; geometry = same.same_geometry }
+
+  kept : (image : Image) (machine : Machine) (time : ℕ) (command : Command) → only_reads command ≡ true
+      → image_after image machine time command ≡ Some image
+  unfolding image_after only_reads
+  kept image machine time (Make parts) is = absurd cc
+  kept image machine time (Mkfs device kind inodes) is = absurd cc
+  kept image machine time (Put device path) is = refl
+  kept image machine time (Get device path) is = refl
+  kept image machine time (Ls device path) is = refl
+  kept image machine time (Rm device path) is = refl
+  kept image machine time (Mkdir device path) is = refl
+  kept image machine time (Ln device path target) is = refl
+
+  no_volume : (image left : Image) (machine : Machine) (command : Command) → only_reads command ≡ true → HasVolumeOf image machine command left
+  unfolding only_reads
+  no_volume image left machine (Make parts) is = absurd cc
+  no_volume image left machine (Mkfs device kind inodes) is = absurd cc
+  no_volume image left machine (Put device path) is = tt
+  no_volume image left machine (Get device path) is = tt
+  no_volume image left machine (Ls device path) is = tt
+  no_volume image left machine (Rm device path) is = tt
+  no_volume image left machine (Mkdir device path) is = tt
+  no_volume image left machine (Ln device path target) is = tt
+
+  pub reading_leaves : (time : ℕ) (command : Command) (status : ℕ) → only_reads command ≡ true
+      → (status ≡ 8 → Rose (disks.faults old) (disks.faults new)) → LeavesBy disks old new time command status
+  reading_leaves time command status reads rose = record {
+    done = told_from (disks.past old) _ (λ told is. kept (now (disks.past old)) (machine_of disks old) time command reads ∙ ap Some now_same);
+    empty = told_all (disks.past old) _ (λ image is whole. no_volume image (now (disks.past new)) (machine_of disks old) command reads);
+    quiet = λ is writes. absurd (let no = rw reads at writes in cc);
+    refused = λ is. same.same_past;
+    outside = told_all (disks.past old) _ (λ image d s out. not_written_flushed (disks.past old) (disks.past new) (inr same.same_past) d s);
+    same = λ is. same;
+    goes_on = goes_on;
+    device = rose;
+  }
+
+-- ---- commands that aren't built
+
+-- a command answers as arguments that ask for nothing
+pub record IsUnbuilt (command : Command) : Type 0 where
+  pub carried : (sectors : ℕ) → is_carried_out sectors command ≡ false
+  pub reads : only_reads command ≡ true
+  pub verdict : (now : Image) (machine : Machine) (sectors : ℕ) → command_verdict now machine sectors command ≡ silent 1
+
+module _ (command : words.Command) where
+  abbrev pub IsOther : Type 0
+  IsOther =
+      ((device : Device) × (path : Bor (List ℕ)) × (command ≡ others.Put device path))
+      ⊎ (((device : Device) × (path : Bor (List ℕ)) × (command ≡ others.Rm device path))
+      ⊎ (((device : Device) × (path : Bor (List ℕ)) × (command ≡ others.Mkdir device path))
+      ⊎ ((device : Device) × (path : Bor (List ℕ)) × (target : Bor (List ℕ)) × (command ≡ others.Ln device path target))))
+
+  pub unbuilt : IsOther → IsUnbuilt (command_view command)
+  unfolding is_carried_out only_reads command_verdict
+  unbuilt (inl (device, path, is)) = rw is record { carried = λ sectors. refl; reads = refl; verdict = λ now machine sectors. refl }
+  unbuilt (inr (inl (device, path, is))) = rw is record { carried = λ sectors. refl; reads = refl; verdict = λ now machine sectors. refl }
+  unbuilt (inr (inr (inl (device, path, is)))) = rw is record { carried = λ sectors. refl; reads = refl; verdict = λ now machine sectors. refl }
+  unbuilt (inr (inr (inr (device, path, target, is)))) = rw is record { carried = λ sectors. refl; reads = refl; verdict = λ now machine sectors. refl }
+
+-- ---- a command without a text
+
+-- its status alone is that of its verdict
+pub silent_does : (verdict : Verdict) (status : ℕ) (a : Held) → verdict.text ≡ [] → AnswersAs verdict status → DoesAs verdict status a a
+silent_does verdict status a none (inl is) = inl (is, adds_same a a [] verdict.text (sym none) (adds_nothing a))
+silent_does verdict status a none (inr eight) = inr (eight, ([], verdict.text, refl, adds_nothing a))
+
+pub told_silent :
+    (past : Option Past) (verdict : Image → Verdict) (status : ℕ) (a : Held) → ((now : Image) → (verdict now).text ≡ [])
+    → Told past (λ now. AnswersAs (verdict now) status) → Told past (λ now. DoesAs (verdict now) status a a)
+told_silent past verdict status a none answers =
+    told_map past (λ now. AnswersAs (verdict now) status) (λ now. DoesAs (verdict now) status a a)
+    (λ now is. silent_does (verdict now) status a (none now) is) answers
+
+-- ---- the whole call
+
+module _ (status : ℕ) (failed : Bool) where
+  -- the status of a command is kept, or it is 12 in the place of 0
+  cases : (answer_of status failed ≡ status) ⊎ ((answer_of status failed ≡ 12) × (status ≡ 0))
+  cases = answered_sink (status == 0) failed status status refl refl
+
+  pub done_status : IsTrue (is_command_status status) → IsDone (answer_of status failed) → status ≡ 0
+  done_status known done = by cases done
+    where
+      by : (answer_of status failed ≡ status) ⊎ ((answer_of status failed ≡ 12) × (status ≡ 0)) → IsDone (answer_of status failed) → status ≡ 0
+      by (inr (twelve, none)) done = none
+      by (inl same) (inl none) = sym same ∙ none
+      by (inl same) (inr twelve) =
+          let unknown : IsTrue (is_command_status 12) = subst (λ s. IsTrue (is_command_status s)) (sym same ∙ twelve) known in absurd cc
+
+  pub refusal_status : is_refusal (answer_of status failed) ≡ true → is_refusal status ≡ true
+  refusal_status refused = by cases
+    where
+      by : (answer_of status failed ≡ status) ⊎ ((answer_of status failed ≡ 12) × (status ≡ 0)) → is_refusal status ≡ true
+      by (inl same) = subst (λ s. is_refusal s ≡ true) same refused
+      by (inr (twelve, none)) = absurd (let no : is_refusal 12 ≡ true = subst (λ s. is_refusal s ≡ true) twelve refused in cc)
+
+  pub device_status : answer_of status failed ≡ 8 → status ≡ 8
+  device_status eight = by cases
+    where
+      by : (answer_of status failed ≡ status) ⊎ ((answer_of status failed ≡ 12) × (status ≡ 0)) → status ≡ 8
+      by (inl same) = sym same ∙ eight
+      by (inr (twelve, none)) = absurd (let no : 12 ≡ 8 = sym twelve ∙ eight in cc)
+
+module _ {D : Type 0} (disks : Ghosts D) (old new : D) (time : ℕ) (status : ℕ) (failed : Bool) (known : IsTrue (is_command_status status)) where
+  zero_of : IsDone (answer_of status failed) → status ≡ 0
+  zero_of = done_status status failed known
+
+  pub asked_done : (asked : Option Asked) → LeavesAsked disks old new time asked status
+      → OnDisks disks old (λ image machine. IsDone (answer_of status failed) → IsAskedDone image machine time asked (held_now disks new))
+  asked_done None left = told_from (disks.past old) _ (λ told done. absurd (let none = zero_of done in let no : 1 ≡ 0 = sym left.1.1 ∙ none in cc))
+  asked_done (Some asked) left = told_map (disks.past old) _ _ (λ image is done. is (zero_of done)) left.done
+
+  pub asked_volume : (asked : Option Asked) → LeavesAsked disks old new time asked status
+      → OnDisks disks old (λ image machine. IsDone (answer_of status failed) → IsWholeImage (disks.size_of old) image
+      → HasAskedVolume image machine asked (held_now disks new))
+  asked_volume None left = told_all (disks.past old) _ (λ image done whole. tt)
+  asked_volume (Some asked) left = told_map (disks.past old) _ _ (λ image is done. is (zero_of done)) left.empty
+
+  pub asked_quiet : (asked : Option Asked) → LeavesAsked disks old new time asked status
+      → IsDone (answer_of status failed) → asked_only_read asked ≡ false → IsQuiet (disks.past new)
+  asked_quiet None left done writes = absurd cc
+  asked_quiet (Some asked) left done writes = left.quiet (zero_of done) writes
+
+  pub asked_refused : (asked : Option Asked) → LeavesAsked disks old new time asked status
+      → is_refusal (answer_of status failed) ≡ true → disks.past new ≡ disks.past old
+  asked_refused None left refused = left.0.same_past
+  asked_refused (Some asked) left refused = left.refused (refusal_status status failed refused)
+
+  pub asked_outside : (asked : Option Asked) → LeavesAsked disks old new time asked status
+      → OnDisks disks old (λ image machine. (d s : ℕ) → asked_may_write image machine asked d s ≡ false → NotWritten (disks.past old) (disks.past new) d s)
+  asked_outside None left =
+      told_all (disks.past old) _ (λ image d s out. not_written_flushed (disks.past old) (disks.past new) (inr left.0.same_past) d s)
+  asked_outside (Some asked) left = left.outside
+
+  pub asked_same : (asked : Option Asked) → LeavesAsked disks old new time asked status → asked_only_read asked ≡ true → SameOf disks old new
+  asked_same None left reads = left.0
+  asked_same (Some asked) left reads = left.same reads
+
+  pub asked_goes_on : (asked : Option Asked) → LeavesAsked disks old new time asked status → GoesOn disks old new
+  asked_goes_on None left = left.1.0
+  asked_goes_on (Some asked) left = left.goes_on
+
+  pub asked_device : (asked : Option Asked) → LeavesAsked disks old new time asked status → answer_of status failed ≡ 8
+      → Rose (disks.faults old) (disks.faults new)
+  asked_device None left eight = absurd (let is = device_status status failed eight in let no : 1 ≡ 8 = sym left.1.1 ∙ is in cc)
+  asked_device (Some asked) left eight = left.device (device_status status failed eight)
+
+-- arguments that ask for nothing
+pub nothing_left : {D : Type 0} (disks : Ghosts D) (old : D) (time : ℕ) (asked : Option Asked) → asked ≡ None → LeavesAsked disks old old time asked 1
+nothing_left disks old time asked is =
+    rw is (
+      record { same_past = refl; same_size = refl; same_count = refl; same_geometry = refl },
+      (goes_on_same disks old old refl record { later = omega arith; size = refl; count = refl; geometry = refl }, refl),
+    )

@@ -1,0 +1,61 @@
+-- What a command leaves on the disks, by the status that it answers.
+use Rattle.std.specs.Prelude.{◌≡◌, ◌⊎◌, ◌==◌, ℕ, Bool, true, false, [], ◌∷◌, Option, Some, None}
+use Rattle.std.specs.List.{list_any}
+use Rattle.disk_trait.specs.declared.disks.Disks.{Ghosts}
+use Rattle.disk_trait.specs.Calls.{SameOf, GoesOn}
+use Rattle.disk_trait.specs.Moments.{now, IsQuiet, IsWholeImage}
+use Rattle.disk_trait.specs.NotWritten.{NotWritten}
+use Rattle.lilo_model.specs.Disks.{Image, Machine}
+use Rattle.lilo_model.specs.Faults.{Rose}
+use Rattle.lilo_model.specs.Partitions.{span_of}
+use Rattle.lilo_model.specs.Verdict.{Verdict}
+use Rattle.sector_address.specs.Machine.{OnDisks}
+use Rattle.ldisk_model.specs.Arguments.{Command, Mkfs, Asked}
+use Rattle.ldisk_model.specs.Verdict.{image_after, asked_after, may_write, only_reads}
+use Rattle.ldisk_make.specs.Answer.{HasEmptyVolume}
+
+-- the command was carried out: the status is 0, or 12 where the sink failed
+abbrev pub IsDone : ℕ → Type 0
+IsDone status = (status ≡ 0) ⊎ (status ≡ 12)
+
+-- whether a status says that a check refused
+abbrev pub is_refusal : ℕ → Bool
+is_refusal status = list_any (λ known. known == status) (1 ∷ 3 ∷ 5 ∷ [])
+
+-- the status is that of a verdict, or 8
+abbrev pub AnswersAs : Verdict → ℕ → Type 0
+AnswersAs verdict status = (status ≡ verdict.status) ⊎ (status ≡ 8)
+
+-- After `mkfs` an image has an empty volume in the sectors of its device.
+abbrev pub HasVolumeOf : Image → Machine → Command → Image → Type 0
+HasVolumeOf old machine (Mkfs device kind inodes) image = HasEmptyVolume (span_of old machine device) kind inodes image
+HasVolumeOf old machine command image = Unit {0}
+
+-- the same of arguments
+abbrev pub HasAskedVolume : Image → Machine → Option Asked → Image → Type 0
+HasAskedVolume old machine (Some asked) image = HasVolumeOf old machine asked.command image
+HasAskedVolume old machine None image = Unit {0}
+
+-- what disks hold now
+abbrev pub held_now : {D : Type 0} → Ghosts D → D → Image
+held_now disks new = now (disks.past new)
+
+-- an image is what the disks hold after arguments that were carried out at a time
+abbrev pub IsAskedDone : Image → Machine → ℕ → Option Asked → Image → Type 0
+IsAskedDone old machine time asked image = asked_after old machine time asked ≡ Some image
+
+-- What the disks hold after a command at a time.
+pub record LeavesBy {D : Type 0} (disks : Ghosts D) (old new : D) (time : ℕ) (command : Command) (status : ℕ) : Type 0 where
+  pub done : OnDisks disks old (λ image machine. status ≡ 0 → image_after image machine time command ≡ Some (now (disks.past new)))
+  pub empty : OnDisks disks old (λ image machine. status ≡ 0 → IsWholeImage (disks.size_of old) image → HasVolumeOf image machine command (now (disks.past new)))
+  pub quiet : status ≡ 0 → only_reads command ≡ false → IsQuiet (disks.past new)
+  pub refused : is_refusal status ≡ true → disks.past new ≡ disks.past old
+  pub outside : OnDisks disks old (λ image machine. (d s : ℕ) → may_write image machine command d s ≡ false → NotWritten (disks.past old) (disks.past new) d s)
+  pub same : only_reads command ≡ true → SameOf disks old new
+  pub goes_on : GoesOn disks old new
+  pub device : status ≡ 8 → Rose (disks.faults old) (disks.faults new)
+
+-- The same after arguments; those that ask for nothing leave all as it was.
+abbrev pub LeavesAsked : {D : Type 0} → Ghosts D → D → D → ℕ → Option Asked → ℕ → Type 0
+LeavesAsked disks old new time (Some asked) status = LeavesBy disks old new time asked.command status
+LeavesAsked disks old new time None status = SameOf disks old new × (GoesOn disks old new × (status ≡ 1))

@@ -1,5 +1,5 @@
 -- Names that an installation replaces or takes away, and what is there, on a sound volume.
-use Rattle.std.specs.Prelude.{◌≡◌, ◌≤◌, ℕ, Bool, true, not, ◌&&◌, ◌||◌, List, IfSome, Option, Some, None, Result, Ok, Err}
+use Rattle.std.specs.Prelude.{◌≡◌, ◌≤◌, ℕ, ◌++◌, Bool, true, not, ◌&&◌, ◌||◌, List, codes, IfSome, Option, Some, None, Result, Ok, Err}
 use Rattle.lilo_model.specs.MinixLayout as layouts
 use Rattle.lilo_model.specs.MinixParts.{Parts, is_file}
 use Rattle.lilo_model.specs.MinixFind as model
@@ -51,6 +51,11 @@ IsInside layout own = (1 ≤ own.directory) × (own.directory ≤ layout.inodes)
 
 abbrev pub ArePairsInside : Super → NamePair → Type 0
 ArePairsInside layout pair = IsInside layout pair.plain × IsInside layout pair.tilde
+
+-- both names are in one directory, and the other ends with `~`
+pub record AreTwins (pair : NamePair) : Type 0 where
+  pub directory : pair.tilde.directory ≡ pair.plain.directory
+  pub name : pair.tilde.name ≡ pair.plain.name ++ codes "~"
 
 -- whether what is there may be replaced: it is a regular file, or nothing is
 abbrev pub is_file_found : Option Stat → Bool

@@ -8,7 +8,7 @@ use Rattle.lilo_model.specs.Settled as model
 use Rattle.lilo_model.specs.Settled.{PathRefusal}
 use Rattle.minix_layout.specs.declared.superblock.Super.{Super}
 use Rattle.install_apart.specs.Faults.{RefusesNames}
-use Rattle.install_apart.specs.Names.{IsPair, GivesPairAt, ArePairsInside, is_pair_replaceable}
+use Rattle.install_apart.specs.Names.{IsPair, GivesPairAt, ArePairsInside, AreTwins, is_pair_replaceable}
 use Rattle.install_apart.specs.declared.fault.NameFault.{NameFault}
 use Rattle.install_apart.specs.declared.name.NamePair.{NamePair}
 use Rattle.install_apart.specs.declared.own.OwnNames.{OwnNames}
@@ -64,3 +64,11 @@ IsBackupInside layout (Some pair) = ArePairsInside layout pair
 
 abbrev pub AreInside : Super → OwnNames → Type 0
 AreInside layout own = ArePairsInside layout own.map × IsBackupInside layout own.backup
+
+-- each name with `~` is beside its own
+abbrev pub IsBackupTwins : Option NamePair → Type 0
+IsBackupTwins None = Unit {0}
+IsBackupTwins (Some pair) = AreTwins pair
+
+abbrev pub AreOwnTwins : OwnNames → Type 0
+AreOwnTwins own = AreTwins own.map × IsBackupTwins own.backup

@@ -7,8 +7,9 @@ ghost use Rattle.lilo_model.specs.NamePlaces.{name_path};
 ghost use Rattle.minix_layout.specs.View.{super_view};
 ghost use Rattle.minix_zones.specs.Volume.{volume_view, past_of, faults_of, SameVolume};
 ghost use Rattle.minix_tree.specs.View.{HasFileCause, HasTreeCause, IsStat, IsNode};
+ghost use Rattle.minix_names.specs.Component.{HasNoZero, IsFileName};
 ghost use Rattle.minix_names.specs.Places.{LeadsToDirectory, IsPlace};
-ghost use Rattle.install_apart.specs.Names.{GivesOwnName, GivesNamePair, GivesPair, IsInside, ArePairsInside, is_replaceable, is_pair_replaceable};
+ghost use Rattle.install_apart.specs.Names.{GivesOwnName, GivesNamePair, GivesPair, IsInside, ArePairsInside, AreTwins, is_replaceable, is_pair_replaceable};
 
 use conf_text::Text;
 use disk_trait::Disks;
@@ -73,6 +74,7 @@ fn own_name<D: Disks>(
         → LeadsToDirectory (super_view volume.old.layout) (parts_of (volume_view volume.old) now) above directory.now.inode
         → GivesOwnName (super_view volume.old.layout) (parts_of (volume_view volume.old) now) (name ∷ above) result) }
     ensures inside { IfOk result (IsInside volume.old.layout) }
+    ensures called { IfOk result (λ own. (own.directory ≡ directory.now.inode) × (own.name ≡ name)) }
     ensures cause { IfErr result (HasTreeCause (faults_of volume.old) (faults_of volume.new)) }
     ensures later { faults_of volume.old ≤ faults_of volume.new }
     ensures same { SameVolume volume.old volume.new }
@@ -100,6 +102,8 @@ fn pair_at<D: Disks>(
         → IsPlace (super_view volume.old.layout) (parts_of (volume_view volume.old) now) path directory.now.inode name.now
         → GivesNamePair (super_view volume.old.layout) (parts_of (volume_view volume.old) now) path result) }
     ensures inside { IfOk result (ArePairsInside volume.old.layout) }
+    ensures twins { IfOk result AreTwins }
+    ensures called { IfOk result (λ pair. pair.plain.name ≡ name.now) }
     ensures cause { IfErr result (HasFileCause (faults_of volume.old) (faults_of volume.new)) }
     ensures later { faults_of volume.old ≤ faults_of volume.new }
     ensures same { SameVolume volume.old volume.new }
@@ -125,6 +129,8 @@ pub(crate) fn find_pair<D: Disks>(
         → GivesPair (super_view volume.old.layout) (parts_of (volume_view volume.old) now) result
         (name_path (names_in (volume_view volume.old) now) path.now)) }
     ensures inside { IfOk result (ArePairsInside volume.old.layout) }
+    ensures twins { IfOk result AreTwins }
+    ensures called { HasNoZero path.now → IfOk result (λ pair. IsFileName pair.plain.name) }
     ensures cause { IfErr result (HasFileCause (faults_of volume.old) (faults_of volume.new)) }
     ensures later { faults_of volume.old ≤ faults_of volume.new }
     ensures same { SameVolume volume.old volume.new }

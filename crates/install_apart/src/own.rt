@@ -9,9 +9,10 @@ ghost use Rattle.mbr_table.specs.View.{device_view};
 ghost use Rattle.minix_layout.specs.View.{super_view};
 ghost use Rattle.minix_zones.specs.Volume.{volume_view, past_of, faults_of, SameVolume};
 ghost use Rattle.minix_tree.specs.View.{HasFileCause};
+ghost use Rattle.minix_names.specs.Component.{HasNoZero, IsFileName};
 ghost use Rattle.install_apart.specs.Faults.{HasNameCause};
-ghost use Rattle.install_apart.specs.Names.{GivesPair, ArePairsInside};
-ghost use Rattle.install_apart.specs.Own.{GivesNames, GivesReplaceable, GivesBackup, IsReplaceable, IsBackupReplaceable, AreReplaceable, IsBackupInside, AreInside};
+ghost use Rattle.install_apart.specs.Names.{GivesPair, ArePairsInside, AreTwins};
+ghost use Rattle.install_apart.specs.Own.{AreOwnTwins, IsBackupTwins, GivesNames, GivesReplaceable, GivesBackup, IsReplaceable, IsBackupReplaceable, AreReplaceable, IsBackupInside, AreInside};
 
 use crate::backup::backup_path;
 use crate::fault::{NameFault, refused_path};
@@ -45,6 +46,8 @@ fn replaceable_pair<D: Disks>(
         (replaceable_name (names_in (volume_view volume.old) now) both path.now)) }
     ensures files { IfOk result (IsReplaceable both) }
     ensures inside { IfOk result (ArePairsInside volume.old.layout) }
+    ensures twins { IfOk result AreTwins }
+    ensures called { HasNoZero path.now → IfOk result (λ pair. IsFileName pair.plain.name) }
     ensures cause { IfErr result (HasFileCause (faults_of volume.old) (faults_of volume.new)) }
     ensures later { faults_of volume.old ≤ faults_of volume.new }
     ensures same { SameVolume volume.old volume.new }
@@ -68,6 +71,8 @@ fn named_pair<D: Disks>(
         (replaceable_name (names_in (volume_view volume.old) now) both path.now)) }
     ensures files { IfOk result (IsReplaceable both) }
     ensures inside { IfOk result (ArePairsInside volume.old.layout) }
+    ensures twins { IfOk result AreTwins }
+    ensures called { HasNoZero path.now → IfOk result (λ pair. IsFileName pair.plain.name) }
     ensures cause { IfErr result (HasNameCause (faults_of volume.old) (faults_of volume.new)) }
     ensures later { faults_of volume.old ≤ faults_of volume.new }
     ensures same { SameVolume volume.old volume.new }
@@ -91,6 +96,7 @@ fn backup_names<D: Disks>(
         (backup_name (names_in (volume_view volume.old) now) (config_view config.now) (device_view boot) foreign)) }
     ensures files { IfOk result (IsBackupReplaceable (is_some config.now.force_backup)) }
     ensures inside { IfOk result (IsBackupInside volume.old.layout) }
+    ensures twins { IfOk result IsBackupTwins }
     ensures cause { IfErr result (HasNameCause (faults_of volume.old) (faults_of volume.new)) }
     ensures later { faults_of volume.old ≤ faults_of volume.new }
     ensures same { SameVolume volume.old volume.new }
@@ -128,6 +134,8 @@ pub fn own_names<D: Disks>(
         (own_names (names_in (volume_view volume.old) now) (config_view config.now) (device_view boot) foreign)) }
     ensures files { IfOk result (AreReplaceable (is_some config.now.force_backup)) }
     ensures inside { IfOk result (AreInside volume.old.layout) }
+    ensures twins { IfOk result AreOwnTwins }
+    ensures called { HasNoZero config.now.map → IfOk result (λ own. IsFileName own.map.plain.name) }
 
     // When it is refused.
     ensures cause { IfErr result (HasNameCause (faults_of volume.old) (faults_of volume.new)) }

@@ -3,7 +3,7 @@ ghost use Rattle.std.specs.Prelude.{◌≡◌, ◌≤◌, ◌<◌, ◌+◌, [], 
 ghost use Rattle.lilo_model.specs.MinixFind.{components};
 ghost use Rattle.lilo_model.specs.NamePlaces.{split_at_last};
 ghost use Rattle.minix_tree.specs.Component.{slashes, name_length};
-ghost use Rattle.minix_names.specs.Component.{component_view, split_view};
+ghost use Rattle.minix_names.specs.Component.{component_view, split_view, HasNoZero, IsFileName};
 
 /// A component of a path, and the text after it.
 #[derive(Clone, Copy)]
@@ -35,6 +35,8 @@ pub(crate) fn first_component(text: &[u8]) -> Option<Component<'_>>
     ensures some { IfSome result (λ first. components text.now ≡ component_view first ∷ components first.rest.now) }
     ensures within { IfSome result (λ first. length first.name.now + length first.rest.now ≤ length text.now) }
     ensures shorter { IfSome result (λ first. length first.rest.now < length text.now) }
+    ensures name { HasNoZero text.now → IfSome result (λ first. IsFileName first.name.now) }
+    ensures rest { HasNoZero text.now → IfSome result (λ first. HasNoZero first.rest.now) }
 {
     let (_, text) = text.split_at(slashes(text));
     let length = name_length(text);
@@ -68,7 +70,8 @@ pub(crate) struct Split<'t> {
 
 /// A path cut before its last component, if it has one; slashes at its end don't count.
 pub(crate) fn split_at_last(path: &[u8]) -> Option<Split<'_>>
-    ensures { split_view result ≡ split_at_last path.now (components path.now) }
+    ensures split { split_view result ≡ split_at_last path.now (components path.now) }
+    ensures name { HasNoZero path.now → IfSome result (λ split. IsFileName split.name.now) }
 {
     let Some(first) = first_component(path) else {
         return None;

@@ -7,6 +7,7 @@ ghost use Rattle.lilo_model.specs.NamePlaces.{name_path};
 ghost use Rattle.minix_layout.specs.View.{super_view};
 ghost use Rattle.minix_zones.specs.Volume.{volume_view, past_of, faults_of, SameVolume};
 ghost use Rattle.minix_tree.specs.View.{HasTreeCause, IsStat, IsNode};
+ghost use Rattle.minix_names.specs.Component.{HasNoZero, IsFileName};
 ghost use Rattle.minix_names.specs.Places.{GivesPlace};
 
 use crate::component::{count_components, split_at_last};
@@ -39,6 +40,7 @@ pub fn place_of_name<'p, D: Disks>(
         (name_path (names_in (volume_view volume.old) now) path.now)) }
     ensures node { IfOk result (λ place. IsNode volume.old place.directory) }
     ensures fits { IfOk result (λ place. IsStat volume.old.layout place.directory) }
+    ensures name { HasNoZero path.now → IfOk result (λ place. IsFileName place.name.now) }
 
     // When it is refused.
     ensures cause { IfErr result (HasTreeCause (faults_of volume.old) (faults_of volume.new)) }

@@ -1,0 +1,103 @@
+-- What settling leaves, at any moment of it and once it is done (a rule of this project's own). A path is a list of
+-- components, the last one first.
+use Rattle.std.specs.Prelude.{◌≡◌, ◌⊎◌, ℕ, Bool, true, false, if◌then◌else◌, List, Option, None, Result, OnOk}
+use Rattle.disk_trait.specs.declared.disks.Disks.{Ghosts}
+use Rattle.disk_trait.specs.Calls.{GoesOn}
+use Rattle.disk_trait.specs.Moments.{IsTold, now, LeavesOnly}
+use Rattle.disk_trait.specs.NotWritten.{NotWritten}
+use Rattle.lilo_model.specs.Disks.{Image, Machine, Span}
+use Rattle.lilo_model.specs.MinixParts as parts
+use Rattle.lilo_model.specs.MinixNames.{names_in, IsSound}
+use Rattle.lilo_model.specs.MinixFindNames.{Names}
+use Rattle.lilo_model.specs.NamePlaces.{with_tilde, with_name}
+use Rattle.lilo_model.specs.Settled as model
+use Rattle.lilo_model.specs.Settled.{Finishes, Held, is_foreign, settled}
+use Rattle.minix_write.specs.declared.write_fault.WriteFault.{WriteFault}
+use Rattle.minix_write.specs.declared.write_fault.WriteFault.TheVariants.{Device}
+use Rattle.minix_zones.specs.Volume.{volume_view, past_of, KeepsVolume, HasDeviceCause}
+use Rattle.minix_zones.specs.declared.volume.Volume.{Volume}
+use Rattle.install_laws.specs.Boots.{HasBootOf}
+use Rattle.install_laws.specs.Writes.{IsApartSector, WritesOnly}
+use Rattle.install_settle.specs.declared.settling.LeftMap.{LeftMap}
+use Rattle.install_settle.specs.declared.settling.LeftMap.TheVariants.{Absent, Finish, Remove}
+use Rattle.install_settle.specs.declared.settling.Settling.{Settling}
+
+-- ---- names
+
+-- in an image a volume has these Names
+abbrev pub HasNames : parts.Volume → Image → Names → Type 0
+HasNames volume image names = (path : List (List ℕ)) → names_in volume image path ≡ names path
+
+-- a rename is finished
+abbrev pub finishes : LeftMap → Bool
+finishes Absent = false
+finishes Finish = true
+finishes Remove = false
+
+-- the backup of which a stale copy, with `~`, may be there: a forced one
+abbrev pub stale_of : Bool → model.OwnNames → Option (List (List ℕ))
+stale_of forced names = if forced then names.backup else None
+
+-- Names once the map is settled, and once the stale copy is away too
+abbrev pub with_map_settled : LeftMap → model.OwnNames → Names → Names
+with_map_settled left names old = settled (finishes left) names.map None old
+
+abbrev pub with_all_settled : LeftMap → Bool → model.OwnNames → Names → Names
+with_all_settled left forced names old = settled (finishes left) names.map (stale_of forced names) old
+
+-- Names where what is at `map~` is at `map` too
+abbrev pub with_both : model.OwnNames → Names → Names
+with_both names old = with_name names.map (old (with_tilde names.map)) old
+
+-- an image has the Names of another, or, where a rename is finished, both names of the map, or the map settled, or all
+abbrev pub AreSettling : parts.Volume → Image → model.OwnNames → Bool → LeftMap → Image → Type 0
+AreSettling volume old names forced left c =
+    HasNames volume c (names_in volume old)
+    ⊎ (((finishes left ≡ true) × HasNames volume c (with_both names (names_in volume old)))
+    ⊎ (HasNames volume c (with_map_settled left names (names_in volume old))
+    ⊎ HasNames volume c (with_all_settled left forced names (names_in volume old))))
+
+-- ---- the Holder
+
+-- a rename is finished exactly where the Holder is `map~` alone, and a copy is removed only where the boot sector is
+-- another system's
+pub record SettlesRight (image : Image) (machine : Machine) (volume : parts.Volume) (boot : Span) (path : List (List ℕ)) (settling : Settling) : Type 0 where
+  pub holder : Finishes image machine volume boot path (finishes settling.map)
+  pub foreign : settling.copy ≡ true → is_foreign (image boot.disk boot.start) ≡ true
+
+-- an image with the same boot sector is Held where another one is
+abbrev pub KeepsHeld : parts.Volume → Image → List (List ℕ) → Settling → Image → Type 0
+KeepsHeld volume old path settling c =
+    (machine : Machine) (boot : Span) → SettlesRight old machine volume boot path settling → HasBootOf boot old c
+    → Held old machine volume boot path → Held c machine volume boot path
+
+-- ---- images
+
+-- what is left on the way
+pub record IsSettling (volume : parts.Volume) (old : Image) (names : model.OwnNames) (forced : Bool) (settling : Settling) (c : Image) : Type 0 where
+  pub sound : IsSound volume c
+  pub has : AreSettling volume old names forced settling.map c
+  pub held : KeepsHeld volume old names.map settling c
+
+-- and at the end
+pub record IsSettledIn (volume : parts.Volume) (old : Image) (names : model.OwnNames) (forced : Bool) (settling : Settling) (c : Image) : Type 0 where
+  pub sound : IsSound volume c
+  pub has : HasNames volume c (with_all_settled settling.map forced names (names_in volume old))
+  pub held : KeepsHeld volume old names.map settling c
+
+-- ---- the call
+
+-- A call settled what was left behind. One that was refused, as the disk failed, has done a part of it.
+pub record Settles {D : Type 0} {disks : Ghosts D} (old new : Volume D disks) (names : model.OwnNames) (forced : Bool) (settling : Settling) (result : Result (Unit {0}) WriteFault) : Type 0 where
+  -- whatever a stop leaves, at any moment of it, and what the disks hold now
+  pub any_moment : LeavesOnly (past_of old) (past_of new) (IsSettling (volume_view old) (now (past_of old)) names forced settling)
+  pub left : IsTold (past_of old) → IsSettling (volume_view old) (now (past_of old)) names forced settling (now (past_of new))
+  pub done : IsTold (past_of old) → OnOk result (IsSettledIn (volume_view old) (now (past_of old)) names forced settling (now (past_of new)))
+  -- It writes no sector that isn't the volume's, and none of its block 0. Where no copy is removed it writes only what a
+  -- writer of files may, in no zone that wasn't a directory's.
+  pub apart : IsTold (past_of old) → (d s : ℕ) → IsApartSector (volume_view old) d s → NotWritten (past_of old) (past_of new) d s
+  pub writes : IsTold (past_of old) → settling.copy ≡ false → WritesOnly (volume_view old) (λ zone. false) (past_of old) (past_of new)
+  -- when it is refused, and what stays
+  pub device : IsTold (past_of old) → HasDeviceCause old new Device result
+  pub goes_on : GoesOn disks old.disks.now new.disks.now
+  pub kept : KeepsVolume old new

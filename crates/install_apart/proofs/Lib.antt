@@ -1,1 +1,2 @@
-pub mod OwnLemmas
+mod ApartLemmas
+mod OwnLemmas

@@ -1,3 +1,5 @@
+pub mod Apart
 pub mod Faults
+pub mod Guarded
 pub mod Names
 pub mod Own

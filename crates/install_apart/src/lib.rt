@@ -2,6 +2,10 @@
 //! project's own rules.
 #![tactic(auto)]
 
+mod apart;
+mod apart_device;
+mod apart_name;
+mod apart_path;
 mod backup;
 mod fault;
 mod name;
@@ -9,6 +13,7 @@ mod own;
 #[cfg(test)]
 mod tests;
 
-pub use fault::NameFault;
+pub use apart::check_apart;
+pub use fault::{ApartFault, NameFault};
 pub use name::{NamePair, OwnName};
 pub use own::{OwnNames, own_names};

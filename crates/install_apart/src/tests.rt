@@ -1,6 +1,7 @@
 ghost use Rattle.std.specs.Prelude.{◌<◌};
 
-use crate::{NameFault, OwnName, own_names};
+use crate::{ApartFault, NameFault, OwnName, check_apart, own_names};
+use conf_settings::Opt;
 use disk_trait::{Disks, Geometry, MemDisk, MemDisks, Span};
 use lilo_conf::{Config, parse};
 use mbr_table::Device;
@@ -42,6 +43,19 @@ fn put_inode(sector: &mut Sector, place: usize, mode: u16, links: u16, size: u32
     put_u16(sector, at + 2, links);
     put_u32(sector, at + 8, size);
     put_u32(sector, at + 24, zone);
+}
+
+// Two partitions: one that is the volume, and one that begins in it.
+fn table() -> Sector {
+    let mut sector: Sector = [0; 512];
+    put_part(&mut sector, 450, b"\x81");
+    put_u32(&mut sector, 454, 8);
+    put_u32(&mut sector, 458, 80);
+    put_part(&mut sector, 466, b"\x83");
+    put_u32(&mut sector, 470, 10);
+    put_u32(&mut sector, 474, 4);
+    put_part(&mut sector, 510, b"\x55\xaa");
+    sector
 }
 
 // 1 is the root, 2 /boot, 3 /kernel, 4 /boot/map, which is /hard too, 5 the link /link, 6 the link /far, 7 /boot/boot.b.
@@ -92,6 +106,7 @@ fn disks(alloc: Global) -> Result<MemDisks, AllocError> {
     };
     let mut disks = MemDisks::new(alloc, &[disk], 0, &[])?;
     let sectors = [
+        (0, table()),
         (10, superblock()),
         (16, inodes()),
         (34, root()),
@@ -213,5 +228,75 @@ fn names_are_found_or_the_first_is_refused(rt: HostRuntime) -> Result<(), Fail> 
     }
     let config = config_of(&rt, rt.alloc(), b"map=/boot/map image=/kernel");
     assert!(rt; are_found(rt.alloc(), &mut volume, &config));
+    Ok(())
+}
+
+// Whether the first option that isn't apart is this one, where a partition is to boot, or the disk.
+fn is_found(
+    alloc: Global,
+    volume: &mut Volume<'_, MemDisks>,
+    config: &Config,
+    partition: u8,
+    option: Opt,
+) -> bool {
+    let boot = Device { disk: 0, partition };
+    check_apart(alloc, volume, config, boot) == Err(ApartFault::NotApart(option))
+}
+
+#[test]
+fn what_is_not_apart_is_named(rt: HostRuntime) -> Result<(), Fail> {
+    let mut disks = disks(rt.alloc())?;
+    let Ok(mut volume) = attach(&rt, &mut disks) else {
+        assert!(rt; false);
+        return Ok(());
+    };
+    let cases: [(&[u8], u8, Opt); 10] = [
+        (b"map=/boot/map image=/kernel", 2, Opt::Boot),
+        (
+            b"map=/hard message=/hard other=/dev/hda2",
+            1,
+            Opt::OtherDevice,
+        ),
+        (b"map=/hard backup=/hard image=/kernel", 1, Opt::Backup),
+        (
+            b"map=/boot/map force-backup=/boot/map~ image=/hard",
+            0,
+            Opt::ForceBackup,
+        ),
+        (b"map=/boot/map install=/hard image=/hard", 0, Opt::Install),
+        (b"map=/boot/map message=/link image=/hard", 0, Opt::Message),
+        (b"map=/boot/map image=/hard", 0, Opt::Image),
+        (b"map=/boot/new image=/far optional", 0, Opt::Image),
+        (
+            b"map=/m force-backup=/hard image=/kernel initrd=/link",
+            0,
+            Opt::Initrd,
+        ),
+        (b"map=/boot/x image=/boot/x~ optional", 0, Opt::Image),
+    ];
+    for (text, partition, option) in cases.iter() {
+        let config = config_of(&rt, rt.alloc(), text);
+        assert!(rt; is_found(rt.alloc(), &mut volume, &config, *partition, *option));
+    }
+    Ok(())
+}
+
+#[test]
+fn what_is_apart_is_accepted(rt: HostRuntime) -> Result<(), Fail> {
+    let mut disks = disks(rt.alloc())?;
+    let Ok(mut volume) = attach(&rt, &mut disks) else {
+        assert!(rt; false);
+        return Ok(());
+    };
+    let cases: [&[u8]; 4] = [
+        b"map=/boot/map message=/boot/boot.b image=/kernel",
+        b"map=/boot/map backup=/hard image=/kernel",
+        b"map=/boot/map other=/dev/hda1 table=/dev/hda",
+        b"map=/boot/new image=/boot/none optional",
+    ];
+    for text in cases.iter() {
+        let config = config_of(&rt, rt.alloc(), text);
+        assert!(rt; check_apart(rt.alloc(), &mut volume, &config, HDA).is_ok());
+    }
     Ok(())
 }

@@ -1,5 +1,5 @@
 -- What is counted sector by sector is what the model asks of a file's addresses, and how many slots it plans.
-use Rattle.std.proofs.Common.{◌≡◌, ℕ, suc, ◌+◌, Bool, true, false, ◌&&◌, if◌then◌else◌, List, [], ◌∷◌, length, map, Option, Some, None, Result, Ok, Err, refl, sym, ap, subst, ◌∙◌, arith}
+use Rattle.std.proofs.Common.{◌≡◌, ℕ, suc, ◌+◌, Bool, true, false, ◌&&◌, if◌then◌else◌, List, [], ◌∷◌, length, map, Option, Some, None, Result, Ok, Err, refl, sym, ap, ◌∙◌, arith}
 use Rattle.std.specs.Prelude.{nat_le, unwrap_or, IfSome}
 use Rattle.std.specs.Option.{option_map}
 use Rattle.std.specs.Result.{result_ok}
@@ -11,9 +11,9 @@ use Rattle.lilo_model.specs.ConfOptions as options
 use Rattle.lilo_model.specs.ConfOptions.{Opt}
 use Rattle.lilo_model.specs.Conf.{Config}
 use Rattle.lilo_model.specs.Plan.{MappedFile, slot_to, no_slot, slots_after, slots_for}
-use Rattle.lilo_model.specs.PlanRefusal.{PlanFault, Address, TooManySlots, slots_limit, each_passes, if_there, place_check, mapped_file_check}
+use Rattle.lilo_model.specs.PlanRefusal.{PlanFault, Address, TooManySlots, slots_limit, each_passes, if_there, place_check}
 use Rattle.slot_lists.specs.Cursor.{with_slot}
-use Rattle.run_sections.specs.Counted.{joined_slot, counted_after, slots_counted, LiesOn, CountLaw, CountedLaw}
+use Rattle.run_sections.specs.Counted.{joined_slot, counted_after, slots_counted, CountLaw, CountedLaw}
 use Rattle.run_sections.proofs.SectorLemmas.{made-disk}
 
 -- one slot more is counted

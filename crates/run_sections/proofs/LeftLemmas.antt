@@ -10,6 +10,7 @@ use Rattle.sector_address.specs.declared.slot.Slot.{Slot}
 use Rattle.sector_address.specs.View.{mode_view, geometry_view, slot_view}
 use Rattle.slot_lists.specs.declared.cursor.SlotCursor.{SlotCursor}
 use Rattle.slot_lists.specs.declared.runs.Run.{Run}
+use Rattle.slot_lists.specs.Made.{made_slots}
 use Rattle.slot_lists.specs.Cursor.{with_slot, Answered, after_first, slot_next, next_slot, called, left_of, SameKind}
 use Rattle.slot_lists.proofs.CursorLemmas.{called-plain, called-joined}
 use Rattle.run_sections.specs.Made.{slots_made, slots_left, OneMore, IsNext, AreTaken}
@@ -128,6 +129,39 @@ module _ (old new : SlotCursor) (runs : List Run) (zero_place : DiskSector) (sam
   -- where all have slots nothing is refused
   pub left-refused : (fault : AddressFault) (all : List model.Slot) → Err fault ≡ Next.answer → slots_left old runs zero_place ≡ Ok all → ⊥
   left-refused fault all is made = not-both fault all (sym (before (Err fault) is) ∙ made)
+
+-- ---- sectors that are passed
+
+-- a slot for each sector: those of the others, where some are passed
+made-dropped : (mode : Mode) (geometry : Geometry) (n : ℕ) (places : List DiskSector) (all : List model.Slot)
+    → made_slots mode geometry places ≡ Ok all → made_slots mode geometry (drop n places) ≡ Ok (drop n all)
+made-dropped mode geometry zero places all made = made
+made-dropped mode geometry (suc n) [] all made =
+    let none : [] ≡ all = cc in
+    ap (λ all. Ok (drop (suc n) all)) none
+made-dropped mode geometry (suc n) (place ∷ others) all made =
+    by (slot_make mode geometry place.disk place.sector 1) (made_slots mode geometry others) refl made (made-dropped mode geometry n others)
+  where
+    by : (first : Result model.Slot AddressFault) (rest : Slots) → made_slots mode geometry others ≡ rest
+        → (first >>= λ value. rest >>= λ values. Ok (value ∷ values)) ≡ Ok all
+        → ((more : List model.Slot) → made_slots mode geometry others ≡ Ok more → made_slots mode geometry (drop n others) ≡ Ok (drop n more))
+        → made_slots mode geometry (drop n others) ≡ Ok (drop (suc n) all)
+    by (Err fault) rest is whole after = cc
+    by (Ok slot) (Err fault) is whole after = cc
+    by (Ok slot) (Ok more) is whole after =
+        let same : slot ∷ more ≡ all = cc in
+        after more is ∙ ap (λ all. Ok (drop (suc n) all)) same
+
+pub skipped : (old new : SlotCursor) (runs : List Run) (zero_place : DiskSector) (n : ℕ) (all : List model.Slot)
+    → SameKind old new → old.compact ≡ false → left_of new runs zero_place ≡ drop n (left_of old runs zero_place)
+    → slots_left old runs zero_place ≡ Ok all → slots_left new runs zero_place ≡ Ok (drop n all)
+skipped old new runs zero_place n all same plain left made =
+    ap (λ mode. slots_made (mode_view mode) (geometry_view new.geometry) new.compact (left_of new runs zero_place)) same.mode
+    ∙ ap (λ geometry. slots_made (mode_view old.mode) (geometry_view geometry) new.compact (left_of new runs zero_place)) same.geometry
+    ∙ ap (λ compact. slots_made (mode_view old.mode) (geometry_view old.geometry) compact (left_of new runs zero_place)) (same.compact ∙ plain)
+    ∙ ap (made_slots (mode_view old.mode) (geometry_view old.geometry)) left
+    ∙ made-dropped (mode_view old.mode) (geometry_view old.geometry) n (left_of old runs zero_place) all
+    (sym (ap (λ compact. slots_made (mode_view old.mode) (geometry_view old.geometry) compact (left_of old runs zero_place)) plain) ∙ made)
 
 -- ---- lists
 

@@ -43,7 +43,8 @@ pub fn write_section_at(
         → into.new ≡ section_bytes (take 63 (drop (63 * index) slots)) (lent_view link.entry) }
 {
     let mut cursor = SlotCursor::new(naming.mode, naming.geometry, naming.compact);
-    pass(&mut cursor, runs, zero, 63 * u64::from(index));
+    let before = 63 * u64::from(index);
+    pass(naming.compact, &mut cursor, runs, zero, before);
     let slots = next_slots(&mut cursor, runs, zero);
     write_section(slots.as_slice(), link, into);
 }
@@ -62,8 +63,23 @@ fn next_in(cursor: &mut SlotCursor, runs: &RunList, zero: DiskSector) -> Option<
     }
 }
 
+// Goes past so many slots that aren't needed: past as many sectors, where each has a slot of its own.
+fn pass(compact: bool, cursor: &mut SlotCursor, runs: &RunList, zero: DiskSector, count: u64)
+    requires runs { All IsRun runs.now }
+    requires zero { zero.disk ≤ 3 }
+    requires compact { cursor.old.compact ≡ compact }
+    ensures { (slots : List slots.Slot) → slots_left cursor.old runs.now (place_view zero) ≡ Ok slots
+        → slots_left cursor.new runs.now (place_view zero) ≡ Ok (drop count slots) }
+{
+    if compact {
+        pass_slots(cursor, runs, zero, count);
+    } else {
+        cursor.skip(runs, count);
+    }
+}
+
 // Makes so many slots that aren't needed.
-fn pass(cursor: &mut SlotCursor, runs: &RunList, zero: DiskSector, count: u64)
+fn pass_slots(cursor: &mut SlotCursor, runs: &RunList, zero: DiskSector, count: u64)
     requires runs { All IsRun runs.now }
     requires zero { zero.disk ≤ 3 }
     ensures { (slots : List slots.Slot) → slots_left cursor.old runs.now (place_view zero) ≡ Ok slots

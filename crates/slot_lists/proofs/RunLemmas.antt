@@ -1,6 +1,6 @@
 -- The sectors of runs from a place on.
 use Rattle.std.proofs.Common.{◌≡◌, ◌≤◌, ◌<◌, ℕ, zero, suc, ◌+◌, ◌-◌, List, [], ◌∷◌, ◌++◌, length, drop, get_or, replicate, None, add-one, drop-cons, refl, sym, ap, ◌∙◌, arith}
-use Rattle.std.proofs.lemmas.List.{map-append, drop_all}
+use Rattle.std.proofs.lemmas.List.{map-append, drop_all, drop-drop}
 use Rattle.std.proofs.Math.Seq.{drop-append-add, drop-nil}
 use Rattle.lilo_model.specs.Disks.{DiskSector}
 use Rattle.lilo_model.specs.Plan.{filled_places}
@@ -104,3 +104,26 @@ module _ (zero_place : DiskSector) where
           by zero xs = refl
           by (suc n) [] = refl
           by (suc n) (x ∷ xs) = by n xs
+
+  -- some sectors are passed in a run
+  pub left-passed : (runs : List Run) (index offset n : ℕ) → left_from runs index (offset + n) ≡ drop n (left_from runs index offset)
+  left-passed runs index offset n = sym (drop-drop n offset (filled_places zero_place (places_in (drop index runs))))
+
+  -- or all that it has left, and more after it
+  pub left-over : (runs : List Run) (index offset n rest size : ℕ) (other : Run) → index < length runs → size ≡ run_count (get_or runs index other)
+      → offset < size → rest ≡ size - offset → rest ≤ n
+      → drop (n - rest) (left_from runs (index + 1) 0) ≡ drop n (left_from runs index offset)
+  left-over runs index offset n rest size other within is before gives enough =
+      let all = filled_places zero_place (places_in (drop index runs)) in
+      let none : 0 ≡ run_count (get_or runs index other) - run_count (get_or runs index other) = omega arith in
+      let same : run_count (get_or runs index other) + (n - rest) ≡ offset + n = omega (arith, is, before, gives, enough) in
+      ap (λ from. drop (n - rest) (left_from runs (index + 1) from)) none
+      ∙ ap (drop (n - rest)) (left-past runs index (run_count (get_or runs index other)) other within (omega arith))
+      ∙ drop-drop (n - rest) (run_count (get_or runs index other)) all
+      ∙ ap (λ n. drop n all) same
+      ∙ sym (drop-drop n offset all)
+
+  -- nothing is left to be passed
+  pub left-none-passed : (runs : List Run) (index offset n : ℕ) → length runs ≤ index → left_from runs index offset ≡ drop n (left_from runs index offset)
+  left-none-passed runs index offset n past =
+      left-none runs index offset past ∙ sym (drop-nil n) ∙ ap (drop n) (sym (left-none runs index offset past))

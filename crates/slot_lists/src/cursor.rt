@@ -1,5 +1,5 @@
 // Slots of runs, made one after the other.
-ghost use Rattle.std.specs.Prelude.{◌≡◌, ◌+◌, ◌^◌, ◌<◌, ◌≤◌, All, List, IsSome, IfOk, IfSome};
+ghost use Rattle.std.specs.Prelude.{◌≡◌, ◌+◌, ◌^◌, ◌<◌, ◌≤◌, All, List, IsSome, IfOk, IfSome, drop};
 ghost use Rattle.std.specs.Option.{option_map};
 ghost use Rattle.lilo_model.specs.Checks.{seen};
 ghost use Rattle.lilo_model.specs.Disks as disks;
@@ -66,6 +66,39 @@ impl SlotCursor {
                 sector: zero,
             },
         )
+    }
+
+    /// Goes past the next sectors, so many, or all that are left, and makes no slots. It takes as many steps as runs
+    /// are passed.
+    pub fn skip(&mut self, runs: &RunList, count: u64)
+        ensures left { (zero : disks.DiskSector) → left_of self.new runs.now zero ≡ drop count (left_of self.old runs.now zero) }
+        ensures same { SameKind self.old self.new }
+    {
+        self.skip_in(runs.items(), count);
+    }
+
+    // The same of some runs.
+    fn skip_in(&mut self, runs: &[Run], count: u64)
+        ensures left { (zero : disks.DiskSector) → left_of self.new runs.now zero ≡ drop count (left_of self.old runs.now zero) }
+        ensures same { SameKind self.old self.new }
+    {
+        let mut left = count;
+        while self.run < runs.len() {
+            let size = count_of(&runs[self.run]);
+            if self.offset >= size {
+                self.offset -= size;
+                self.run += 1;
+                continue;
+            }
+            let rest = size - self.offset;
+            if left < u64::from(rest) {
+                self.offset += left as u32;
+                return;
+            }
+            left -= u64::from(rest);
+            self.offset = 0;
+            self.run += 1;
+        }
     }
 
     // The next slot of some runs.

@@ -1,5 +1,5 @@
 -- One sector more is counted.
-use Rattle.std.proofs.Common.{◌≡◌, ◌≤◌, ◌+◌, ◌-◌, ◌++◌, ap, ◌∙◌, arith}
+use Rattle.std.proofs.Common.{◌+◌, ◌-◌, ◌++◌, ap, ◌∙◌, arith}
 use Rattle.slot_lists.specs.Runs.{stretch_places}
 use Rattle.run_sections.specs.Counted.{count_left}
 use Rattle.run_sections.proofs.PassLemmas.{stretch-next}

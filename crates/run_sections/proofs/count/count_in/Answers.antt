@@ -1,5 +1,5 @@
 -- One run more is counted.
-use Rattle.std.proofs.Common.{◌≡◌, ◌<◌, ◌≤◌, ◌+◌, drop, ap, ◌∙◌, arith}
+use Rattle.std.proofs.Common.{◌+◌, drop, ap, ◌∙◌, arith}
 use Rattle.slot_lists.specs.declared.runs.Run.TheVariants.{Stretch}
 use Rattle.slot_lists.specs.Runs.{places_in}
 use Rattle.run_sections.specs.Counted.{count_left}

@@ -18,6 +18,6 @@ returns c slots made =
     (ap mode_view c.new-cursor.ensures.mode) (ap geometry_view c.new-cursor.ensures.geometry) c.new-cursor.ensures.compact
     (c.new-cursor.ensures.left c.args.runs.now zero) made in
     let those = c.next_slots-slots.ensures.slots (drop (63 * c.args.index) slots)
-    (c.pass.ensures slots left ∙ ap (λ n. Ok (drop (63 * n) slots)) c.from.ensures) in
+    (c.pass.ensures slots left ∙ ap (λ n. Ok (drop (63 * n) slots)) c.from-before.ensures) in
     c.write_section.ensures.bytes
     ∙ ap (λ slots. section_bytes slots (lent_view c.args.link)) (ap (map slot_view) c.as_slice.ensures.value ∙ those)

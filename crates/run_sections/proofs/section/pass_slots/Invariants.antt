@@ -2,7 +2,7 @@ use Rattle.std.proofs.Common.{◌≡◌, ◌≤◌, ◌-◌, List, drop, Ok}
 use Rattle.lilo_model.specs.Slots as slots
 use Rattle.slot_lists.specs.Made.{place_view}
 use Rattle.run_sections.specs.Made.{slots_left}
-use Rattle.run_sections.proofs.section.pass.Given as goal
+use Rattle.run_sections.proofs.section.pass_slots.Given as goal
 
 -- those that were passed aren't left
 abbrev pub invariant-loop-passed : goal.invariant-loop-passed

@@ -1,2 +1,4 @@
+pub mod FileLemmas
+pub mod ForLemmas
 pub mod NameLemmas
 pub mod PlaceLemmas

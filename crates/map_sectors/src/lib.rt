@@ -2,9 +2,11 @@
 //! little memory.
 #![tactic(auto)]
 
+mod chains;
 mod map;
 mod planning;
 mod readers;
+mod slots;
 
 pub use map::MapPlan;
 pub use planning::plan;

@@ -1,7 +1,10 @@
 // The value of a plan.
-ghost use Rattle.std.specs.Prelude.{◌≡◌, ◌≤◌, length};
+ghost use Rattle.std.specs.Prelude.{◌≡◌, ◌≤◌, length, IfSome};
+ghost use Rattle.std.specs.List.{AllByRecursion};
+ghost use Rattle.map_plan.specs.Files.{HasFewPlaces, HasRuns};
 ghost use Rattle.map_plan.specs.Names.{names_of};
 ghost use Rattle.map_plan.specs.Sections.{planned_views};
+ghost use Rattle.map_sectors.specs.Kept.{IsKept, IsKept-prop, few-prop, some-prop};
 
 use disk_trait::Geometry;
 use lilo_conf::Config;
@@ -19,5 +22,8 @@ pub struct MapPlan {
     pub(crate) files: PlanFiles,
     ghost disk_is: { disk ≤ 3 },
     ghost few: { length files.sections.items ≤ 19 },
+    ghost kept: { AllByRecursion IsKept files.sections.items } by { IsKept-prop files.sections.items },
+    ghost message_few: { IfSome files.message HasFewPlaces } by { few-prop files.message },
+    ghost message_runs: { IfSome files.message HasRuns } by { some-prop files.message },
     ghost named: { files.names ≡ names_of (planned_views files.sections.items) },
 }

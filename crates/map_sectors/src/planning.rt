@@ -8,6 +8,7 @@ ghost use Rattle.minix_zones.specs.Volume.{volume_view, faults_of, SameVolume};
 ghost use Rattle.map_plan.specs.Skipped.{skipped_paths};
 ghost use Rattle.map_plan.specs.Sound.{OnSound, machine_for};
 ghost use Rattle.map_plan.specs.View.{Gives, HasPlanCause};
+ghost use Rattle.map_sectors.specs.Accepted.{IsFor};
 ghost use Rattle.map_sectors.specs.Map.{plan_view, HasGeometries};
 
 use crate::map::MapPlan;
@@ -37,6 +38,7 @@ pub fn plan<D: Disks>(
         (plan_at image machine (volume_view volume.old) (span_view boot) (config_view config) now)) }
     ensures skipped { IfOk result (λ plan. OnSound volume.old (λ image machine. plan.files.skipped
         ≡ skipped_paths image machine (volume_view volume.old) (sections_view config.sections))) }
+    ensures machine { IfOk result (λ plan. OnSound volume.old (λ image machine. IsFor machine plan)) }
     ensures geometries { IfOk result (λ plan. HasGeometries (machine_for volume.old) plan.geometries) }
     ensures disk { IfOk result (λ plan. plan.disk ≡ volume.old.span.disk) }
     ensures config { IfOk result (λ plan. plan.config ≡ config) }

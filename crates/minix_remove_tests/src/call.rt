@@ -1,5 +1,4 @@
 // One call, and what it leaves.
-ghost use Rattle.std.specs.Prelude.{◌≡◌, ◌≢◌, true, All};
 
 use disk_trait::{Disks, MemDisks};
 use minix_remove::{remove, replace_name};
@@ -11,24 +10,13 @@ use minix_zones::{Volume, ZoneFault};
 use sector_parts::Sector;
 use std::alloc::Global;
 use std::process::Abort;
-use test_disks::Untold;
+use test_disks::{Untold, has_no_zero};
 
 // What is done in the root.
 #[derive(Clone, Copy, Debug)]
 pub(crate) enum Call {
     Remove(&'static [u8]),
     Rename(&'static [u8], &'static [u8]),
-}
-
-fn has_no_zero(name: &[u8]) -> bool
-    ensures { result ≡ true → All (λ byte. byte ≢ 0) name.now }
-{
-    for at in 0..name.len() {
-        if name[at] == 0 {
-            return false;
-        }
-    }
-    true
 }
 
 // Takes a call.

@@ -2,8 +2,6 @@
 ghost use Rattle.std.specs.Prelude.{◌≢◌, ◌≤◌, All, IfOk};
 ghost use Rattle.minix_create.specs.Chosen.{Suits};
 
-use crate::fixture::{choices, left};
-use crate::untold::Untold;
 use disk_trait::{Disks, MemDisks};
 use minix_create::{Chosen, choose, create, directory_block};
 use minix_layout::FsKind;
@@ -16,6 +14,7 @@ use minix_zones::Volume;
 use std::alloc::Global;
 use std::process::Abort;
 use std::test::Fail;
+use test_disks::{Untold, choices, image_left};
 
 // The second block is a hole: zones 6 and 7 are chosen.
 const LENGTH: u32 = 3000;
@@ -145,8 +144,8 @@ fn each_stop_has_the_file_whole_or_not_at_all(rt: HostRuntime) -> Result<(), Fai
         let Untold { disks } = disks;
         assert_eq!(rt; disks.events(), 15);
         for prefix in 0..16 {
-            for choice in 0..choices(&rt, &disks, prefix) {
-                let mut image = left(&rt, alloc, &disks, prefix, choice)?;
+            for choice in 0..choices(&disks, prefix) {
+                let mut image = image_left(alloc, &disks, prefix, choice)?;
                 let found = is_there(alloc, &mut image);
                 let named = prefix == 15 || prefix == 14 && choice == 1;
                 assert!(rt;
@@ -301,8 +300,8 @@ fn each_stop_has_whole_directories(rt: HostRuntime) -> Result<(), Fail> {
         let Untold { disks } = disks;
         assert_eq!(rt; disks.events(), 30);
         for prefix in 0..31 {
-            for choice in 0..choices(&rt, &disks, prefix) {
-                let mut image = left(&rt, alloc, &disks, prefix, choice)?;
+            for choice in 0..choices(&disks, prefix) {
+                let mut image = image_left(alloc, &disks, prefix, choice)?;
                 let found = links_in(alloc, &mut image);
                 assert!(rt;
                     found == Some(links_then(prefix, choice)),

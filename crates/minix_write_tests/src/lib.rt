@@ -4,6 +4,14 @@
 #[cfg(test)]
 mod create;
 #[cfg(test)]
-mod fixture;
+mod directory;
 #[cfg(test)]
-mod untold;
+mod large;
+#[cfg(test)]
+mod links;
+#[cfg(test)]
+mod made;
+#[cfg(test)]
+mod many;
+#[cfg(test)]
+mod refused;

@@ -2,7 +2,9 @@
 #![tactic(auto)]
 
 mod images;
+mod name;
 mod untold;
 
 pub use images::{choices, image_left, made_again};
+pub use name::has_no_zero;
 pub use untold::Untold;

@@ -1,6 +1,6 @@
 use Rattle.std.proofs.Common.{◌≢◌, ◌<◌, ℕ}
 use Rattle.std.specs.Prelude.{slice_index}
-use Rattle.minix_remove_tests.proofs.call.has_no_zero.Given as goal
+use Rattle.test_disks.proofs.name.has_no_zero.Given as goal
 
 -- none of the first is 0
 abbrev pub invariant-loop-at : goal.invariant-loop-at

@@ -1,0 +1,2 @@
+pub mod RefuseLemmas
+pub mod ExamineLemmas

@@ -1,6 +1,7 @@
 pub mod FindLemmas
 pub mod TargetLemmas
 pub mod ReleaseLemmas
+pub mod PointerLemmas
 pub mod TakeLemmas
 pub mod RemoveLemmas
 pub mod MoveLemmas

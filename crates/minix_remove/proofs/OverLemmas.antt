@@ -56,13 +56,15 @@ use Rattle.minix_zones.specs.declared.zone_fault.ZoneFault.TheVariants.{Device}
 use Rattle.minix_zones.proofs.WriteLemmas.{cause_after, keeps_join}
 use Rattle.minix_remove.specs.Moves.{MovesPath}
 use Rattle.minix_remove.specs.Released.{MayRelease, LetsGo, Releases}
+use Rattle.minix_remove.specs.Removed.{GainsNoZone, RemovesFile}
 use Rattle.minix_remove.specs.Renamed.{RenamesFiles, IsOffRenamed, FitsRenaming, IsRenaming, IsSomeRenaming, Carries}
 use Rattle.minix_remove.specs.Target.{FitsTarget, IsTarget}
 use Rattle.minix_remove.specs.declared.target.Target.{Target}
 use Rattle.minix_remove.proofs.MoveLemmas.{moves_none, replaces_moves, unseen_then_moves, moves_then_unseen}
 use Rattle.minix_remove.proofs.ReleaseLemmas.{links_changed_in}
 use Rattle.minix_remove.proofs.RenamedLemmas.{apart_names}
-use Rattle.minix_remove.proofs.TakeLemmas.{removes_file, may_go, named_target, placed, points, kind_is, sized_is, off_entry}
+use Rattle.minix_remove.proofs.PointerLemmas.{gains_two}
+use Rattle.minix_remove.proofs.TakeLemmas.{let_go_zones, removes_file, may_go, named_target, placed, points, kind_is, sized_is, off_entry}
 
 -- the inode that is moved, with a link more
 abbrev pub raised_of : Target → Inode
@@ -149,6 +151,7 @@ module _ {D : Type 0} {disks : Ghosts D} (v0 : Volume D disks) (directory : ℕ)
       moves = record {
         moves = λ outer leads. moves_none v0 v1 (from ∷ outer) (to ∷ outer) fault seen1;
         files = λ told. tt;
+        gains = λ told. tt;
         others = others1;
         goes_on = seen1.goes_on;
         kept = seen1.kept;
@@ -304,6 +307,7 @@ module _ {D : Type 0} {disks : Ghosts D} (v0 : Volume D disks) (directory : ℕ)
         moves = record {
           moves = λ outer leads. subst (MovesPath v0 v2 (from ∷ outer) (to ∷ outer)) is (moves02 outer leads);
           files = λ told. tt;
+          gains = λ told. tt;
           others = others02;
           goes_on = goes02;
           kept = kept02;
@@ -429,6 +433,7 @@ module _ {D : Type 0} {disks : Ghosts D} (v0 : Volume D disks) (directory : ℕ)
           moves = record {
             moves = λ outer leads. moves_then_unseen v0 v2 v3 (from ∷ outer) (to ∷ outer) {E = ZoneFault} (Err fault) (moves02 v2 (Ok tt) replaces writes outer leads) releases3.unseen;
             files = λ told. tt;
+            gains = λ told. tt;
             others = others03;
             goes_on = goes03;
             kept = kept03;
@@ -515,15 +520,39 @@ module _ {D : Type 0} {disks : Ghosts D} (v0 : Volume D disks) (directory : ℕ)
         -- ---- the whole
 
         module _ (v4 : Volume D disks) (r4 : Result (Unit {0}) ZoneFault) (releases4 : Releases v3 v4 former.inode (inode_view former.node) r4) where
+          module _ (told : IsTold (past_of v0)) (lets : LetsGo former.inode (inode_view former.node) View E' (parts_now v4)) where
+            abbrev Sound-a : Sound (super_view v0.layout) A
+            Sound-a = parts-a told
+
+            removed : RemovesFile (super_view v0.layout) A (parts_now v4) directory former.inode
+            removed =
+                removes_file View A E' (parts_now v4) directory former.inode (inode_view former.node) (fits'.some, fits'.there) (keeps told)
+                (kept_files_law (super_view v0.layout) A E' directory former.inode Sound-a (is-from told).holds.entry.named (keeps told) (named-to told) (beside-to told))
+                lets (is-to told).node
+
+            gains-none : GainsNoZone (super_view v0.layout) A (parts_now v4) directory
+            gains-none =
+                let here = (is-from told).holds.entry in
+                let node = removed.others directory (Sound-a.in_range directory here.named) (λ same. beside-to told (sym same)) in
+                gains_two (super_view v0.layout) A (parts_now v4) directory Sound-a here.named here.is node former.place moved.place (λ zone in' off-to off-from.
+                let_go_zones View E' (parts_now v4) former.inode (inode_view former.node) lets zone in'
+                ∙ ((lowered told).zones zone in'
+                ∙ ((cleared told).others zone in' (λ same. off-from (same ∙ (place-zone ∙ sym (is-from told).lies)))
+                ∙ ((led told).others zone in' (λ same. off-to (same ∙ (over-zone ∙ sym (is-to told).lies)))
+                ∙ (raised told).zones zone in'))))
+
+          let-go : (told : IsTold (past_of v0)) → OnOk r4 (LetsGo former.inode (inode_view former.node) View E' (parts_now v4))
+          let-go told =
+              let L : model.Volume → Type 0 = λ view. LetsGo former.inode (inode_view former.node) view (parts_of view (now (past_of v3))) (parts_now v4) in
+              on_ok r4 _ _ (releases4.changed ((goes03 v3 (Ok tt) releases3).told told)) (λ lets. subst L (same_view v0 v3 kept-then) lets)
+
+          gains : (told : IsTold (past_of v0)) → OnOk r4 (GainsNoZone (super_view v0.layout) A (parts_now v4) directory)
+          gains told = on_ok r4 _ _ (let-go told) (gains-none told)
+
           files : IsTold (past_of v0) → OnOk r4 (RenamesFiles (super_view v0.layout) A (parts_now v4) directory (held_name (super_view v0.layout) A directory to))
           files told =
               let F : Option ℕ → Type 0 = λ held. RenamesFiles (super_view v0.layout) A (parts_now v4) directory held in
-              let L : model.Volume → Type 0 = λ view. LetsGo former.inode (inode_view former.node) view (parts_of view (now (past_of v3))) (parts_now v4) in
-              on_ok r4 _ _ (releases4.changed ((goes03 v3 (Ok tt) releases3).told told)) (λ lets.
-              subst F (sym (is-to told).held)
-              (removes_file View A E' (parts_now v4) directory former.inode (inode_view former.node) (fits'.some, fits'.there) (keeps told)
-              (kept_files_law (super_view v0.layout) A E' directory former.inode (parts-a told) (is-from told).holds.entry.named (keeps told) (named-to told) (beside-to told))
-              (subst L (same_view v0 v3 kept-then) lets) (is-to told).node))
+              on_ok r4 _ _ (let-go told) (λ lets. subst F (sym (is-to told).held) (removed told lets))
 
           pub carries_over : Carries v0 v4 directory from to r4
           carries_over = record {
@@ -531,6 +560,7 @@ module _ {D : Type 0} {disks : Ghosts D} (v0 : Volume D disks) (directory : ℕ)
               moves = λ outer leads. moves_then_unseen v0 v2 v4 (from ∷ outer) (to ∷ outer) {E = ZoneFault} r4 (moves02 v2 (Ok tt) replaces writes outer leads)
                   (unseen_join v2 v3 v4 releases3.unseen releases4.unseen);
               files = files;
+              gains = gains;
               others = λ told d s off. not_written_join (past_of v0) (past_of v3) (past_of v4) d s (others03 v3 (Ok tt) releases3 told d s off)
                   (releases4.others d s (off_file_kept v0 v3 former.inode kept-then d s (off.files moved.inode former.inode (is-from told).held (is-to told).held).1));
               goes_on = goes_on_join disks v0.disks.now v3.disks.now v4.disks.now (goes03 v3 (Ok tt) releases3) releases4.unseen.goes_on;

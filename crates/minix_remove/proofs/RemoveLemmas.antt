@@ -30,7 +30,7 @@ use Rattle.minix_zones.specs.Volume.{past_of, faults_of, SameVolume}
 use Rattle.minix_zones.specs.declared.volume.Volume.{Volume}
 use Rattle.minix_zones.specs.declared.zone_fault.ZoneFault.{ZoneFault}
 use Rattle.minix_zones.proofs.WriteLemmas.{keeps_same, keeps_join}
-use Rattle.minix_remove.specs.Removed.{RemovesFile, IsOffRemoved, IsSomeTarget, Takes, AnswersRight, Removes}
+use Rattle.minix_remove.specs.Removed.{GainsNoZone, RemovesFile, IsOffRemoved, IsSomeTarget, Takes, AnswersRight, Removes}
 use Rattle.minix_remove.specs.Target.{IsDirectoryNow, refusal_of, IsTarget, FindsTarget, GivesTarget}
 use Rattle.minix_remove.specs.declared.target.Target.{Target}
 use Rattle.minix_remove.proofs.MoveLemmas.{leads_none}
@@ -86,6 +86,7 @@ module _ {D : Type 0} {disks : Ghosts D} (start mid : Volume D disks) (directory
     removes_refused gives = record {
       leads = λ outer leads. leads_none start mid (name ∷ outer) None None (tree_refusal fault) unseen;
       file = λ told. tt;
+      gains = λ told. tt;
       others = λ told number held d s off. not_written_same d s;
       answers = λ told. refused-right (gives told (may told));
       goes_on = unseen.goes_on;
@@ -139,6 +140,8 @@ module _ {D : Type 0} {disks : Ghosts D} (start mid : Volume D disks) (directory
             let back = at_same start mid same (λ view past. RemovesFile view.layout (parts_at view past) (parts_now new) directory target.inode) file in
             let F : ℕ → Type 0 = λ n. RemovesFile (super_view start.layout) (parts_now start) (parts_now new) directory n in
             subst F (which told number held) back));
+        gains = λ told. so _ (on_ok result _ _ (takes.gains (told_then start mid same told)) (λ gains.
+            at_same start mid same (λ view past. GainsNoZone view.layout (parts_at view past) (parts_now new) directory) gains));
         others = λ told number held d s off.
             let O : ℕ → Type 0 = λ n. IsOffRemoved start directory n d s in
             let off' = off-then d s (subst O (sym (which told number held)) off) in

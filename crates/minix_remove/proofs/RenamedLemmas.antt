@@ -32,10 +32,11 @@ use Rattle.minix_zones.specs.Volume.{volume_view, past_of}
 use Rattle.minix_zones.specs.declared.volume.Volume.{Volume}
 use Rattle.minix_zones.specs.declared.zone_fault.ZoneFault.{ZoneFault}
 use Rattle.minix_zones.specs.declared.zone_fault.ZoneFault.TheVariants.{Device}
-use Rattle.minix_remove.specs.Removed.{Takes}
+use Rattle.minix_remove.specs.Removed.{GainsNoZone, Takes}
 use Rattle.minix_remove.specs.Renamed.{RenamesFiles, IsRenaming, Carries}
 use Rattle.minix_remove.specs.Target.{FitsTarget}
 use Rattle.minix_remove.specs.declared.target.Target.{Target}
+use Rattle.minix_remove.proofs.PointerLemmas.{gains_one}
 use Rattle.minix_remove.proofs.MoveLemmas.{leads_moves, turn_moves}
 use Rattle.minix_remove.proofs.TakeLemmas.{may_go, placed, points, off_entry}
 
@@ -82,12 +83,26 @@ module _ {D : Type 0} {disks : Ghosts D} (old new : Volume D disks) (directory :
         (entry_bytes_law (kind_view old.layout.kind) moved.inode to low16 (may told).fits).1
         (record { may = (may_go old directory from moved is outer leads).may; plain = absent.plain; absent = absent.absent })
 
-    keeps : HasEntryPart old (now (past_of new)) moved.zone index Bytes → KeepsFiles (super_view old.layout) Was (parts_of View (now (past_of new))) directory
-    keeps has =
+    changes : HasEntryPart old (now (past_of new)) moved.zone index Bytes
+        → ChangesZone (super_view old.layout) Was (parts_of View (now (past_of new))) moved.zone (with_zone_part Was moved.zone (entry_size (kind_view old.layout.kind) * index) Bytes)
+    changes has =
         let is = (may told).leads in
-        let changes : ChangesZone (super_view old.layout) Was (parts_of View (now (past_of new))) moved.zone (with_zone_part Was moved.zone (entry_size (kind_view old.layout.kind) * index) Bytes) =
-        (part_law View (now (past_of old)) (now (past_of new)) moved.zone (entry_size (kind_view old.layout.kind) * index) Bytes is.in_directory.sound (fits.zone.from, fits.zone.below) has).change in
-        keeps_zone (super_view old.layout) Was (parts_of View (now (past_of new))) directory moved.zone _ changes _ (points old directory from moved is)
+        (part_law View (now (past_of old)) (now (past_of new)) moved.zone (entry_size (kind_view old.layout.kind) * index) Bytes is.in_directory.sound (fits.zone.from, fits.zone.below) has).change
+
+    keeps : HasEntryPart old (now (past_of new)) moved.zone index Bytes → KeepsFiles (super_view old.layout) Was (parts_of View (now (past_of new))) directory
+    keeps has = keeps_zone (super_view old.layout) Was (parts_of View (now (past_of new))) directory moved.zone _ (changes has) _ (points old directory from moved (may told).leads)
+
+    gains : OnOk result (GainsNoZone (super_view old.layout) Was (parts_now new) directory)
+    gains =
+        let V : model.Volume → Type 0 = λ view. GainsNoZone (super_view old.layout) Was (parts_of view (now (past_of new))) directory in
+        on_ok result _ _ (entry told) (λ has.
+        let is = (may told).leads in
+        let here = is.holds.entry in
+        let parts = (opened View (now (past_of old)) is.in_directory.sound).parts in
+        let change = changes has in
+        subst V (sym (same_view old new turns.kept))
+        (gains_one (super_view old.layout) Was (parts_of View (now (past_of new))) directory parts here.named here.is (change.nodes directory (parts.in_range directory here.named)) moved.place
+        (λ zone in' apart. change.others zone in' (λ same. apart (same ∙ sym is.lies)))))
 
     files : OnOk result (RenamesFiles (super_view old.layout) Was (parts_now new) directory (held_name (super_view old.layout) Was directory to))
     files =
@@ -100,6 +115,7 @@ module _ {D : Type 0} {disks : Ghosts D} (old new : Volume D disks) (directory :
     moves = record {
       moves = λ outer leads. turn_moves old new (from ∷ outer) (to ∷ outer) _ _ Device result turns (λ told. (may told).leads.in_directory.sound) (λ told. has-moved told outer (leads told));
       files = files;
+      gains = gains;
       others = λ told d s off. turns.others d s (off_entry old directory from moved index fits low slot (may told).leads d s off.zones);
       goes_on = turns.goes_on;
       kept = turns.kept;
@@ -128,6 +144,7 @@ module _ {D : Type 0} {disks : Ghosts D} (old new : Volume D disks) (directory :
       files = λ told.
           let F : Option ℕ → Type 0 = λ held. RenamesFiles (super_view old.layout) (parts_now old) (parts_now new) directory held in
           on_ok result _ _ (takes.file told) (λ file. subst F (sym (held-is told)) file);
+      gains = takes.gains;
       others = λ told d s off. takes.others told d s (record { zones = off.zones; file = (off.files moved.inode former.inode (may told).leads.held (may told).over.held).0 });
       goes_on = takes.goes_on;
       kept = takes.kept;

@@ -1,5 +1,5 @@
 -- An entry that is cleared, and its inode that is let go.
-use Rattle.std.proofs.Common.{◌≡◌, ◌≤◌, ◌<◌, ◌+◌, ◌-◌, ◌*◌, ◌/◌, ◌%◌, ◌||◌, ℕ, Bool, true, false, List, ◌∷◌, Some, None, Result, Ok, Err, OnOk, IfErr, refl, sym, ◌∙◌, ap, subst, arith, ⊎_elim}
+use Rattle.std.proofs.Common.{◌≡◌, ◌≢◌, ◌≤◌, ◌<◌, ◌+◌, ◌-◌, ◌*◌, ◌/◌, ◌%◌, ◌||◌, ℕ, Bool, true, false, List, ◌∷◌, Some, None, Result, Ok, Err, OnOk, IfErr, refl, sym, ◌∙◌, ap, subst, arith, ⊎_elim}
 use Rattle.std.proofs.lemmas.Bool.{cases_lt, or_left, or_right}
 use Rattle.disk_trait.specs.declared.disks.Disks.{Ghosts}
 use Rattle.disk_trait.specs.Past.{Image}
@@ -27,7 +27,7 @@ use Rattle.minix_layout.specs.View.{kind_view, super_view, inode_view}
 use Rattle.minix_remove_laws.specs.Files.{KeepsFiles, KeepsFile}
 use Rattle.minix_remove_laws.specs.Held.{is_removable, MayGoFrom, IsReleased}
 use Rattle.minix_remove_laws.proofs.Files.{keeps_zone}
-use Rattle.minix_remove_laws.proofs.Held.{held_law}
+use Rattle.minix_remove_laws.proofs.Held.{held_law, no-directory}
 use Rattle.minix_remove_laws.proofs.Released.{released_law}
 use Rattle.minix_sees_laws.proofs.Seen.{opened}
 use Rattle.minix_steps.specs.Written.{parts_now}
@@ -48,9 +48,10 @@ use Rattle.minix_zones.specs.declared.zone_fault.ZoneFault.{ZoneFault}
 use Rattle.minix_zones.specs.declared.zone_fault.ZoneFault.TheVariants.{Device}
 use Rattle.minix_zones.proofs.WriteLemmas.{cause_after, keeps_join}
 use Rattle.minix_remove.specs.Released.{MayRelease, LetsGo, Releases}
-use Rattle.minix_remove.specs.Removed.{RemovesFile, Takes}
+use Rattle.minix_remove.specs.Removed.{GainsNoZone, RemovesFile, Takes}
 use Rattle.minix_remove.specs.Target.{IsTarget, FitsTarget}
 use Rattle.minix_remove.specs.declared.target.Target.{Target}
+use Rattle.minix_remove.proofs.PointerLemmas.{gains_one}
 
 -- ---- answers
 
@@ -99,6 +100,21 @@ module _ (view : model.Volume) (first next last : Parts) (directory number : ℕ
         (λ few. (goes.freed few).bytes other in'.0 ∙ keeps.bytes other in' none)
         (cases_lt 1 inode.links);
   }
+
+-- an inode that is let go: no zone has other bytes
+module _ (view : model.Volume) (next last : Parts) (number : ℕ) (inode : Inode) (goes : LetsGo number inode view next last) where
+  pub let_go_zones : (zone : ℕ) → IsDataZone view.layout zone → last.zone zone ≡ next.zone zone
+  let_go_zones zone in' = ⊎_elim
+      (λ more. (goes.lowered more).zones zone in')
+      (λ few. (goes.freed few).bytes zone in'.0)
+      (cases_lt 1 inode.links)
+
+-- a removable inode is no directory
+pub beside_directory : (parts : Parts) (directory number : ℕ) → is_directory (parts.node directory) ≡ true → is_removable (parts.node number) ≡ true → directory ≢ number
+beside_directory parts directory number is removable same =
+    let not : is_directory (parts.node number) ≡ false = no-directory (parts.node number) removable in
+    let D' : ℕ → Type 0 = λ n. is_directory (parts.node n) ≡ false in
+    let both : true ≡ false = sym is ∙ subst D' (sym same) not in cc
 
 -- ---- an inode that has a name
 
@@ -212,6 +228,17 @@ module _ {D : Type 0} {disks : Ghosts D} (old : Volume D disks) (directory : ℕ
           (keeps_zone (super_view old.layout) Was (Next View) directory target.zone Filled (changes_zone (now (past_of mid)) has) _ here)
           (record { node = released.is; points = released.points; stays = released.stays }) (subst L (same_view old mid kept) lets) is.node
 
+      pub gains : (new : Volume D disks) → LetsGo target.inode Node (volume_view mid) (parts_now mid) (parts_now new)
+          → GainsNoZone (super_view old.layout) Was (parts_now new) directory
+      gains new lets =
+          let L : model.Volume → Type 0 = λ view. LetsGo target.inode Node view (Next view) (parts_now new) in
+          let here = is.holds.entry in
+          let parts = (opened View (now (past_of old)) (sound old directory name target is)).parts in
+          let node = (file_removed new lets).others directory (parts.in_range directory here.named) (beside_directory Was directory target.inode here.is is.holds.removable) in
+          gains_one (super_view old.layout) Was (parts_now new) directory parts here.named here.is node target.place (λ zone in' apart.
+          let_go_zones View (Next View) (parts_now new) target.inode Node (subst L (same_view old mid kept) lets) zone in'
+          ∙ (changes_zone (now (past_of mid)) has).others zone in' (λ same. apart (same ∙ sym is.lies)))
+
     -- ---- sectors
 
     half : entry_size (kind_view old.layout.kind) * index / 512 < 2
@@ -237,6 +264,7 @@ module _ {D : Type 0} {disks : Ghosts D} (old : Volume D disks) (directory : ℕ
     takes_refused mid fault turns removes = record {
       leads = λ outer leads. led mid (Err fault) removes outer leads;
       file = λ told. tt;
+      gains = λ told. tt;
       others = λ told d s off. turns.others d s (off_entry (may told) d s off.zones);
       device = λ told. turns.device;
       goes_on = turns.goes_on;
@@ -261,6 +289,7 @@ module _ {D : Type 0} {disks : Ghosts D} (old : Volume D disks) (directory : ℕ
         leads = λ outer leads. leads_as old new (name ∷ outer) (Ok tt) result (λ P p. on_ok_held result P p)
             (leads_then_unseen old mid new (name ∷ outer) None None {E = ZoneFault} (led mid (Ok tt) removes outer leads) releases.unseen);
         file = λ told. on_ok result _ _ (releases.changed (turns.goes_on.told told)) (file_removed (may told) mid turns.kept (sound-now told) (entry told) new);
+        gains = λ told. on_ok result _ _ (releases.changed (turns.goes_on.told told)) (gains (may told) mid turns.kept (sound-now told) (entry told) new);
         others = λ told d s off. not_written_join (past_of old) (past_of mid) (past_of new) d s (turns.others d s (off_entry (may told) d s off.zones))
             (releases.others d s (off_file_kept old mid target.inode turns.kept d s off.file));
         device = λ told. cause_after old mid new Device result turns.goes_on.later (releases.device (turns.goes_on.told told));

@@ -52,6 +52,10 @@ pub record RemovesFile (super : Super) (old new : Parts) (directory number : ℕ
   pub bytes : (zone : ℕ) → IsDataZone super zone → ((at : Pointer) → PointsTo super old directory at zone → ⊥)
       → new.zone zone ≡ old.zone zone
 
+-- each zone to which a directory points it pointed to before, by the same pointer
+abbrev pub GainsNoZone : Super → Parts → Parts → ℕ → Type 0
+GainsNoZone super old new directory = (at : Pointer) (zone : ℕ) → PointsTo super new directory at zone → PointsTo super old directory at zone
+
 -- ---- sectors that aren't written
 
 -- a sector of a disk is of no zone that a directory points to, none of the bitmaps, and not the one with an inode
@@ -74,6 +78,7 @@ pub record Takes {D : Type 0} {disks : Ghosts D} (old new : Volume D disks) (dir
   pub leads : (outer : List (List ℕ)) → (IsTold (past_of old) → reached (super_view old.layout) (parts_now old) outer ≡ Some directory)
       → LeadsPath old new (name ∷ outer) None None result
   pub file : IsTold (past_of old) → OnOk result (RemovesFile (super_view old.layout) (parts_now old) (parts_now new) directory target.inode)
+  pub gains : IsTold (past_of old) → OnOk result (GainsNoZone (super_view old.layout) (parts_now old) (parts_now new) directory)
   pub others : IsTold (past_of old) → (d s : ℕ) → IsOffRemoved old directory target.inode d s → NotWritten (past_of old) (past_of new) d s
   pub device : IsTold (past_of old) → HasDeviceCause old new zones.Device result
   -- what stays
@@ -109,6 +114,7 @@ pub record Removes {D : Type 0} {disks : Ghosts D} (start new : Volume D disks) 
       → LeadsPath start new (name ∷ outer) None None result
   pub file : IsTold (past_of start) → OnOk result ((number : ℕ) → held_name (super_view start.layout) (parts_now start) directory name ≡ Some number
       → RemovesFile (super_view start.layout) (parts_now start) (parts_now new) directory number)
+  pub gains : IsTold (past_of start) → OnOk result (GainsNoZone (super_view start.layout) (parts_now start) (parts_now new) directory)
   pub others : IsTold (past_of start) → (number : ℕ) → held_name (super_view start.layout) (parts_now start) directory name ≡ Some number
       → (d s : ℕ) → IsOffRemoved start directory number d s → NotWritten (past_of start) (past_of new) d s
   pub answers : IsTold (past_of start) → AnswersRight start new directory name result

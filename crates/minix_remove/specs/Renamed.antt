@@ -26,7 +26,7 @@ use Rattle.minix_zones.specs.declared.volume.Volume.{Volume}
 use Rattle.minix_zones.specs.declared.zone_fault.ZoneFault.{ZoneFault}
 use Rattle.minix_zones.specs.declared.zone_fault.ZoneFault.TheVariants as zones
 use Rattle.minix_remove.specs.Moves.{MovesPath}
-use Rattle.minix_remove.specs.Removed.{RemovesFile}
+use Rattle.minix_remove.specs.Removed.{GainsNoZone, RemovesFile}
 use Rattle.minix_remove.specs.Target.{FitsTarget, IsDirectoryNow, IsTarget}
 use Rattle.minix_remove.specs.declared.renaming.Renaming.{Renaming}
 use Rattle.minix_remove.specs.declared.target.Target.{Target}
@@ -90,6 +90,7 @@ pub record Moves {D E : Type 0} {disks : Ghosts D} (old new : Volume D disks) (d
       → MovesPath old new (from ∷ outer) (to ∷ outer) result
   pub files : IsTold (past_of old) → OnOk result
       (RenamesFiles (super_view old.layout) (parts_now old) (parts_now new) directory (held_name (super_view old.layout) (parts_now old) directory to))
+  pub gains : IsTold (past_of old) → OnOk result (GainsNoZone (super_view old.layout) (parts_now old) (parts_now new) directory)
   pub others : IsTold (past_of old) → (d s : ℕ) → IsOffRenamed old directory from to d s → NotWritten (past_of old) (past_of new) d s
   -- what stays
   pub goes_on : GoesOn disks old.disks.now new.disks.now

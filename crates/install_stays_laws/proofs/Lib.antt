@@ -1,1 +1,1 @@
-mod Stays
+pub mod Stays

@@ -120,7 +120,7 @@ module _ (volume : Volume) (image : Image) (place : DiskSector) where
   by-sector sector plain (inl tables) = by-tables sector tables plain.tables
   by-sector sector plain (inr zone) = by-zone sector zone.0 plain zone.1 zone.2
 
-  clear-not : IsClearPlace volume image place → IsWritable volume image (λ zone. false) place → ⊥
+  pub clear-not : IsClearPlace volume image place → IsWritable volume image (λ zone. false) place → ⊥
   clear-not clear w = by-sector w.sector (clear w.sector w.is w.inside) w.may
 
 pub clear_stays_law : ClearStaysLaw

@@ -1,4 +1,9 @@
+pub mod BootLemmas
+pub mod DescriptorLemmas
 pub mod FileLemmas
 pub mod ForLemmas
+pub mod FourLemmas
 pub mod NameLemmas
+pub mod NeededLemmas
 pub mod PlaceLemmas
+pub mod TableLemmas

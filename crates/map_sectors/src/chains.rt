@@ -156,7 +156,7 @@ fn section_sectors(slots: u32) -> u32
 }
 
 // A number, 65,535 where it is above that.
-fn capped(sectors: u32) -> u16
+pub(crate) fn capped(sectors: u32) -> u16
     ensures { sectors ≤ 65535 → result ≡ sectors }
 {
     if sectors > 0xFFFF {
@@ -179,7 +179,7 @@ fn sectors_of(runs: &[Run]) -> u32
 }
 
 // How many a run has.
-fn count_of(run: &Run) -> u32
+pub(crate) fn count_of(run: &Run) -> u32
     ensures { result ≡ run_count run.now }
 {
     match run {

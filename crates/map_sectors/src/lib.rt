@@ -2,11 +2,16 @@
 //! little memory.
 #![tactic(auto)]
 
+mod boot;
 mod chains;
+mod descriptor;
 mod map;
+mod places;
 mod planning;
 mod readers;
+mod runs;
 mod slots;
+mod table;
 
 pub use map::MapPlan;
 pub use planning::plan;

@@ -5,5 +5,10 @@ pub mod ForLemmas
 pub mod FourLemmas
 pub mod NameLemmas
 pub mod NeededLemmas
+pub mod OwnLemmas
 pub mod PlaceLemmas
+pub mod SectionLemmas
+pub mod SlotLemmas
+pub mod SystemLemmas
 pub mod TableLemmas
+pub mod TextLemmas

@@ -4,3 +4,4 @@ pub mod Kept
 pub mod Map
 pub mod Places
 pub mod Runs
+pub mod Sectors

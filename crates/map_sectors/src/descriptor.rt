@@ -7,7 +7,7 @@ ghost use Rattle.map_plan.specs.Sections.{initrd_view, main_view, planned_view};
 
 use crate::map::MapPlan;
 use crate::places::main_places;
-use arrayvec::ArrayVec;
+use crate::texts::copy_of;
 use boot_map::{Descriptor, flags};
 use lilo_conf::Section;
 use map_plan::{PlannedSection, SectionFiles};
@@ -46,7 +46,7 @@ impl MapPlan {
         ensures slots { HasEntrySlots result }
     {
         Descriptor {
-            name: name_of(name),
+            name: copy_of(name),
             flags: flags_of(planned),
             vga: vga_of(&planned.section),
             length: main_size(&planned.files),
@@ -89,15 +89,6 @@ impl MapPlan {
             None
         }
     }
-}
-
-// A name that fits its field.
-fn name_of(name: &[u8]) -> ArrayVec<u8, 15>
-    ensures { length name.now ≤ 15 → result.items ≡ name.now }
-{
-    let mut copy = ArrayVec::new();
-    let _ = copy.try_extend_from_slice(name);
-    copy
 }
 
 // The flags of a section.

@@ -5,13 +5,18 @@
 mod boot;
 mod chains;
 mod descriptor;
+mod file;
 mod map;
 mod places;
 mod planning;
 mod readers;
 mod runs;
+mod section;
+mod sector;
 mod slots;
+mod system;
 mod table;
+mod texts;
 
 pub use map::MapPlan;
 pub use planning::plan;

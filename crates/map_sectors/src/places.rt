@@ -38,7 +38,7 @@ impl MapPlan {
 
     // The slot of a place, or that of no sector where it has none.
     #[tactic(auto, unfolding(lilo_model::specs::Plan::slot_to))]
-    fn slot(&self, place: DiskSector) -> Slot
+    pub(crate) fn slot(&self, place: DiskSector) -> Slot
         ensures value { (machine : Machine) → HasGeometries machine self.now.geometries → place.disk ≤ 3
             → slot_view result ≡ slot_to (config_view self.now.config).mode machine (place_view place) }
         ensures whole { IsWritable result }
@@ -125,7 +125,7 @@ pub(crate) fn after(places: &[DiskSector], count: usize) -> &[DiskSector]
 }
 
 // One of some places, or the first sector of the first disk past their end.
-fn place_at(places: &[DiskSector], index: usize) -> DiskSector
+pub(crate) fn place_at(places: &[DiskSector], index: usize) -> DiskSector
     ensures { place_view result ≡ place_of_sector (map place_view places.now) index }
 {
     if index < places.len() {

@@ -15,7 +15,7 @@ returns-clause-value c machine has accepted on short =
     let main = c.main_places.ensures in
     let four = subst LieOnFour (sym main) (four-main (section_view c.args.planned.now.section) (map place_view c.args.places.now) on) in
     same-entry _ _ _ _ _ _ _ _ _ _ _ _ _ _ _ _ _ _ _ _ _ _
-    (c.name_of.ensures short) c.flags_of.ensures c.vga_of.ensures c.main_size.ensures c.initrd_size.ensures
+    (c.copy_of.ensures short) c.flags_of.ensures c.vga_of.ensures c.main_size.ensures c.initrd_size.ensures
     (c.slot_at.ensures.value machine has on)
     (c.slot_at-2.ensures.value machine has four ∙ ap (λ places. slot_to config.mode machine (place_of_sector places 0)) main)
     (c.initrd_slot.ensures.value machine has accepted on)

@@ -1,0 +1,3 @@
+pub mod RoomLemmas
+pub mod RoomOfLemmas
+pub mod BlockLemmas

@@ -101,16 +101,25 @@ fn text(bytes: &[u8; 5]) -> Sector {
     sector
 }
 
-/// A disk of 512 sectors with the volume.
+/// Two disks of 512 sectors: the first with the volume, the second with a boot sector.
 pub fn disks(alloc: Global) -> Result<MemDisks, AllocError> {
     let disk = MemDisk {
         sectors: 512,
         geometry: GEOMETRY,
     };
-    let mut disks = MemDisks::new(alloc, &[disk], 8, &[])?;
+    let mut disks = MemDisks::new(alloc, &[disk, disk], 8, &[])?;
     put_volume(&mut disks);
     put_kernels(&mut disks);
+    put_system(&mut disks);
     Ok(disks)
+}
+
+fn put_system(disks: &mut MemDisks) {
+    let mut sector: Sector = [0; 512];
+    put_part(&mut sector, 0x1FE, b"\x55\xAA");
+    if disks.events() == 0 && disks.size(1) > 0 {
+        disks.set(1, 0, &sector);
+    }
 }
 
 fn put_volume(disks: &mut MemDisks) {

@@ -7,3 +7,5 @@ mod booted;
 mod fixture;
 #[cfg(test)]
 mod sectors;
+#[cfg(test)]
+mod systems;

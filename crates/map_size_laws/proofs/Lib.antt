@@ -1,0 +1,3 @@
+mod Files
+mod Sections
+mod Whole

@@ -58,8 +58,9 @@ SparedLaw =
 
 -- ---- Clear again
 
--- each named inode of an image refers only to what it referred to in another one, and is of the same kind there
+-- each named inode of an image is named in another one, refers only to what it referred to there, and is of the same kind
 pub record GainsNothing (volume : Volume) (old new : Image) : Type 0 where
+  pub named : (number : ℕ) → Named volume.layout (parts_of volume new) number → Named volume.layout (parts_of volume old) number
   pub refers : (number : ℕ) (at : Pointer) (zone : ℕ) → Refers volume.layout (parts_of volume new) number at zone
       → Refers volume.layout (parts_of volume old) number at zone
   pub kinds : (number : ℕ) → Named volume.layout (parts_of volume new) number

@@ -1,1 +1,1 @@
-mod Holder
+pub mod Holder

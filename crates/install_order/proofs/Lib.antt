@@ -1,2 +1,5 @@
 pub mod RefuseLemmas
 pub mod ExamineLemmas
+pub mod BeginLemmas
+pub mod SurveyedLemmas
+pub mod AnswerLemmas

@@ -52,6 +52,11 @@ abbrev pub old_refusal : OldMapFault → InstallFault
 old_refusal olds.Device = faults.Device
 old_refusal olds.Memory = faults.Memory
 
+abbrev pub write_refusal : WriteFault → InstallFault
+write_refusal writes.Device = faults.Device
+write_refusal writes.Memory = faults.Memory
+write_refusal other = faults.Write other
+
 -- ---- when they come
 
 -- a survey's refusal is the model's

@@ -1,2 +1,5 @@
 pub mod Faults
 pub mod Checks
+pub mod View
+pub mod Begins
+pub mod Answers

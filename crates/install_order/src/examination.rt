@@ -1,5 +1,5 @@
 // What an installation finds before it writes anything.
-ghost use Rattle.std.specs.Prelude.{◌≡◌, ◌<◌, ◌≤◌, List, is_some, IfOk, IfErr, IfSome};
+ghost use Rattle.std.specs.Prelude.{◌≡◌, ◌<◌, ◌≤◌, ◌&&◌, List, is_some, IfOk, IfErr, IfSome};
 ghost use Rattle.disk_trait.specs.Past.{Told};
 ghost use Rattle.lilo_model.specs.MinixNames.{IsSound};
 ghost use Rattle.lilo_model.specs.MinixParts.{parts_of};
@@ -14,7 +14,7 @@ ghost use Rattle.minix_zones.specs.View.{span_view};
 ghost use Rattle.minix_zones.specs.Volume.{volume_view, past_of, sizes_of, faults_of, SameVolume};
 ghost use Rattle.sector_address.specs.Machine.{OnDisks};
 ghost use Rattle.install_apart.specs.Own.{AreInside, AreOwnTwins, AreReplaceable};
-ghost use Rattle.install_settle.specs.Found.{AreFound, IsCopyLeft, IsLeft};
+ghost use Rattle.install_settle.specs.Found.{AreFound, IsCopyLeft, IsLeft, has_copy};
 ghost use Rattle.old_map.specs.Clear.{IsFound};
 ghost use Rattle.old_map.specs.Old.{IsOldMap};
 ghost use Rattle.install_order.specs.Checks.{IsLaid, GivesApart, GivesPresent, GivesRest, GivesExamined};
@@ -125,6 +125,7 @@ fn find_rest<D: Disks>(
     ensures left { IfOk result (λ found.
         IsLeft (kind_view volume.old.layout.kind) found.own.map found.settling.map) }
     ensures copy { IfOk result (λ found. IsCopyLeft found.own.backup found.settling.copy) }
+    ensures copies { IfOk result (λ found. found.settling.copy ≡ (forced && has_copy found.own.backup)) }
     ensures cause { IfErr result (HasInstallCause (faults_of volume.old) (faults_of volume.new)) }
     ensures later { faults_of volume.old ≤ faults_of volume.new }
     ensures same { SameVolume volume.old volume.new }
@@ -169,6 +170,7 @@ pub fn examine<D: Disks>(
     ensures left { IfOk result (λ found.
         IsLeft (kind_view volume.old.layout.kind) found.own.map found.settling.map) }
     ensures copy { IfOk result (λ found. IsCopyLeft found.own.backup found.settling.copy) }
+    ensures copies { IfOk result (λ found. found.settling.copy ≡ (is_some config.now.force_backup && has_copy found.own.backup)) }
     ensures cause { IfErr result (HasInstallCause (faults_of volume.old) (faults_of volume.new)) }
     ensures later { faults_of volume.old ≤ faults_of volume.new }
     ensures same { SameVolume volume.old volume.new }

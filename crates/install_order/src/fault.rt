@@ -1,11 +1,12 @@
 // Refusals.
 ghost use Rattle.std.specs.Prelude.{◌≡◌, ℕ};
 ghost use Rattle.minix_survey.specs.View.{HasSurveyCause};
+ghost use Rattle.minix_write.specs.View.{HasWriteCause};
 ghost use Rattle.install_apart.specs.Apart.{HasApartCause};
 ghost use Rattle.install_apart.specs.Faults.{HasNameCause};
 ghost use Rattle.install_settle.specs.Found.{HasSettleCause};
 ghost use Rattle.old_map.specs.Old.{HasOldMapCause};
-ghost use Rattle.install_order.specs.Faults.{HasInstallCause, survey_refusal, apart_refusal, name_refusal, settle_refusal, old_refusal};
+ghost use Rattle.install_order.specs.Faults.{HasInstallCause, survey_refusal, apart_refusal, name_refusal, settle_refusal, old_refusal, write_refusal};
 
 use conf_settings::Opt;
 use conf_text::Text;
@@ -90,5 +91,17 @@ pub(crate) fn old_refusal(fault: OldMapFault) -> InstallFault
     match fault {
         OldMapFault::Device => InstallFault::Device,
         OldMapFault::Memory => InstallFault::Memory,
+    }
+}
+
+/// That of a writer of files.
+pub(crate) fn write_refusal(fault: WriteFault) -> InstallFault
+    ensures is { result ≡ write_refusal fault }
+    ensures cause { (before now : ℕ) → HasWriteCause before now fault → HasInstallCause before now result }
+{
+    match fault {
+        WriteFault::Device => InstallFault::Device,
+        WriteFault::Memory => InstallFault::Memory,
+        fault => InstallFault::Write(fault),
     }
 }

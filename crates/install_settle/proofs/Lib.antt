@@ -5,3 +5,5 @@ pub mod HeldLemmas
 pub mod WriteLemmas
 pub mod StepLemmas
 pub mod SettleLemmas
+pub mod FlushLemmas
+pub mod GainLemmas

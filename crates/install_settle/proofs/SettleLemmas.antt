@@ -42,8 +42,8 @@ use Rattle.install_apart.specs.Own.{IsBackup, IsReplaceable}
 use Rattle.install_apart.specs.declared.name.NamePair.{NamePair}
 use Rattle.install_apart.specs.declared.name.OwnName.{OwnName}
 use Rattle.install_apart.specs.declared.own.OwnNames.{OwnNames}
-use Rattle.install_laws.specs.Writes.{IsApartSector, WritesOnly}
-use Rattle.install_laws.proofs.Writes.{writes_only_law}
+use Rattle.install_begin_laws.specs.Laws.{GainsNothing}
+use Rattle.install_laws.specs.Writes.{IsApartSector}
 use Rattle.install_settle.specs.Found.{AreFound, AreNamesNow, MaySettle, IsLeft, IsApartCopy, is_there, has_copy}
 use Rattle.install_settle.specs.Settles.{HasNames, finishes, stale_of, with_map_settled, with_all_settled, AreSettling, KeepsHeld, IsSettling, IsSettledIn, Settles}
 use Rattle.install_settle.specs.At.{IsAt}
@@ -54,7 +54,8 @@ use Rattle.install_settle.specs.declared.settling.Settling.{Settling}
 use Rattle.install_settle.proofs.HeldLemmas.{held-same, held-gone, held-both, held-foreign}
 use Rattle.install_settle.proofs.LeadLemmas.{tilde-at, plain-at, held-is}
 use Rattle.install_settle.proofs.NamesLemmas.{absent-same, with-as, names-with, names-moved}
-use Rattle.install_settle.proofs.StepLemmas.{leaves-untold, removable-file}
+use Rattle.install_settle.proofs.GainLemmas.{removable-file, gains_none, gains_join}
+use Rattle.install_settle.proofs.StepLemmas.{leaves-untold}
 use Rattle.install_settle.proofs.WriteLemmas.{apart-not}
 
 -- ---- what was answered
@@ -97,6 +98,7 @@ does_nothing volume path quiet = by (told_or_not (past_of volume))
       left = λ told. refl;
       done = λ told. refl;
       others = λ told place not. not_written_none (past_of volume) place.disk place.sector;
+      gains = λ told. gains_none (volume_view volume) (now (past_of volume));
       device = λ told. tt;
       goes_on = goes_on_unchanged volume volume same (omega arith);
       kept = keeps_same volume volume same;
@@ -444,16 +446,14 @@ module _ {D : Type 0} {disks : Ghosts D} (old mid : Volume D disks) (names : mod
     apart-map : IsTold (past_of old) → (d s : ℕ) → IsApartSector View d s → NotWritten (past_of old) (past_of mid) d s
     apart-map told d s apart = map.others told (record { disk = d; sector = s }) (apart-not View Was (may told).sound d s apart)
 
-    writes-map : IsTold (past_of old) → WritesOnly View (λ zone. false) (past_of old) (past_of mid)
-    writes-map told = writes_only_law View (λ zone. false) (past_of old) (past_of mid) quiet (map.others told)
-
     settles-by : OnOk r (IsTold (past_of old) → IsSettledIn View Was names forced settling (now (past_of mid))) → Settles old mid names forced settling r
     settles-by done = record {
-      any_moment = any-map;
+      any_moment = λ q. any-map;
       left = λ told. map-left View Was names forced settling (facts told) (now (past_of mid)) (map.left told);
       done = λ told. on_ok r _ _ done (λ is. is told);
       apart = apart-map;
-      writes = λ told copy. writes-map told;
+      others = λ told copy. map.others told;
+      gains = map.gains;
       device = map.device;
       goes_on = map.goes_on;
       kept = map.kept;
@@ -524,12 +524,14 @@ module _ {D : Type 0} {disks : Ghosts D} (old mid : Volume D disks) (names : mod
               let mid-told = map.goes_on.told told in
               let sound-mid = (somewhere_mid mid-told).sound in
               record {
-                any_moment = leaves_join (past_of old) (past_of mid) (past_of new) _ (any-map (Ok tt) map) (leaves_weaker (past_of mid) (past_of new) _ _ step.any_moment left-in);
+                any_moment = λ q. leaves_join (past_of old) (past_of mid) (past_of new) _ (any-map (Ok tt) map) (leaves_weaker (past_of mid) (past_of new) _ _ step.any_moment left-in);
                 left = λ t. left-in (now (past_of new)) (step.left mid-told);
                 done = λ t. on_ok result _ _ (step.done mid-told) (done-in (now (past_of new)));
                 apart = λ t d s apart. not_written_join (past_of old) (past_of mid) (past_of new) d s (apart-map (Ok tt) map t d s apart)
                     (step.others mid-told (record { disk = d; sector = s }) (apart-not (volume_view mid) (now (past_of mid)) sound-mid d s (subst (λ (v : volumes.Volume). IsApartSector v d s) (sym view-is) apart)));
-                writes = λ t off. absurd (clash off);
+                others = λ t off. absurd (clash off);
+                gains = λ t. on_ok result _ _ (step.gains mid-told) (λ next. gains_join View Was (now (past_of mid)) (now (past_of new)) (map.gains t)
+                    (subst (λ (v : volumes.Volume). GainsNothing v (now (past_of mid)) (now (past_of new))) view-is next));
                 device = λ t. cause_after old mid new Device result map.goes_on.later (step.device mid-told);
                 goes_on = goes_on_join disks old.disks.now mid.disks.now new.disks.now map.goes_on step.goes_on;
                 kept = keeps_join old mid new map.kept step.kept;
@@ -542,11 +544,12 @@ module _ {D : Type 0} {disks : Ghosts D} (old mid : Volume D disks) (names : mod
         untold none =
             let step = removes [] (λ t. absurd (none (map.goes_on.told_before t))) in
             record {
-              any_moment = leaves-untold (past_of old) (past_of new) _ none (λ t. none (map.goes_on.told_before (step.goes_on.told_before t)));
+              any_moment = λ q. leaves-untold (past_of old) (past_of new) _ none (λ t. none (map.goes_on.told_before (step.goes_on.told_before t)));
               left = λ t. absurd (none t);
               done = λ t. absurd (none t);
               apart = λ t. absurd (none t);
-              writes = λ t. absurd (none t);
+              others = λ t. absurd (none t);
+              gains = λ t. absurd (none t);
               device = λ t. absurd (none t);
               goes_on = goes_on_join disks old.disks.now mid.disks.now new.disks.now map.goes_on step.goes_on;
               kept = keeps_join old mid new map.kept step.kept;

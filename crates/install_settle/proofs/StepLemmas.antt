@@ -1,5 +1,5 @@
 -- A name that is removed, and a rename that is finished.
-use Rattle.std.proofs.Common.{◌≡◌, ◌≤◌, ◌==◌, ◌&&◌, ◌⊎◌, ℕ, Bool, true, false, not, if◌then◌else◌, List, ◌∷◌, ◌++◌, length, codes, Option, Some, None, Result, Ok, Err, refl, sym, ◌∙◌, ap, subst, inl, inr, arith, length-append}
+use Rattle.std.proofs.Common.{◌≡◌, ◌≤◌, ◌==◌, ◌&&◌, ◌⊎◌, ℕ, Bool, true, false, not, if◌then◌else◌, List, ◌∷◌, ◌++◌, length, codes, Option, Some, None, Result, Ok, Err, OnOk, refl, sym, ◌∙◌, ap, subst, inl, inr, arith, length-append}
 use Rattle.std.specs.Prelude.{IfSome, is_some, nat_lt}
 use Rattle.std.proofs.lemmas.Bool.Decides.{nat_tests}
 use Rattle.disk_trait.specs.declared.disks.Disks.{Ghosts}
@@ -8,28 +8,32 @@ use Rattle.disk_trait.specs.Moments.{IsTold, MayLeave, now, LeavesOnly}
 use Rattle.disk_trait.proofs.MomentLemmas.{leaves_none, told_or_not}
 use Rattle.lilo_model.specs.MinixLayout.{Inode, most_links, name_size}
 use Rattle.lilo_model.specs.MinixNames.{reached, Named, IsSound}
-use Rattle.lilo_model.specs.MinixParts.{Parts, is_file}
+use Rattle.lilo_model.specs.MinixParts as volumes
+use Rattle.lilo_model.specs.MinixParts.{Parts, parts_of, is_file}
 use Rattle.lilo_model.specs.NamePlaces.{with_tilde}
 use Rattle.minix_layout.specs.View.{kind_view, super_view, inode_view}
 use Rattle.minix_names.specs.Places.{number_found}
 use Rattle.minix_remove.specs.Moves.{IsMoving}
-use Rattle.minix_remove.specs.Removed.{Removes, AnswersRight}
-use Rattle.minix_remove.specs.Renamed.{Renames, RenameAnswersRight, rename_refusal, moved_refusal, former_refusal, links_refusal}
+use Rattle.minix_remove.specs.Removed.{GainsNoZone, RemovesFile, Removes, AnswersRight}
+use Rattle.minix_remove.specs.Renamed.{Renames, RenamesFiles, RenameAnswersRight, rename_refusal, moved_refusal, former_refusal, links_refusal}
 use Rattle.minix_remove.specs.Target.{refusal_of}
-use Rattle.minix_remove_laws.specs.Held.{held_name, is_removable}
-use Rattle.minix_sees_laws.specs.Tree.{HasTreeMoved}
+use Rattle.minix_remove_laws.specs.Held.{held_name}
+use Rattle.minix_remove_laws.specs.Files.{KeepsFiles}
+use Rattle.minix_sees_laws.specs.Tree.{HasTreeWith, HasTreeMoved}
 use Rattle.minix_steps.specs.Written.{parts_now}
 use Rattle.minix_tree.specs.declared.stat.Stat.{Stat}
 use Rattle.minix_write.specs.declared.write_fault.WriteFault.{WriteFault}
 use Rattle.minix_write.specs.declared.write_fault.WriteFault.TheVariants.{Device}
-use Rattle.minix_zones.specs.Volume.{volume_view, past_of, HasDeviceCause}
+use Rattle.minix_zones.specs.Volume.{volume_view, past_of, KeepsVolume, HasDeviceCause}
 use Rattle.minix_zones.specs.declared.volume.Volume.{Volume}
+use Rattle.install_begin_laws.specs.Laws.{GainsNothing}
 use Rattle.install_apart.specs.Names.{IsPair, AreTwins, is_replaceable, is_file_found}
 use Rattle.install_apart.specs.declared.name.NamePair.{NamePair}
 use Rattle.install_apart.specs.declared.name.OwnName.{OwnName}
 use Rattle.install_settle.specs.Found.{is_there, has_link_by, has_link_left}
 use Rattle.install_settle.specs.At.{IsAt}
 use Rattle.install_settle.specs.Steps.{Does, DoesRemove}
+use Rattle.install_settle.proofs.GainLemmas.{removable-file, gains_removed, gains_kept, named_gone, named_moved}
 use Rattle.install_settle.proofs.LeadLemmas.{tilde-at, plain-at, held-short}
 use Rattle.install_settle.proofs.WriteLemmas.{off-removed, off-renamed}
 
@@ -59,8 +63,11 @@ file-at parts own mode some file = by own.there refl mode some file
     by None is mode some file = absurd (cc)
     by (Some stat) is mode some file = record { stat = stat; there = is; regular = file-mode (inode_view stat.node) (parts.node stat.inode) mode file }
 
-pub removable-file : (inode : Inode) → is_file inode ≡ true → is_removable inode ≡ true
-removable-file inode is = rw is refl
+view-kept : {D : Type 0} {disks : Ghosts D} (old new : Volume D disks) → KeepsVolume old new → parts_now new ≡ parts_of (volume_view old) (now (past_of new))
+view-kept old new kept = ap (λ (v : volumes.Volume). parts_of v (now (past_of new))) (view-same kept)
+  where
+    view-same : KeepsVolume old new → volume_view new ≡ volume_view old
+    view-same kept = rw (kept.same_span, kept.same_layout) refl
 
 module _ {D : Type 0} {disks : Ghosts D} (old new : Volume D disks) where
   -- ---- a name is removed
@@ -86,6 +93,22 @@ module _ {D : Type 0} {disks : Ghosts D} (old new : Volume D disks) where
           let is = refused.is in
           cc
 
+      parts-same : parts_now new ≡ parts_of (volume_view old) (now (past_of new))
+      parts-same = view-kept old new removes.kept
+
+      -- no inode refers to another zone
+      gains-told : (t : IsTold (past_of old)) (r : Result (Unit {0}) WriteFault) → OnOk r (HasTreeWith (volume_view old) (now (past_of old)) (now (past_of new)) (own.name ∷ at.above) None None)
+          → OnOk r ((number : ℕ) → held_name (super_view old.layout) (parts_now old) own.directory own.name ≡ Some number → RemovesFile (super_view old.layout) (parts_now old) (parts_now new) own.directory number)
+          → OnOk r (GainsNoZone (super_view old.layout) (parts_now old) (parts_now new) own.directory)
+          → OnOk r (GainsNothing (volume_view old) (now (past_of old)) (now (past_of new)))
+      gains-told t (Ok done) tree file zones =
+          gains_removed (volume_view old) (now (past_of old)) (now (past_of new)) (sound t) own.directory (record { path = at.above; leads = at.leads })
+          (named_gone (volume_view old) (now (past_of old)) (now (past_of new)) (own.name ∷ at.above) tree) tree.tree.keeps
+          (subst (λ (n : Parts). GainsNoZone (super_view old.layout) (parts_now old) n own.directory) parts-same zones)
+          found.stat.inode found.regular
+          (subst (λ (n : Parts). RemovesFile (super_view old.layout) (parts_now old) n own.directory found.stat.inode) parts-same (file found.stat.inode held))
+      gains-told t (Err fault) tree file zones = tt
+
       does-told : DoesRemove old new path result
       does-told =
           let leads = removes.leads at.above (λ t. at.leads) in
@@ -96,6 +119,7 @@ module _ {D : Type 0} {disks : Ghosts D} (old new : Volume D disks) where
             done = leads.done;
             others = λ t place not. removes.others t found.stat.inode held place.disk place.sector
                 (off-removed old (sound t) own.directory (record { path = at.above; leads = at.leads }) at.directory place.disk place.sector not found.stat.inode named);
+            gains = λ t. gains-told t result (leads.done t) (removes.file t) (removes.gains t);
             device = λ t. answers-by result (removes.answers t);
             goes_on = removes.goes_on;
             kept = removes.kept;
@@ -111,6 +135,7 @@ module _ {D : Type 0} {disks : Ghosts D} (old new : Volume D disks) where
           left = λ told. absurd (none told);
           done = λ told. absurd (none told);
           others = λ told place not. absurd (none told);
+          gains = λ told. absurd (none told);
           device = λ told. absurd (none told);
           goes_on = removes.goes_on;
           kept = removes.kept;
@@ -199,6 +224,39 @@ module _ {D : Type 0} {disks : Ghosts D} (old new : Volume D disks) where
       renamed-by (Err fault) (inl device) = device
       renamed-by (Err fault) (inr refused) = let is = refused.is in let none = not-refused in cc
 
+      parts-same' : parts_now new ≡ parts_of (volume_view old) (now (past_of new))
+      parts-same' = view-kept old new renames.moves.kept
+
+      renamed-files : (former : Option ℕ) → RenamesFiles (super_view old.layout) (parts_now old) (parts_now new) pair.tilde.directory former → former ≡ number_found pair.plain.there
+          → (sound' : IsSound (volume_view old) (now (past_of old))) → HasTreeMoved (volume_view old) (now (past_of old)) (now (past_of new)) (pair.tilde.name ∷ one.above) (pair.plain.name ∷ one.above)
+          → GainsNoZone (super_view old.layout) (parts_now old) (parts_now new) pair.tilde.directory → GainsNothing (volume_view old) (now (past_of old)) (now (past_of new))
+      renamed-files None files is sound' tree zones =
+          gains_kept (volume_view old) (now (past_of old)) (now (past_of new)) sound' pair.tilde.directory (record { path = one.above; leads = leads })
+          (named_moved (volume_view old) (now (past_of old)) (now (past_of new)) (pair.tilde.name ∷ one.above) (pair.plain.name ∷ one.above) tree) tree.tree.keeps
+          (subst (λ (n : Parts). GainsNoZone (super_view old.layout) (parts_now old) n pair.tilde.directory) parts-same' zones)
+          (subst (λ (n : Parts). KeepsFiles (super_view old.layout) (parts_now old) n pair.tilde.directory) parts-same' files)
+      renamed-files (Some former) files is sound' tree zones =
+          gains_removed (volume_view old) (now (past_of old)) (now (past_of new)) sound' pair.tilde.directory (record { path = one.above; leads = leads })
+          (named_moved (volume_view old) (now (past_of old)) (now (past_of new)) (pair.tilde.name ∷ one.above) (pair.plain.name ∷ one.above) tree) tree.tree.keeps
+          (subst (λ (n : Parts). GainsNoZone (super_view old.layout) (parts_now old) n pair.tilde.directory) parts-same' zones)
+          former (former-file pair.plain.there (sym is) one.mode plain)
+          (subst (λ (n : Parts). RemovesFile (super_view old.layout) (parts_now old) n pair.tilde.directory former) parts-same' files)
+        where
+          former-file : (there : Option Stat) → number_found there ≡ Some former → IfSome there (λ stat. (inode_view stat.node).mode ≡ ((parts_now old).node stat.inode).mode) → is_file_found there ≡ true
+              → is_file ((parts_now old).node former) ≡ true
+          former-file None found mode file = cc
+          former-file (Some stat) found mode file =
+              let same : stat.inode ≡ former = cc in
+              subst (λ (n : ℕ). is_file ((parts_now old).node n) ≡ true) same (file-mode (inode_view stat.node) ((parts_now old).node stat.inode) mode file)
+
+      moved-gains : (t : IsTold (past_of old)) (r : Result (Unit {0}) WriteFault)
+          → OnOk r (HasTreeMoved (volume_view old) (now (past_of old)) (now (past_of new)) (pair.tilde.name ∷ one.above) (pair.plain.name ∷ one.above))
+          → OnOk r (RenamesFiles (super_view old.layout) (parts_now old) (parts_now new) pair.tilde.directory (held_name (super_view old.layout) (parts_now old) pair.tilde.directory pair.plain.name))
+          → OnOk r (GainsNoZone (super_view old.layout) (parts_now old) (parts_now new) pair.tilde.directory)
+          → OnOk r (GainsNothing (volume_view old) (now (past_of old)) (now (past_of new)))
+      moved-gains t (Ok done) tree files zones = renamed-files (held_name (super_view old.layout) (parts_now old) pair.tilde.directory pair.plain.name) files held-to (sound t) tree zones
+      moved-gains t (Err fault) tree files zones = tt
+
       moves-told : DoesFinish path result
       moves-told =
           let moves = renames.moves.moves one.above (λ t. leads) in
@@ -211,6 +269,7 @@ module _ {D : Type 0} {disks : Ghosts D} (old new : Volume D disks) where
             done = moves.done;
             others = λ t place not. renames.moves.others t place.disk place.sector
                 (off-renamed old (sound t) pair.tilde.directory (record { path = one.above; leads = leads }) other.directory place.disk place.sector not pair.tilde.name pair.plain.name named-from named-to);
+            gains = λ t. moved-gains t result (moves.done t) (renames.moves.files t) (renames.moves.gains t);
             device = λ t. renamed-by result (renames.answers t);
             goes_on = renames.moves.goes_on;
             kept = renames.moves.kept;
@@ -226,6 +285,7 @@ module _ {D : Type 0} {disks : Ghosts D} (old new : Volume D disks) where
           left = λ told. absurd (none told);
           done = λ told. absurd (none told);
           others = λ told place not. absurd (none told);
+          gains = λ told. absurd (none told);
           device = λ told. absurd (none told);
           goes_on = renames.moves.goes_on;
           kept = renames.moves.kept;

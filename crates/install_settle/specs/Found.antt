@@ -1,5 +1,5 @@
 -- What there is to settle, by what was found at the names that an installation replaces (a rule of this project's own).
-use Rattle.std.specs.Prelude.{◌≡◌, ◌≢◌, ℕ, IfSome, nat_lt, Bool, true, false, ◌&&◌, is_some, List, Option, Some, None, Result, Ok, Err}
+use Rattle.std.specs.Prelude.{◌≡◌, ◌≢◌, ℕ, IfSome, nat_lt, Bool, true, false, ◌&&◌, ◌||◌, is_some, List, Option, Some, None, Result, Ok, Err}
 use Rattle.disk_trait.specs.declared.disks.Disks.{Ghosts}
 use Rattle.disk_trait.specs.Moments.{now}
 use Rattle.lilo_model.specs.Disks.{Image, Machine, Span}
@@ -85,6 +85,15 @@ abbrev pub IsCopyLeft : Option NamePair → Bool → Type 0
 IsCopyLeft None copy = copy ≡ false
 IsCopyLeft (Some pair) false = Unit {0}
 IsCopyLeft (Some pair) true = (is_there pair.tilde ≡ true) × (is_replaceable pair.tilde ≡ true)
+
+-- whether anything is to be done
+abbrev pub is_some_left : LeftMap → Bool
+is_some_left Absent = false
+is_some_left Finish = true
+is_some_left Remove = true
+
+abbrev pub is_anything : Settling → Bool
+is_anything settling = is_some_left settling.map || settling.copy
 
 -- the backup's name with `~` is neither of the map's
 abbrev pub IsApartCopy : model.OwnNames → Type 0

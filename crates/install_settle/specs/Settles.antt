@@ -3,9 +3,9 @@
 use Rattle.std.specs.Prelude.{◌≡◌, ◌⊎◌, ℕ, Bool, true, false, if◌then◌else◌, List, Option, None, Result, OnOk}
 use Rattle.disk_trait.specs.declared.disks.Disks.{Ghosts}
 use Rattle.disk_trait.specs.Calls.{GoesOn}
-use Rattle.disk_trait.specs.Moments.{IsTold, now, LeavesOnly}
+use Rattle.disk_trait.specs.Moments.{IsTold, now, IsQuiet, LeavesOnly}
 use Rattle.disk_trait.specs.NotWritten.{NotWritten}
-use Rattle.lilo_model.specs.Disks.{Image, Machine, Span}
+use Rattle.lilo_model.specs.Disks.{Image, Machine, Span, DiskSector}
 use Rattle.lilo_model.specs.MinixParts as parts
 use Rattle.lilo_model.specs.MinixNames.{names_in, IsSound}
 use Rattle.lilo_model.specs.MinixFindNames.{Names}
@@ -16,8 +16,9 @@ use Rattle.minix_write.specs.declared.write_fault.WriteFault.{WriteFault}
 use Rattle.minix_write.specs.declared.write_fault.WriteFault.TheVariants.{Device}
 use Rattle.minix_zones.specs.Volume.{volume_view, past_of, KeepsVolume, HasDeviceCause}
 use Rattle.minix_zones.specs.declared.volume.Volume.{Volume}
+use Rattle.install_begin_laws.specs.Laws.{GainsNothing}
 use Rattle.install_laws.specs.Boots.{HasBootOf}
-use Rattle.install_laws.specs.Writes.{IsApartSector, WritesOnly}
+use Rattle.install_laws.specs.Writes.{IsApartSector, IsWritable}
 use Rattle.install_settle.specs.declared.settling.LeftMap.{LeftMap}
 use Rattle.install_settle.specs.declared.settling.LeftMap.TheVariants.{Absent, Finish, Remove}
 use Rattle.install_settle.specs.declared.settling.Settling.{Settling}
@@ -89,14 +90,17 @@ pub record IsSettledIn (volume : parts.Volume) (old : Image) (names : model.OwnN
 
 -- A call settled what was left behind. One that was refused, as the disk failed, has done a part of it.
 pub record Settles {D : Type 0} {disks : Ghosts D} (old new : Volume D disks) (names : model.OwnNames) (forced : Bool) (settling : Settling) (result : Result (Unit {0}) WriteFault) : Type 0 where
-  -- whatever a stop leaves, at any moment of it, and what the disks hold now
-  pub any_moment : LeavesOnly (past_of old) (past_of new) (IsSettling (volume_view old) (now (past_of old)) names forced settling)
+  -- whatever a stop leaves, at any moment of it from a quiet one on, and what the disks hold now
+  pub any_moment : IsQuiet (past_of old) → LeavesOnly (past_of old) (past_of new) (IsSettling (volume_view old) (now (past_of old)) names forced settling)
   pub left : IsTold (past_of old) → IsSettling (volume_view old) (now (past_of old)) names forced settling (now (past_of new))
   pub done : IsTold (past_of old) → OnOk result (IsSettledIn (volume_view old) (now (past_of old)) names forced settling (now (past_of new)))
   -- It writes no sector that isn't the volume's, and none of its block 0. Where no copy is removed it writes only what a
   -- writer of files may, in no zone that wasn't a directory's.
   pub apart : IsTold (past_of old) → (d s : ℕ) → IsApartSector (volume_view old) d s → NotWritten (past_of old) (past_of new) d s
-  pub writes : IsTold (past_of old) → settling.copy ≡ false → WritesOnly (volume_view old) (λ zone. false) (past_of old) (past_of new)
+  pub others : IsTold (past_of old) → settling.copy ≡ false → (place : DiskSector)
+      → (IsWritable (volume_view old) (now (past_of old)) (λ zone. false) place → ⊥) → NotWritten (past_of old) (past_of new) place.disk place.sector
+  -- Once it is done no inode refers to another zone than before.
+  pub gains : IsTold (past_of old) → OnOk result (GainsNothing (volume_view old) (now (past_of old)) (now (past_of new)))
   -- when it is refused, and what stays
   pub device : IsTold (past_of old) → HasDeviceCause old new Device result
   pub goes_on : GoesOn disks old.disks.now new.disks.now

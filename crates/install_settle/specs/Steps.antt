@@ -21,6 +21,7 @@ use Rattle.minix_zones.specs.declared.volume.Volume.{Volume}
 use Rattle.install_apart.specs.Names.{IsPair}
 use Rattle.install_apart.specs.declared.name.NamePair.{NamePair}
 use Rattle.install_apart.specs.declared.name.OwnName.{OwnName}
+use Rattle.install_begin_laws.specs.Laws.{GainsNothing}
 use Rattle.install_laws.specs.Writes.{IsWritable}
 use Rattle.install_settle.specs.At.{IsAt}
 use Rattle.install_settle.specs.declared.settling.LeftMap.{LeftMap}
@@ -42,14 +43,15 @@ pub record IsSomePair {D : Type 0} {disks : Ghosts D} (volume : Volume D disks) 
 
 -- ---- a step
 
--- A call left only images that have P, at any moment, and once it is done one that has Q. It wrote only what a writer of
--- files may, in no zone that wasn't a directory's, and it was refused as the disk failed.
+-- A call left only images that have P, at any moment, and once it is done one that has Q, in which no inode refers to another
+-- zone. It wrote only what a writer of files may, in no zone that wasn't a directory's, and it was refused as the disk failed.
 pub record Does {D : Type 0} {disks : Ghosts D} (old new : Volume D disks) (P Q : Image → Type 0) (result : Result (Unit {0}) WriteFault) : Type 0 where
   pub any_moment : LeavesOnly (past_of old) (past_of new) P
   pub left : IsTold (past_of old) → P (now (past_of new))
   pub done : IsTold (past_of old) → OnOk result (Q (now (past_of new)))
   pub others : IsTold (past_of old) → (place : DiskSector) → (IsWritable (volume_view old) (now (past_of old)) (λ zone. false) place → ⊥)
       → NotWritten (past_of old) (past_of new) place.disk place.sector
+  pub gains : IsTold (past_of old) → OnOk result (GainsNothing (volume_view old) (now (past_of old)) (now (past_of new)))
   pub device : IsTold (past_of old) → HasDeviceCause old new Device result
   pub goes_on : GoesOn disks old.disks.now new.disks.now
   pub kept : KeepsVolume old new

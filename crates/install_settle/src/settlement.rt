@@ -18,7 +18,7 @@ use crate::settling::{LeftMap, Settling};
 use disk_trait::Disks;
 use install_apart::{NamePair, OwnName, OwnNames};
 use minix_remove::{remove, replace_name};
-use minix_write::WriteHalt;
+use minix_write::{WriteFault, WriteHalt};
 use minix_zones::Volume;
 
 // Removes a name of a regular file that is there.
@@ -101,9 +101,40 @@ fn settle_map<'d, D: Disks>(
     }
 }
 
-/// Settles what was left behind, on a sound volume and from a quiet moment on, by the names that an installation replaces
-/// and what was found there: the rename is finished, or `map~` is removed; then a stale copy of a forced backup is
-/// removed. Everything is made durable in this order. Where there is nothing to settle, nothing is written. No memory is
+// Settles what was left behind, from a quiet moment on: the map's names, then a stale copy of a forced backup.
+fn settle_quiet<'d, D: Disks>(
+    volume: Volume<'d, D>,
+    own: &OwnNames,
+    settling: Settling,
+) -> Result<Volume<'d, D>, WriteHalt<'d, D>>
+    requires inside { AreInside volume.layout own.now }
+    requires twins { AreTwins own.now.map }
+    requires called { IsFileName own.now.map.plain.name }
+    requires left { IsLeft (kind_view volume.layout.kind) own.now.map settling.map }
+    requires copy { IsCopyLeft own.now.backup settling.copy }
+    requires files { IsReplaceable true own.now.map }
+    requires quiet { IsQuiet (past_of volume) }
+    requires found { IsTold (past_of volume) → AreNamesNow volume own.now }
+    ensures settled { IfOk result (λ new. (names : model.OwnNames) (forced : Bool)
+        → (IsTold (past_of volume.entry) → MaySettle volume.entry names forced own.now settling)
+        → Settles volume.entry new names forced settling (Ok tt)) }
+    ensures quiet { IfOk result (λ new. IsQuiet (past_of new)) }
+    ensures halted { IfErr result (λ halt. (names : model.OwnNames) (forced : Bool)
+        → (IsTold (past_of volume.entry) → MaySettle volume.entry names forced own.now settling)
+        → Settles volume.entry halt.volume names forced settling (Err halt.fault)) }
+    ensures cause { IfErr result (λ halt.
+        HasWriteCause (faults_of volume.entry) (faults_of halt.volume) halt.fault) }
+{
+    let volume = settle_map(volume, &own.map, settling.map)?;
+    match &own.backup {
+        Some(pair) if settling.copy => remove_name(volume, &pair.tilde),
+        _ => Ok(volume),
+    }
+}
+
+/// Settles what was left behind, on a sound volume, by the names that an installation replaces and what was found there: all that
+/// was written before is made durable; the rename is finished, or `map~` is removed; then a stale copy of a forced backup
+/// is removed. Everything is made durable in this order. Where there is nothing to settle, nothing is done. No memory is
 /// taken.
 ///
 /// # Errors
@@ -121,23 +152,28 @@ pub fn settle<'d, D: Disks>(
     requires left { IsLeft (kind_view volume.layout.kind) own.now.map settling.map }
     requires copy { IsCopyLeft own.now.backup settling.copy }
     requires files { IsReplaceable true own.now.map }
-    requires quiet { IsQuiet (past_of volume) }
     requires found { IsTold (past_of volume) → AreNamesNow volume own.now }
 
     // What is done.
     ensures settled { IfOk result (λ new. (names : model.OwnNames) (forced : Bool)
         → (IsTold (past_of volume.entry) → MaySettle volume.entry names forced own.now settling)
         → Settles volume.entry new names forced settling (Ok tt)) }
-    ensures quiet { IfOk result (λ new. IsQuiet (past_of new)) }
+    ensures quiet { IsQuiet (past_of volume.entry) → IfOk result (λ new. IsQuiet (past_of new)) }
     ensures halted { IfErr result (λ halt. (names : model.OwnNames) (forced : Bool)
         → (IsTold (past_of volume.entry) → MaySettle volume.entry names forced own.now settling)
         → Settles volume.entry halt.volume names forced settling (Err halt.fault)) }
     ensures cause { IfErr result (λ halt.
         HasWriteCause (faults_of volume.entry) (faults_of halt.volume) halt.fault) }
 {
-    let volume = settle_map(volume, &own.map, settling.map)?;
-    match &own.backup {
-        Some(pair) if settling.copy => remove_name(volume, &pair.tilde),
-        _ => Ok(volume),
+    if !settling.is_anything() {
+        return Ok(volume);
+    }
+    let mut volume = volume;
+    match volume.sync() {
+        Ok(()) => settle_quiet(volume, own, settling),
+        Err(_) => Err(WriteHalt {
+            volume,
+            fault: WriteFault::Device,
+        }),
     }
 }

@@ -39,6 +39,21 @@ pub struct Settling {
     pub copy: bool,
 }
 
+impl Settling {
+    ghost use Rattle.std.specs.Prelude.{◌≡◌};
+    ghost use Rattle.install_settle.specs.Found.{is_anything};
+
+    // Whether there is anything to settle.
+    pub(crate) fn is_anything(self) -> bool
+        ensures { result ≡ is_anything self }
+    {
+        match self.map {
+            LeftMap::Absent => self.copy,
+            LeftMap::Finish | LeftMap::Remove => true,
+        }
+    }
+}
+
 /// Why nothing is settled.
 #[derive(Clone, Copy, Debug, PartialEq, Eq)]
 pub enum SettleFault {

@@ -1,0 +1,9 @@
+//! Tests of how an installation begins, by what the crates of this room offer to others.
+#![tactic(auto)]
+
+#[cfg(test)]
+mod call;
+#[cfg(test)]
+mod made;
+#[cfg(test)]
+mod scenes;

@@ -5,6 +5,7 @@ use ldisk_run::ldisk;
 use ldisk_words::{Asked, Command, PartWish, ask};
 use mbr_table::Device;
 use minix_layout::FsKind;
+use minix_stops::whole_disks;
 use sector_parts::{Sector, put_part, put_u16, put_u32};
 use std::alloc::{AllocError, Global};
 use std::test::Fail;
@@ -89,6 +90,7 @@ fn run(
     let mut disks = disk_with(alloc, failing)?;
     let mut source = MemSource::new(alloc, b"", &[])?;
     let mut sink = MemSink::new(alloc, 4096, refused)?;
+    whole_disks(&disks);
     let status = ldisk(alloc, &words, &mut disks, &mut source, &mut sink, 0);
     let Ok(text) = str::from_utf8(sink.bytes()) else {
         return Err(Fail::from("no text"));
@@ -151,6 +153,7 @@ fn status_on(alloc: Global, line: &[&str], disks: &mut MemDisks) -> Result<(u8, 
     let words = words_of(alloc, line)?;
     let mut source = MemSource::new(alloc, b"", &[])?;
     let mut sink = MemSink::new(alloc, 64, &[])?;
+    whole_disks(disks);
     let status = ldisk(alloc, &words, disks, &mut source, &mut sink, 7);
     if !sink.bytes().is_empty() {
         return Err(Fail::from("a text"));
@@ -257,5 +260,70 @@ fn words_that_ask_for_nothing(rt: HostRuntime) -> Result<(), Fail> {
         assert_eq!(rt; ask(&words), None, "{line:?}");
         assert_eq!(rt; run(rt.alloc(), line, &[], &[])?.0, 1);
     }
+    Ok(())
+}
+
+const RM: &[&str] = &["rm", "x.img", "/dev/hda", "/a"];
+
+// The disk with the volume, sound: both inodes and both zones are marked, and the file has a link.
+fn sound_disk(alloc: Global, failing: &[Failing]) -> Result<MemDisks, AllocError> {
+    let Ok(geometry) = Geometry::new(16, 63) else {
+        return Err(AllocError);
+    };
+    let disk = MemDisk {
+        sectors: 64,
+        geometry,
+    };
+    let mut disks = MemDisks::new(alloc, &[disk], 40, failing)?;
+    let mut marks: Sector = [0; 512];
+    put_part(&mut marks, 0, b"\x07");
+    let mut nodes = inodes();
+    put_part(&mut nodes, 13, b"\x02");
+    put_part(&mut nodes, 45, b"\x01");
+    let sectors = [
+        (2, superblock()),
+        (4, marks),
+        (6, marks),
+        (8, nodes),
+        (10, listing()),
+    ];
+    for (sector, bytes) in sectors.iter() {
+        if disks.events() == 0 && u64::from(*sector) < disks.size(0) {
+            disks.set(0, *sector, bytes);
+        }
+    }
+    Ok(disks)
+}
+
+#[test]
+fn removes_a_name(rt: HostRuntime) -> Result<(), Fail> {
+    let mut disks = sound_disk(rt.alloc(), &[])?;
+    for path in ["/", "/none", "/.", "/..", "/a/b"] {
+        let line = ["rm", "x.img", "/dev/hda", path];
+        assert_eq!(rt; status_on(rt.alloc(), &line, &mut disks)?, (3, 0));
+    }
+    assert_eq!(rt; status_on(rt.alloc(), RM, &mut disks)?.0, 0);
+    assert_eq!(rt; status_on(rt.alloc(), RM, &mut disks)?.0, 3);
+    assert_eq!(rt; status_on(rt.alloc(), LS, &mut disks)?.0, 0);
+    Ok(())
+}
+
+#[test]
+fn each_call_that_fails_in_a_removal(rt: HostRuntime) -> Result<(), Fail> {
+    // Each call up to the last one that is made, of which there are more than ten: a read for each inode, each bitmap and
+    // the names, and writes and flushes.
+    let mut failed = 0_u64;
+    for call in 0..80 {
+        let failing = [Failing { call, made: false }];
+        let mut disks = sound_disk(rt.alloc(), &failing)?;
+        let status = status_on(rt.alloc(), RM, &mut disks)?.0;
+        if status == 8 {
+            assert_eq!(rt; failed, call);
+            failed = call + 1;
+        } else {
+            assert_eq!(rt; status, 0);
+        }
+    }
+    assert!(rt; failed > 10 && failed < 80);
     Ok(())
 }

@@ -1,12 +1,12 @@
 //! `ldisk COMMAND IMAGE ..`: Minix volumes in a disk image.
 //!
 //! `make IMAGE SECTORS [START:COUNT:TYPE ..]` makes an image with a partition table, and `mkfs IMAGE DEVICE KIND INODES` an
-//! empty volume in it. `ls IMAGE DEVICE PATH` lists a directory, and `get IMAGE DEVICE PATH` prints a file. The image is
-//! the disk hda. All text goes to standard output, and the exit status is that of the arguments, 14 for an image that
-//! can't be used, or 13 where memory doesn't suffice.
+//! empty volume in it. `ls IMAGE DEVICE PATH` lists a directory, `get IMAGE DEVICE PATH` prints a file, and `rm IMAGE DEVICE
+//! PATH` removes one. The image is the disk hda. All text goes to standard output, and the exit status is that of the
+//! arguments, 14 for an image that can't be used, or 13 where memory doesn't suffice.
 #![tactic(auto)]
 
-use disk_trait::{FileDisk, FileDisks, Geometry};
+use disk_trait::{FileDisk, FileDisks, Geometry, untold};
 use host_parts::{StartFault, arguments, create_image, now_seconds, open_image};
 use ldisk_make::are_placed;
 use ldisk_run::ldisk;
@@ -43,6 +43,7 @@ fn run(rt: &HostRuntime) -> Result<u8, StartFault> {
     let mut source = StdSource::new(rt.stdin());
     let mut out = StdSink::new(rt.stdout());
     let now = now_seconds(rt);
+    untold();
     Ok(ldisk(alloc, &words, &mut disks, &mut source, &mut out, now))
 }
 

@@ -1,4 +1,5 @@
 pub mod MinixFormat
 pub mod Arguments
 pub mod DiskTable
+pub mod FileVerdict
 pub mod Verdict

@@ -14,6 +14,7 @@ use Rattle.lilo_model.specs.LdiskVerdict as reads_verdict
 use Rattle.ldisk_model.specs.Arguments.{PartWish, Command, Make, Mkfs, Put, Get, Ls, Rm, Mkdir, Ln, Asked, asked_at}
 use Rattle.ldisk_model.specs.DiskTable.{are_placed, table_sector}
 use Rattle.ldisk_model.specs.MinixFormat.{format_layout, format_at}
+use Rattle.ldisk_model.specs.FileVerdict.{NameChange, removal, checked_status, rm_check}
 
 -- why a table or a volume isn't made
 pub data Refusal : Type 0 where
@@ -77,7 +78,7 @@ command_verdict now machine sectors (Get device path) =
 command_verdict now machine sectors (Ls device path) =
     reads_verdict.command_verdict now machine (reads.Ls device path)
 command_verdict now machine sectors (Put device path) = silent 1
-command_verdict now machine sectors (Rm device path) = silent 1
+command_verdict now machine sectors (Rm device path) = silent (checked_status (rm_check now machine device path))
 command_verdict now machine sectors (Mkdir device path) = silent 1
 command_verdict now machine sectors (Ln device path target) = silent 1
 
@@ -87,6 +88,7 @@ is_carried_out sectors (Make parts) = are_placed sectors parts
 is_carried_out sectors (Mkfs device kind inodes) = true
 is_carried_out sectors (Get device path) = true
 is_carried_out sectors (Ls device path) = true
+is_carried_out sectors (Rm device path) = true
 is_carried_out sectors command = false
 
 -- arguments that ask for something that may be carried out
@@ -110,7 +112,17 @@ abbrev pub formatted_on : Result Span TableFault → Kind → ℕ → ℕ → Im
 formatted_on (Ok span) kind inodes time now = format_at span kind inodes time now
 formatted_on (Err fault) kind inodes time now = None
 
--- what the disks hold after a command that answered 0 at a time
+-- the name that a command changes, if it changes one
+abbrev pub name_change : Command → Option NameChange
+name_change (Rm device path) = Some (removal device path)
+name_change command = None
+
+-- the same of arguments
+abbrev pub asked_change : Option Asked → Option NameChange
+asked_change (Some asked) = name_change asked.command
+asked_change None = None
+
+-- what the disks hold after a command that answered 0 at a time, and that changes no name
 unfoldable pub image_after : Image → Machine → ℕ → Command → Option Image
 image_after now machine time (Make parts) = Some (with_sector now table_place (table_sector parts))
 image_after now machine time (Mkfs device kind inodes) =
@@ -130,10 +142,11 @@ abbrev pub is_in_found : Result Span TableFault → ℕ → ℕ → Bool
 is_in_found (Ok span) disk sector = is_in span disk sector
 is_in_found (Err fault) disk sector = false
 
--- whether a command may write a sector: `make` that of the table, `mkfs` those of the device, and others none
+-- whether a command may write a sector: `make` that of the table, `mkfs` and `rm` those of the device, and others none
 unfoldable pub may_write : Image → Machine → Command → ℕ → ℕ → Bool
 may_write now machine (Make parts) disk sector = disk == 0 && sector == 0
 may_write now machine (Mkfs device kind inodes) disk sector = is_in_found (span_of now machine device) disk sector
+may_write now machine (Rm device path) disk sector = is_in_found (span_of now machine device) disk sector
 may_write now machine command disk sector = false
 
 -- the same of arguments
@@ -145,6 +158,7 @@ asked_may_write now machine None disk sector = false
 unfoldable pub only_reads : Command → Bool
 only_reads (Make parts) = false
 only_reads (Mkfs device kind inodes) = false
+only_reads (Rm device path) = false
 only_reads command = true
 
 -- the same of arguments

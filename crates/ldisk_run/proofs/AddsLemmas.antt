@@ -175,4 +175,4 @@ pub does_as :
     (v : Verdict) (result : Result (Unit {0}) Halt) (a b : Held) → Does v result a b → DoesAs v (status_of result) a b
 does_as v (Ok done) a b does = inl (sym does.0, does.1)
 does_as v (Err Refused) a b does = inl (sym does.0, does.1)
-does_as v (Err Device) a b does = inr (refl, does)
+does_as v (Err Device) a b does = inr (inl refl, does)

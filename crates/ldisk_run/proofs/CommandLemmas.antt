@@ -1,5 +1,5 @@
 -- A command on a device, and the whole call.
-use Rattle.std.proofs.Common.{◌≡◌, ◌≤◌, ◌==◌, ◌∙◌, ℕ, inl, inr, Bool, false, List, [], ◌++◌, Option, Ok, Err, refl, sym, ap, subst, arith}
+use Rattle.std.proofs.Common.{◌≡◌, ◌≤◌, ◌==◌, ◌∙◌, ◌⊎◌, ℕ, inl, inr, Bool, false, List, [], ◌++◌, Option, Ok, Err, refl, sym, ap, subst, arith}
 use Rattle.lilo_model.specs.Faults.{Rose}
 use Rattle.stream_trait.specs.Sink.{TakesFront}
 use Rattle.stream_trait.specs.Shows.{SinkState, Shows, Prints, answer_of}
@@ -15,7 +15,7 @@ use Rattle.lilo_model.specs.LdiskVerdict.{NoVolume, room_of, volume_on, verdict_
 use Rattle.minix_zones.specs.View as volumes
 use Rattle.minix_zones.specs.declared.zone_fault.ZoneFault as zones
 use Rattle.ldisk_run.specs.Pieces.{Held, Adds}
-use Rattle.ldisk_run.specs.Run.{Halts, IsZoneHalt, Does, DoesAs, Tells}
+use Rattle.ldisk_run.specs.Run.{Halts, IsZoneHalt, Does, DoesAs, IsFailure, Answers, Tells}
 use Rattle.ldisk_run.specs.declared.halt.Halt.{Halt}
 use Rattle.ldisk_run.proofs.AddsLemmas.{does_halted}
 use Rattle.ldisk_run.proofs.HaltLemmas.{halts_behind, halts_told, zone_halts}
@@ -72,17 +72,26 @@ front_by old new before now front rest text is (inl whole) =
 front_by old new before now front rest text is (inr (rose, some)) =
     subst (λ l. TakesFront old l new) (sym is) (TakesFront-before old new front rest some)
 
-eight_stays : (status : ℕ) (failed : Bool) → status ≡ 8 → answer_of status failed ≡ 8
-eight_stays status failed is = rw is refl
+failure_stays : (status : ℕ) (failed : Bool) → IsFailure status → IsFailure (answer_of status failed)
+failure_stays status failed (inl is) = rw is (inl refl)
+failure_stays status failed (inr is) = rw is (inr refl)
+
+pub answers : (v : Verdict) (status : ℕ) (failed : Bool) (a b : Held) → DoesAs v status a b → Answers v (answer_of status failed)
+answers v status failed a b (inl (is, added)) = by (answered (status == 0) failed status v.status refl is)
+  where
+    by : (answer_of status failed ≡ v.status) ⊎ ((answer_of status failed ≡ 12) × (v.status ≡ 0)) → Answers v (answer_of status failed)
+    by (inl same) = inl same
+    by (inr twelve) = inr (inr twelve)
+answers v status failed a b (inr (failure, front)) = inr (inl (failure_stays status failed failure))
 
 pub tells :
     (v : Verdict) (status : ℕ) (failed : Bool) (a b : Held) (c : SinkState) → DoesAs v status a b → a.text ≡ [] → a.sink.failed ≡ false
     → Shows b.sink b.text c → Tells v (answer_of status failed) a.sink.taken c.taken a.sink.faults c.faults
 tells v status failed a b c (inl (is, added)) none fine rest =
     inl (answered (status == 0) failed status v.status refl is, prints_of a.sink c v.text (shows_all a b c v.text none added rest) fine)
-tells v status failed a b c (inr (eight, (front, behind, is, added))) none fine rest =
+tells v status failed a b c (inr (failure, (front, behind, is, added))) none fine rest =
     inr (
-      eight_stays status failed eight,
+      failure_stays status failed failure,
       front_by a.sink.taken c.taken a.sink.faults c.faults front behind v.text is
           (prints_of a.sink c front (shows_all a b c front none added rest) fine),
     )

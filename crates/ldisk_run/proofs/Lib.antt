@@ -7,3 +7,4 @@ pub mod LawLemmas
 pub mod ListingLemmas
 pub mod MadeLemmas
 pub mod StepLemmas
+pub mod RmLemmas

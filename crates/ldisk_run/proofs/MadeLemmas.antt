@@ -19,7 +19,7 @@ use Rattle.lilo_model.specs.Faults.{Rose}
 use Rattle.sector_address.specs.Machine.{OnDisks, machine_of}
 use Rattle.ldisk_model.specs.Arguments.{PartWish, Command, Make, Mkfs, Put, Get, Ls, Rm, Mkdir, Ln, Asked}
 use Rattle.ldisk_model.specs.DiskTable.{table_sector}
-use Rattle.ldisk_model.specs.Verdict.{Refusal, status_of, command_verdict, formatted_on, is_in_found, image_after, may_write, asked_may_write, only_reads, asked_only_read, is_carried_out}
+use Rattle.ldisk_model.specs.Verdict.{Refusal, name_change, asked_change, status_of, command_verdict, formatted_on, is_in_found, image_after, may_write, asked_may_write, only_reads, asked_only_read, is_carried_out}
 use Rattle.lilo_model.specs.LdiskVerdict.{silent}
 use Rattle.ldisk_make.specs.Answer.{Answers, HasEmptyVolume, HasMakeCause, is_refusal as is_make_refusal}
 use Rattle.ldisk_make.specs.declared.fault.MakeFault.{MakeFault}
@@ -32,7 +32,7 @@ use Rattle.mbr_table.specs.declared.device.Device.{Device}
 use Rattle.ldisk_words.specs.View.{command_view}
 use Rattle.ldisk_words.specs.declared.asked.Command as words
 use Rattle.ldisk_words.specs.declared.asked.Command.TheVariants as others
-use Rattle.ldisk_run.specs.Left.{IsDone, is_refusal, AnswersAs, HasVolumeOf, LeavesBy, LeavesAsked, IsAskedDone, HasAskedVolume, held_now}
+use Rattle.ldisk_run.specs.Left.{IsAfter, LeavesChanging, IsDone, is_refusal, AnswersAs, HasVolumeOf, LeavesBy, LeavesAsked, IsAskedDone, HasAskedVolume, held_now}
 use Rattle.ldisk_run.specs.Pieces.{Held}
 use Rattle.ldisk_run.specs.Run.{DoesAs, is_command_status}
 use Rattle.ldisk_run.proofs.AddsLemmas.{adds_nothing, adds_same}
@@ -46,7 +46,7 @@ answered check (Ok done) is = inl (sym is)
 answered check (Err faults.Misplaced) is = inl (sym is)
 answered check (Err faults.NoPlace) is = inl (sym is)
 answered check (Err faults.NoSpace) is = inl (sym is)
-answered check (Err faults.Device) is = inr refl
+answered check (Err faults.Device) is = inr (inl refl)
 
 pub is_known : (result : Result (Unit {0}) MakeFault) → IsTrue (is_command_status (made_status result))
 is_known (Ok done) = refl
@@ -120,6 +120,7 @@ module _ {D : Type 0} (disks : Ghosts D) (old new : D) (result : Result (Unit {0
   make_leaves time parts made others = record {
     done = told_from (disks.past old) _ (λ told is. ap Some (sym (done_by result (made told) is)));
     empty = told_all (disks.past old) _ (λ image is whole. tt);
+    any_moment = λ quiet. told_all (disks.past old) _ (λ image. tt);
     quiet = λ is writes. done_by result quiet is;
     refused = refused_by result refused;
     outside = told_all (disks.past old) _ (λ image d s out. others d s (elsewhere_by d s (d == 0) (s == 0) refl refl out));
@@ -138,6 +139,7 @@ module _ {D : Type 0} (disks : Ghosts D) (old new : D) (result : Result (Unit {0
   mkfs_leaves time device kind inodes made empty outside = record {
     done = by_status (disks.past old) _ (λ is. done_by result made is);
     empty = by_status (disks.past old) _ (λ is. done_by result empty is);
+    any_moment = λ quiet. told_all (disks.past old) _ (λ image. tt);
     quiet = λ is writes. done_by result quiet is;
     refused = refused_by result refused;
     outside = outside;
@@ -156,17 +158,17 @@ module _ {D : Type 0} (disks : Ghosts D) (old new : D) (same : SameOf disks old 
   goes_on = goes_on_same disks old new same.same_past
       record { later = later; size = same.same_size; count = same.same_count; geometry = same.same_geometry }
 
-  kept : (image : Image) (machine : Machine) (time : ℕ) (command : Command) → only_reads command ≡ true
-      → image_after image machine time command ≡ Some image
+  kept : (image left : Image) (machine : Machine) (time : ℕ) (command : Command) → only_reads command ≡ true → image ≡ left
+      → IsAfter image machine time command left
   unfolding image_after only_reads
-  kept image machine time (Make parts) is = absurd cc
-  kept image machine time (Mkfs device kind inodes) is = absurd cc
-  kept image machine time (Put device path) is = refl
-  kept image machine time (Get device path) is = refl
-  kept image machine time (Ls device path) is = refl
-  kept image machine time (Rm device path) is = refl
-  kept image machine time (Mkdir device path) is = refl
-  kept image machine time (Ln device path target) is = refl
+  kept image left machine time (Make parts) is same = absurd cc
+  kept image left machine time (Mkfs device kind inodes) is same = absurd cc
+  kept image left machine time (Put device path) is same = ap Some same
+  kept image left machine time (Get device path) is same = ap Some same
+  kept image left machine time (Ls device path) is same = ap Some same
+  kept image left machine time (Rm device path) is same = absurd cc
+  kept image left machine time (Mkdir device path) is same = ap Some same
+  kept image left machine time (Ln device path target) is same = ap Some same
 
   no_volume : (image left : Image) (machine : Machine) (command : Command) → only_reads command ≡ true → HasVolumeOf image machine command left
   unfolding only_reads
@@ -175,14 +177,26 @@ module _ {D : Type 0} (disks : Ghosts D) (old new : D) (same : SameOf disks old 
   no_volume image left machine (Put device path) is = tt
   no_volume image left machine (Get device path) is = tt
   no_volume image left machine (Ls device path) is = tt
-  no_volume image left machine (Rm device path) is = tt
+  no_volume image left machine (Rm device path) is = absurd cc
   no_volume image left machine (Mkdir device path) is = tt
   no_volume image left machine (Ln device path target) is = tt
+
+  no_change : (image : Image) (machine : Machine) (command : Command) → only_reads command ≡ true → LeavesChanging disks old new image machine (name_change command)
+  unfolding only_reads
+  no_change image machine (Make parts) is = absurd cc
+  no_change image machine (Mkfs device kind inodes) is = absurd cc
+  no_change image machine (Put device path) is = tt
+  no_change image machine (Get device path) is = tt
+  no_change image machine (Ls device path) is = tt
+  no_change image machine (Rm device path) is = absurd cc
+  no_change image machine (Mkdir device path) is = tt
+  no_change image machine (Ln device path target) is = tt
 
   pub reading_leaves : (time : ℕ) (command : Command) (status : ℕ) → only_reads command ≡ true
       → (status ≡ 8 → Rose (disks.faults old) (disks.faults new)) → LeavesBy disks old new time command status
   reading_leaves time command status reads rose = record {
-    done = told_from (disks.past old) _ (λ told is. kept (now (disks.past old)) (machine_of disks old) time command reads ∙ ap Some now_same);
+    done = told_from (disks.past old) _ (λ told is. kept (now (disks.past old)) (now (disks.past new)) (machine_of disks old) time command reads now_same);
+    any_moment = λ quiet. told_all (disks.past old) _ (λ image. no_change image (machine_of disks old) command reads);
     empty = told_all (disks.past old) _ (λ image is whole. no_volume image (now (disks.past new)) (machine_of disks old) command reads);
     quiet = λ is writes. absurd (let no = rw reads at writes in cc);
     refused = λ is. same.same_past;
@@ -204,16 +218,14 @@ module _ (command : words.Command) where
   abbrev pub IsOther : Type 0
   IsOther =
       ((device : Device) × (path : Bor (List ℕ)) × (command ≡ others.Put device path))
-      ⊎ (((device : Device) × (path : Bor (List ℕ)) × (command ≡ others.Rm device path))
       ⊎ (((device : Device) × (path : Bor (List ℕ)) × (command ≡ others.Mkdir device path))
-      ⊎ ((device : Device) × (path : Bor (List ℕ)) × (target : Bor (List ℕ)) × (command ≡ others.Ln device path target))))
+      ⊎ ((device : Device) × (path : Bor (List ℕ)) × (target : Bor (List ℕ)) × (command ≡ others.Ln device path target)))
 
   pub unbuilt : IsOther → IsUnbuilt (command_view command)
   unfolding is_carried_out only_reads command_verdict
   unbuilt (inl (device, path, is)) = rw is record { carried = λ sectors. refl; reads = refl; verdict = λ now machine sectors. refl }
   unbuilt (inr (inl (device, path, is))) = rw is record { carried = λ sectors. refl; reads = refl; verdict = λ now machine sectors. refl }
-  unbuilt (inr (inr (inl (device, path, is)))) = rw is record { carried = λ sectors. refl; reads = refl; verdict = λ now machine sectors. refl }
-  unbuilt (inr (inr (inr (device, path, target, is)))) = rw is record { carried = λ sectors. refl; reads = refl; verdict = λ now machine sectors. refl }
+  unbuilt (inr (inr (device, path, target, is))) = rw is record { carried = λ sectors. refl; reads = refl; verdict = λ now machine sectors. refl }
 
 -- ---- a command without a text
 
@@ -273,6 +285,11 @@ module _ {D : Type 0} (disks : Ghosts D) (old new : D) (time : ℕ) (status : �
       → HasAskedVolume image machine asked (held_now disks new))
   asked_volume None left = told_all (disks.past old) _ (λ image done whole. tt)
   asked_volume (Some asked) left = told_map (disks.past old) _ _ (λ image is done. is (zero_of done)) left.empty
+
+  pub asked_moment : (asked : Option Asked) → LeavesAsked disks old new time asked status → IsQuiet (disks.past old)
+      → OnDisks disks old (λ image machine. LeavesChanging disks old new image machine (asked_change asked))
+  asked_moment None left quiet = told_all (disks.past old) _ (λ image. tt)
+  asked_moment (Some asked) left quiet = left.any_moment quiet
 
   pub asked_quiet : (asked : Option Asked) → LeavesAsked disks old new time asked status
       → IsDone (answer_of status failed) → asked_only_read asked ≡ false → IsQuiet (disks.past new)

@@ -1,30 +1,35 @@
 -- What a command leaves on the disks, by the status that it answers.
-use Rattle.std.specs.Prelude.{◌≡◌, ◌⊎◌, ◌==◌, ℕ, Bool, true, false, [], ◌∷◌, Option, Some, None}
+use Rattle.std.specs.Prelude.{◌≡◌, ◌⊎◌, ◌==◌, ℕ, Bool, true, false, [], ◌∷◌, Option, Some, None, Ok}
 use Rattle.std.specs.List.{list_any}
 use Rattle.disk_trait.specs.declared.disks.Disks.{Ghosts}
 use Rattle.disk_trait.specs.Calls.{SameOf, GoesOn}
-use Rattle.disk_trait.specs.Moments.{now, IsQuiet, IsWholeImage}
+use Rattle.disk_trait.specs.Moments.{now, IsQuiet, IsWholeImage, LeavesOnly}
 use Rattle.disk_trait.specs.NotWritten.{NotWritten}
-use Rattle.lilo_model.specs.Disks.{Image, Machine}
+use Rattle.lilo_model.specs.Devices.{Device}
+use Rattle.lilo_model.specs.Disks.{Image, Machine, Span}
 use Rattle.lilo_model.specs.Faults.{Rose}
+use Rattle.lilo_model.specs.LdiskVerdict.{room_of}
 use Rattle.lilo_model.specs.Partitions.{span_of}
 use Rattle.lilo_model.specs.Verdict.{Verdict}
 use Rattle.sector_address.specs.Machine.{OnDisks}
 use Rattle.ldisk_model.specs.Arguments.{Command, Mkfs, Asked}
-use Rattle.ldisk_model.specs.Verdict.{image_after, asked_after, may_write, only_reads}
+use Rattle.ldisk_model.specs.FileVerdict.{NameChange}
+use Rattle.ldisk_model.specs.Verdict.{image_after, may_write, name_change, only_reads}
+use Rattle.ldisk_files.specs.Left.{HasSoundVolume, IsNamed, IsEither}
 use Rattle.ldisk_make.specs.Answer.{HasEmptyVolume}
+use Rattle.ldisk_run.specs.Run.{IsFailure}
 
 -- the command was carried out: the status is 0, or 12 where the sink failed
 abbrev pub IsDone : ℕ → Type 0
 IsDone status = (status ≡ 0) ⊎ (status ≡ 12)
 
--- whether a status says that a check refused
+-- whether a status says that a check refused, or that memory ended
 abbrev pub is_refusal : ℕ → Bool
-is_refusal status = list_any (λ known. known == status) (1 ∷ 3 ∷ 5 ∷ [])
+is_refusal status = list_any (λ known. known == status) (1 ∷ 3 ∷ 5 ∷ 13 ∷ [])
 
--- the status is that of a verdict, or 8
+-- the status is that of a verdict, or of a failure
 abbrev pub AnswersAs : Verdict → ℕ → Type 0
-AnswersAs verdict status = (status ≡ verdict.status) ⊎ (status ≡ 8)
+AnswersAs verdict status = (status ≡ verdict.status) ⊎ IsFailure status
 
 -- After `mkfs` an image has an empty volume in the sectors of its device.
 abbrev pub HasVolumeOf : Image → Machine → Command → Image → Type 0
@@ -40,14 +45,49 @@ HasAskedVolume old machine None image = Unit {0}
 abbrev pub held_now : {D : Type 0} → Ghosts D → D → Image
 held_now disks new = now (disks.past new)
 
--- an image is what the disks hold after arguments that were carried out at a time
+-- the volume of a device in an image has its Names in another one, but for the one that was changed
+pub record IsChanged (old : Image) (machine : Machine) (change : NameChange) (image : Image) : Type 0 where
+  pub span : Span
+  pub room : room_of old machine change.device ≡ Ok span
+  pub named : IsNamed span old change.path change.what image
+
+-- it has the Names before the change, or those after it
+pub record IsChanging (old : Image) (machine : Machine) (change : NameChange) (image : Image) : Type 0 where
+  pub span : Span
+  pub room : room_of old machine change.device ≡ Ok span
+  pub either : IsEither span old change.path change.what image
+
+-- a device has a sound volume
+pub record HasSoundOn (image : Image) (machine : Machine) (device : Device) : Type 0 where
+  pub span : Span
+  pub room : room_of image machine device ≡ Ok span
+  pub volume : HasSoundVolume span image
+
+-- an image is what the disks hold after the change of a name, or, where none changes, exactly what is defined
+abbrev pub IsAfterChange : Image → Machine → Option NameChange → Option Image → Image → Type 0
+IsAfterChange old machine (Some change) defined image = IsChanged old machine change image
+IsAfterChange old machine None defined image = defined ≡ Some image
+
+-- an image is what the disks hold after a command that was carried out at a time
+abbrev pub IsAfter : Image → Machine → ℕ → Command → Image → Type 0
+IsAfter old machine time command image = IsAfterChange old machine (name_change command) (image_after old machine time command) image
+
+-- the same of arguments
 abbrev pub IsAskedDone : Image → Machine → ℕ → Option Asked → Image → Type 0
-IsAskedDone old machine time asked image = asked_after old machine time asked ≡ Some image
+IsAskedDone old machine time (Some asked) image = IsAfter old machine time asked.command image
+IsAskedDone old machine time None image = old ≡ image
+
+-- a stop at any moment leaves the Names before a change, or those after it, where the volume was sound
+abbrev pub LeavesChanging : {D : Type 0} → Ghosts D → D → D → Image → Machine → Option NameChange → Type 0
+LeavesChanging disks old new image machine (Some change) =
+    HasSoundOn image machine change.device → LeavesOnly (disks.past old) (disks.past new) (IsChanging image machine change)
+LeavesChanging disks old new image machine None = Unit {0}
 
 -- What the disks hold after a command at a time.
 pub record LeavesBy {D : Type 0} (disks : Ghosts D) (old new : D) (time : ℕ) (command : Command) (status : ℕ) : Type 0 where
-  pub done : OnDisks disks old (λ image machine. status ≡ 0 → image_after image machine time command ≡ Some (now (disks.past new)))
+  pub done : OnDisks disks old (λ image machine. status ≡ 0 → IsAfter image machine time command (now (disks.past new)))
   pub empty : OnDisks disks old (λ image machine. status ≡ 0 → IsWholeImage (disks.size_of old) image → HasVolumeOf image machine command (now (disks.past new)))
+  pub any_moment : IsQuiet (disks.past old) → OnDisks disks old (λ image machine. LeavesChanging disks old new image machine (name_change command))
   pub quiet : status ≡ 0 → only_reads command ≡ false → IsQuiet (disks.past new)
   pub refused : is_refusal status ≡ true → disks.past new ≡ disks.past old
   pub outside : OnDisks disks old (λ image machine. (d s : ℕ) → may_write image machine command d s ≡ false → NotWritten (disks.past old) (disks.past new) d s)

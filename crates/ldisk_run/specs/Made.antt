@@ -1,5 +1,7 @@
 -- How what makes an image reports what it did.
 use Rattle.std.specs.Prelude.{ℕ, Result, Ok, Err}
+use Rattle.ldisk_files.specs.Answer as files
+use Rattle.ldisk_files.specs.declared.fault.FileFault.{FileFault}
 use Rattle.ldisk_make.specs.Answer.{fault_status}
 use Rattle.ldisk_make.specs.declared.fault.MakeFault.{MakeFault}
 
@@ -7,3 +9,8 @@ use Rattle.ldisk_make.specs.declared.fault.MakeFault.{MakeFault}
 abbrev pub made_status : Result (Unit {0}) MakeFault → ℕ
 made_status (Ok done) = 0
 made_status (Err fault) = fault_status fault
+
+-- that of a command on files
+abbrev pub file_status : Result (Unit {0}) FileFault → ℕ
+file_status (Ok done) = 0
+file_status (Err fault) = files.fault_status fault

@@ -61,27 +61,31 @@ status_of (Ok done) = 0
 status_of (Err Refused) = 3
 status_of (Err Device) = 8
 
+-- the status says that a disk failed, or that memory ended
+abbrev pub IsFailure : ℕ → Type 0
+IsFailure status = (status ≡ 8) ⊎ (status ≡ 13)
+
 -- the same by the status
 abbrev pub DoesAs : Verdict → ℕ → Held → Held → Type 0
 DoesAs verdict status old new =
-    ((status ≡ verdict.status) × Adds old verdict.text new) ⊎ ((status ≡ 8) × AddsFront old verdict.text new)
+    ((status ≡ verdict.status) × Adds old verdict.text new) ⊎ (IsFailure status × AddsFront old verdict.text new)
 
 -- ---- the whole
 
--- the status is the verdict's, or 8, or in the place of 0 it is 12
+-- the status is the verdict's, or that of a failure, or in the place of 0 it is 12
 abbrev pub Answers : Verdict → ℕ → Type 0
-Answers verdict status = (status ≡ verdict.status) ⊎ ((status ≡ 8) ⊎ ((status ≡ 12) × (verdict.status ≡ 0)))
+Answers verdict status = (status ≡ verdict.status) ⊎ (IsFailure status ⊎ ((status ≡ 12) × (verdict.status ≡ 0)))
 
--- The verdict's text goes with its status, or 12 in the place of 0, and a prefix of it with 8.
+-- The verdict's text goes with its status, or 12 in the place of 0, and a prefix of it with that of a failure.
 abbrev pub Tells : Verdict → ℕ → Option (List ℕ) → Option (List ℕ) → ℕ → ℕ → Type 0
 Tells verdict status old new before now =
     (((status ≡ verdict.status) ⊎ ((status ≡ 12) × (verdict.status ≡ 0))) × Prints old verdict.text new before now)
-    ⊎ ((status ≡ 8) × TakesFront old verdict.text new)
+    ⊎ (IsFailure status × TakesFront old verdict.text new)
 
 -- whether a command may end with this status, but for the sink
 abbrev pub is_command_status : ℕ → Bool
-is_command_status status = list_any (λ known. known == status) (0 ∷ 1 ∷ 3 ∷ 5 ∷ 8 ∷ [])
+is_command_status status = list_any (λ known. known == status) (0 ∷ 1 ∷ 3 ∷ 5 ∷ 8 ∷ 13 ∷ [])
 
 -- whether a call may end with this status
 abbrev pub is_status : ℕ → Bool
-is_status status = list_any (λ known. known == status) (0 ∷ 1 ∷ 3 ∷ 5 ∷ 8 ∷ 12 ∷ [])
+is_status status = list_any (λ known. known == status) (0 ∷ 1 ∷ 3 ∷ 5 ∷ 8 ∷ 12 ∷ 13 ∷ [])

@@ -1,5 +1,5 @@
 //! What the program `ldisk` does with its arguments, over disks and a sink of text that the caller gives: it makes a
-//! partition table and empty Minix volumes, lists directories and prints files.
+//! partition table and empty Minix volumes, lists directories, prints files and removes them.
 //!
 //! [`ldisk`] is the top call; ldisk_words says what arguments ask for.
 #![tactic(auto)]
@@ -12,6 +12,7 @@ mod ls;
 mod made;
 mod pieces;
 mod reading;
+mod rm;
 mod room;
 mod run;
 

@@ -1,17 +1,17 @@
 // The top call: what the program `ldisk` does with its arguments.
 ghost use Rattle.std.specs.Prelude.{◌≡◌, ◌≢◌, ◌↔◌, ◌≤◌, ℕ, true, false, IsTrue};
 ghost use Rattle.disk_trait.specs.Calls.{SameOf, GoesOn};
-ghost use Rattle.disk_trait.specs.Moments.{IsQuiet, IsWholeImage};
+ghost use Rattle.disk_trait.specs.Moments.{IsQuiet, IsWhole, IsWholeImage};
 ghost use Rattle.disk_trait.specs.NotWritten.{NotWritten};
 ghost use Rattle.sector_address.specs.Machine.{OnDisks};
 ghost use Rattle.lilo_model.specs.Faults.{Rose};
 ghost use Rattle.stream_trait.specs.Sink.{Takes};
 ghost use Rattle.stream_trait.specs.Shows.{HasFailed};
 ghost use Rattle.ldisk_model.specs.Arguments.{asked_at};
-ghost use Rattle.ldisk_model.specs.Verdict.{command_verdict, ldisk_verdict, is_carried_out, are_carried_out, asked_may_write, asked_only_read};
+ghost use Rattle.ldisk_model.specs.Verdict.{command_verdict, ldisk_verdict, is_carried_out, are_carried_out, asked_change, asked_may_write, asked_only_read};
 ghost use Rattle.lilo_model.specs.LdiskVerdict as reads;
 ghost use Rattle.ldisk_words.specs.View.{command_view};
-ghost use Rattle.ldisk_run.specs.Left.{IsDone, is_refusal, LeavesBy, LeavesAsked, IsAskedDone, HasAskedVolume, held_now};
+ghost use Rattle.ldisk_run.specs.Left.{IsDone, is_refusal, LeavesBy, LeavesAsked, LeavesChanging, IsAskedDone, HasAskedVolume, held_now};
 ghost use Rattle.ldisk_run.specs.Pieces.{sink_of, held_by};
 ghost use Rattle.ldisk_run.specs.Run.{DoesAs, Answers, Tells, is_status, is_command_status};
 ghost use Rattle.ldisk_run.specs.View.{reading_view};
@@ -21,6 +21,7 @@ use crate::halt::status_of;
 use crate::made::{make, mkfs};
 use crate::pieces::Pieces;
 use crate::reading::Reading;
+use crate::rm::rm;
 use disk_trait::Disks;
 use ldisk_words::{Command, ask};
 use std::alloc::Global;
@@ -32,19 +33,23 @@ use stream_trait::{Shown, Sink, Source, Words, answer};
 /// many sectors; the image is the caller's matter. `mkfs IMAGE DEVICE KIND INODES` makes an empty Minix volume. `ls IMAGE
 /// DEVICE PATH` lists a directory: a line for each entry in the directory's order, but for `.` and `..`, with `f`, `d`,
 /// `l` or `o`, the size and the name. `get IMAGE DEVICE PATH` prints a file. Both follow a link in the last component.
+/// `rm IMAGE DEVICE PATH` removes a regular file or a symbolic link: all checks come before anything is written, a survey
+/// of the volume among them; and whatever a stop leaves is sound, with the names before or after.
 ///
 /// | status | comes |
 /// |---|---|
 /// | 0 | done |
 /// | 1 | the arguments ask for nothing; of `make`, partitions overlap, lie outside the disk or touch its first sector |
-/// | 3 | disk 0 isn't there; a table, the volume, the path or the kind is refused, or an inode of an entry |
+/// | 3 | disk 0 isn't there; a table, the volume, its survey, the path or the kind is refused, or an inode of an entry |
 /// | 5 | the device has too few sectors for the volume's tables and root, or too many inodes are asked for |
 /// | 8 | a disk failed |
 /// | 12 | the sink failed, and the status would be 0 |
+/// | 13 | memory ended |
 ///
 /// No text is put for a fault. What was printed before a refusal stays printed: the blocks of a file or the lines of
 /// entries before it. Once the sink failed nothing more is put, and the command goes on. `make` and `mkfs` write only
-/// once all their checks passed; what a stop leaves of them isn't said. The source isn't asked, and nothing is allocated.
+/// once all their checks passed; what a stop leaves of them isn't said. The source isn't asked; `rm`
+/// alone takes memory, for the survey.
 #[tactic(auto, unfolding(ldisk_model::specs::Verdict::ldisk_verdict))]
 pub fn ldisk<D: Disks, I: Source, O: Sink>(
     alloc: Global,
@@ -54,6 +59,9 @@ pub fn ldisk<D: Disks, I: Source, O: Sink>(
     out: &mut O,
     time: u32,
 ) -> u8
+    // Each sector has 512 bytes: so it is of disks that hold whole sectors, or that don't report what they hold.
+    requires whole { IsWhole (D.size_of disks.old) (D.past disks.old) }
+
     // Where the disks report what they hold, the status is the verdict's, but for faults.
     ensures status { OnDisks D.Disks disks.old (λ now machine. Answers (ldisk_verdict now machine words.now) result) }
     ensures device { result ≡ 8 → Rose (D.faults disks.old) (D.faults disks.new) }
@@ -77,6 +85,10 @@ pub fn ldisk<D: Disks, I: Source, O: Sink>(
         → HasAskedVolume now machine (asked_at words.now) (held_now D.Disks disks.new)) }
     ensures quiet { IsDone result → asked_only_read (asked_at words.now) ≡ false → IsQuiet (D.past disks.new) }
 
+    // From a quiet moment and a sound volume on, whatever a stop leaves has the Names before or after the command.
+    ensures any_moment { IsQuiet (D.past disks.old) → OnDisks D.Disks disks.old (λ now machine.
+        LeavesChanging D.Disks disks.old disks.new now machine (asked_change (asked_at words.now))) }
+
     // What isn't written.
     ensures refused { is_refusal result ≡ true → D.past disks.new ≡ D.past disks.old }
     ensures outside { OnDisks D.Disks disks.old (λ now machine. (d s : ℕ)
@@ -89,7 +101,7 @@ pub fn ldisk<D: Disks, I: Source, O: Sink>(
     ensures source { source.new ≡ source.old }
 {
     let mut pieces = Pieces::new(Shown::new(out));
-    let status = run_words(words, disks, &mut pieces, time);
+    let status = run_words(alloc, words, disks, &mut pieces, time);
     pieces.show();
     let sink_failed = pieces.out.failed();
     answer(status, sink_failed)
@@ -98,11 +110,13 @@ pub fn ldisk<D: Disks, I: Source, O: Sink>(
 /// Carries out what arguments ask for, and answers the status, whether or not the sink failed.
 #[tactic(auto, unfolding(ldisk_model::specs::Verdict::ldisk_verdict))]
 fn run_words<D: Disks, O: Sink>(
+    alloc: Global,
     words: &Words,
     disks: &mut D,
     out: &mut Pieces<'_, O>,
     time: u32,
 ) -> u8
+    requires whole { IsWhole (D.size_of disks.old) (D.past disks.old) }
     ensures does { OnDisks D.Disks disks.old (λ now machine. DoesAs (ldisk_verdict now machine words.now) result
         (held_by O.Sink out.old) (held_by O.Sink out.new)) }
     ensures known { IsTrue (is_command_status result) }
@@ -113,19 +127,21 @@ fn run_words<D: Disks, O: Sink>(
     ensures same_reference { out.new.out.out.ghost_name ≡ out.old.out.out.ghost_name }
 {
     match ask(words) {
-        Some(asked) => run_command(asked.sectors, asked.command, disks, out, time),
+        Some(asked) => run_command(alloc, asked.sectors, asked.command, disks, out, time),
         None => 1,
     }
 }
 
 /// Carries out a command on an image that has so many sectors where it is new.
 fn run_command<D: Disks, O: Sink>(
+    alloc: Global,
     sectors: u32,
     command: Command<'_>,
     disks: &mut D,
     out: &mut Pieces<'_, O>,
     time: u32,
 ) -> u8
+    requires whole { IsWhole (D.size_of disks.old) (D.past disks.old) }
     ensures does { OnDisks D.Disks disks.old (λ now machine.
         DoesAs (command_verdict now machine sectors (command_view command.entry)) result
         (held_by O.Sink out.old) (held_by O.Sink out.new)) }
@@ -146,7 +162,8 @@ fn run_command<D: Disks, O: Sink>(
         } => mkfs(disks, device, kind, inodes, time),
         Command::Get { device, path } => read(Reading::Get { device, path }, disks, out),
         Command::Ls { device, path } => read(Reading::Ls { device, path }, disks, out),
-        Command::Put { .. } | Command::Rm { .. } | Command::Mkdir { .. } | Command::Ln { .. } => 1,
+        Command::Rm { device, path } => rm(alloc, disks, device, path),
+        Command::Put { .. } | Command::Mkdir { .. } | Command::Ln { .. } => 1,
     }
 }
 

@@ -5,9 +5,9 @@ use Rattle.stream_trait.specs.Shows.{answer_of}
 use Rattle.ldisk_model.specs.Arguments.{asked_at}
 use Rattle.ldisk_model.specs.Verdict.{ldisk_verdict}
 use Rattle.ldisk_run.specs.Pieces.{sink_of, held_by}
-use Rattle.ldisk_run.specs.Run.{DoesAs, Tells}
-use Rattle.ldisk_run.proofs.CommandLemmas.{held_of, tells}
-use Rattle.ldisk_run.proofs.MadeLemmas.{asked_done, asked_volume, asked_quiet, asked_refused, asked_outside, asked_same, asked_goes_on, asked_device}
+use Rattle.ldisk_run.specs.Run.{DoesAs, Answers, Tells}
+use Rattle.ldisk_run.proofs.CommandLemmas.{held_of, answers, tells}
+use Rattle.ldisk_run.proofs.MadeLemmas.{asked_moment, asked_done, asked_volume, asked_quiet, asked_refused, asked_outside, asked_same, asked_goes_on, asked_device}
 use Rattle.disk_trait.proofs.ToldLemmas.{told_map}
 use Rattle.sector_address.specs.Machine.{machine_of}
 use Rattle.ldisk_run.proofs.run.ldisk.Goals as goal
@@ -33,6 +33,25 @@ returns-clause-text g c =
     c.run_words-status.ensures.does)
     (search rules))
     (search rules))
+
+pub returns-clause-status : goal.returns-clause-status
+returns-clause-status g c =
+    let o = g.O.Sink in
+    let disks = c.args.disks.now in
+    let machine = machine_of g.D.Disks disks in
+    let words = c.args.words.now in
+    let status = c.run_words-status.result in
+    let failed = c.failed-sink_failed.result in
+    rw c.answer.ensures
+    (told_map (g.D.Disks.past disks) (λ now. DoesAs (ldisk_verdict now machine words) status (held_by o c.new-pieces.result) (held_by o c.run_words-status.new.out))
+    (λ now. Answers (ldisk_verdict now machine words) (answer_of status failed))
+    (λ now does. answers (ldisk_verdict now machine words) status failed (held_by o c.new-pieces.result) (held_by o c.run_words-status.new.out) does)
+    c.run_words-status.ensures.does)
+
+pub returns-clause-any_moment : goal.returns-clause-any_moment
+returns-clause-any_moment g c =
+    asked_moment g.D.Disks c.args.disks.now c.run_words-status.new.disks c.args.time c.run_words-status.result c.failed-sink_failed.result
+    c.run_words-status.ensures.known (asked_at c.args.words.now) c.run_words-status.ensures.leaves
 
 pub returns-clause-device : goal.returns-clause-device
 returns-clause-device g c =

@@ -95,6 +95,24 @@ returns-in-Ls-clause-leaves g c =
     (reading_leaves g.D.Disks c.args.disks.now c.read-in-Ls.new.disks c.read-in-Ls.ensures.same c.read-in-Ls.ensures.later c.args.time
     (model.Ls (device_view c.in-Ls.device) c.in-Ls.path.now) c.read-in-Ls.result refl c.read-in-Ls.ensures.device)
 
+-- ---- rm
+
+pub returns-in-Rm-clause-does : goal.returns-in-Rm-clause-does
+unfolding command_verdict
+returns-in-Rm-clause-does g c =
+    let machine = machine_of g.D.Disks c.args.disks.now in
+    rw c.in-Rm.is
+    (told_silent (g.D.Disks.past c.args.disks.now)
+    (λ now. command_verdict now machine c.args.sectors (model.Rm (device_view c.in-Rm.device) c.in-Rm.path.now))
+    c.rm.result (held_by g.O.Sink c.args.out.now) (λ now. refl) (c.rm.ensures.answers c.args.sectors))
+
+pub returns-in-Rm-clause-usage : goal.returns-in-Rm-clause-usage
+unfolding is_carried_out
+returns-in-Rm-clause-usage g c = rw c.in-Rm.is (λ one. absurd (c.rm.ensures.usage one), λ no. absurd cc)
+
+pub returns-in-Rm-clause-leaves : goal.returns-in-Rm-clause-leaves
+returns-in-Rm-clause-leaves g c = rw c.in-Rm.is (c.rm.ensures.leaves c.args.time)
+
 -- ---- those that aren't built
 
 pub returns-in-Put-clause-does : goal.returns-in-Put-clause-does

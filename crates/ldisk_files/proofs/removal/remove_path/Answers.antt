@@ -1,0 +1,21 @@
+-- The checks, then the removal.
+use Rattle.ldisk_files.proofs.PathLemmas.{refused-on, may-remove, changed-on, changed-answer}
+use Rattle.ldisk_files.proofs.removal.remove_path.Goals as goal
+
+pub remove_name-requires-clause-may : goal.remove_name-requires-clause-may
+remove_name-requires-clause-may g c =
+    may-remove c.args.volume c.find_checked.new.volume c.in-Ok.ensures.same c.args.path.now c.in-Ok.place c.in-Ok.ensures.found
+
+pub returns-in-Ok-clause-answers : goal.returns-in-Ok-clause-answers
+returns-in-Ok-clause-answers g c =
+    changed-answer c.args.volume c.find_checked.new.volume c.in-Ok.ensures.same c.args.path.now c.in-Ok.place c.in-Ok.ensures.found c.in-Ok.ensures.later
+    c.remove_name.result.volume c.remove_name.result.result c.remove_name.ensures.changes c.remove_name.ensures.quiet c.remove_name.ensures.cause
+
+pub returns-in-Ok-clause-leaves : goal.returns-in-Ok-clause-leaves
+returns-in-Ok-clause-leaves g c =
+    changed-on c.args.volume c.find_checked.new.volume c.in-Ok.ensures.same c.args.path.now c.in-Ok.place c.in-Ok.ensures.found c.in-Ok.ensures.later
+    c.remove_name.result.volume c.remove_name.result.result c.remove_name.ensures.changes c.remove_name.ensures.quiet c.remove_name.ensures.cause
+
+pub returns-in-Err-clause-leaves : goal.returns-in-Err-clause-leaves
+returns-in-Err-clause-leaves g c =
+    refused-on c.args.volume c.find_checked.new.volume c.in-Err.ensures.same c.in-Err.ensures.later c.args.path.now c.in-Err.fault c.in-Err.ensures.cause

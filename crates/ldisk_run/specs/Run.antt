@@ -1,10 +1,11 @@
 -- How what was done compares with what the definitions give.
-use Rattle.std.specs.Prelude.{◌≡◌, ◌⊎◌, ◌==◌, ℕ, Bool, List, [], ◌∷◌, Option, Result, Ok, Err, IsErr}
+use Rattle.std.specs.Prelude.{◌≡◌, ◌⊎◌, ◌==◌, ℕ, Bool, true, false, List, [], ◌∷◌, Option, Some, None, Result, Ok, Err, IsErr}
 use Rattle.std.specs.List.{list_any}
 use Rattle.lilo_model.specs.Faults.{Rose}
 use Rattle.stream_trait.specs.Sink.{TakesFront}
 use Rattle.stream_trait.specs.Shows.{Prints}
 use Rattle.lilo_model.specs.Verdict.{Verdict}
+use Rattle.ldisk_model.specs.Arguments.{Command, Rm, Asked}
 use Rattle.mbr_table.specs.declared.table_fault.TableFault.{TableFault}
 use Rattle.mbr_table.specs.declared.table_fault.TableFault.TheVariants as tables
 use Rattle.minix_zones.specs.declared.zone_fault.ZoneFault.{ZoneFault}
@@ -69,6 +70,16 @@ IsFailure status = (status ≡ 8) ⊎ (status ≡ 13)
 abbrev pub DoesAs : Verdict → ℕ → Held → Held → Type 0
 DoesAs verdict status old new =
     ((status ≡ verdict.status) × Adds old verdict.text new) ⊎ (IsFailure status × AddsFront old verdict.text new)
+
+-- whether a command takes memory
+abbrev pub takes_memory : Command → Bool
+takes_memory (Rm device path) = true
+takes_memory command = false
+
+-- the same of arguments
+abbrev pub asked_takes_memory : Option Asked → Bool
+asked_takes_memory (Some asked) = takes_memory asked.command
+asked_takes_memory None = false
 
 -- ---- the whole
 

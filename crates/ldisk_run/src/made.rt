@@ -24,6 +24,7 @@ pub(crate) fn make<D: Disks>(disks: &mut D, sectors: u32, parts: &[PartWish]) ->
     ensures answers { OnDisks D.Disks disks.old (λ now machine.
         AnswersAs (command_verdict now machine sectors (Make (map part_view parts.now))) result) }
     ensures known { IsTrue (is_command_status result) }
+    ensures memory { result ≢ 13 }
     ensures usage { (result ≡ 1) ↔ (are_placed sectors (map part_view parts.now) ≡ false) }
     ensures no_disk { D.size_of disks.old 0 ≡ 0 → are_placed sectors (map part_view parts.now) ≡ true → result ≡ 3 }
     ensures leaves { (time : ℕ) → LeavesBy D.Disks disks.old disks.new time (Make (map part_view parts.now)) result }
@@ -43,6 +44,7 @@ pub(crate) fn mkfs<D: Disks>(
     ensures answers { (sectors : ℕ) → OnDisks D.Disks disks.old (λ now machine. AnswersAs
         (command_verdict now machine sectors (Mkfs (device_view device) (kind_view kind) inodes)) result) }
     ensures known { IsTrue (is_command_status result) }
+    ensures memory { result ≢ 13 }
     ensures usage { result ≢ 1 }
     ensures no_disk { D.size_of disks.old 0 ≡ 0 → result ≡ 3 }
     ensures leaves { LeavesBy D.Disks disks.old disks.new time (Mkfs (device_view device) (kind_view kind) inodes) result }

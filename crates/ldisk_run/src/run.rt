@@ -13,7 +13,7 @@ ghost use Rattle.lilo_model.specs.LdiskVerdict as reads;
 ghost use Rattle.ldisk_words.specs.View.{command_view};
 ghost use Rattle.ldisk_run.specs.Left.{IsDone, is_refusal, LeavesBy, LeavesAsked, LeavesChanging, IsAskedDone, HasAskedVolume, held_now};
 ghost use Rattle.ldisk_run.specs.Pieces.{sink_of, held_by};
-ghost use Rattle.ldisk_run.specs.Run.{DoesAs, Answers, Tells, is_status, is_command_status};
+ghost use Rattle.ldisk_run.specs.Run.{DoesAs, Answers, Tells, asked_takes_memory, takes_memory, is_status, is_command_status};
 ghost use Rattle.ldisk_run.specs.View.{reading_view};
 
 use crate::command::carry_out;
@@ -66,6 +66,7 @@ pub fn ldisk<D: Disks, I: Source, O: Sink>(
     ensures status { OnDisks D.Disks disks.old (λ now machine. Answers (ldisk_verdict now machine words.now) result) }
     ensures device { result ≡ 8 → Rose (D.faults disks.old) (D.faults disks.new) }
     ensures sink { result ≡ 12 → Rose (O.faults out.old) (O.faults out.new) }
+    ensures memory { result ≡ 13 → asked_takes_memory (asked_at words.now) ≡ true }
 
     // The text goes with the status. Only a failed sink or disk may have cut it short.
     ensures text { OnDisks D.Disks disks.old (λ now machine. Tells (ldisk_verdict now machine words.now) result
@@ -122,6 +123,7 @@ fn run_words<D: Disks, O: Sink>(
     ensures known { IsTrue (is_command_status result) }
     ensures usage { (result ≡ 1) ↔ (are_carried_out (asked_at words.now) ≡ false) }
     ensures no_disk { D.size_of disks.old 0 ≡ 0 → are_carried_out (asked_at words.now) ≡ true → result ≡ 3 }
+    ensures memory { result ≡ 13 → asked_takes_memory (asked_at words.now) ≡ true }
     ensures leaves { LeavesAsked D.Disks disks.old disks.new time (asked_at words.now) result }
     ensures sink { HasFailed (sink_of O.Sink out.old) (sink_of O.Sink out.new) }
     ensures same_reference { out.new.out.out.ghost_name ≡ out.old.out.out.ghost_name }
@@ -149,6 +151,7 @@ fn run_command<D: Disks, O: Sink>(
     ensures usage { (result ≡ 1) ↔ (is_carried_out sectors (command_view command.entry) ≡ false) }
     ensures no_disk { D.size_of disks.old 0 ≡ 0 → is_carried_out sectors (command_view command.entry) ≡ true
         → result ≡ 3 }
+    ensures memory { result ≡ 13 → takes_memory (command_view command.entry) ≡ true }
     ensures leaves { LeavesBy D.Disks disks.old disks.new time (command_view command.entry) result }
     ensures sink { HasFailed (sink_of O.Sink out.old) (sink_of O.Sink out.new) }
     ensures same_reference { out.new.out.out.ghost_name ≡ out.old.out.out.ghost_name }
@@ -174,6 +177,7 @@ fn read<D: Disks, O: Sink>(reading: Reading<'_>, disks: &mut D, out: &mut Pieces
         (held_by O.Sink out.old) (held_by O.Sink out.new)) }
     ensures known { IsTrue (is_command_status result) }
     ensures usage { result ≢ 1 }
+    ensures memory { result ≢ 13 }
     ensures no_disk { D.size_of disks.old 0 ≡ 0 → result ≡ 3 }
     ensures device { result ≡ 8 → Rose (D.faults disks.old) (D.faults disks.new) }
     ensures later { D.faults disks.old ≤ D.faults disks.new }

@@ -47,8 +47,9 @@ fn inodes() -> Sector {
     sector
 }
 
-fn put_inode(sector: &mut Sector, at: usize, mode: u16, size: u32, zones: &[u32]) {
-    if at <= 320 && zones.len() <= 10 {
+/// Puts a regular file or a directory as the inode at an offset: its mode, its size in bytes and its first zones.
+pub fn put_inode(sector: &mut Sector, at: usize, mode: u16, size: u32, zones: &[u32]) {
+    if at <= 448 && zones.len() <= 10 {
         put_u16(sector, at, mode);
         put_u32(sector, at + 8, size);
         for (index, zone) in zones.iter().enumerate() {
@@ -78,15 +79,16 @@ fn indirect() -> Sector {
     sector
 }
 
-// The first two sectors of a kernel of protocol 2.06 with one setup sector.
-fn head() -> Sector {
+/// The first sector of a kernel of protocol 2.06 with one setup sector.
+pub fn head() -> Sector {
     let mut sector: Sector = [0; 512];
     put_part(&mut sector, 0x1F1, b"\x01");
     put_part(&mut sector, 0x1FE, b"\x55\xAA");
     sector
 }
 
-fn setup() -> Sector {
+/// Its second sector.
+pub fn setup() -> Sector {
     let mut sector: Sector = [0; 512];
     put_part(&mut sector, 0x02, b"HdrS\x06\x02");
     put_part(&mut sector, 0x11, b"\x01");
@@ -95,7 +97,8 @@ fn setup() -> Sector {
     sector
 }
 
-fn text(bytes: &[u8; 5]) -> Sector {
+/// A sector that begins with five bytes.
+pub fn text(bytes: &[u8; 5]) -> Sector {
     let mut sector: Sector = [0; 512];
     put_part(&mut sector, 0, bytes);
     sector

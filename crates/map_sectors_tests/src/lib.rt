@@ -6,6 +6,10 @@ mod booted;
 #[cfg(test)]
 mod fixture;
 #[cfg(test)]
+mod refusals;
+#[cfg(test)]
 mod sectors;
 #[cfg(test)]
 mod systems;
+#[cfg(test)]
+mod volume;

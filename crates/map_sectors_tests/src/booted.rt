@@ -46,11 +46,11 @@ fn a_boot_sector_has_its_fields(rt: HostRuntime) -> Result<(), Fail> {
     Ok(())
 }
 
-// Writes a map and its boot sector.
-fn install(disks: &mut MemDisks, plan: &MapPlan)
+/// Writes a map and its boot sector.
+pub fn install(disks: &mut MemDisks, plan: &MapPlan)
     requires { plan.now.disk ≡ 0 }
 {
-    for index in 0..9_u32 {
+    for index in 0..25_u32 {
         if index < plan.length() / 512 {
             put(disks, MAP_START + index, &made(plan, index));
         }
@@ -58,8 +58,8 @@ fn install(disks: &mut MemDisks, plan: &MapPlan)
     put(disks, 0, &boot_sector(plan));
 }
 
-// A memory of 2 MiB that is full of bytes EE.
-fn full_memory(alloc: Global) -> Result<Ram, AllocError> {
+/// A memory of 2 MiB that is full of bytes EE.
+pub fn full_memory(alloc: Global) -> Result<Ram, AllocError> {
     let mut ram = Ram::new(alloc, 2_097_152)?;
     let mut bytes = Vec::new(alloc);
     bytes.resize(2_097_152, 0xEE)?;
@@ -67,34 +67,36 @@ fn full_memory(alloc: Global) -> Result<Ram, AllocError> {
     Ok(ram)
 }
 
-// Boots from a disk, without a key.
-fn booted(
+/// How a boot from the first sector of a disk ends, by these keys.
+pub fn booted(
     rt: &impl Abort,
     alloc: Global,
     disks: &mut MemDisks,
+    keys: &[u8],
     ram: &mut Ram,
+    sink: &mut MemSink,
 ) -> Result<Outcome, AllocError> {
-    assert!(rt; disks.size(0) == 512);
+    assert!(rt; disks.size(0) > 0);
     let device = Span {
         disk: 0,
         start: 0,
         count: 1,
     };
-    let mut sink = MemSink::new(alloc, 256, &[])?;
-    let mut keys = MemSource::new(alloc, b"", &[])?;
+    let mut keys = MemSource::new(alloc, keys, &[])?;
     let mut bios = Bios {
         disks,
         keys: &mut keys,
     };
-    let mut shown = Shown::new(&mut sink);
+    let mut shown = Shown::new(sink);
     Ok(boot(&mut bios, device, ram, &mut shown))
 }
 
-fn region(address: u32, length: u32) -> Region {
+pub fn region(address: u32, length: u32) -> Region {
     Region { address, length }
 }
 
-fn expect_bytes(rt: &impl Abort, ram: &Ram, at: u32, bytes: &[u8]) {
+/// Memory has these bytes from an address on.
+pub fn expect_bytes(rt: &impl Abort, ram: &Ram, at: u32, bytes: &[u8]) {
     assert!(rt; bytes.len() <= 1024 && ram.size() == 2_097_152 && at <= 2_096_128);
     assert_eq!(rt; ram.bytes(at, bytes.len() as u32), bytes, "at {at}");
 }
@@ -130,7 +132,8 @@ fn a_planned_map_boots(rt: HostRuntime) -> Result<(), Fail> {
         let mut disks = disks(rt.alloc())?;
         install(&mut disks, &plan);
         let mut ram = full_memory(rt.alloc())?;
-        let outcome = booted(&rt, rt.alloc(), &mut disks, &mut ram)?;
+        let mut sink = MemSink::new(rt.alloc(), 256, &[])?;
+        let outcome = booted(&rt, rt.alloc(), &mut disks, b"", &mut ram, &mut sink)?;
         expect_loaded(&rt, outcome, &ram);
     }
     Ok(())

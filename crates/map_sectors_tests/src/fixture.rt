@@ -191,8 +191,8 @@ pub fn planned_on(
     }
 }
 
-/// The places of a map's sectors, of which none has more than nine.
-pub fn places() -> [DiskSector; 9]
+/// The places of a map's sectors, of which none has more than 25.
+pub fn places() -> [DiskSector; 25]
     ensures { All (λ place. place.disk ≡ 0) result }
 {
     [
@@ -205,6 +205,22 @@ pub fn places() -> [DiskSector; 9]
         place(426),
         place(427),
         place(428),
+        place(429),
+        place(430),
+        place(431),
+        place(432),
+        place(433),
+        place(434),
+        place(435),
+        place(436),
+        place(437),
+        place(438),
+        place(439),
+        place(440),
+        place(441),
+        place(442),
+        place(443),
+        place(444),
     ]
 }
 
@@ -220,7 +236,7 @@ pub fn made(plan: &MapPlan, index: u32) -> Sector
 {
     let mut sector = [0xEE; 512];
     let places = places();
-    if index < 9 {
+    if index < 25 {
         plan.sector(index, &places, &mut sector);
     }
     sector

@@ -6,6 +6,8 @@ mod booted;
 #[cfg(test)]
 mod fixture;
 #[cfg(test)]
+mod kinds;
+#[cfg(test)]
 mod refusals;
 #[cfg(test)]
 mod sectors;

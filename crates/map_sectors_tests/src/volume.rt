@@ -117,7 +117,9 @@ fn put_kernels(disks: &mut MemDisks) {
         put(disks, start, &old_head());
         put(disks, start + 1, &setup());
     }
+    put(disks, 84, &text(b"HELLO"));
     put(disks, 101, &text(b"HELLO"));
+    put(disks, 1220, &text(b"Hey!\n"));
 }
 
 // Changes a sector of the second disk.
@@ -138,6 +140,16 @@ pub fn planned(rt: &impl Abort, alloc: Global, text: &[u8]) -> Result<MapPlan, P
     match parse(alloc, text) {
         Ok(config) => planned_on(rt, alloc, &mut disks, config),
         Err(_) => Err(PlanFault::Memory),
+    }
+}
+
+/// The same, where nothing is refused.
+pub fn accepted(rt: &impl Abort, alloc: Global, text: &[u8]) -> Result<MapPlan, AllocError>
+    ensures { IfOk result (λ plan. plan.disk ≡ 0) }
+{
+    match planned(rt, alloc, text) {
+        Ok(plan) => Ok(plan),
+        Err(_) => Err(AllocError),
     }
 }
 

@@ -1,2 +1,3 @@
 mod ApartLemmas
+pub mod NoZeroLemmas
 mod OwnLemmas

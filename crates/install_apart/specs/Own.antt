@@ -7,6 +7,7 @@ use Rattle.lilo_model.specs.MinixFind as trees
 use Rattle.lilo_model.specs.Settled as model
 use Rattle.lilo_model.specs.Settled.{PathRefusal}
 use Rattle.minix_layout.specs.declared.superblock.Super.{Super}
+use Rattle.minix_names.specs.Component.{IsFileName}
 use Rattle.install_apart.specs.Faults.{RefusesNames}
 use Rattle.install_apart.specs.Names.{IsPair, GivesPairAt, ArePairsInside, AreTwins, is_pair_replaceable}
 use Rattle.install_apart.specs.declared.fault.NameFault.{NameFault}
@@ -72,3 +73,8 @@ IsBackupTwins (Some pair) = AreTwins pair
 
 abbrev pub AreOwnTwins : OwnNames → Type 0
 AreOwnTwins own = AreTwins own.map × IsBackupTwins own.backup
+
+-- a backup's name may be given to a file, if it isn't too long
+abbrev pub IsBackupNamed : Option NamePair → Type 0
+IsBackupNamed None = Unit {0}
+IsBackupNamed (Some pair) = IsFileName pair.plain.name

@@ -1,9 +1,10 @@
 // The path of a backup.
-ghost use Rattle.std.specs.Prelude.{◌≡◌, ◌<◌, ◌++◌, IfOk};
+ghost use Rattle.std.specs.Prelude.{◌≡◌, ◌<◌, ◌++◌, IfOk, IfSome};
 ghost use Rattle.lilo_model.specs.Bytes.{hex_digit};
 ghost use Rattle.lilo_model.specs.NamePlaces.{default_backup, backup_path};
 ghost use Rattle.lilo_conf.specs.View.{config_view};
 ghost use Rattle.mbr_table.specs.View.{device_view};
+ghost use Rattle.minix_names.specs.Component.{HasNoZero};
 
 use conf_text::Text;
 use lilo_conf::Config;
@@ -46,7 +47,9 @@ pub(crate) fn backup_path(
     config: &Config,
     device: Device,
 ) -> Result<Text, AllocError>
-    ensures { IfOk result (λ path. path ≡ backup_path (config_view config.now) (device_view device)) }
+    ensures is { IfOk result (λ path. path ≡ backup_path (config_view config.now) (device_view device)) }
+    ensures called { IfSome config.now.backup HasNoZero → IfSome config.now.force_backup HasNoZero
+        → IfOk result HasNoZero }
 {
     match (&config.force_backup, &config.backup) {
         (Some(path), _) => Text::new(alloc, path.bytes()),

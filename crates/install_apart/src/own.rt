@@ -1,5 +1,5 @@
 // The names that an installation replaces.
-ghost use Rattle.std.specs.Prelude.{◌≡◌, ◌≤◌, Bool, is_some, IfOk, IfErr};
+ghost use Rattle.std.specs.Prelude.{◌≡◌, ◌≤◌, Bool, is_some, IfOk, IfErr, IfSome};
 ghost use Rattle.disk_trait.specs.Past.{Told};
 ghost use Rattle.lilo_model.specs.MinixParts.{parts_of};
 ghost use Rattle.lilo_model.specs.MinixNames.{names_in, IsSound};
@@ -12,7 +12,7 @@ ghost use Rattle.minix_tree.specs.View.{HasFileCause};
 ghost use Rattle.minix_names.specs.Component.{HasNoZero, IsFileName};
 ghost use Rattle.install_apart.specs.Faults.{HasNameCause};
 ghost use Rattle.install_apart.specs.Names.{GivesPair, ArePairsInside, AreTwins};
-ghost use Rattle.install_apart.specs.Own.{AreOwnTwins, IsBackupTwins, GivesNames, GivesReplaceable, GivesBackup, IsReplaceable, IsBackupReplaceable, AreReplaceable, IsBackupInside, AreInside};
+ghost use Rattle.install_apart.specs.Own.{AreOwnTwins, IsBackupNamed, IsBackupTwins, GivesNames, GivesReplaceable, GivesBackup, IsReplaceable, IsBackupReplaceable, AreReplaceable, IsBackupInside, AreInside};
 
 use crate::backup::backup_path;
 use crate::fault::{NameFault, refused_path};
@@ -97,6 +97,8 @@ fn backup_names<D: Disks>(
     ensures files { IfOk result (IsBackupReplaceable (is_some config.now.force_backup)) }
     ensures inside { IfOk result (IsBackupInside volume.old.layout) }
     ensures twins { IfOk result IsBackupTwins }
+    ensures called { IfSome config.now.backup HasNoZero → IfSome config.now.force_backup HasNoZero
+        → IfOk result IsBackupNamed }
     ensures cause { IfErr result (HasNameCause (faults_of volume.old) (faults_of volume.new)) }
     ensures later { faults_of volume.old ≤ faults_of volume.new }
     ensures same { SameVolume volume.old volume.new }
@@ -136,6 +138,8 @@ pub fn own_names<D: Disks>(
     ensures inside { IfOk result (AreInside volume.old.layout) }
     ensures twins { IfOk result AreOwnTwins }
     ensures called { HasNoZero config.now.map → IfOk result (λ own. IsFileName own.map.plain.name) }
+    ensures backup_called { IfSome config.now.backup HasNoZero → IfSome config.now.force_backup HasNoZero
+        → IfOk result (λ own. IsBackupNamed own.backup) }
 
     // When it is refused.
     ensures cause { IfErr result (HasNameCause (faults_of volume.old) (faults_of volume.new)) }

@@ -8,8 +8,10 @@ ghost use Rattle.minix_create.specs.Chosen.{Suits};
 ghost use Rattle.minix_layout.specs.View.{kind_view, super_view};
 ghost use Rattle.minix_write.specs.View.{taken_view, Gives, HasWriteCause};
 ghost use Rattle.minix_zones.specs.Volume.{volume_view, past_of, faults_of, SameVolume};
+ghost use Rattle.minix_zones.specs.View.{span_view};
 ghost use Rattle.slot_lists.specs.Made.{place_view};
 ghost use Rattle.write_model.specs.Places.{most_size};
+ghost use Rattle.install_laws.specs.InstallVerdict.{sectors_of_blocks};
 ghost use Rattle.install_apart.specs.Own.{AreInside};
 ghost use Rattle.install_room.specs.Names.{AreCalled, AreNamesOf};
 ghost use Rattle.install_room.specs.Room.{HasRoomFor, IsRoomFree, KeepsOut, SuitRoom, first_of, places_view, room_for};
@@ -94,6 +96,8 @@ pub fn find_room<D: Disks>(
         → Gives places_view result
         (room_for (volume_view volume.old) (parts_of (volume_view volume.old) now) places names wish)) }
     ensures suits { IfOk result (SuitRoom volume.old.layout volume.old.span) }
+    ensures places { IfOk result (λ room. places_view room
+        ≡ sectors_of_blocks (span_view volume.old.span) room.map.choice.blocks wish.sectors) }
 
     // When it is refused.
     ensures cause { IfErr result (HasWriteCause (faults_of volume.old) (faults_of volume.new)) }

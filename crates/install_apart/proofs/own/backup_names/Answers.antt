@@ -13,4 +13,4 @@ returns-then-not-foreign-clause-backup g c =
 pub returns-in-Ok-named_pair-clause-backup : goal.returns-in-Ok-named_pair-clause-backup
 returns-in-Ok-named_pair-clause-backup g c =
     told-backup (past_of c.args.volume.now) (volume_view c.args.volume.now) (config_view c.args.config.now) (device_view c.args.boot) c.args.foreign c.is_some.result c.bytes.result.now c.in-Ok-named_pair.pair
-    c.if-not-foreign.false (c.bytes.ensures ∙ c.in-Ok.ensures) c.is_some.ensures c.in-Ok-named_pair.ensures.pair
+    c.if-not-foreign.false (c.bytes.ensures ∙ c.in-Ok.ensures.is) c.is_some.ensures c.in-Ok-named_pair.ensures.pair

@@ -82,3 +82,13 @@ returns-clause-room g c =
     room_found (volume_view volume) (parts_of (volume_view volume) now) places names c.args.own.now c.args.wish are c.requires.fits c.in_ok-taken.taken new
     (c.in_ok-taken.ensures.taken places keeps) c.in_ok-backup.backup one map'.choice (map place_view c.in_ok-places.places.items) two lies)
     c.in_ok-backup.ensures.choice (told_back volume mid R c.in_ok-backup.ensures.same c.in_ok-map.ensures.choice)
+
+pub returns-clause-places : goal.returns-clause-places
+returns-clause-places g c =
+    let volume = c.args.volume.now in
+    let map' = c.in_ok-map.map in
+    let sectors = c.args.wish.sectors in
+    let span-is : c.span.result ≡ volume.span = c.span.ensures.value ∙ (c.in_ok-map.ensures.same.same_span ∙ c.in_ok-backup.ensures.same.same_span) in
+    c.in_ok-places.ensures
+    ∙ (ap (λ (span : Span). sectors_of_blocks (span_view span) c.blocks-2.result.now sectors) span-is
+    ∙ ap (λ (blocks : List ℕ). sectors_of_blocks (span_view volume.span) blocks sectors) c.blocks-2.ensures)

@@ -22,6 +22,7 @@ enum Told {
     OtherIsBoot(&'static [u8]),
     NoSignature(&'static [u8]),
     Address(Opt, u64),
+    Slots(Opt, u32),
 }
 
 fn is_told(fault: &PlanFault, told: Told) -> bool {
@@ -36,6 +37,9 @@ fn is_told(fault: &PlanFault, told: Told) -> bool {
         (PlanFault::NoSignature(path), Told::NoSignature(name)) => path.bytes() == name,
         (PlanFault::Address(option, AddressFault::Cylinder(at)), Told::Address(named, number)) => {
             *option == named && *at == number
+        }
+        (PlanFault::TooManySlots(option, count), Told::Slots(named, number)) => {
+            *option == named && *count == number
         }
         _ => false,
     }
@@ -194,6 +198,28 @@ fn no_image_is_left(rt: HostRuntime) -> Result<(), Fail> {
         let mut whole = text.to_vec(rt.alloc())?;
         whole.extend_from_slice(b"image=/none\nlabel=linux\noptional\n")?;
         assert!(rt; is_refused(&rt, rt.alloc(), whole.as_slice(), told));
+    }
+    Ok(())
+}
+
+// An initial ramdisk with a slot too many comes after its kernel's addresses, and before the next section's.
+#[test]
+fn too_many_slots_come_in_the_order_of_files(rt: HostRuntime) -> Result<(), Fail> {
+    for (text, told) in [
+        (
+            b"lba32\nimage=/kernel\ninitrd=/vast\n".as_slice(),
+            Told::Slots(Opt::Initrd, 4_128_706),
+        ),
+        (
+            b"image=/high\ninitrd=/vast\n".as_slice(),
+            Told::Address(Opt::Image, 1212),
+        ),
+        (
+            b"image=/kernel\ninitrd=/vast\nother=/dev/hdb1\n".as_slice(),
+            Told::Slots(Opt::Initrd, 4_128_706),
+        ),
+    ] {
+        assert!(rt; is_refused(&rt, rt.alloc(), text, told));
     }
     Ok(())
 }

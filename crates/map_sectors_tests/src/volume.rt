@@ -36,7 +36,7 @@ fn superblock() -> Sector {
 // 8 are too far.
 fn inodes() -> Sector {
     let mut sector: Sector = [0; 512];
-    put_inode(&mut sector, 0, 0o040755, 176, &[13]);
+    put_inode(&mut sector, 0, 0o040755, 192, &[13]);
     put_inode(&mut sector, 64, 0o100644, 1536, &[37, 38]);
     put_inode(&mut sector, 128, 0o100644, 100, &[600]);
     put_inode(&mut sector, 192, 0o100644, 100, &[601]);
@@ -47,11 +47,13 @@ fn inodes() -> Sector {
     sector
 }
 
-// Two kernels that say 0 setup sectors, the first of them with a byte less than the real-mode part of 5 sectors.
+// Two kernels that say 0 setup sectors, the first of them with a byte less than the real-mode part of 5 sectors; and 4,128,706
+// sectors of a hole.
 fn later_inodes() -> Sector {
     let mut sector: Sector = [0; 512];
     put_inode(&mut sector, 0, 0o100644, 2559, &[40, 41, 42]);
     put_inode(&mut sector, 64, 0o100644, 2565, &[44, 45, 46]);
+    put_inode(&mut sector, 128, 0o100644, 2_113_897_472, &[]);
     sector
 }
 
@@ -67,7 +69,8 @@ fn root() -> Sector {
     put_part(&mut sector, 112, b"\x08\0long");
     put_part(&mut sector, 128, b"\x09\0less");
     put_part(&mut sector, 144, b"\x0A\0least");
-    put_part(&mut sector, 160, b"\x01\0..");
+    put_part(&mut sector, 160, b"\x0B\0vast");
+    put_part(&mut sector, 176, b"\x01\0..");
     sector
 }
 

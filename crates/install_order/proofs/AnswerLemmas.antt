@@ -86,10 +86,11 @@ pasts one (Some past) before none = absurd (none tt)
 
 -- ---- what settling answered
 
-cause-by : (before mid after : ℕ) (fault : InstallFault) → before ≤ mid → HasInstallCause mid after fault → HasInstallCause before after fault
+pub cause-by : (before mid after : ℕ) (fault : InstallFault) → before ≤ mid → HasInstallCause mid after fault → HasInstallCause before after fault
 cause-by before mid after (faults.Survey fault) later cause = tt
 cause-by before mid after (faults.NotApart opt) later cause = tt
 cause-by before mid after (faults.Path text fault) later cause = tt
+cause-by before mid after (faults.Plan fault) later cause = tt
 cause-by before mid after (faults.Write fault) later cause = tt
 cause-by before mid after faults.Device later cause = λ below. let rose = cause below in omega (arith, later, rose)
 cause-by before mid after faults.Memory later cause = tt

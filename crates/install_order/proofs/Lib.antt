@@ -1,4 +1,6 @@
 pub mod RefuseLemmas
+pub mod PlanLemmas
+pub mod NamedLemmas
 pub mod ExamineLemmas
 pub mod BeginLemmas
 pub mod SurveyedLemmas

@@ -1,13 +1,21 @@
 -- Refusals of the calls below, as those of an installation's checks.
-use Rattle.std.proofs.Common.{◌≡◌, Bool, true, false, List, Result, Ok, Err, refl, ap}
+use Rattle.std.proofs.Common.{◌≡◌, ℕ, Bool, true, false, List, Option, None, Some, Result, Ok, Err, refl, ap}
+use Rattle.std.specs.Prelude.{IsSome}
 use Rattle.lilo_model.specs.Checks.{◌>>=◌, require, with_fault}
 use Rattle.lilo_model.specs.ConfOptions as model
 use Rattle.lilo_model.specs.MinixSurvey as surveys
+use Rattle.lilo_model.specs.PlanRefusal as plans
 use Rattle.lilo_model.specs.Settled.{PathRefusal}
+use Rattle.map_plan.specs.View as plan_views
+use Rattle.map_plan.specs.declared.fault.PlanFault.{PlanFault}
+use Rattle.map_plan.specs.declared.fault.PlanFault.TheVariants as plan_faults
 use Rattle.minix_survey.specs.View as survey_views
 use Rattle.minix_survey.specs.declared.survey_fault.SurveyFault.{SurveyFault}
 use Rattle.minix_survey.specs.declared.survey_fault.SurveyFault.TheVariants as survey_faults
 use Rattle.minix_tree.specs.declared.tree_fault.TreeFault.TheVariants as trees
+use Rattle.minix_write.specs.View as write_views
+use Rattle.minix_write.specs.declared.write_fault.WriteFault.{WriteFault}
+use Rattle.minix_write.specs.declared.write_fault.WriteFault.TheVariants as writes
 use Rattle.minix_zones.specs.declared.zone_fault.ZoneFault.TheVariants as zones
 use Rattle.install_apart.specs.Apart as apart
 use Rattle.install_apart.specs.Faults.{RefusesNames}
@@ -15,13 +23,14 @@ use Rattle.install_apart.specs.declared.fault.ApartFault.{ApartFault}
 use Rattle.install_apart.specs.declared.fault.ApartFault.TheVariants as aparts
 use Rattle.install_apart.specs.declared.fault.NameFault.{NameFault}
 use Rattle.install_apart.specs.declared.fault.NameFault.TheVariants as names
-use Rattle.install_laws.specs.InstallVerdict.{InstallRefusal, NotSound, NotApart, BadName, NoLink}
+use Rattle.install_laws.specs.InstallVerdict.{InstallRefusal, NotSound, NotApart, BadName, NoPlan, NoLink, NoRoom}
+use Rattle.write_model.specs.Wish as rooms
 use Rattle.install_settle.specs.Found.{RefusesLinks}
 use Rattle.install_settle.specs.declared.settling.SettleFault.{SettleFault}
 use Rattle.install_settle.specs.declared.settling.SettleFault.TheVariants as settles
 use Rattle.old_map.specs.declared.old_map.OldMapFault.{OldMapFault}
 use Rattle.old_map.specs.declared.old_map.OldMapFault.TheVariants as olds
-use Rattle.install_order.specs.Faults.{Refuses, IsStopped, survey_refusal, apart_refusal, name_refusal, settle_refusal, old_refusal}
+use Rattle.install_order.specs.Faults.{Refuses, IsStopped, survey_refusal, apart_refusal, name_refusal, settle_refusal, old_refusal, plan_refusal, write_refusal}
 use Rattle.install_order.specs.declared.fault.InstallFault.{InstallFault}
 use Rattle.install_order.specs.declared.fault.InstallFault.TheVariants as faults
 
@@ -31,6 +40,7 @@ stopped fault (Ok value) is = is
 stopped (faults.Survey fault) (Err refusal) is = absurd is
 stopped (faults.NotApart opt) (Err refusal) is = absurd is
 stopped (faults.Path text fault) (Err refusal) is = absurd is
+stopped (faults.Plan fault) (Err refusal) is = absurd is
 stopped (faults.Write fault) (Err refusal) is = absurd is
 stopped faults.Device (Err refusal) is = tt
 stopped faults.Memory (Err refusal) is = tt
@@ -105,3 +115,51 @@ settle-refuses settles.Device may is = stopped faults.Device (require may NoLink
 pub old-stopped : (fault : OldMapFault) → IsStopped (old_refusal fault)
 old-stopped olds.Device = tt
 old-stopped olds.Memory = tt
+
+-- ---- those of a plan and of the room for it
+
+plan-as : {B : Type 0} (fault : PlanFault) (given : Result B plans.PlanFault) (refusal : Option plans.PlanFault) → plan_views.plan_refusal fault ≡ refusal → IsSome refusal
+    → plan_views.IsRefusal refusal given → Refuses (faults.Plan fault) (with_fault NoPlan given)
+plan-as fault given None is some refused = let lost : false ≡ true = some in absurd cc
+plan-as fault given (Some why) is some refused = rw refused is
+
+plan-by : {B : Type 0} (fault : PlanFault) (given : Result B plans.PlanFault) → IsSome (plan_views.plan_refusal fault) → plan_views.Refuses fault given → Refuses (faults.Plan fault) (with_fault NoPlan given)
+plan-by fault given some refused = plan-as fault given (plan_views.plan_refusal fault) refl some refused
+
+pub plan-refuses : {B : Type 0} (fault : PlanFault) (given : Result B plans.PlanFault) (before now : ℕ) → plan_views.HasPlanCause before now fault → plan_views.Refuses fault given
+    → Refuses (plan_refusal fault) (with_fault NoPlan given)
+plan-refuses plan_faults.Device given before now cause is = stopped faults.Device (with_fault NoPlan given) tt
+plan-refuses plan_faults.Memory given before now cause is = stopped faults.Memory (with_fault NoPlan given) tt
+plan-refuses (plan_faults.Missing text) given before now cause is = plan-by (plan_faults.Missing text) given cause is
+plan-refuses plan_faults.NoImagesLeft given before now cause is = plan-by plan_faults.NoImagesLeft given cause is
+plan-refuses (plan_faults.Header path fault) given before now cause is = plan-by (plan_faults.Header path fault) given cause is
+plan-refuses (plan_faults.Address option fault) given before now cause is = plan-by (plan_faults.Address option fault) given cause is
+plan-refuses (plan_faults.TooManySlots option slots) given before now cause is = plan-by (plan_faults.TooManySlots option slots) given cause is
+plan-refuses (plan_faults.GeometryDiffers option have) given before now cause is = plan-by (plan_faults.GeometryDiffers option have) given cause is
+plan-refuses (plan_faults.OtherIsBoot path) given before now cause is = plan-by (plan_faults.OtherIsBoot path) given cause is
+plan-refuses (plan_faults.NoSignature path) given before now cause is = plan-by (plan_faults.NoSignature path) given cause is
+plan-refuses (plan_faults.MessageTooLong size) given before now cause is = plan-by (plan_faults.MessageTooLong size) given cause is
+plan-refuses (plan_faults.Table fault) given before now cause is = plan-by (plan_faults.Table fault) given cause is
+plan-refuses (plan_faults.Tree path fault) given before now cause is = plan-by (plan_faults.Tree path fault) given cause is
+
+room-by : {B : Type 0} (fault : WriteFault) (given : Result B rooms.Refusal) → (why : rooms.Refusal) → given ≡ Err why → write_views.Refuses {B = ℕ} fault (Err why) → Refuses (faults.Write fault) (with_fault NoRoom given)
+room-by fault given why is refused = rw is refused
+
+pub room-refuses : {B : Type 0} (fault : WriteFault) (given : Result B rooms.Refusal) → write_views.Refuses fault given → Refuses (write_refusal fault) (with_fault NoRoom given)
+room-refuses writes.Device given is = stopped faults.Device (with_fault NoRoom given) tt
+room-refuses writes.Memory given is = stopped faults.Memory (with_fault NoRoom given) tt
+room-refuses writes.Links given is = absurd is
+room-refuses (writes.NoSpace need short) given is = room-by (writes.NoSpace need short) given _ is refl
+room-refuses writes.NoInode given is = room-by writes.NoInode given _ is refl
+room-refuses writes.NameTooLong given is = room-by writes.NameTooLong given _ is refl
+room-refuses writes.Exists given is = room-by writes.Exists given _ is refl
+room-refuses (writes.Tree (trees.NotFound position)) given is = absurd is
+room-refuses (writes.Tree (trees.NotDirectory position)) given is = absurd is
+room-refuses (writes.Tree trees.NotFile) given is = absurd is
+room-refuses (writes.Tree trees.TooManyLinks) given is = absurd is
+room-refuses (writes.Tree (trees.BadEntry directory)) given is = absurd is
+room-refuses (writes.Tree trees.PathTooLong) given is = absurd is
+room-refuses (writes.Tree (trees.Zone (zones.Layout fault))) given is = room-by (writes.Tree (trees.Zone (zones.Layout fault))) given _ is refl
+room-refuses (writes.Tree (trees.Zone (zones.ZoneOutside zone))) given is = room-by (writes.Tree (trees.Zone (zones.ZoneOutside zone))) given _ is refl
+room-refuses (writes.Tree (trees.Zone zones.Device)) given is = absurd is
+room-refuses (writes.Tree trees.Memory) given is = absurd is

@@ -1,17 +1,15 @@
 -- A value that was looked at, once its names are settled.
-use Rattle.std.proofs.Common.{◌≡◌, ◌≢◌, ◌==◌, ◌⊎◌, ℕ, Bool, true, false, not, List, [], ◌∷◌, codes, arith, None, Result, Ok, refl, sym, ap, subst, inl, inr}
+use Rattle.std.proofs.Common.{◌≡◌, ◌==◌, ◌⊎◌, ℕ, Bool, true, false, not, List, [], codes, None, Result, Ok, refl, sym, ap, subst, inl, inr}
 use Rattle.std.specs.Prelude.{is_some, nat_eq, Option, Some, IfSome}
-use Rattle.std.specs.List.{list_all, AllByRecursion, starts_with}
+use Rattle.std.specs.List.{list_all, starts_with}
 use Rattle.std.proofs.lemmas.Bool.{and_parts}
-use Rattle.std.proofs.lemmas.Bool.Decides.{nat_tests}
-use Rattle.std.proofs.lemmas.List.Elements.{All-from_recursion}
 use Rattle.disk_trait.specs.declared.disks.Span.{Span}
 use Rattle.disk_trait.specs.declared.disks.Disks.{Ghosts}
 use Rattle.disk_trait.specs.Moments.{IsTold, now}
 use Rattle.disk_trait.specs.Past.{Image, Told}
 use Rattle.disk_trait.proofs.MomentLemmas.{told_now, told_or_not}
 use Rattle.lilo_model.specs.Conf.{Config}
-use Rattle.lilo_model.specs.ConfLawful.{IsLawful}
+use Rattle.lilo_model.specs.ConfLawful.{IsLawful, IsPath}
 use Rattle.lilo_model.specs.ConfValues.{is_path}
 use Rattle.lilo_model.specs.Disks.{Machine}
 use Rattle.lilo_model.specs.MinixParts as volumes
@@ -28,6 +26,7 @@ use Rattle.minix_zones.specs.Volume.{volume_view, past_of, SameVolume}
 use Rattle.minix_zones.specs.declared.volume.Volume.{Volume}
 use Rattle.minix_zones.proofs.SameLemmas.{told_forth}
 use Rattle.sector_address.specs.Machine.{machine_of}
+use Rattle.install_apart.proofs.NoZeroLemmas.{no-zero}
 use Rattle.install_laws.specs.InstallVerdict.{Begun}
 use Rattle.install_settle.specs.Found.{AreNamesNow, MaySettle}
 use Rattle.install_settle.specs.Settles.{Settles}
@@ -124,20 +123,23 @@ module _ {D : Type 0} {disks : Ghosts D} (s : Surveyed D disks) (off : s.settled
 -- ---- a value that is looked at
 
 -- a path has no zero byte
-no-zero : (text : List ℕ) → list_all (λ byte. not (byte == 0)) text ≡ true → AllByRecursion (λ byte. byte ≢ 0) text
-no-zero [] is = tt
-no-zero (byte ∷ text) is =
-    let both = and_parts (not (byte == 0)) (list_all (λ byte. not (byte == 0)) text) is in
-    (apart both.0, no-zero text both.1)
-  where
-    apart : not (byte == 0) ≡ true → byte ≢ 0
-    apart is same = let zero : (byte == 0) ≡ true = grind (arith, nat_tests, same) in cc
+path-called : (text : List ℕ) → IsPath text → HasNoZero text
+unfolding is_path
+path-called text is =
+    no-zero text (and_parts (starts_with nat_eq text (codes "/")) (list_all (λ byte. not (byte == 0)) text) is.path).1
 
 pub map_called : (config : Config) → IsLawful config → HasNoZero config.map
-unfolding is_path
-map_called config lawful =
-    let all = and_parts (starts_with nat_eq config.map (codes "/")) (list_all (λ byte. not (byte == 0)) config.map) lawful.map.path in
-    All-from_recursion (λ byte. byte ≢ 0) config.map (no-zero config.map all.1)
+map_called config lawful = path-called config.map lawful.map
+
+some-called : (path : Option (List ℕ)) → IfSome path IsPath → IfSome path HasNoZero
+some-called None is = tt
+some-called (Some path) is = path-called path is
+
+pub backup_path_called : (config : Config) → IsLawful config → IfSome config.backup HasNoZero
+backup_path_called config lawful = some-called config.backup lawful.backup
+
+pub forced_path_called : (config : Config) → IsLawful config → IfSome config.force_backup HasNoZero
+forced_path_called config lawful = some-called config.force_backup lawful.force_backup
 
 module _ {D : Type 0} {disks : Ghosts D} (old new : Volume D disks) (same : SameVolume old new) where
   pub on_disks_forth : (P : volumes.Volume → Machine → Image → Type 0)

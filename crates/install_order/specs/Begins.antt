@@ -11,7 +11,7 @@ use Rattle.boot_laws.specs.SameOn.{SameOn}
 use Rattle.minix_layout.specs.View.{kind_view}
 use Rattle.minix_layout.specs.declared.superblock.Super.{Super}
 use Rattle.minix_names.specs.Component.{IsFileName}
-use Rattle.install_apart.specs.Own.{AreInside, AreOwnTwins, AreReplaceable}
+use Rattle.install_apart.specs.Own.{AreInside, AreOwnTwins, AreReplaceable, IsBackupNamed}
 use Rattle.install_begin_laws.specs.Laws.{GainsNothing}
 use Rattle.install_laws.specs.Boots.{HasBootOf}
 use Rattle.install_laws.specs.InstallVerdict.{Begun}
@@ -38,6 +38,7 @@ pub record FitsVolume (layout : Super) (forced : Bool) (found : Examined) : Type
   pub inside : AreInside layout found.own
   pub twins : AreOwnTwins found.own
   pub called : IsFileName found.own.map.plain.name
+  pub backup_called : IsBackupNamed found.own.backup
   pub files : AreReplaceable forced found.own
   pub left : IsLeft (kind_view layout.kind) found.own.map found.settling.map
   pub copy : IsCopyLeft found.own.backup found.settling.copy

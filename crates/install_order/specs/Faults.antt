@@ -1,13 +1,17 @@
 -- Refusals of an installation, and their causes (this project's own).
-use Rattle.std.specs.Prelude.{◌≡◌, ℕ, List, Result, Ok, Err}
+use Rattle.std.specs.Prelude.{◌≡◌, ℕ, List, Some, Result, Ok, Err}
 use Rattle.lilo_model.specs.Faults.{Rose}
 use Rattle.conf_settings.specs.View.{opt_view}
 use Rattle.minix_survey.specs.View as survey_views
 use Rattle.minix_survey.specs.declared.survey_fault.SurveyFault.{SurveyFault}
 use Rattle.minix_survey.specs.declared.survey_fault.SurveyFault.TheVariants as survey_faults
+use Rattle.map_plan.specs.View as plans
+use Rattle.map_plan.specs.declared.fault.PlanFault.{PlanFault}
+use Rattle.map_plan.specs.declared.fault.PlanFault.TheVariants as plan_faults
 use Rattle.minix_tree.specs.View as trees
 use Rattle.minix_tree.specs.declared.tree_fault.TreeFault.{TreeFault}
 use Rattle.minix_tree.specs.declared.tree_fault.TreeFault.TheVariants as tree_faults
+use Rattle.minix_write.specs.View as write_views
 use Rattle.minix_write.specs.declared.write_fault.WriteFault.{WriteFault}
 use Rattle.minix_write.specs.declared.write_fault.WriteFault.TheVariants as writes
 use Rattle.minix_zones.specs.declared.zone_fault.ZoneFault.TheVariants as zones
@@ -15,7 +19,7 @@ use Rattle.install_apart.specs.declared.fault.ApartFault.{ApartFault}
 use Rattle.install_apart.specs.declared.fault.ApartFault.TheVariants as aparts
 use Rattle.install_apart.specs.declared.fault.NameFault.{NameFault}
 use Rattle.install_apart.specs.declared.fault.NameFault.TheVariants as names
-use Rattle.install_laws.specs.InstallVerdict.{InstallRefusal, NotSound, NotApart, BadName, NoLink}
+use Rattle.install_laws.specs.InstallVerdict.{InstallRefusal, NotSound, NotApart, BadName, NoPlan, NoLink, NoRoom}
 use Rattle.install_settle.specs.declared.settling.SettleFault.{SettleFault}
 use Rattle.install_settle.specs.declared.settling.SettleFault.TheVariants as settles
 use Rattle.old_map.specs.declared.old_map.OldMapFault.{OldMapFault}
@@ -57,6 +61,11 @@ write_refusal writes.Device = faults.Device
 write_refusal writes.Memory = faults.Memory
 write_refusal other = faults.Write other
 
+abbrev pub plan_refusal : PlanFault → InstallFault
+plan_refusal plan_faults.Device = faults.Device
+plan_refusal plan_faults.Memory = faults.Memory
+plan_refusal other = faults.Plan other
+
 -- ---- when they come
 
 -- a survey's refusal is the model's
@@ -72,15 +81,22 @@ abbrev pub RefusesPath : List ℕ → TreeFault → InstallRefusal → Type 0
 RefusesPath text fault (BadName refusal) = (refusal.path ≡ text) × trees.Refuses {B = ℕ} fault (Err refusal.fault)
 RefusesPath text fault other = ⊥
 
+-- links are lacking for settling alone, all else for the room
 abbrev pub RefusesWrite : WriteFault → InstallRefusal → Type 0
-RefusesWrite writes.Links refusal = refusal ≡ NoLink
-RefusesWrite other refusal = ⊥
+RefusesWrite fault NoLink = fault ≡ writes.Links
+RefusesWrite fault (NoRoom why) = write_views.Refuses {B = ℕ} fault (Err why)
+RefusesWrite fault other = ⊥
+
+abbrev pub RefusesPlan : PlanFault → InstallRefusal → Type 0
+RefusesPlan fault (NoPlan why) = plans.plan_refusal fault ≡ Some why
+RefusesPlan fault other = ⊥
 
 -- it is refused for what the first of some checks is refused, unless a disk failed or memory ended
 abbrev pub RefusesFor : InstallFault → InstallRefusal → Type 0
 RefusesFor (faults.Survey fault) refusal = RefusesSurvey fault refusal
 RefusesFor (faults.NotApart opt) refusal = RefusesApart opt refusal
 RefusesFor (faults.Path text fault) refusal = RefusesPath text fault refusal
+RefusesFor (faults.Plan fault) refusal = RefusesPlan fault refusal
 RefusesFor (faults.Write fault) refusal = RefusesWrite fault refusal
 RefusesFor faults.Device refusal = Unit {0}
 RefusesFor faults.Memory refusal = Unit {0}
@@ -90,6 +106,7 @@ abbrev pub IsStopped : InstallFault → Type 0
 IsStopped (faults.Survey fault) = ⊥
 IsStopped (faults.NotApart opt) = ⊥
 IsStopped (faults.Path text fault) = ⊥
+IsStopped (faults.Plan fault) = ⊥
 IsStopped (faults.Write fault) = ⊥
 IsStopped faults.Device = Unit {0}
 IsStopped faults.Memory = Unit {0}
@@ -103,6 +120,7 @@ abbrev pub HasInstallCause : ℕ → ℕ → InstallFault → Type 0
 HasInstallCause before now (faults.Survey fault) = Unit {0}
 HasInstallCause before now (faults.NotApart opt) = Unit {0}
 HasInstallCause before now (faults.Path text fault) = Unit {0}
+HasInstallCause before now (faults.Plan fault) = Unit {0}
 HasInstallCause before now (faults.Write fault) = Unit {0}
 HasInstallCause before now faults.Device = Rose before now
 HasInstallCause before now faults.Memory = Unit {0}

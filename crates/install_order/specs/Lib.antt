@@ -3,3 +3,4 @@ pub mod Checks
 pub mod View
 pub mod Begins
 pub mod Answers
+pub mod Plans

@@ -13,7 +13,7 @@ ghost use Rattle.minix_tree.specs.View.{IsNode};
 ghost use Rattle.minix_zones.specs.View.{span_view};
 ghost use Rattle.minix_zones.specs.Volume.{volume_view, past_of, sizes_of, faults_of, SameVolume};
 ghost use Rattle.sector_address.specs.Machine.{OnDisks};
-ghost use Rattle.install_apart.specs.Own.{AreInside, AreOwnTwins, AreReplaceable};
+ghost use Rattle.install_apart.specs.Own.{AreInside, AreOwnTwins, AreReplaceable, IsBackupNamed};
 ghost use Rattle.install_settle.specs.Found.{AreFound, IsCopyLeft, IsLeft, has_copy};
 ghost use Rattle.old_map.specs.Clear.{IsFound};
 ghost use Rattle.old_map.specs.Old.{IsOldMap};
@@ -89,6 +89,8 @@ fn find_present<D: Disks>(
     ensures inside { IfOk result (λ found. AreInside volume.old.layout found.own) }
     ensures twins { IfOk result (λ found. AreOwnTwins found.own) }
     ensures called { HasNoZero config.now.map → IfOk result (λ found. IsFileName found.own.map.plain.name) }
+    ensures backup_called { IfSome config.now.backup HasNoZero → IfSome config.now.force_backup HasNoZero
+        → IfOk result (λ found. IsBackupNamed found.own.backup) }
     ensures cause { IfErr result (HasInstallCause (faults_of volume.old) (faults_of volume.new)) }
     ensures later { faults_of volume.old ≤ faults_of volume.new }
     ensures same { SameVolume volume.old volume.new }
@@ -167,6 +169,8 @@ pub fn examine<D: Disks>(
     ensures inside { IfOk result (λ found. AreInside volume.old.layout found.own) }
     ensures twins { IfOk result (λ found. AreOwnTwins found.own) }
     ensures called { HasNoZero config.now.map → IfOk result (λ found. IsFileName found.own.map.plain.name) }
+    ensures backup_called { IfSome config.now.backup HasNoZero → IfSome config.now.force_backup HasNoZero
+        → IfOk result (λ found. IsBackupNamed found.own.backup) }
     ensures left { IfOk result (λ found.
         IsLeft (kind_view volume.old.layout.kind) found.own.map found.settling.map) }
     ensures copy { IfOk result (λ found. IsCopyLeft found.own.backup found.settling.copy) }

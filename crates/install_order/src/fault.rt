@@ -5,13 +5,15 @@ ghost use Rattle.minix_write.specs.View.{HasWriteCause};
 ghost use Rattle.install_apart.specs.Apart.{HasApartCause};
 ghost use Rattle.install_apart.specs.Faults.{HasNameCause};
 ghost use Rattle.install_settle.specs.Found.{HasSettleCause};
+ghost use Rattle.map_plan.specs.View.{HasPlanCause};
 ghost use Rattle.old_map.specs.Old.{HasOldMapCause};
-ghost use Rattle.install_order.specs.Faults.{HasInstallCause, survey_refusal, apart_refusal, name_refusal, settle_refusal, old_refusal, write_refusal};
+ghost use Rattle.install_order.specs.Faults.{HasInstallCause, survey_refusal, apart_refusal, name_refusal, settle_refusal, old_refusal, plan_refusal, write_refusal};
 
 use conf_settings::Opt;
 use conf_text::Text;
 use install_apart::{ApartFault, NameFault};
 use install_settle::SettleFault;
+use map_plan::PlanFault;
 use minix_survey::SurveyFault;
 use minix_tree::TreeFault;
 use minix_write::WriteFault;
@@ -28,6 +30,8 @@ pub enum InstallFault {
     /// The path of the map, as it is configured, or the place of the backup can't be followed, or what is there is no
     /// regular file.
     Path(Text, TreeFault),
+    /// No map is planned.
+    Plan(PlanFault),
     /// A file can't be made or renamed.
     Write(WriteFault),
     /// A disk failed.
@@ -103,5 +107,17 @@ pub(crate) fn write_refusal(fault: WriteFault) -> InstallFault
         WriteFault::Device => InstallFault::Device,
         WriteFault::Memory => InstallFault::Memory,
         fault => InstallFault::Write(fault),
+    }
+}
+
+/// That of a plan.
+pub(crate) fn plan_refusal(fault: PlanFault) -> InstallFault
+    ensures is { result ≡ plan_refusal fault }
+    ensures cause { (before now : ℕ) → HasPlanCause before now fault → HasInstallCause before now result }
+{
+    match fault {
+        PlanFault::Device => InstallFault::Device,
+        PlanFault::Memory => InstallFault::Memory,
+        fault => InstallFault::Plan(fault),
     }
 }

@@ -1,15 +1,18 @@
 //! The order of an installation. It begins with what is read before anything is written: whether the volume is sound, what
 //! is apart, the names that are replaced, what an earlier installation left behind, and whether the present map is Clear.
-//! Then what was left behind is settled.
+//! Then what was left behind is settled, and the map is planned with the room for it.
 #![tactic(auto)]
 
 mod begin;
 mod examination;
 mod fault;
 mod halt;
+mod planned;
+mod planning;
 mod surveyed;
 
 pub use examination::{Examined, examine};
 pub use fault::InstallFault;
 pub use halt::Halt;
+pub use planned::Planned;
 pub use surveyed::Surveyed;

@@ -1,3 +1,3 @@
 mod Files
 mod Sections
-mod Whole
+pub mod Whole

@@ -1,7 +1,7 @@
 -- What is looked at.
 use Rattle.std.specs.Prelude.{is_some}
 use Rattle.lilo_conf.specs.View.{config_view}
-use Rattle.install_order.proofs.SurveyedLemmas.{map_called, fits_forth, looked_at, says_clear, some_by}
+use Rattle.install_order.proofs.SurveyedLemmas.{map_called, backup_path_called, forced_path_called, fits_forth, looked_at, says_clear, some_by}
 use Rattle.install_order.proofs.surveyed.Surveyed.look.Goals as goal
 
 pub returns-in-Ok-clause-known : goal.returns-in-Ok-clause-known
@@ -15,6 +15,7 @@ returns-in-Ok-clause-known g c =
             inside = e.inside;
             twins = e.twins;
             called = e.called (map_called (config_view c.args.config) c.requires.lawful);
+            backup_called = e.backup_called (backup_path_called (config_view c.args.config) c.requires.lawful) (forced_path_called (config_view c.args.config) c.requires.lawful);
             files = e.files;
             left = e.left;
             copy = e.copy;

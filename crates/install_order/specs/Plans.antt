@@ -1,0 +1,144 @@
+-- What an installation plans, by the first of the model's checks (this project's own).
+use Rattle.std.specs.Prelude.{◌≡◌, ℕ, Bool, not, is_some, List, length, All, Result, Ok, Err}
+use Rattle.disk_trait.specs.declared.disks.Disks.{Ghosts}
+use Rattle.lilo_model.specs.Checks.{◌>>=◌, with_fault}
+use Rattle.lilo_model.specs.Conf.{Config}
+use Rattle.lilo_model.specs.Disks.{Image, Machine, Span, DiskSector}
+use Rattle.lilo_model.specs.MinixParts.{Volume, parts_of}
+use Rattle.lilo_model.specs.Plan.{Plan, map_size}
+use Rattle.lilo_model.specs.PlanRefusal.{plan_at, own_places_check}
+use Rattle.lilo_model.specs.Settled as model
+use Rattle.lilo_conf.specs.View.{config_view}
+use Rattle.map_plan.specs.Skipped.{skipped_paths}
+use Rattle.map_sectors.specs.Accepted.{IsFor}
+use Rattle.map_sectors.specs.Map.{plan_view}
+use Rattle.map_sectors.specs.declared.map.MapPlan.{MapPlan}
+use Rattle.minix_zones.specs.View.{span_view}
+use Rattle.minix_zones.specs.Volume.{volume_view}
+use Rattle.minix_zones.specs.declared.volume.Volume as volumes
+use Rattle.write_model.specs.Wish as rooms
+use Rattle.install_laws.specs.InstallVerdict.{InstallRefusal, NoPlan, NoRoom}
+use Rattle.install_room.specs.Names.{AreNamesOf}
+use Rattle.install_room.specs.Room.{KeepsOut, room_for, places_view}
+use Rattle.install_room.specs.declared.room.Room.{Room}
+use Rattle.install_room.specs.declared.room.RoomWish.{RoomWish}
+use Rattle.install_order.specs.Faults.{Refuses}
+use Rattle.install_order.specs.declared.examination.Examined.{Examined}
+use Rattle.install_order.specs.declared.fault.InstallFault.{InstallFault}
+use Rattle.install_order.specs.declared.halt.Halt.{Halt}
+use Rattle.install_order.specs.declared.planned.Planned.{Planned}
+use Rattle.install_order.specs.declared.planning.Choices.{Choices}
+use Rattle.install_order.specs.declared.surveyed.Surveyed.{Surveyed}
+
+-- ---- the model's
+
+-- what is wished for a plan
+abbrev pub wish_of : Machine → Config → Bool → ℕ → Plan → RoomWish
+wish_of machine config unsettled time plan = record {
+  forced = is_some config.force_backup;
+  unsettled = unsettled;
+  sectors = map_size plan machine;
+  time = time;
+}
+
+-- the checks of an installation from the plan on, where a boot of the present map may look at some places
+unfoldable pub plan_checks : Image → Machine → Volume → Config → Span → List DiskSector → model.OwnNames → Bool → ℕ → Result (List DiskSector) InstallRefusal
+plan_checks image machine volume config span places names unsettled time = do
+  plan ← with_fault NoPlan (plan_at image machine volume span config time)
+  room ← with_fault NoRoom (room_for volume (parts_of volume image) places names (wish_of machine config unsettled time plan))
+  c ← with_fault NoPlan (own_places_check config machine room)
+  Ok room
+
+-- a boot may look at these places, and these are the names, as they were found
+pub record IsAsFound (image : Image) (volume : Volume) (places : List DiskSector) (names : model.OwnNames) (found : Examined) : Type 0 where
+  pub keeps : KeepsOut volume places found.old
+  pub are : AreNamesOf volume.layout (parts_of volume image) names found.own
+
+-- ---- on the way there
+
+-- the map
+pub record IsMap (image : Image) (machine : Machine) (volume : Volume) (config : Config) (span : Span) (time : ℕ) (plan : MapPlan) : Type 0 where
+  pub is : plan_at image machine volume span config time ≡ Ok (plan_view plan)
+  pub accepted : IsFor machine plan
+  pub skipped : plan.files.skipped ≡ skipped_paths image machine volume config.sections
+
+abbrev pub GivesMap : Image → Machine → Volume → Config → Span → ℕ → Result MapPlan InstallFault → Type 0
+GivesMap image machine volume config span time (Ok plan) = IsMap image machine volume config span time plan
+GivesMap image machine volume config span time (Err fault) = Refuses fault (with_fault NoPlan (plan_at image machine volume span config time))
+
+-- the room
+abbrev pub GivesRoomOf : Result (List DiskSector) rooms.Refusal → Result Room InstallFault → Type 0
+GivesRoomOf given (Ok room) = given ≡ Ok (places_view room)
+GivesRoomOf given (Err fault) = Refuses fault (with_fault NoRoom given)
+
+abbrev pub GivesRoom : Image → Volume → Examined → RoomWish → Result Room InstallFault → Type 0
+GivesRoom image volume found wish result =
+    (names : model.OwnNames) (places : List DiskSector) → IsAsFound image volume places names found
+    → GivesRoomOf (room_for volume (parts_of volume image) places names wish) result
+
+-- a check of its places
+abbrev pub GivesChecked : Result (Unit {0}) InstallFault → Result (Unit {0}) Rattle.lilo_model.specs.PlanRefusal.PlanFault → Type 0
+GivesChecked (Ok done) given = given ≡ Ok tt
+GivesChecked (Err fault) given = Refuses fault (with_fault NoPlan given)
+
+-- both
+pub record ArePlaces (machine : Machine) (config : Config) (given : Result (List DiskSector) rooms.Refusal) (room : Room) : Type 0 where
+  pub is : given ≡ Ok (places_view room)
+  pub check : own_places_check config machine (places_view room) ≡ Ok tt
+
+abbrev pub GivesPlacesOf : Machine → Config → Result (List DiskSector) rooms.Refusal → Result Room InstallFault → Type 0
+GivesPlacesOf machine config given (Ok room) = ArePlaces machine config given room
+GivesPlacesOf machine config given (Err fault) =
+    Refuses fault (with_fault NoRoom given >>= λ room. with_fault NoPlan (own_places_check config machine room))
+
+abbrev pub GivesPlaces : Image → Machine → Volume → Config → Examined → RoomWish → Result Room InstallFault → Type 0
+GivesPlaces image machine volume config found wish result =
+    (names : model.OwnNames) (places : List DiskSector) → IsAsFound image volume places names found
+    → GivesPlacesOf machine config (room_for volume (parts_of volume image) places names wish) result
+
+-- the sectors of a map lie on the disk of its plan, each in a place of its own
+pub record IsOfPlan (plan : MapPlan) (sectors : ℕ) (room : Room) : Type 0 where
+  pub disk : All (λ place. place.disk ≡ plan.disk) room.places.items
+  pub count : length room.places.items ≡ sectors
+
+-- ---- the whole
+
+-- the map, its room and the boot sector as it is
+pub record AreChosen (image : Image) (machine : Machine) (volume : Volume) (config : Config) (span : Span) (time : ℕ) (settled : Bool) (found : Examined) (choices : Choices) : Type 0 where
+  pub map : IsMap image machine volume config span time choices.plan
+  pub places : (names : model.OwnNames) (places : List DiskSector) → IsAsFound image volume places names found
+      → ArePlaces machine config (room_for volume (parts_of volume image) places names (wish_of machine config (not settled) time (plan_view choices.plan))) choices.room
+  pub present : choices.present ≡ image span.disk span.start
+
+abbrev pub RefusesChecks : Image → Machine → Volume → Config → Span → ℕ → Bool → Examined → InstallFault → Type 0
+RefusesChecks image machine volume config span time settled found fault =
+    (names : model.OwnNames) (places : List DiskSector) → IsAsFound image volume places names found
+    → Refuses fault (plan_checks image machine volume config span places names (not settled) time)
+
+abbrev pub GivesChoices : Image → Machine → Volume → Config → Span → ℕ → Bool → Examined → Result Choices InstallFault → Type 0
+GivesChoices image machine volume config span time settled found (Ok choices) = AreChosen image machine volume config span time settled found choices
+GivesChoices image machine volume config span time settled found (Err fault) = RefusesChecks image machine volume config span time settled found fault
+
+-- so for what was surveyed
+pub record IsPlanned {D : Type 0} {disks : Ghosts D} (image : Image) (machine : Machine) (surveyed : Surveyed D disks) (planned : Planned D disks) : Type 0 where
+  pub chosen : AreChosen image machine (volume_view surveyed.volume) (config_view surveyed.config) (span_view surveyed.boot) surveyed.time surveyed.settled surveyed.found
+      (record { plan = planned.plan; room = planned.room; present = planned.present })
+
+abbrev pub GivesPlanned : {D : Type 0} {disks : Ghosts D} → Image → Machine → Surveyed D disks → Result (Planned D disks) (Halt D disks) → Type 0
+GivesPlanned image machine surveyed (Ok planned) = IsPlanned image machine surveyed planned
+GivesPlanned image machine surveyed (Err halt) =
+    RefusesChecks image machine (volume_view surveyed.volume) (config_view surveyed.config) (span_view surveyed.boot) surveyed.time surveyed.settled surveyed.found halt.fault
+
+-- the volume that is held, or handed back
+abbrev pub planned_volume : {D : Type 0} {disks : Ghosts D} → Result (Planned D disks) (Halt D disks) → volumes.Volume D disks
+planned_volume (Ok planned) = planned.volume
+planned_volume (Err halt) = halt.volume
+
+-- it is for what was surveyed: its configuration, its boot device, its time and its names
+pub record IsPlannedFor {D : Type 0} {disks : Ghosts D} (surveyed : Surveyed D disks) (planned : Planned D disks) : Type 0 where
+  pub config_is : planned.plan.config ≡ surveyed.config
+  pub device_is : planned.device ≡ surveyed.device
+  pub boot_is : planned.boot ≡ surveyed.boot
+  pub time_is : planned.time ≡ surveyed.time
+  pub own_is : planned.own ≡ surveyed.found.own
+  pub settled_is : planned.settled ≡ surveyed.settled

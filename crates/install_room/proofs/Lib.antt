@@ -1,3 +1,6 @@
 pub mod RoomLemmas
 pub mod RoomOfLemmas
 pub mod BlockLemmas
+pub mod FreeLemmas
+pub mod KeptLemmas
+pub mod MakingLemmas

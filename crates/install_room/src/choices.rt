@@ -1,6 +1,7 @@
 // What is chosen for the files that an installation makes.
 ghost use Rattle.std.specs.Prelude.{◌≡◌, ◌≤◌, ◌^◌, ◌<◌, true, IfOk, IfErr, IfSome};
 ghost use Rattle.std.specs.Option.{option_map};
+ghost use Rattle.disk_trait.specs.Moments.{IsTold};
 ghost use Rattle.disk_trait.specs.Past.{Told};
 ghost use Rattle.lilo_model.specs.MinixLayout.{is_size};
 ghost use Rattle.lilo_model.specs.MinixParts.{parts_of};
@@ -13,8 +14,8 @@ ghost use Rattle.minix_zones.specs.Volume.{volume_view, past_of, faults_of, Same
 ghost use Rattle.write_model.specs.Choice.{choose};
 ghost use Rattle.install_apart.specs.Names.{IsInside};
 ghost use Rattle.install_apart.specs.Own.{IsBackupInside};
-ghost use Rattle.install_room.specs.Names.{IsCalled, IsBackupCalled, own_wish, backup_at};
-ghost use Rattle.install_room.specs.Room.{HasRoomFor, IsFree, IsForName, GivesBackup};
+ghost use Rattle.install_room.specs.Names.{IsCalled, IsBackupCalled, own_wish, backup_at, backup_of};
+ghost use Rattle.install_room.specs.Room.{HasRoomFor, HasNoHole, IsFree, IsForName, IsForBackup, GivesBackup, with_backup};
 
 use disk_trait::Disks;
 use install_apart::{NamePair, OwnName};
@@ -46,6 +47,7 @@ pub(crate) fn choose_for<D: Disks>(
     ensures room { IfOk result (λ chosen. HasRoomFor volume.old.layout taken.new) }
     ensures made { IfOk result (IsForName own.now length time) }
     ensures suits { IfOk result (Suits volume.old.layout volume.old.span) }
+    ensures whole { IsTold (past_of volume.old) → IfOk result HasNoHole }
     ensures free { IfOk result (IsFree volume.new taken.old) }
     ensures promises { IfOk result (PromisesWhereFree volume.new (taken_view taken.old) (taken_view taken.new)) }
     ensures cause { IfErr result (HasWriteCause (faults_of volume.old) (faults_of volume.new)) }
@@ -90,8 +92,11 @@ pub(crate) fn choose_backup<D: Disks>(
     requires room { HasRoomFor volume.old.layout taken.old }
     ensures choice { Told (past_of volume.old) (λ now. GivesBackup (super_view volume.old.layout)
         (parts_of (volume_view volume.old) now) taken.old taken.new pair.now forced time result) }
+    ensures taken { IfOk result (λ chosen. taken.new ≡ with_backup taken.old chosen) }
+    ensures made { IfOk result (IsForBackup (backup_of forced pair.now) time) }
     ensures room { IfOk result (λ chosen. HasRoomFor volume.old.layout taken.new) }
     ensures suits { IfOk result (λ chosen. IfSome chosen (Suits volume.old.layout volume.old.span)) }
+    ensures whole { IsTold (past_of volume.old) → IfOk result (λ chosen. IfSome chosen HasNoHole) }
     ensures free { IfOk result (λ chosen. IfSome chosen (IsFree volume.new taken.old)) }
     ensures promises { IfOk result (λ chosen. IfSome chosen
         (PromisesWhereFree volume.new (taken_view taken.old) (taken_view taken.new))) }

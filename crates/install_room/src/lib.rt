@@ -4,7 +4,9 @@
 
 mod avoid;
 mod choices;
+mod laws;
 mod places;
 mod room;
 
+pub use laws::room_may_be_made;
 pub use room::{Room, RoomWish, find_room};

@@ -1,5 +1,6 @@
 // The room that an installation takes.
 ghost use Rattle.std.specs.Prelude.{◌≡◌, ◌≤◌, ◌*◌, ◌^◌, ◌<◌, List, IfOk, IfErr, IfSome, map};
+ghost use Rattle.disk_trait.specs.Moments.{IsTold};
 ghost use Rattle.disk_trait.specs.Past.{Told};
 ghost use Rattle.lilo_model.specs.Disks as disks;
 ghost use Rattle.lilo_model.specs.MinixParts.{parts_of};
@@ -14,7 +15,7 @@ ghost use Rattle.write_model.specs.Places.{most_size};
 ghost use Rattle.install_laws.specs.InstallVerdict.{sectors_of_blocks};
 ghost use Rattle.install_apart.specs.Own.{AreInside};
 ghost use Rattle.install_room.specs.Names.{AreCalled, AreNamesOf};
-ghost use Rattle.install_room.specs.Room.{HasRoomFor, IsRoomFree, KeepsOut, SuitRoom, first_of, places_view, room_for};
+ghost use Rattle.install_room.specs.Room.{HasRoomFor, HasNoHoles, IsRoomFor, IsRoomFree, AvoidPlaces, KeepsOut, SuitRoom, first_of, places_view, room_for};
 
 use crate::avoid::{overlook_stale, taken_first};
 use crate::choices::{choose_backup, choose_for};
@@ -98,6 +99,15 @@ pub fn find_room<D: Disks>(
     ensures suits { IfOk result (SuitRoom volume.old.layout volume.old.span) }
     ensures places { IfOk result (λ room. places_view room
         ≡ sectors_of_blocks (span_view volume.old.span) room.map.choice.blocks wish.sectors) }
+
+    // What may be done with it.
+    ensures made { IfOk result (IsRoomFor own.now wish) }
+    ensures whole { IsTold (past_of volume.old) → IfOk result HasNoHoles }
+    ensures free { IfOk result (λ room. (places : List disks.DiskSector)
+        → KeepsOut (volume_view volume.old) places old.now
+        → IsRoomFree volume.new (first_of (volume_view volume.old) places wish.unsettled wish.forced own.now) room) }
+    ensures avoids { IsTold (past_of volume.old) → IfOk result (λ room. (places : List disks.DiskSector)
+        → KeepsOut (volume_view volume.old) places old.now → AvoidPlaces (volume_view volume.old) places room) }
 
     // When it is refused.
     ensures cause { IfErr result (HasWriteCause (faults_of volume.old) (faults_of volume.new)) }

@@ -1,10 +1,13 @@
 -- The room is the model's.
-use Rattle.std.proofs.Common.{rules, ◌≡◌, ◌≤◌, ◌<◌, ◌+◌, ◌*◌, ◌^◌, ℕ, List, length, map, All, Ok, Err, sym, ◌∙◌, ap, subst, subst₂}
+use Rattle.std.proofs.Common.{rules, ◌≡◌, ◌≤◌, ◌<◌, ◌+◌, ◌*◌, ◌^◌, ℕ, List, length, map, All, Ok, Err, refl, sym, ◌∙◌, ap, subst, subst₂, arith}
 use Rattle.disk_trait.specs.Past.{Image}
+use Rattle.disk_trait.proofs.MomentLemmas.{told_now}
 use Rattle.disk_trait.proofs.ToldLemmas.{told_all, told_both, told_map}
 use Rattle.disk_trait.specs.declared.disks.Span.{Span}
 use Rattle.lilo_model.specs.MinixParts.{parts_of}
 use Rattle.lilo_model.specs.MinixParts as parts
+use Rattle.minix_bits.proofs.BitmapLemmas.{fits}
+use Rattle.minix_steps.specs.Written.{parts_now}
 use Rattle.minix_write.specs.View.{taken_view, Refuses}
 use Rattle.minix_write.specs.declared.write_fault.WriteFault.TheVariants as faults
 use Rattle.minix_zones.specs.View.{span_view}
@@ -12,9 +15,13 @@ use Rattle.minix_zones.specs.Volume.{volume_view, past_of}
 use Rattle.minix_zones.proofs.SameLemmas.{told_back}
 use Rattle.slot_lists.specs.Made.{place_view}
 use Rattle.write_model.specs.Choice.{choose}
+use Rattle.write_model.specs.Wish.{Taken}
 use Rattle.install_laws.specs.InstallVerdict.{sectors_of_blocks}
-use Rattle.install_room.specs.Names.{own_wish}
+use Rattle.install_room.specs.Names.{own_wish, backup_of}
+use Rattle.install_room.specs.Room.{GivesFor, first_of}
 use Rattle.install_room.proofs.BlockLemmas.{enough_blocks, blocks_lie}
+use Rattle.install_room.proofs.FreeLemmas.{told_stays, room_free}
+use Rattle.install_room.proofs.KeptLemmas.{kept_first, backup_avoids, map_avoids}
 use Rattle.install_room.proofs.RoomOfLemmas.{backup_refused, map_refused, room_found}
 use Rattle.install_room.proofs.room.find_room.Goals as goal
 
@@ -92,3 +99,39 @@ returns-clause-places g c =
     c.in_ok-places.ensures
     ∙ (ap (λ (span : Span). sectors_of_blocks (span_view span) c.blocks-2.result.now sectors) span-is
     ∙ ap (λ (blocks : List ℕ). sectors_of_blocks (span_view volume.span) blocks sectors) c.blocks-2.ensures)
+
+pub returns-clause-made : goal.returns-clause-made
+returns-clause-made g c = record { map = c.in_ok-map.ensures.made; backup = c.in_ok-backup.ensures.made }
+
+pub returns-clause-whole : goal.returns-clause-whole
+returns-clause-whole g c told =
+    let stays = told_stays c.args.volume.now c.choose_backup.new.volume c.in_ok-backup.ensures.same told in
+    record { map = c.in_ok-map.ensures.whole stays; backup = c.in_ok-backup.ensures.whole told }
+
+pub returns-clause-free : goal.returns-clause-free
+returns-clause-free g c places keeps =
+    let first : Taken = first_of (volume_view c.args.volume.now) places c.args.wish.unsettled c.args.wish.forced c.args.own.now in
+    room_free c.choose_backup.new.volume c.choose_for.new.volume c.in_ok-map.ensures.same c.in_ok-taken.taken first (c.in_ok-taken.ensures.taken places keeps) refl
+    c.in_ok-map.map c.choose_for.new.taken c.in_ok-backup.backup c.choose_backup.new.taken c.in_ok-backup.ensures.taken
+    c.in_ok-backup.ensures.free c.in_ok-backup.ensures.promises c.in_ok-map.ensures.free c.in_ok-map.ensures.promises
+
+pub returns-clause-avoids : goal.returns-clause-avoids
+returns-clause-avoids g c told places keeps =
+    let volume = c.args.volume.now in
+    let view : parts.Volume = volume_view volume in
+    let mid = c.choose_backup.new.volume in
+    let old = c.in_ok-taken.taken in
+    let new = c.choose_backup.new.taken in
+    let own = backup_of c.args.wish.forced c.args.own.now.backup in
+    let wish = own_wish c.args.own.now.map.tilde (512 * c.args.wish.sectors) c.args.wish.time in
+    let R : parts.Volume → Image → Type 0 = λ on image. choose on.layout (parts_of on image) (taken_view new) wish ≡ Ok c.in_ok-map.map.choice in
+    let G : Image → Type 0 = λ image. GivesFor view.layout (parts_of view image) old new own c.args.wish.time (Ok c.in_ok-backup.backup) in
+    let gives = told_now (past_of volume) G c.in_ok-backup.ensures.choice told in
+    let chosen = told_now (past_of volume) (R view) (told_back volume mid R c.in_ok-backup.ensures.same c.in_ok-map.ensures.choice) told in
+    let some : 0 < volume.layout.first = let behind = (fits view.layout volume.span.count volume.whole.passes).behind in omega (arith, behind) in
+    let first = c.in_ok-taken.ensures.taken places keeps in
+    let kept = kept_first view places view.layout (parts_now volume) some (taken_view old) (λ zone. ap (λ (t : Taken). t.has_zone zone) first) (ap (λ (t : Taken). t.promises) first) in
+    record {
+      map = map_avoids view places view.layout (parts_now volume) some old new c.args.wish.time kept own c.in_ok-backup.backup gives wish c.in_ok-map.map chosen;
+      backup = backup_avoids view places view.layout (parts_now volume) some old new c.args.wish.time kept own c.in_ok-backup.backup gives;
+    }

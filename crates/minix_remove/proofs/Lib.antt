@@ -2,6 +2,7 @@ pub mod FindLemmas
 pub mod TargetLemmas
 pub mod ReleaseLemmas
 pub mod PointerLemmas
+pub mod PlaceLemmas
 pub mod TakeLemmas
 pub mod RemoveLemmas
 pub mod MoveLemmas

@@ -5,7 +5,7 @@ use Rattle.disk_trait.specs.declared.disks.Disks.{Ghosts}
 use Rattle.disk_trait.specs.Past.{Image}
 use Rattle.disk_trait.specs.Moments.{IsTold, now}
 use Rattle.disk_trait.specs.NotWritten.{IsOther, NotWritten}
-use Rattle.disk_trait.proofs.CallLemmas.{goes_on_join}
+use Rattle.disk_trait.proofs.CallLemmas.{goes_on_join, on_ok_held}
 use Rattle.disk_trait.specs.Calls.{GoesOn}
 use Rattle.disk_trait.proofs.MomentLemmas.{on_ok, told_or_not}
 use Rattle.disk_trait.proofs.NotWrittenLemmas.{not_written_join}
@@ -56,13 +56,14 @@ use Rattle.minix_zones.specs.declared.zone_fault.ZoneFault.TheVariants.{Device}
 use Rattle.minix_zones.proofs.WriteLemmas.{cause_after, keeps_join}
 use Rattle.minix_remove.specs.Moves.{MovesPath}
 use Rattle.minix_remove.specs.Released.{MayRelease, LetsGo, Releases}
-use Rattle.minix_remove.specs.Removed.{GainsNoZone, RemovesFile}
+use Rattle.minix_remove.specs.Removed.{GainsNoZone, KeepsEachPlace, RemovesFile}
 use Rattle.minix_remove.specs.Renamed.{RenamesFiles, IsOffRenamed, FitsRenaming, IsRenaming, IsSomeRenaming, Carries}
 use Rattle.minix_remove.specs.Target.{FitsTarget, IsTarget}
 use Rattle.minix_remove.specs.declared.target.Target.{Target}
 use Rattle.minix_remove.proofs.MoveLemmas.{moves_none, replaces_moves, unseen_then_moves, moves_then_unseen}
 use Rattle.minix_remove.proofs.ReleaseLemmas.{links_changed_in}
 use Rattle.minix_remove.proofs.RenamedLemmas.{apart_names}
+use Rattle.minix_remove.proofs.PlaceLemmas.{KeepsDirectories, seen_directories, seen_each, join_each, replaced_each, replaced_directories}
 use Rattle.minix_remove.proofs.PointerLemmas.{gains_two}
 use Rattle.minix_remove.proofs.TakeLemmas.{let_go_zones, removes_file, may_go, named_target, placed, points, kind_is, sized_is, off_entry}
 
@@ -152,6 +153,7 @@ module _ {D : Type 0} {disks : Ghosts D} (v0 : Volume D disks) (directory : ℕ)
         moves = λ outer leads. moves_none v0 v1 (from ∷ outer) (to ∷ outer) fault seen1;
         files = λ told. tt;
         gains = λ told. tt;
+        places = λ told. tt;
         others = others1;
         goes_on = seen1.goes_on;
         kept = seen1.kept;
@@ -308,6 +310,7 @@ module _ {D : Type 0} {disks : Ghosts D} (v0 : Volume D disks) (directory : ℕ)
           moves = λ outer leads. subst (MovesPath v0 v2 (from ∷ outer) (to ∷ outer)) is (moves02 outer leads);
           files = λ told. tt;
           gains = λ told. tt;
+          places = λ told. tt;
           others = others02;
           goes_on = goes02;
           kept = kept02;
@@ -386,6 +389,19 @@ module _ {D : Type 0} {disks : Ghosts D} (v0 : Volume D disks) (directory : ℕ)
         parts-a : Sound (super_view v0.layout) A
         parts-a = (opened View (now (past_of v0)) (sound-a told)).parts
 
+        -- places of directories
+        placed-each : KeepsEachPlace (super_view v0.layout) B C × KeepsDirectories (super_view v0.layout) B C
+        placed-each =
+            let bytes = entry_bytes_law (kind_view v0.layout.kind) moved.inode to low16 (may told).fits in
+            let first = entry_at View (now (past_of v1)) both.mid directory former.place over.zone over.index Bytes long (zone-to told) (sym over-slot) led-part in (
+              replaced_each View (now (past_of v1)) both.mid (now (past_of v2)) Path directory former.place moved.place former.inode moved.inode place.zone place.index to from Bytes sound-b
+                  (placed-to told) (placed-from told) (zone-from told) (sym place-slot) (removes-to told Path (outer-leads told)) (removes-from told Path (outer-leads told)) (may told).names
+                  (λ same. apart (sym same)) (stands told) bytes.1 first freed-part (leads-to told Path (outer-leads told)) (leads-from told Path (outer-leads told)),
+              replaced_directories View (now (past_of v1)) both.mid (now (past_of v2)) Path directory former.place moved.place former.inode moved.inode place.zone place.index to from Bytes sound-b
+                  (placed-to told) (placed-from told) (zone-from told) (sym place-slot) (removes-to told Path (outer-leads told)) (removes-from told Path (outer-leads told)) (may told).names
+                  (λ same. apart (sym same)) (stands told) bytes.1 first freed-part (leads-to told Path (outer-leads told)) (leads-from told Path (outer-leads told)),
+            )
+
         moved-is : C.node moved.inode ≡ raised_of moved
         moved-is =
             raised_node (super_view v0.layout) A B (In both.mid) C C directory moved.inode over.zone place.zone (inode_view moved.node) _ _ _ _ parts-a (is-from told).holds.entry.named
@@ -434,6 +450,7 @@ module _ {D : Type 0} {disks : Ghosts D} (v0 : Volume D disks) (directory : ℕ)
             moves = λ outer leads. moves_then_unseen v0 v2 v3 (from ∷ outer) (to ∷ outer) {E = ZoneFault} (Err fault) (moves02 v2 (Ok tt) replaces writes outer leads) releases3.unseen;
             files = λ told. tt;
             gains = λ told. tt;
+            places = λ told. tt;
             others = others03;
             goes_on = goes03;
             kept = kept03;
@@ -549,6 +566,18 @@ module _ {D : Type 0} {disks : Ghosts D} (v0 : Volume D disks) (directory : ℕ)
           gains : (told : IsTold (past_of v0)) → OnOk r4 (GainsNoZone (super_view v0.layout) A (parts_now v4) directory)
           gains told = on_ok r4 _ _ (let-go told) (gains-none told)
 
+          places : (told : IsTold (past_of v0)) → KeepsEachPlace (super_view v0.layout) A (parts_now v4)
+          places told =
+              let S : model.Volume → Type 0 = λ view. SeenAsIn view (now (past_of v3)) (now (past_of v4)) in
+              let K : model.Volume → Type 0 = λ view. KeepsEachPlace (super_view v0.layout) A (parts_of view (now (past_of v4))) in
+              let seen = subst S (same_view v0 v3 kept-then) (releases4.unseen.held ((goes03 v3 (Ok tt) releases3).told told)) in
+              let entries = placed-each told in
+              subst K (sym (same_view v0 v4 (keeps_join v0 v3 v4 kept-then releases4.unseen.kept)))
+              (join_each (super_view v0.layout) A B (In (now (past_of v4))) (seen_directories (super_view v0.layout) A B (seen-b told).sees) (seen_each (super_view v0.layout) A B (seen-b told).sees)
+              (join_each (super_view v0.layout) B C (In (now (past_of v4))) entries.1 entries.0
+              (join_each (super_view v0.layout) C E' (In (now (past_of v4))) (seen_directories (super_view v0.layout) C E' (seen-e told).sees) (seen_each (super_view v0.layout) C E' (seen-e told).sees)
+              (seen_each (super_view v0.layout) E' (In (now (past_of v4))) seen.sees))))
+
           files : IsTold (past_of v0) → OnOk r4 (RenamesFiles (super_view v0.layout) A (parts_now v4) directory (held_name (super_view v0.layout) A directory to))
           files told =
               let F : Option ℕ → Type 0 = λ held. RenamesFiles (super_view v0.layout) A (parts_now v4) directory held in
@@ -561,6 +590,7 @@ module _ {D : Type 0} {disks : Ghosts D} (v0 : Volume D disks) (directory : ℕ)
                   (unseen_join v2 v3 v4 releases3.unseen releases4.unseen);
               files = files;
               gains = gains;
+              places = λ told. on_ok_held r4 _ (places told);
               others = λ told d s off. not_written_join (past_of v0) (past_of v3) (past_of v4) d s (others03 v3 (Ok tt) releases3 told d s off)
                   (releases4.others d s (off_file_kept v0 v3 former.inode kept-then d s (off.files moved.inode former.inode (is-from told).held (is-to told).held).1));
               goes_on = goes_on_join disks v0.disks.now v3.disks.now v4.disks.now (goes03 v3 (Ok tt) releases3) releases4.unseen.goes_on;

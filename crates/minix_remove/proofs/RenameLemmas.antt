@@ -21,7 +21,7 @@ use Rattle.minix_zones.specs.Volume.{past_of, faults_of, SameVolume}
 use Rattle.minix_zones.specs.declared.volume.Volume.{Volume}
 use Rattle.minix_zones.specs.declared.zone_fault.ZoneFault.{ZoneFault}
 use Rattle.minix_zones.proofs.WriteLemmas.{keeps_same, keeps_join}
-use Rattle.minix_remove.specs.Removed.{GainsNoZone}
+use Rattle.minix_remove.specs.Removed.{GainsNoZone, KeepsEachPlace}
 use Rattle.minix_remove.specs.Renamed.{RenamesFiles, IsOffRenamed, IsFormer, IsRenaming, IsSomeRenaming, Carries, RenameAnswersRight, Renames, FindsRenaming, GivesRenaming}
 use Rattle.minix_remove.specs.Target.{IsDirectoryNow}
 use Rattle.minix_remove.specs.declared.renaming.Renaming.{Renaming}
@@ -43,6 +43,7 @@ module _ {D : Type 0} {disks : Ghosts D} (start mid : Volume D disks) (directory
           moves = λ outer leads. moves_none start mid (from ∷ outer) (to ∷ outer) fault seen;
           files = λ told. tt;
           gains = λ told. tt;
+          places = λ told. tt;
           others = λ told d s off. not_written_same start mid directory from same later quiet may d s;
           goes_on = seen.goes_on;
           kept = seen.kept;
@@ -103,6 +104,8 @@ module _ {D : Type 0} {disks : Ghosts D} (start mid : Volume D disks) (directory
                   RenamesFiles view.layout (parts_at view past) (parts_now new) directory (held_name view.layout (parts_at view past) directory to)) files));
               gains = λ told. so _ (on_ok result _ _ (carries.moves.gains (told_then start mid same told)) (λ gains.
                   at_same start mid same (λ view past. GainsNoZone view.layout (parts_at view past) (parts_now new) directory) gains));
+              places = λ told. so _ (on_ok result _ _ (carries.moves.places (told_then start mid same told)) (λ places.
+                  at_same start mid same (λ view past. KeepsEachPlace view.layout (parts_at view past) (parts_now new)) places));
               others = λ told d s off.
                   let N : Option Past → Type 0 = λ p. NotWritten p (past_of new) d s in
                   subst N same.same_disks.same_past (carries.moves.others (told_then start mid same told) d s (off-then d s off));

@@ -12,6 +12,7 @@ use Rattle.lilo_model.specs.MinixParts.{Parts, parts_of}
 use Rattle.minix_entry_bytes_laws.specs.Written.{entry_bytes}
 use Rattle.minix_entry_bytes_laws.proofs.EntryBytes.{entry_bytes_law}
 use Rattle.minix_entry_bytes_laws.proofs.Images.{rename_bytes_law}
+use Rattle.minix_entry_bytes_laws.proofs.Written.{written_law}
 use Rattle.minix_growth_laws.specs.Changes.{ChangesZone}
 use Rattle.minix_layout.specs.View.{kind_view, super_view}
 use Rattle.minix_remove_laws.specs.Files.{KeepsFiles}
@@ -32,10 +33,11 @@ use Rattle.minix_zones.specs.Volume.{volume_view, past_of}
 use Rattle.minix_zones.specs.declared.volume.Volume.{Volume}
 use Rattle.minix_zones.specs.declared.zone_fault.ZoneFault.{ZoneFault}
 use Rattle.minix_zones.specs.declared.zone_fault.ZoneFault.TheVariants.{Device}
-use Rattle.minix_remove.specs.Removed.{GainsNoZone, Takes}
+use Rattle.minix_remove.specs.Removed.{GainsNoZone, KeepsEachPlace, Takes}
 use Rattle.minix_remove.specs.Renamed.{RenamesFiles, IsRenaming, Carries}
 use Rattle.minix_remove.specs.Target.{FitsTarget}
 use Rattle.minix_remove.specs.declared.target.Target.{Target}
+use Rattle.minix_remove.proofs.PlaceLemmas.{used_entry, is_used}
 use Rattle.minix_remove.proofs.PointerLemmas.{gains_one}
 use Rattle.minix_remove.proofs.MoveLemmas.{leads_moves, turn_moves}
 use Rattle.minix_remove.proofs.TakeLemmas.{may_go, placed, points, off_entry}
@@ -104,6 +106,17 @@ module _ {D : Type 0} {disks : Ghosts D} (old new : Volume D disks) (directory :
         (gains_one (super_view old.layout) Was (parts_of View (now (past_of new))) directory parts here.named here.is (change.nodes directory (parts.in_range directory here.named)) moved.place
         (λ zone in' apart. change.others zone in' (λ same. apart (same ∙ sym is.lies)))))
 
+    places : OnOk result (KeepsEachPlace (super_view old.layout) Was (parts_now new))
+    places =
+        let V : model.Volume → Type 0 = λ view. KeepsEachPlace (super_view old.layout) Was (parts_of view (now (past_of new))) in
+        on_ok result _ _ (entry told) (λ has.
+        let is = (may told).leads in
+        let bytes = entry_at View (now (past_of old)) (now (past_of new)) directory moved.place moved.zone index Bytes long is.lies (sym slot) has in
+        let only = (written_law View (now (past_of old)) (now (past_of new)) directory moved.place Bytes is.in_directory.sound (placed old directory from moved is) bytes).only in
+        subst V (sym (same_view old new turns.kept))
+        (used_entry (super_view old.layout) Was (parts_of View (now (past_of new))) directory moved.place (opened View (now (past_of old)) is.in_directory.sound).parts only
+        (is_used (super_view old.layout) Was directory moved.place moved.inode from is.holds.entry.says is.holds.entry.some)))
+
     files : OnOk result (RenamesFiles (super_view old.layout) Was (parts_now new) directory (held_name (super_view old.layout) Was directory to))
     files =
         let V : model.Volume → Type 0 = λ view. KeepsFiles (super_view old.layout) Was (parts_of view (now (past_of new))) directory in
@@ -116,6 +129,7 @@ module _ {D : Type 0} {disks : Ghosts D} (old new : Volume D disks) (directory :
       moves = λ outer leads. turn_moves old new (from ∷ outer) (to ∷ outer) _ _ Device result turns (λ told. (may told).leads.in_directory.sound) (λ told. has-moved told outer (leads told));
       files = files;
       gains = gains;
+      places = places;
       others = λ told d s off. turns.others d s (off_entry old directory from moved index fits low slot (may told).leads d s off.zones);
       goes_on = turns.goes_on;
       kept = turns.kept;
@@ -145,6 +159,7 @@ module _ {D : Type 0} {disks : Ghosts D} (old new : Volume D disks) (directory :
           let F : Option ℕ → Type 0 = λ held. RenamesFiles (super_view old.layout) (parts_now old) (parts_now new) directory held in
           on_ok result _ _ (takes.file told) (λ file. subst F (sym (held-is told)) file);
       gains = takes.gains;
+      places = takes.places;
       others = λ told d s off. takes.others told d s (record { zones = off.zones; file = (off.files moved.inode former.inode (may told).leads.held (may told).over.held).0 });
       goes_on = takes.goes_on;
       kept = takes.kept;

@@ -29,10 +29,11 @@ use Rattle.minix_remove_laws.specs.Held.{is_removable, MayGoFrom, IsReleased}
 use Rattle.minix_remove_laws.proofs.Files.{keeps_zone}
 use Rattle.minix_remove_laws.proofs.Held.{held_law, no-directory}
 use Rattle.minix_remove_laws.proofs.Released.{released_law}
+use Rattle.minix_sees_laws.specs.Sees.{SeenAsIn}
 use Rattle.minix_sees_laws.proofs.Seen.{opened}
 use Rattle.minix_steps.specs.Written.{parts_now}
 use Rattle.minix_steps.proofs.StepLemmas.{same_view}
-use Rattle.minix_turns.specs.Joined.{LeadsPath}
+use Rattle.minix_turns.specs.Joined.{Unseen, LeadsPath}
 use Rattle.minix_turns.specs.Names.{IsEntryAt, MayRemoveAt, RemovesName}
 use Rattle.minix_turns.specs.Part.{TurnsFreeEntry, HasEntryPart}
 use Rattle.minix_turns.proofs.EntryLemmas.{free-long, free-inode}
@@ -48,9 +49,10 @@ use Rattle.minix_zones.specs.declared.zone_fault.ZoneFault.{ZoneFault}
 use Rattle.minix_zones.specs.declared.zone_fault.ZoneFault.TheVariants.{Device}
 use Rattle.minix_zones.proofs.WriteLemmas.{cause_after, keeps_join}
 use Rattle.minix_remove.specs.Released.{MayRelease, LetsGo, Releases}
-use Rattle.minix_remove.specs.Removed.{GainsNoZone, RemovesFile, Takes}
+use Rattle.minix_remove.specs.Removed.{GainsNoZone, KeepsEachPlace, RemovesFile, Takes}
 use Rattle.minix_remove.specs.Target.{IsTarget, FitsTarget}
 use Rattle.minix_remove.specs.declared.target.Target.{Target}
+use Rattle.minix_remove.proofs.PlaceLemmas.{leads_to_file, tree_directories, seen_each, join_each, used_entry, is_used}
 use Rattle.minix_remove.proofs.PointerLemmas.{gains_one}
 
 -- ---- answers
@@ -265,6 +267,7 @@ module _ {D : Type 0} {disks : Ghosts D} (old : Volume D disks) (directory : ℕ
       leads = λ outer leads. led mid (Err fault) removes outer leads;
       file = λ told. tt;
       gains = λ told. tt;
+      places = λ told. tt;
       others = λ told d s off. turns.others d s (off_entry (may told) d s off.zones);
       device = λ told. turns.device;
       goes_on = turns.goes_on;
@@ -284,12 +287,32 @@ module _ {D : Type 0} {disks : Ghosts D} (old : Volume D disks) (directory : ℕ
           let told = turns.goes_on.told_before is in
           may_release (may told) mid turns.kept (sound-now told) (entry told)
 
+      -- the entry was a used one, and no name sees what comes then
+      places-kept : (new : Volume D disks) → Unseen mid new → IsTold (past_of old) → KeepsEachPlace (super_view old.layout) Was (parts_now new)
+      places-kept new unseen told =
+          let is = may told in
+          let go = goes old directory name target is in
+          let path = name ∷ is.holds.entry.named.path in
+          let tree = (led mid (Ok tt) removes is.holds.entry.named.path (λ told'. is.holds.entry.named.leads)).done told in
+          let S : model.Volume → Type 0 = λ view. SeenAsIn view (now (past_of mid)) (now (past_of new)) in
+          let K : model.Volume → Type 0 = λ view. KeepsEachPlace (super_view old.layout) Was (parts_of view (now (past_of new))) in
+          let seen = subst S (same_view old mid turns.kept) (unseen.held (turns.goes_on.told told)) in
+          subst K (sym (same_view old new (keeps_join old mid new turns.kept unseen.kept)))
+          (join_each (super_view old.layout) Was (parts_of View (now (past_of mid))) (parts_of View (now (past_of new)))
+          (tree_directories (super_view old.layout) Was (parts_of View (now (past_of mid))) path None None tree.tree
+          (leads_to_file (super_view old.layout) Was path target.inode go.leads (no-directory (Was.node target.inode) is.holds.removable)))
+          (used_entry (super_view old.layout) Was (parts_of View (now (past_of mid))) directory target.place (opened View (now (past_of old)) is.in_directory.sound).parts
+          (becomes is (now (past_of mid)) (entry told)).only
+          (is_used (super_view old.layout) Was directory target.place target.inode name is.holds.entry.says is.holds.entry.some))
+          (seen_each (super_view old.layout) (parts_of View (now (past_of mid))) (parts_of View (now (past_of new))) seen.sees))
+
       pub takes_done : (new : Volume D disks) (result : Result (Unit {0}) ZoneFault) → Releases mid new target.inode (inode_view target.node) result → Takes old new directory name target result
       takes_done new result releases = record {
         leads = λ outer leads. leads_as old new (name ∷ outer) (Ok tt) result (λ P p. on_ok_held result P p)
             (leads_then_unseen old mid new (name ∷ outer) None None {E = ZoneFault} (led mid (Ok tt) removes outer leads) releases.unseen);
         file = λ told. on_ok result _ _ (releases.changed (turns.goes_on.told told)) (file_removed (may told) mid turns.kept (sound-now told) (entry told) new);
         gains = λ told. on_ok result _ _ (releases.changed (turns.goes_on.told told)) (gains (may told) mid turns.kept (sound-now told) (entry told) new);
+        places = λ told. on_ok_held result _ (places-kept new releases.unseen told);
         others = λ told d s off. not_written_join (past_of old) (past_of mid) (past_of new) d s (turns.others d s (off_entry (may told) d s off.zones))
             (releases.others d s (off_file_kept old mid target.inode turns.kept d s off.file));
         device = λ told. cause_after old mid new Device result turns.goes_on.later (releases.device (turns.goes_on.told told));

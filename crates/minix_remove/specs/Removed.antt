@@ -12,6 +12,7 @@ use Rattle.lilo_model.specs.MinixParts.{Parts, Pointer}
 use Rattle.minix_beside_laws.specs.Beside.{IsInode, IsDataZone}
 use Rattle.minix_free.specs.Freed.{no_inode, IsOffFile}
 use Rattle.minix_layout.specs.View.{super_view}
+use Rattle.minix_made_laws.specs.Made.{KeepsPlaces}
 use Rattle.minix_remove_laws.specs.Held.{held_name}
 use Rattle.minix_sees_laws.specs.Sees.{with_links}
 use Rattle.minix_steps.specs.Written.{parts_now}
@@ -56,6 +57,10 @@ pub record RemovesFile (super : Super) (old new : Parts) (directory number : ℕ
 abbrev pub GainsNoZone : Super → Parts → Parts → ℕ → Type 0
 GainsNoZone super old new directory = (at : Pointer) (zone : ℕ) → PointsTo super new directory at zone → PointsTo super old directory at zone
 
+-- all places of directories are kept, whichever is left out: none is lost, and each that was free, or past the size, still is
+abbrev pub KeepsEachPlace : Super → Parts → Parts → Type 0
+KeepsEachPlace super old new = (directory place : ℕ) → KeepsPlaces super old new directory place
+
 -- ---- sectors that aren't written
 
 -- a sector of a disk is of no zone that a directory points to, none of the bitmaps, and not the one with an inode
@@ -79,6 +84,7 @@ pub record Takes {D : Type 0} {disks : Ghosts D} (old new : Volume D disks) (dir
       → LeadsPath old new (name ∷ outer) None None result
   pub file : IsTold (past_of old) → OnOk result (RemovesFile (super_view old.layout) (parts_now old) (parts_now new) directory target.inode)
   pub gains : IsTold (past_of old) → OnOk result (GainsNoZone (super_view old.layout) (parts_now old) (parts_now new) directory)
+  pub places : IsTold (past_of old) → OnOk result (KeepsEachPlace (super_view old.layout) (parts_now old) (parts_now new))
   pub others : IsTold (past_of old) → (d s : ℕ) → IsOffRemoved old directory target.inode d s → NotWritten (past_of old) (past_of new) d s
   pub device : IsTold (past_of old) → HasDeviceCause old new zones.Device result
   -- what stays

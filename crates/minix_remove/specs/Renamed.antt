@@ -26,7 +26,7 @@ use Rattle.minix_zones.specs.declared.volume.Volume.{Volume}
 use Rattle.minix_zones.specs.declared.zone_fault.ZoneFault.{ZoneFault}
 use Rattle.minix_zones.specs.declared.zone_fault.ZoneFault.TheVariants as zones
 use Rattle.minix_remove.specs.Moves.{MovesPath}
-use Rattle.minix_remove.specs.Removed.{GainsNoZone, RemovesFile}
+use Rattle.minix_remove.specs.Removed.{GainsNoZone, KeepsEachPlace, RemovesFile}
 use Rattle.minix_remove.specs.Target.{FitsTarget, IsDirectoryNow, IsTarget}
 use Rattle.minix_remove.specs.declared.renaming.Renaming.{Renaming}
 use Rattle.minix_remove.specs.declared.target.Target.{Target}
@@ -83,14 +83,15 @@ pub record IsOffRenamed {D : Type 0} {disks : Ghosts D} (volume : Volume D disks
 
 -- ---- what is done
 
--- In each directory that a path leads to a name takes the place of another: at any moment, once it is done, and what isn't
--- written.
+-- In each directory that a path leads to a name takes the place of another: at any moment, once it is done, also of the inodes,
+-- the zones and the places, and what isn't written.
 pub record Moves {D E : Type 0} {disks : Ghosts D} (old new : Volume D disks) (directory : ℕ) (from to : List ℕ) (result : Result (Unit {0}) E) : Type 0 where
   pub moves : (outer : List (List ℕ)) → (IsTold (past_of old) → reached (super_view old.layout) (parts_now old) outer ≡ Some directory)
       → MovesPath old new (from ∷ outer) (to ∷ outer) result
   pub files : IsTold (past_of old) → OnOk result
       (RenamesFiles (super_view old.layout) (parts_now old) (parts_now new) directory (held_name (super_view old.layout) (parts_now old) directory to))
   pub gains : IsTold (past_of old) → OnOk result (GainsNoZone (super_view old.layout) (parts_now old) (parts_now new) directory)
+  pub places : IsTold (past_of old) → OnOk result (KeepsEachPlace (super_view old.layout) (parts_now old) (parts_now new))
   pub others : IsTold (past_of old) → (d s : ℕ) → IsOffRenamed old directory from to d s → NotWritten (past_of old) (past_of new) d s
   -- what stays
   pub goes_on : GoesOn disks old.disks.now new.disks.now

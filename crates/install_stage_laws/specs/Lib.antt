@@ -1,0 +1,4 @@
+pub mod ClearMap
+pub mod Committed
+pub mod Laws
+pub mod Staged

@@ -381,9 +381,9 @@ module _ {D : Type 0} {disks : Ghosts D} (start old next read : Volume D disks) 
     off_zone told d s off =
         let Z : ℕ → Type 0 = λ z. IsOutside start.span.disk (start.span.start + zone_sector z) 2 d s in
         ⊎_elim
-        (λ was. subst Z was off.name)
+        (λ was. subst Z was (off.name (λ none'. (place_next told).placed.some (zone_is told ∙ (sym was ∙ none')))))
         (λ one. ⊎_elim
-        (λ lies. subst Z (stays told lies) off.name)
+        (λ lies. subst Z (stays told lies) (off.name lies.some))
         (λ apart. subst Z one.is ((off.growth apart).zones one.at one.low).bytes)
         (lies_or (volume_view start) (now (past_of start)) chosen.directory chosen.choice.place))
         (zone_start told)

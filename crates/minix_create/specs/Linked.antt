@@ -29,11 +29,12 @@ use Rattle.minix_create.specs.Entered.{links_above}
 use Rattle.minix_create.specs.Grown.{LiesNow, IsOffGrowth}
 use Rattle.minix_create.specs.declared.chosen.Chosen.{Chosen}
 
--- a sector is none that a new file needs, nor of the zone with its name, nor the one with the directory's inode where it is a
--- directory itself, nor of the directory or its growth where its place isn't below the size and in a zone
+-- a sector is none that a new file needs, nor of the zone with its name where that is there, nor the one with the directory's
+-- inode where it is a directory itself, nor of the directory or its growth where its place isn't below the size and in a zone
 pub record IsOffName {D : Type 0} {disks : Ghosts D} (volume : Volume D disks) (chosen : Chosen) (d s : ℕ) : Type 0 where
   pub file : IsOffFile volume chosen d s
-  pub name : IsOutside volume.span.disk (volume.span.start + zone_sector (zone_of_entry (super_view volume.layout) (parts_now volume) chosen.directory chosen.choice.place)) 2 d s
+  pub name : zone_of_entry (super_view volume.layout) (parts_now volume) chosen.directory chosen.choice.place ≢ 0
+      → IsOutside volume.span.disk (volume.span.start + zone_sector (zone_of_entry (super_view volume.layout) (parts_now volume) chosen.directory chosen.choice.place)) 2 d s
   pub above : is_directory (new_inode chosen) ≡ true → IsOffInode volume chosen.directory d s
   pub growth : (LiesNow volume chosen → ⊥) → IsOffGrowth volume chosen d s
 

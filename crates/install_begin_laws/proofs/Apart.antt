@@ -22,7 +22,7 @@ use Rattle.minix_names.proofs.PathLemmas.{path-same}
 use Rattle.minix_sees_laws.proofs.Seen.{opened}
 use Rattle.minix_zones.proofs.ZoneLemmas.{zones_fit}
 use Rattle.install_laws.specs.Writes.{IsApartSector}
-use Rattle.install_begin_laws.specs.Laws.{ApartBackupLaw, ApartBootLaw}
+use Rattle.install_begin_laws.specs.Laws.{ApartBackupLaw, ApartBootLaw, IsNoneOfMap}
 
 -- ---- the checks that pass
 
@@ -82,32 +82,36 @@ module _ (names : Names) (config : Config) (device : Device) (apart : has_apart_
   unfolding names_pair
   pair-is text path is = ap name_pair is
 
-  four-apart : (a b c d : Bool) → (not (a || (b || false)) && (not (c || (d || false)) && true)) ≡ true → (b ≡ false) × (d ≡ false)
+  four-apart : (a b c d : Bool) → (not (a || (b || false)) && (not (c || (d || false)) && true)) ≡ true → ((a ≡ false) × (b ≡ false)) × ((c ≡ false) × (d ≡ false))
   four-apart a b c d is = by a b c d is
     where
-      by : (a b c d : Bool) → (not (a || (b || false)) && (not (c || (d || false)) && true)) ≡ true → (b ≡ false) × (d ≡ false)
-      by false false false false is = (refl, refl)
+      by : (a b c d : Bool) → (not (a || (b || false)) && (not (c || (d || false)) && true)) ≡ true → ((a ≡ false) × (b ≡ false)) × ((c ≡ false) × (d ≡ false))
+      by false false false false is = ((refl, refl), (refl, refl))
       by false false false true is = cc
       by false false true d is = cc
       by false true c d is = cc
       by true b c d is = cc
 
-  apart-paths : (map backup : List (List ℕ)) → name_path names config.map ≡ Ok map → name_path names (backup_path config device) ≡ Ok backup
-      → (with_tilde backup ≢ with_tilde map) × (with_tilde backup ≢ map)
+  differs : (path other : List (List ℕ)) → same_path path other ≡ false → other ≢ path
+  differs path other is same =
+      let here : same_path path path ≡ true = path-same path in
+      let not-here : same_path path path ≡ false = subst (λ (p : List (List ℕ)). same_path path p ≡ false) same is in
+      cc
+
+  abbrev AreNone : List (List ℕ) → List (List ℕ) → Type 0
+  AreNone map backup = IsNoneOfMap map backup × IsNoneOfMap map (with_tilde backup)
+
+  apart-paths : (map backup : List (List ℕ)) → name_path names config.map ≡ Ok map → name_path names (backup_path config device) ≡ Ok backup → AreNone map backup
   apart-paths map backup one other =
       let all : are_apart_paths (map ∷ (with_tilde map ∷ [])) (backup ∷ (with_tilde backup ∷ [])) ≡ true =
       ap (λ paths. are_apart_paths paths (backup ∷ (with_tilde backup ∷ []))) (sym (pair-is config.map map one)) ∙ (ap (are_apart_paths (names_pair names config.map)) (sym (pair-is (backup_path config device) backup other)) ∙ apart) in
-      let two = four-apart (same_path map backup) (same_path map (with_tilde backup)) (same_path (with_tilde map) backup) (same_path (with_tilde map) (with_tilde backup)) all in
-      (differs (with_tilde map) (with_tilde backup) two.1, differs map (with_tilde backup) two.0)
-    where
-      differs : (path other : List (List ℕ)) → same_path path other ≡ false → other ≢ path
-      differs path other is same =
-          let here : same_path path path ≡ true = path-same path in
-          let not-here : same_path path path ≡ false = subst (λ (p : List (List ℕ)). same_path path p ≡ false) same is in
-          cc
+      let four = four-apart (same_path map backup) (same_path map (with_tilde backup)) (same_path (with_tilde map) backup) (same_path (with_tilde map) (with_tilde backup)) all in (
+        (differs (with_tilde map) backup four.1.0, differs map backup four.0.0),
+        (differs (with_tilde map) (with_tilde backup) four.1.1, differs map (with_tilde backup) four.0.1),
+      )
 
   abbrev ApartFrom : List (List ℕ) → Option (List (List ℕ)) → Type 0
-  ApartFrom map backup = IfSome backup (λ backup. (with_tilde backup ≢ with_tilde map) × (with_tilde backup ≢ map))
+  ApartFrom map backup = IfSome backup (AreNone map)
 
   backup-by : (map : List (List ℕ)) → name_path names config.map ≡ Ok map → (foreign : Bool) (backup : Option (List (List ℕ)))
       → backup_name names config device foreign ≡ Ok backup → ApartFrom map backup

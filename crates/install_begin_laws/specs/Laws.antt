@@ -1,6 +1,6 @@
 -- How an installation begins: what is apart where a configuration is, and what a run that settles leaves of the present
 -- map (rules of this project's own).
-use Rattle.std.specs.Prelude.{◌≡◌, ◌≢◌, ℕ, Bool, false, IfSome, Option, Ok}
+use Rattle.std.specs.Prelude.{◌≡◌, ◌≢◌, ℕ, Bool, false, IfSome, List, Option, Ok}
 use Rattle.disk_trait.specs.Past.{Past}
 use Rattle.disk_trait.specs.Moments.{IsTold, now, IsQuiet, LeavesOnly}
 use Rattle.disk_trait.specs.NotWritten.{NotWritten}
@@ -21,12 +21,16 @@ use Rattle.install_laws.specs.Writes.{IsWritable, IsApartSector, WritesOnly}
 
 -- ---- what is apart
 
--- the name with `~` of a backup is neither of the map's
+-- a path is neither that of a map nor that with `~`
+abbrev pub IsNoneOfMap : List (List ℕ) → List (List ℕ) → Type 0
+IsNoneOfMap map path = (path ≢ with_tilde map) × (path ≢ map)
+
+-- no path of a backup, with `~` or without, is one of the map's
 abbrev pub ApartBackupLaw : Type 0
 ApartBackupLaw =
     (image : Image) (machine : Machine) (volume : Volume) (config : Config) (device : Device) (foreign : Bool) (names : OwnNames)
     → Apart image machine volume config device → own_names (names_in volume image) config device foreign ≡ Ok names
-    → IfSome names.backup (λ backup. (with_tilde backup ≢ with_tilde names.map) × (with_tilde backup ≢ names.map))
+    → IfSome names.backup (λ backup. IsNoneOfMap names.map backup × IsNoneOfMap names.map (with_tilde backup))
 
 -- the first sector of the boot device isn't one of the volume's past its block 0
 abbrev pub ApartBootLaw : Type 0

@@ -1,7 +1,7 @@
 // How an installation begins.
 ghost use Rattle.install_begin_laws.specs.Laws.{ApartBackupLaw, ApartBootLaw, OutsideStaysLaw, SparedLaw, ClearAgainLaw, BeginsLaw};
 
-/// The name with `~` of a backup is neither of the map's, where a configuration is apart.
+/// The names of a backup, with `~` and without, are none of the map's, where a configuration is apart.
 pub fn apart_backup_is_none_of_the_map()
     ensures { ApartBackupLaw }
 {}

@@ -1,6 +1,6 @@
 -- What a beginning leaves, from what settling does.
-use Rattle.std.proofs.Common.{◌≡◌, ◌&&◌, ◌↔◌, ℕ, Bool, true, false, List, Option, None, Result, Ok, Err, OnOk, refl, sym, ◌∙◌, ap, subst, inr}
-use Rattle.std.specs.Prelude.{is_some}
+use Rattle.std.proofs.Common.{◌≡◌, ◌&&◌, ◌↔◌, ℕ, Bool, true, false, List, Option, None, Some, Result, Ok, Err, OnOk, refl, sym, ◌∙◌, ap, subst, inr}
+use Rattle.std.specs.Prelude.{IfSome, is_some}
 use Rattle.disk_trait.specs.declared.disks.Disks.{Ghosts}
 use Rattle.disk_trait.specs.Moments.{IsTold, now, IsQuiet, LeavesOnly}
 use Rattle.disk_trait.specs.NotWritten.{NotWritten}
@@ -29,13 +29,13 @@ use Rattle.install_laws.specs.InstallVerdict.{Begun, is_clear, is_to_finish, ino
 use Rattle.install_laws.specs.Writes.{IsWritable, IsApartSector}
 use Rattle.install_laws.proofs.ClearTest.{clear_test_law}
 use Rattle.install_laws.proofs.Writes.{writes_only_law}
-use Rattle.install_begin_laws.specs.Laws.{GainsNothing, WritesNothingElse}
+use Rattle.install_begin_laws.specs.Laws.{GainsNothing, IsNoneOfMap, WritesNothingElse}
 use Rattle.install_begin_laws.proofs.Apart.{apart_backup_law, apart_boot_law, sound-passes}
 use Rattle.install_begin_laws.proofs.Spared.{leaves_both, outside_stays_law, spared_law, clear_again_law}
 use Rattle.install_holder_laws.proofs.Holder.{finish_law}
 use Rattle.old_map.specs.Clear.{clear_answer}
 use Rattle.old_map.specs.Old.{IsOldMap}
-use Rattle.install_settle.specs.Found.{AreFound, AreNamesNow, MaySettle, IsToSettle, is_copy_there, has_copy, left_map}
+use Rattle.install_settle.specs.Found.{IsApartCopy, is_copy_there, left_map}
 use Rattle.install_settle.specs.Settles.{finishes, stale_of, SettlesRight, IsSettling, IsSettledIn, Settles}
 use Rattle.install_order.specs.Begins.{LiesThere, IsBeginning, IsBegun, AnswersClear}
 use Rattle.install_order.specs.Checks.{IsExamined}
@@ -44,7 +44,7 @@ use Rattle.install_order.specs.declared.examination.Examined.{Examined}
 abbrev said : {A F : Type 0} → A → Result A F
 said value = Ok value
 
-value-is : {A F : Type 0} → (found value : A) → said {A = A} {F = F} found ≡ said value → found ≡ value
+pub value-is : {A F : Type 0} → (found value : A) → said {A = A} {F = F} found ≡ said value → found ≡ value
 value-is found value is = cc
 
 -- where the boot sector is this project's own, no backup is made
@@ -148,6 +148,7 @@ module _ (image : Image) (machine : Machine) (begun : Begun) (found : Examined) 
         holder = right.holder;
         is = λ name. done.has name ∙ ap (λ (s : Option (List (List ℕ))). settled (finishes found.settling.map) is.names.map s (names_in begun.volume image) name) (stale-same foreign refl);
       };
+      paths = done.paths;
       gains = gains;
       clear = λ there clear. clear_again_law begun.volume machine begun.span image c clear (left.spared there clear) gains;
       map = map-stays;
@@ -155,8 +156,19 @@ module _ (image : Image) (machine : Machine) (begun : Begun) (found : Examined) 
 
   -- ---- what is known of what may be settled
 
-  pub apart-copy : Rattle.install_settle.specs.Found.IsApartCopy is.names
-  apart-copy = apart_backup_law image machine begun.volume begun.config begun.boot foreign is.names is.apart is.are
+  -- the backup's names are none of the map's
+  abbrev AreApart : List (List ℕ) → Type 0
+  AreApart backup = IsNoneOfMap is.names.map backup × IsNoneOfMap is.names.map (with_tilde backup)
+
+  pub backup-apart : IfSome is.names.backup AreApart
+  backup-apart = apart_backup_law image machine begun.volume begun.config begun.boot foreign is.names is.apart is.are
+
+  pub apart-copy : IsApartCopy is.names
+  apart-copy = by is.names.backup backup-apart
+    where
+      by : (backup : Option (List (List ℕ))) → IfSome backup AreApart → IfSome backup (λ backup. IsNoneOfMap is.names.map (with_tilde backup))
+      by None apart = tt
+      by (Some backup) apart = apart.1
 
 -- ---- a run
 

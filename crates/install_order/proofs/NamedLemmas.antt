@@ -1,58 +1,229 @@
--- Names that were found are those of the model.
-use Rattle.std.proofs.Common.{◌≡◌, ◌∙◌, ◌||◌, ℕ, Bool, not, List, is_some, unwrap_or, Option, None, Some, refl, ap}
+-- Names that were found are those of the model, where they were examined and once they are settled.
+use Rattle.std.proofs.Common.{◌≡◌, ◌≢◌, ◌∙◌, ◌&&◌, ◌||◌, ℕ, Bool, true, false, not, List, is_some, unwrap_or, Option, None, Some, refl, sym, ap, subst}
+use Rattle.std.specs.Prelude.{IfSome}
 use Rattle.std.proofs.lemmas.Bool.{and_parts}
-use Rattle.lilo_model.specs.Conf.{Config}
-use Rattle.lilo_model.specs.Devices.{Device}
-use Rattle.lilo_model.specs.Disks.{Image, Machine, Span}
+use Rattle.disk_trait.specs.declared.disks.Disks.{Ghosts}
+use Rattle.disk_trait.specs.Moments.{IsTold, now}
+use Rattle.lilo_model.specs.Disks.{Image, Machine, DiskSector}
 use Rattle.lilo_model.specs.Mapped.{mapped_sectors}
 use Rattle.lilo_model.specs.MinixLayout.{Super}
-use Rattle.lilo_model.specs.MinixParts.{Volume, Parts, parts_of}
+use Rattle.lilo_model.specs.MinixNames.{reached}
+use Rattle.lilo_model.specs.MinixParts.{Volume, Parts, parts_of, is_directory}
+use Rattle.lilo_model.specs.NamePlaces.{with_tilde}
+use Rattle.lilo_model.specs.Settled as model
 use Rattle.minix_layout.specs.declared.superblock.Super as layouts
-use Rattle.minix_names.specs.Places.{number_found}
+use Rattle.minix_names.specs.Places.{IsPlace, number_found}
 use Rattle.minix_tree.specs.declared.stat.Stat.{Stat}
-use Rattle.install_apart.specs.Names.{is_replaceable}
-use Rattle.install_apart.specs.Own.{IsBackup, IsBackupReplaceable}
+use Rattle.minix_zones.specs.View.{span_view}
+use Rattle.minix_zones.specs.Volume.{volume_view, past_of}
+use Rattle.sector_address.specs.Machine.{machine_of}
+use Rattle.install_apart.specs.Names.{IsPair, is_replaceable}
+use Rattle.install_apart.specs.Own.{AreReplaceable, IsBackup, IsBackupReplaceable}
 use Rattle.install_apart.specs.declared.name.NamePair.{NamePair}
 use Rattle.install_apart.specs.declared.name.OwnName.{OwnName}
-use Rattle.install_laws.specs.InstallVerdict.{directory_of, last_name}
-use Rattle.install_room.specs.Names.{IsNameAt, IsBackupOf}
+use Rattle.install_apart.specs.declared.own.OwnNames.{OwnNames}
+use Rattle.install_begin_laws.specs.Laws.{IsNoneOfMap}
+use Rattle.install_laws.specs.InstallVerdict.{Begun, directory_of, last_name}
+use Rattle.install_room.specs.Names.{AreNamesOf, IsNameAt, IsBackupOf}
+use Rattle.install_room.specs.Room.{KeepsOut}
 use Rattle.install_settle.specs.At.{IsAt}
+use Rattle.install_settle.specs.Found.{AreFound, has_copy}
+use Rattle.install_settle.specs.Settles.{IsBeside, KeepsPaths, stale_of}
 use Rattle.install_settle.proofs.LeadLemmas.{plain-at, tilde-at}
-use Rattle.install_order.specs.Begins.{FitsVolume}
+use Rattle.install_settle.proofs.PathLemmas.{file-apart, tilde-differs}
+use Rattle.install_order.specs.Answers.{IsKnown, begun_in}
+use Rattle.install_order.specs.Begins.{AreOwn, FitsVolume, IsBegun, IsSurveyed}
 use Rattle.install_order.specs.Checks.{IsExamined}
-use Rattle.install_order.specs.Plans.{IsAsFound}
+use Rattle.install_order.specs.Plans.{IsAsFound, AreSurveyed, IsPairPlaced, IsBackupPlaced, ArePlaced}
 use Rattle.install_order.specs.declared.examination.Examined.{Examined}
+use Rattle.install_order.specs.declared.surveyed.Surveyed.{Surveyed}
+use Rattle.install_order.proofs.BeginLemmas.{backup-apart, value-is}
+
+-- ---- places
+
+-- each name is in the directory to which its path leads, and whether the backup is there is whether its path leads anywhere
+pub record AreHere (super : Super) (parts : Parts) (names : model.OwnNames) (own : OwnNames) : Type 0 where
+  pub placed : ArePlaced super parts names own
+  pub there : (path : List (List ℕ)) (pair : NamePair) → names.backup ≡ Some path → own.backup ≡ Some pair → is_some (reached super parts path) ≡ is_some pair.plain.there
 
 module _ (super : Super) (parts : Parts) where
-  name-at : (path : List (List ℕ)) (own : OwnName) → IsAt super parts path own → IsNameAt super parts path own
-  name-at path own at = record {
-    directory = ap (directory_of super parts) at.is ∙ ap (λ (found : Option ℕ). unwrap_or found 1) at.leads;
-    name = ap last_name at.is;
+  name-at : (path : List (List ℕ)) (own : OwnName) → IsPlace super parts path own.directory own.name → IsNameAt super parts path own
+  name-at path own place = record {
+    directory = ap (directory_of super parts) place.is ∙ ap (λ (found : Option ℕ). unwrap_or found 1) place.there.leads;
+    name = ap last_name place.is;
   }
 
-  some-number : (there : Option Stat) → is_some (number_found there) ≡ is_some there
-  some-number None = refl
-  some-number (Some stat) = refl
-
-  backup-at : (forced : Bool) (path : Option (List (List ℕ))) (pair : Option NamePair) → IsBackup super parts path pair → IsBackupReplaceable forced pair → IsBackupOf super parts path pair
-  backup-at forced None None is file = tt
-  backup-at forced None (Some pair) is file = is
-  backup-at forced (Some path) None is file = is
-  backup-at forced (Some path) (Some pair) is file =
-      let at = plain-at super parts path pair.plain is.plain (and_parts (is_replaceable pair.plain) (not forced || is_replaceable pair.tilde) file).0 in
-      record {
-        plain = name-at path pair.plain at;
-        tilde = name-at _ pair.tilde (tilde-at super parts path pair.tilde is.tilde);
-        there = ap is_some at.there ∙ some-number pair.plain.there;
+  -- so they are the model's
+  names-here : (names : model.OwnNames) (own : OwnNames) → AreHere super parts names own → AreNamesOf super parts names own
+  names-here names own here = record {
+    tilde = name-at (with_tilde names.map) own.map.tilde here.placed.map.tilde;
+    backup = by names.backup own.backup refl refl here.placed.backup;
+  }
+    where
+      by : (path : Option (List (List ℕ))) (pair : Option NamePair) → names.backup ≡ path → own.backup ≡ pair → IsBackupPlaced super parts path pair → IsBackupOf super parts path pair
+      by None None one two placed = tt
+      by None (Some pair) one two placed = placed
+      by (Some path) None one two placed = placed
+      by (Some path) (Some pair) one two placed = record {
+        plain = name-at path pair.plain placed.plain;
+        tilde = name-at (with_tilde path) pair.tilde placed.tilde;
+        there = here.there path pair one two;
       }
 
--- so they are where they were examined
-pub as_found : (image : Image) (machine : Machine) (volume : Volume) (config : Config) (boot : Device) (span : Span) (found : Examined) (layout : layouts.Super) (forced : Bool)
-    → FitsVolume layout forced found → (is : IsExamined image machine volume config boot span found) → IsAsFound image volume (mapped_sectors image machine span) is.names found
-as_found image machine volume config boot span found layout forced fits is = record {
-  keeps = is.old.zones;
-  are = record {
-    tilde = name-at volume.layout (parts_of volume image) _ found.own.map.tilde (tilde-at volume.layout (parts_of volume image) is.names.map found.own.map.tilde is.there.map.tilde);
-    backup = backup-at volume.layout (parts_of volume image) forced is.names.backup found.own.backup is.there.backup fits.files.backup;
-  };
-}
+-- ---- where paths lead where they led
+
+module _ (volume : Volume) (old : Image) (names : model.OwnNames) (own : OwnNames) (forced : Bool) (found : AreFound volume.layout (parts_of volume old) names own) (files : AreReplaceable forced own) where
+  abbrev Old : Parts
+  Old = parts_of volume old
+
+  -- what may be replaced isn't a directory: neither of the map's, nor a copy of a forced backup
+  module _ (above : List (List ℕ)) (directory : ℕ) (leads : reached volume.layout Old above ≡ Some directory) (is : is_directory (Old.node directory) ≡ true) where
+    copy-apart : (backup : Option (List (List ℕ))) (pair : Option NamePair) → IsBackup volume.layout Old backup pair → IsBackupReplaceable true pair → IfSome backup (λ path. above ≢ with_tilde path)
+    copy-apart None pair at file = tt
+    copy-apart (Some path) None at file = absurd at
+    copy-apart (Some path) (Some pair) at file =
+        file-apart volume.layout Old (with_tilde path) above pair.tilde directory (tilde-at volume.layout Old path pair.tilde at.tilde)
+        (and_parts (is_replaceable pair.plain) (is_replaceable pair.tilde) file).1 leads is
+
+    beside-directory : (copy : Bool) → (copy ≡ true → forced ≡ true) → IsBeside names copy above
+    beside-directory copy asked = record {
+      map = file-apart volume.layout Old names.map above own.map.plain directory (plain-at volume.layout Old names.map own.map.plain found.map.plain both.0) both.0 leads is;
+      tilde = file-apart volume.layout Old (with_tilde names.map) above own.map.tilde directory (tilde-at volume.layout Old names.map own.map.tilde found.map.tilde) both.1 leads is;
+      stale = by copy asked;
+    }
+      where
+        both : (is_replaceable own.map.plain ≡ true) × (is_replaceable own.map.tilde ≡ true)
+        both = and_parts (is_replaceable own.map.plain) (is_replaceable own.map.tilde) files.map
+
+        by : (copy : Bool) → (copy ≡ true → forced ≡ true) → IfSome (stale_of copy names) (λ path. above ≢ with_tilde path)
+        by true asked = copy-apart names.backup own.backup found.backup (subst (λ (f : Bool). IsBackupReplaceable f own.backup) (asked refl) files.backup)
+        by false asked = tt
+
+  module _ (c : Image) (copy : Bool) (asked : copy ≡ true → forced ≡ true) (apart : IfSome names.backup (IsNoneOfMap names.map)) (paths : KeepsPaths volume old names copy c) where
+    abbrev New : Parts
+    New = parts_of volume c
+
+    -- so a directory is where it was
+    place-stays : (path : List (List ℕ)) (directory : ℕ) (name : List ℕ) → IsPlace volume.layout Old path directory name → IsPlace volume.layout New path directory name
+    place-stays path directory name place =
+        let stays = paths place.above (beside-directory place.above directory place.there.leads place.there.is copy asked) in
+        let mode : (New.node directory).mode ≡ (Old.node directory).mode = subst (λ (o : Option ℕ). IfSome o (λ number. (New.node number).mode ≡ (Old.node number).mode)) place.there.leads stays.mode in
+        record {
+          above = place.above;
+          is = place.is;
+          there = record { leads = stays.leads ∙ place.there.leads; is = rw mode place.there.is };
+        }
+
+    pair-stays : (path : List (List ℕ)) (pair : NamePair) → IsPair volume.layout Old path pair → IsPairPlaced volume.layout New path pair
+    pair-stays path pair is = record {
+      plain = place-stays path pair.plain.directory pair.plain.name is.plain.ends;
+      tilde = place-stays (with_tilde path) pair.tilde.directory pair.tilde.name is.tilde.ends;
+    }
+
+    backup-stays : (path : Option (List (List ℕ))) (pair : Option NamePair) → IsBackup volume.layout Old path pair → IsBackupPlaced volume.layout New path pair
+    backup-stays None None is = tt
+    backup-stays None (Some pair) is = is
+    backup-stays (Some path) None is = is
+    backup-stays (Some path) (Some pair) is = pair-stays path pair is
+
+    -- and so is a backup
+    some-number : (there : Option Stat) → is_some (number_found there) ≡ is_some there
+    some-number None = refl
+    some-number (Some stat) = refl
+
+    there-stays : (path : List (List ℕ)) (pair : NamePair) → names.backup ≡ Some path → own.backup ≡ Some pair → is_some (reached volume.layout New path) ≡ is_some pair.plain.there
+    there-stays path pair one two =
+        let is = subst (IsBackup volume.layout Old (Some path)) two (subst (λ (o : Option (List (List ℕ))). IsBackup volume.layout Old o own.backup) one found.backup) in
+        let file = (and_parts (is_replaceable pair.plain) (not forced || is_replaceable pair.tilde) (subst (IsBackupReplaceable forced) two files.backup)).0 in
+        let at = plain-at volume.layout Old path pair.plain is.plain file in
+        let none = subst (λ (o : Option (List (List ℕ))). IfSome o (IsNoneOfMap names.map)) one apart in
+        let stays = paths path (record { map = none.1; tilde = none.0; stale = by copy at }) in
+        ap is_some stays.leads ∙ (ap is_some at.there ∙ some-number pair.plain.there)
+      where
+        by : (copy : Bool) → IsAt volume.layout Old path pair.plain → IfSome (stale_of copy names) (λ backup. path ≢ with_tilde backup)
+        by true at = subst (λ (o : Option (List (List ℕ))). IfSome o (λ backup. path ≢ with_tilde backup)) (sym one) (tilde-differs path pair.plain.name at.above at.is)
+        by false at = tt
+
+    here-still : AreHere volume.layout New names own
+    here-still = record {
+      placed = record { map = pair-stays names.map own.map found.map; backup = backup-stays names.backup own.backup found.backup };
+      there = there-stays;
+    }
+
+-- ---- what was surveyed
+
+module _ (entry : Image) (machine : Machine) (begun : Begun) (found : Examined) (layout : layouts.Super) (forced : Bool) (fits : FitsVolume layout forced found)
+    (is : IsExamined entry machine begun.volume begun.config begun.boot begun.span found) where
+  plain-apart : (backup : Option (List (List ℕ))) → IfSome backup (λ path. IsNoneOfMap is.names.map path × IsNoneOfMap is.names.map (with_tilde path)) → IfSome backup (IsNoneOfMap is.names.map)
+  plain-apart None apart = tt
+  plain-apart (Some path) apart = apart.0
+
+  here-in : (c : Image) (copy : Bool) → (copy ≡ true → forced ≡ true) → KeepsPaths begun.volume entry is.names copy c → AreHere begun.volume.layout (parts_of begun.volume c) is.names found.own
+  here-in c copy asked paths = here-still begun.volume entry is.names found.own forced is.there fits.files c copy asked (plain-apart is.names.backup (backup-apart entry machine begun found is)) paths
+
+  -- on the disks as they were
+  here-entry : AreHere begun.volume.layout (parts_of begun.volume entry) is.names found.own
+  here-entry = here-in entry false (λ on. absurd (clash on)) (λ path beside. record { leads = refl; mode = by (reached begun.volume.layout (parts_of begun.volume entry) path) })
+    where
+      clash : false ≡ true → ⊥
+      clash on = cc
+
+      by : (o : Option ℕ) → IfSome o (λ number. ((parts_of begun.volume entry).node number).mode ≡ ((parts_of begun.volume entry).node number).mode)
+      by None = tt
+      by (Some number) = refl
+
+  -- and where they are settled
+  here-settled : (c : Image) → IsBegun entry machine begun found c → AreHere begun.volume.layout (parts_of begun.volume c) is.names found.own
+  here-settled c done =
+      let same : done.names ≡ is.names = value-is done.names is.names (sym done.are ∙ is.are) in
+      here-in c found.settling.copy (λ on. asked forced (sym fits.copies ∙ on)) (subst (λ (n : model.OwnNames). KeepsPaths begun.volume entry n found.settling.copy c) same done.paths)
+    where
+      asked : (f : Bool) → (f && has_copy found.own.backup) ≡ true → f ≡ true
+      asked true on = refl
+      asked false on = on
+
+module _ (image : Image) (machine : Machine) (begun : Begun) (found : Examined) (layout : layouts.Super) (forced settled : Bool) (fits : FitsVolume layout forced found)
+    (survey : IsSurveyed image machine begun found settled) where
+  here-now : AreHere begun.volume.layout (parts_of begun.volume image) survey.examined.names found.own
+  here-now = by settled refl
+    where
+      by : (on : Bool) → settled ≡ on → AreHere begun.volume.layout (parts_of begun.volume image) survey.examined.names found.own
+      by true on = here-settled survey.entry machine begun found layout forced fits survey.examined image (survey.is_settled on)
+      by false off =
+          subst (λ (c : Image). AreHere begun.volume.layout (parts_of begun.volume c) survey.examined.names found.own) (sym (survey.is_looked_at off))
+          (here-entry survey.entry machine begun found layout forced fits survey.examined)
+
+  -- the names that are replaced are as they were found
+  module _ (names : model.OwnNames) (own : AreOwn survey.entry begun names) where
+    pub own-here : AreHere begun.volume.layout (parts_of begun.volume image) names found.own
+    own-here =
+        let same : survey.examined.names ≡ names = value-is survey.examined.names names (sym survey.examined.are ∙ own) in
+        subst (λ (n : model.OwnNames). AreHere begun.volume.layout (parts_of begun.volume image) n found.own) same here-now
+
+    pub own-found : (places : List DiskSector) → KeepsOut begun.volume places found.old → IsAsFound image begun.volume places names found
+    own-found places keeps = record { keeps = keeps; are = names-here begun.volume.layout (parts_of begun.volume image) names found.own own-here }
+
+-- ---- what is known of a value
+
+-- names and places of what was surveyed
+pub known_surveyed : {D : Type 0} {disks : Ghosts D} (s : Surveyed D disks) (known : IsKnown s) (told : IsTold (past_of s.volume))
+    → AreSurveyed (now (past_of s.volume)) (machine_of disks s.volume.disks.now) s (known.known told).examined.names
+    (mapped_sectors (known.known told).entry (machine_of disks s.volume.disks.now) (span_view s.boot))
+known_surveyed s known told =
+    let survey = known.known told in
+    record { survey = survey; own = survey.examined.are; keeps = survey.examined.old.zones }
+
+-- so they are as they were found
+pub surveyed_found : {D : Type 0} {disks : Ghosts D} (image : Image) (machine : Machine) (s : Surveyed D disks) → IsKnown s → (names : model.OwnNames) (places : List DiskSector)
+    → AreSurveyed image machine s names places → IsAsFound image (volume_view s.volume) places names s.found
+surveyed_found image machine s known names places are =
+    own-found image machine (begun_in s) s.found s.volume.layout (is_some s.config.force_backup) s.settled known.fits are.survey names are.own places are.keeps
+
+pub surveyed_placed : {D : Type 0} {disks : Ghosts D} (image : Image) (machine : Machine) (s : Surveyed D disks) → IsKnown s → (names : model.OwnNames) (places : List DiskSector)
+    → AreSurveyed image machine s names places → ArePlaced (volume_view s.volume).layout (parts_of (volume_view s.volume) image) names s.found.own
+surveyed_placed image machine s known names places are =
+    (own-here image machine (begun_in s) s.found s.volume.layout (is_some s.config.force_backup) s.settled known.fits are.survey names are.own).placed
+
+pub known_found : {D : Type 0} {disks : Ghosts D} (s : Surveyed D disks) (known : IsKnown s) (told : IsTold (past_of s.volume))
+    → IsAsFound (now (past_of s.volume)) (volume_view s.volume) (mapped_sectors (known.known told).entry (machine_of disks s.volume.disks.now) (span_view s.boot)) (known.known told).examined.names s.found
+known_found {D} {disks} s known told = surveyed_found (now (past_of s.volume)) (machine_of disks s.volume.disks.now) s known _ _ (known_surveyed s known told)

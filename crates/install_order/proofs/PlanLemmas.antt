@@ -17,10 +17,13 @@ use Rattle.lilo_model.specs.MinixParts.{Volume, parts_of}
 use Rattle.lilo_model.specs.Plan.{map_size}
 use Rattle.lilo_model.specs.PlanRefusal as plans
 use Rattle.lilo_model.specs.PlanRefusal.{plan_at, own_places_check}
+use Rattle.lilo_model.specs.Settled as model
+use Rattle.lilo_conf.specs.View.{config_view}
 use Rattle.map_plan.specs.View as plan_views
 use Rattle.map_sectors.specs.Map.{plan_view}
 use Rattle.map_sectors.specs.declared.map.MapPlan.{MapPlan}
 use Rattle.minix_layout.specs.declared.superblock.Super.{Super}
+use Rattle.minix_zones.specs.View.{span_view}
 use Rattle.minix_zones.specs.Volume.{volume_view, past_of}
 use Rattle.slot_lists.specs.Made.{place_view}
 use Rattle.slot_lists.specs.declared.slots.DiskSector as slots
@@ -37,13 +40,15 @@ use Rattle.minix_names.specs.Component.{IsFileName, HasNoZero}
 use Rattle.install_order.specs.Answers.{IsKnown}
 use Rattle.install_order.specs.Begins.{FitsVolume}
 use Rattle.install_order.specs.Faults.{Refuses, HasInstallCause}
-use Rattle.install_order.specs.Plans.{ArePlaces, GivesChoices, GivesPlaces, GivesPlacesOf, GivesRoomOf, IsAsFound, IsMap, IsOfPlan, RefusesChecks, plan_checks, wish_of}
+use Rattle.install_order.specs.Plans.{AreChosen, ArePlaced, ArePlaces, AreSurveyed, GivesChoices, GivesPlaces, GivesPlacesOf, GivesRoomOf, IsAsFound, IsMap, IsOfPlan, IsPlanOf, IsPlanned, RefusesChecks, checks_of, plan_checks, wish_of}
 use Rattle.install_order.specs.declared.examination.Examined.{Examined}
+use Rattle.install_order.specs.declared.planned.Planned.{Planned}
 use Rattle.install_order.specs.declared.planning.Choices.{Choices}
 use Rattle.install_order.specs.declared.fault.InstallFault.{InstallFault}
 use Rattle.install_order.specs.declared.fault.InstallFault.TheVariants as faults
 use Rattle.install_order.specs.declared.surveyed.Surveyed.{Surveyed}
 use Rattle.install_order.proofs.AnswerLemmas.{cause-by}
+use Rattle.install_order.proofs.NamedLemmas.{surveyed_found, surveyed_placed}
 use Rattle.install_order.proofs.RefuseLemmas.{stopped, refuses-then}
 
 -- ---- names
@@ -182,6 +187,32 @@ module _ (image : Image) (machine : Machine) (volume : Volume) (config : Config)
     finished room (Err fault) kept device present gives = λ names places is.
         subst (λ (f : InstallFault). Refuses f (plan_checks image machine volume config span places names (not settled) time)) (sym device)
         (stopped faults.Device (plan_checks image machine volume config span places names (not settled) time) tt)
+
+-- ---- for the names that were surveyed
+
+-- the model's checks pass with what was chosen
+module _ (image : Image) (machine : Machine) (volume : Volume) (config : Config) (span : Span) (time : ℕ) (settled : Bool) (found : Examined) (choices : Choices)
+    (chosen : AreChosen image machine volume config span time settled found choices) (names : model.OwnNames) (places : List DiskSector) (is : IsAsFound image volume places names found) where
+  pub checks-pass : plan_checks image machine volume config span places names (not settled) time ≡ Ok (places_view choices.room)
+  unfolding plan_checks
+  checks-pass = let at = chosen.places names places is in rw (chosen.map.is, at.is, at.check) refl
+
+pub plan_of : {D : Type 0} {disks : Ghosts D} (image : Image) (machine : Machine) (s : Surveyed D disks) (known : IsKnown s) (planned : Planned D disks) → IsPlanned image machine s planned
+    → planned.own ≡ s.found.own → (names : model.OwnNames) (places : List DiskSector) → AreSurveyed image machine s names places → IsPlanOf image machine s names places planned
+plan_of image machine s known planned is own names places are =
+    let found = surveyed_found image machine s known names places are in
+    record {
+      map = is.chosen.map.is;
+      room = (is.chosen.places names places found).is;
+      passes = checks-pass image machine (volume_view s.volume) (config_view s.config) (span_view s.boot) s.time s.settled s.found
+          (record { plan = planned.plan; room = planned.room; present = planned.present }) is.chosen names places found;
+      placed = subst (ArePlaced (volume_view s.volume).layout (parts_of (volume_view s.volume) image) names) (sym own) (surveyed_placed image machine s known names places are);
+    }
+
+pub refusal_of : {D : Type 0} {disks : Ghosts D} (image : Image) (machine : Machine) (s : Surveyed D disks) (known : IsKnown s) (fault : InstallFault)
+    → RefusesChecks image machine (volume_view s.volume) (config_view s.config) (span_view s.boot) s.time s.settled s.found fault
+    → (names : model.OwnNames) (places : List DiskSector) → AreSurveyed image machine s names places → Refuses fault (checks_of image machine s names places)
+refusal_of image machine s known fault refuses names places are = refuses names places (surveyed_found image machine s known names places are)
 
 -- ---- what stays
 

@@ -50,6 +50,10 @@ pub record IsLookedAt {D : Type 0} {disks : Ghosts D} (looked surveyed : Surveye
 
 -- ---- what is known of it
 
+-- what was surveyed, as the model begins with it
+abbrev pub begun_in : {D : Type 0} {disks : Ghosts D} → Surveyed D disks → Begun
+begun_in surveyed = begun_of surveyed.volume surveyed.config surveyed.device surveyed.boot
+
 -- What was surveyed is for a lawful configuration and its boot device, and fits the volume; and what the disks hold now is what
 -- was surveyed, or is settled from it.
 pub record IsKnown {D : Type 0} {disks : Ghosts D} (surveyed : Surveyed D disks) : Type 0 where
@@ -57,7 +61,7 @@ pub record IsKnown {D : Type 0} {disks : Ghosts D} (surveyed : Surveyed D disks)
   pub device : surveyed.config.boot ≡ Some surveyed.device
   pub fits : FitsVolume surveyed.volume.layout (is_some surveyed.config.force_backup) surveyed.found
   pub known : IsTold (past_of surveyed.volume) → IsSurveyed (now (past_of surveyed.volume)) (machine_of disks surveyed.volume.disks.now)
-      (begun_of surveyed.volume surveyed.config surveyed.device surveyed.boot) surveyed.found surveyed.settled
+      (begun_in surveyed) surveyed.found surveyed.settled
 
 -- whether the map is Clear is answered by what the disks held
 abbrev pub SaysClear : {D : Type 0} {disks : Ghosts D} → Volume D disks → Begun → Surveyed D disks → Type 0

@@ -1,10 +1,12 @@
 -- What an installation plans, by the first of the model's checks (this project's own).
-use Rattle.std.specs.Prelude.{◌≡◌, ℕ, Bool, not, is_some, List, length, All, Result, Ok, Err}
+use Rattle.std.specs.Prelude.{◌≡◌, ℕ, Bool, not, is_some, List, length, All, Option, None, Some, Result, Ok, Err}
 use Rattle.disk_trait.specs.declared.disks.Disks.{Ghosts}
 use Rattle.lilo_model.specs.Checks.{◌>>=◌, with_fault}
 use Rattle.lilo_model.specs.Conf.{Config}
 use Rattle.lilo_model.specs.Disks.{Image, Machine, Span, DiskSector}
-use Rattle.lilo_model.specs.MinixParts.{Volume, parts_of}
+use Rattle.lilo_model.specs.MinixLayout.{Super}
+use Rattle.lilo_model.specs.MinixParts.{Parts, Volume, parts_of}
+use Rattle.lilo_model.specs.NamePlaces.{with_tilde}
 use Rattle.lilo_model.specs.Plan.{Plan, map_size}
 use Rattle.lilo_model.specs.PlanRefusal.{plan_at, own_places_check}
 use Rattle.lilo_model.specs.Settled as model
@@ -13,15 +15,20 @@ use Rattle.map_plan.specs.Skipped.{skipped_paths}
 use Rattle.map_sectors.specs.Accepted.{IsFor}
 use Rattle.map_sectors.specs.Map.{plan_view}
 use Rattle.map_sectors.specs.declared.map.MapPlan.{MapPlan}
+use Rattle.minix_names.specs.Places.{IsPlace}
 use Rattle.minix_zones.specs.View.{span_view}
 use Rattle.minix_zones.specs.Volume.{volume_view}
 use Rattle.minix_zones.specs.declared.volume.Volume as volumes
 use Rattle.write_model.specs.Wish as rooms
+use Rattle.install_apart.specs.declared.name.NamePair.{NamePair}
+use Rattle.install_apart.specs.declared.own.OwnNames.{OwnNames}
 use Rattle.install_laws.specs.InstallVerdict.{InstallRefusal, NoPlan, NoRoom}
 use Rattle.install_room.specs.Names.{AreNamesOf}
 use Rattle.install_room.specs.Room.{KeepsOut, room_for, places_view}
 use Rattle.install_room.specs.declared.room.Room.{Room}
 use Rattle.install_room.specs.declared.room.RoomWish.{RoomWish}
+use Rattle.install_order.specs.Answers.{begun_in}
+use Rattle.install_order.specs.Begins.{AreOwn, IsSurveyed}
 use Rattle.install_order.specs.Faults.{Refuses}
 use Rattle.install_order.specs.declared.examination.Examined.{Examined}
 use Rattle.install_order.specs.declared.fault.InstallFault.{InstallFault}
@@ -142,3 +149,47 @@ pub record IsPlannedFor {D : Type 0} {disks : Ghosts D} (surveyed : Surveyed D d
   pub time_is : planned.time ≡ surveyed.time
   pub own_is : planned.own ≡ surveyed.found.own
   pub settled_is : planned.settled ≡ surveyed.settled
+
+-- ---- for the names that were surveyed
+
+-- these are the names that are replaced, and places that lie in the zones that the present map keeps out, as the disks were when
+-- they were surveyed
+pub record AreSurveyed {D : Type 0} {disks : Ghosts D} (image : Image) (machine : Machine) (surveyed : Surveyed D disks) (names : model.OwnNames)
+    (places : List DiskSector) : Type 0 where
+  pub survey : IsSurveyed image machine (begun_in surveyed) surveyed.found surveyed.settled
+  pub own : AreOwn survey.entry (begun_in surveyed) names
+  pub keeps : KeepsOut (volume_view surveyed.volume) places surveyed.found.old
+
+-- the names of a pair are each in the directory to which its path leads
+pub record IsPairPlaced (super : Super) (parts : Parts) (path : List (List ℕ)) (pair : NamePair) : Type 0 where
+  pub plain : IsPlace super parts path pair.plain.directory pair.plain.name
+  pub tilde : IsPlace super parts (with_tilde path) pair.tilde.directory pair.tilde.name
+
+abbrev pub IsBackupPlaced : Super → Parts → Option (List (List ℕ)) → Option NamePair → Type 0
+IsBackupPlaced super parts None None = Unit {0}
+IsBackupPlaced super parts None (Some pair) = ⊥
+IsBackupPlaced super parts (Some path) None = ⊥
+IsBackupPlaced super parts (Some path) (Some pair) = IsPairPlaced super parts path pair
+
+pub record ArePlaced (super : Super) (parts : Parts) (names : model.OwnNames) (own : OwnNames) : Type 0 where
+  pub map : IsPairPlaced super parts names.map own.map
+  pub backup : IsBackupPlaced super parts names.backup own.backup
+
+-- the model's checks of what was surveyed
+abbrev pub checks_of : {D : Type 0} {disks : Ghosts D} → Image → Machine → Surveyed D disks → model.OwnNames → List DiskSector → Result (List DiskSector) InstallRefusal
+checks_of image machine surveyed names places =
+    plan_checks image machine (volume_view surveyed.volume) (config_view surveyed.config) (span_view surveyed.boot) places names (not surveyed.settled) surveyed.time
+
+-- they pass: the plan and the places of its room are the model's, and each name is in its directory still
+pub record IsPlanOf {D : Type 0} {disks : Ghosts D} (image : Image) (machine : Machine) (surveyed : Surveyed D disks) (names : model.OwnNames)
+    (places : List DiskSector) (planned : Planned D disks) : Type 0 where
+  pub map : plan_at image machine (volume_view surveyed.volume) (span_view surveyed.boot) (config_view surveyed.config) surveyed.time ≡ Ok (plan_view planned.plan)
+  pub room : room_for (volume_view surveyed.volume) (parts_of (volume_view surveyed.volume) image) places names
+      (wish_of machine (config_view surveyed.config) (not surveyed.settled) surveyed.time (plan_view planned.plan)) ≡ Ok (places_view planned.room)
+  pub passes : checks_of image machine surveyed names places ≡ Ok (places_view planned.room)
+  pub placed : ArePlaced (volume_view surveyed.volume).layout (parts_of (volume_view surveyed.volume) image) names planned.own
+
+-- or the first refusal of them
+abbrev pub GivesPlanOf : {D : Type 0} {disks : Ghosts D} → Image → Machine → Surveyed D disks → model.OwnNames → List DiskSector → Result (Planned D disks) (Halt D disks) → Type 0
+GivesPlanOf image machine surveyed names places (Ok planned) = IsPlanOf image machine surveyed names places planned
+GivesPlanOf image machine surveyed names places (Err halt) = Refuses halt.fault (checks_of image machine surveyed names places)

@@ -1,10 +1,11 @@
 // An installation is planned.
-ghost use Rattle.std.specs.Prelude.{◌≡◌, ◌<◌, ◌≤◌, ◌*◌, All, is_some, not, ℕ, IfOk, IfErr, OnOk};
+ghost use Rattle.std.specs.Prelude.{◌≡◌, ◌<◌, ◌≤◌, ◌*◌, All, is_some, not, ℕ, List, IfOk, IfErr, OnOk};
 ghost use Rattle.disk_trait.specs.Past.{Told};
 ghost use Rattle.lilo_model.specs.ConfLawful.{IsLawful};
-ghost use Rattle.lilo_model.specs.Disks.{Machine};
+ghost use Rattle.lilo_model.specs.Disks.{DiskSector, Machine};
 ghost use Rattle.lilo_model.specs.MinixNames.{IsSound};
 ghost use Rattle.lilo_model.specs.PlanRefusal.{own_places_check};
+ghost use Rattle.lilo_model.specs.Settled as model;
 ghost use Rattle.lilo_conf.specs.View.{config_view};
 ghost use Rattle.minix_layout.specs.View.{kind_view};
 ghost use Rattle.minix_zones.specs.View.{span_view};
@@ -19,7 +20,7 @@ ghost use Rattle.install_room.specs.Names.{AreCalled};
 ghost use Rattle.install_room.specs.Room.{SuitRoom, places_view};
 ghost use Rattle.install_order.specs.Answers.{IsKnown};
 ghost use Rattle.install_order.specs.Faults.{HasInstallCause};
-ghost use Rattle.install_order.specs.Plans.{IsMap, GivesMap, GivesRoom, GivesChecked, GivesPlaces, GivesChoices, IsOfPlan, GivesPlanned, IsPlannedFor, planned_volume};
+ghost use Rattle.install_order.specs.Plans.{IsMap, GivesMap, GivesRoom, GivesChecked, GivesPlaces, GivesChoices, IsOfPlan, GivesPlanned, GivesPlanOf, AreSurveyed, IsPlannedFor, planned_volume};
 
 use crate::examination::Examined;
 use crate::fault::{InstallFault, plan_refusal, write_refusal};
@@ -299,6 +300,10 @@ impl<'d, D: Disks> Surveyed<'d, D> {
             GivesPlanned image machine self.entry result) }
         ensures suits { IfOk result (λ planned. SuitRoom planned.volume.layout planned.volume.span planned.room) }
         ensures held { IfOk result (IsPlannedFor self.entry) }
+        // For the names and places that were surveyed: the model's plan and room, or its first refusal.
+        ensures planned { OnDisks D.Disks self.entry.volume.disks.now (λ image machine. (names : model.OwnNames)
+            (places : List DiskSector) → AreSurveyed image machine self.entry names places
+            → GivesPlanOf image machine self.entry names places result) }
         ensures cause { IfErr result (λ halt. HasInstallCause (faults_of self.entry.volume) (faults_of halt.volume) halt.fault) }
         ensures phase { IfErr result (λ halt. halt.phase ≡ Phase.Before) }
         ensures later { faults_of self.entry.volume ≤ faults_of (planned_volume result) }

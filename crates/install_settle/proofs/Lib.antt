@@ -7,3 +7,4 @@ pub mod StepLemmas
 pub mod SettleLemmas
 pub mod FlushLemmas
 pub mod GainLemmas
+pub mod PathLemmas

@@ -1,5 +1,5 @@
 -- Settling, from its steps.
-use Rattle.std.proofs.Common.{◌≡◌, ◌≢◌, ◌≤◌, ◌&&◌, ◌⊎◌, ℕ, Bool, true, false, if◌then◌else◌, List, [], ◌∷◌, ◌++◌, codes, length, get_or, length-append, arith, option_map, Option, Some, None, Result, Ok, Err, IfOk, IfErr, OnOk, refl, sym, ◌∙◌, ap, subst, inl, inr, ⊎_elim}
+use Rattle.std.proofs.Common.{◌≡◌, ◌≢◌, ◌≤◌, ◌&&◌, ◌⊎◌, ℕ, Bool, true, false, if◌then◌else◌, List, [], arith, option_map, Option, Some, None, Result, Ok, Err, IfOk, IfErr, OnOk, refl, sym, ◌∙◌, ap, subst, inl, inr, ⊎_elim}
 use Rattle.std.specs.Prelude.{IfSome, is_some}
 use Rattle.std.proofs.lemmas.Bool.{and_parts}
 use Rattle.disk_trait.specs.declared.disks.Disks.{Ghosts}
@@ -22,7 +22,6 @@ use Rattle.minix_names.specs.Places.{number_found}
 use Rattle.minix_names.proofs.PathLemmas.{same-is}
 use Rattle.minix_remove.specs.Moves.{LeadsBoth}
 use Rattle.minix_remove.specs.Target.{IsDirectoryNow}
-use Rattle.minix_remove_laws.proofs.Held.{no-directory}
 use Rattle.minix_sees_laws.specs.Sees.{SeenAsIn}
 use Rattle.minix_sees_laws.specs.Tree.{KeepsNamed, TreeAs, HasTreeWith, HasTreeMoved}
 use Rattle.minix_sees_laws.proofs.Seen.{opened, seen_same_law, seen_sound_law}
@@ -37,7 +36,7 @@ use Rattle.minix_write.specs.declared.write_fault.WriteFault.TheVariants.{Device
 use Rattle.minix_zones.specs.Volume.{volume_view, past_of, faults_of, KeepsVolume, SameVolume}
 use Rattle.minix_zones.specs.declared.volume.Volume.{Volume}
 use Rattle.minix_zones.proofs.WriteLemmas.{keeps_same, keeps_join, goes_on_unchanged, cause_after}
-use Rattle.install_apart.specs.Names.{IsPair, is_replaceable, is_file_found}
+use Rattle.install_apart.specs.Names.{IsPair, is_replaceable}
 use Rattle.install_apart.specs.Own.{IsBackup, IsReplaceable}
 use Rattle.install_apart.specs.declared.name.NamePair.{NamePair}
 use Rattle.install_apart.specs.declared.name.OwnName.{OwnName}
@@ -45,7 +44,7 @@ use Rattle.install_apart.specs.declared.own.OwnNames.{OwnNames}
 use Rattle.install_begin_laws.specs.Laws.{GainsNothing}
 use Rattle.install_laws.specs.Writes.{IsApartSector}
 use Rattle.install_settle.specs.Found.{AreFound, AreNamesNow, MaySettle, IsLeft, IsApartCopy, is_there, has_copy}
-use Rattle.install_settle.specs.Settles.{HasNames, finishes, stale_of, with_map_settled, with_all_settled, AreSettling, KeepsHeld, IsSettling, IsSettledIn, Settles}
+use Rattle.install_settle.specs.Settles.{HasNames, finishes, stale_of, with_map_settled, with_all_settled, AreSettling, KeepsHeld, IsBeside, LeadsAsIn, KeepsPaths, IsSettling, IsSettledIn, Settles}
 use Rattle.install_settle.specs.At.{IsAt}
 use Rattle.install_settle.specs.Steps.{IsSomewhere, IsSomePair, DoesMap, DoesRemove, IsMapLeft, IsMapSettled}
 use Rattle.install_settle.specs.declared.settling.LeftMap.{LeftMap}
@@ -53,8 +52,9 @@ use Rattle.install_settle.specs.declared.settling.LeftMap.TheVariants.{Absent, F
 use Rattle.install_settle.specs.declared.settling.Settling.{Settling}
 use Rattle.install_settle.proofs.HeldLemmas.{held-same, held-gone, held-both, held-foreign}
 use Rattle.install_settle.proofs.LeadLemmas.{tilde-at, plain-at, held-is}
+use Rattle.install_settle.proofs.PathLemmas.{tilde-differs, file-apart, stale-copy, leads-kept, leads-join}
 use Rattle.install_settle.proofs.NamesLemmas.{absent-same, with-as, names-with, names-moved}
-use Rattle.install_settle.proofs.GainLemmas.{removable-file, gains_none, gains_join}
+use Rattle.install_settle.proofs.GainLemmas.{gains_none, gains_join}
 use Rattle.install_settle.proofs.StepLemmas.{leaves-untold}
 use Rattle.install_settle.proofs.WriteLemmas.{apart-not}
 
@@ -117,24 +117,6 @@ none-there own is = by own.there refl is
     by : (there : Option Stat) → own.there ≡ there → is_some there ≡ false → number_found own.there ≡ None
     by None same is = ap number_found same
     by (Some stat) same is = cc
-
--- a file and a directory aren't at one path
-file-apart : (super : Rattle.lilo_model.specs.MinixLayout.Super) (parts : Parts) (path above : List (List ℕ)) (own : OwnName) (directory : ℕ) → IsAt super parts path own → is_replaceable own ≡ true
-    → reached super parts above ≡ Some directory → is_directory (parts.node directory) ≡ true → above ≢ path
-file-apart super parts path above own directory at file leads is same = by own.there refl at.mode file
-  where
-    both : number_found own.there ≡ Some directory
-    both = sym at.there ∙ (ap (reached super parts) (sym same) ∙ leads)
-
-    by : (there : Option Stat) → own.there ≡ there → IfSome there (λ stat. (inode_view stat.node).mode ≡ (parts.node stat.inode).mode) → is_file_found there ≡ true → ⊥
-    by None none mode file = let e : None ≡ Some directory = sym (ap number_found none) ∙ both in cc
-    by (Some stat) some mode file =
-        let e : Some stat.inode ≡ Some directory = sym (ap number_found some) ∙ both in
-        let inode : stat.inode ≡ directory = cc in
-        let regular : is_file (parts.node stat.inode) ≡ true = subst (λ (m : ℕ). is_file (record (parts.node stat.inode) { mode = m }) ≡ true) mode file in
-        let at' : is_file (parts.node directory) ≡ true = subst (λ (n : ℕ). is_file (parts.node n) ≡ true) inode regular in
-        let none = no-directory (parts.node directory) (removable-file (parts.node directory) at') in
-        cc
 
 -- what is known of what is to be settled
 pub record Facts (volume : volumes.Volume) (old : Image) (names : model.OwnNames) (forced : Bool) (settling : Settling) : Type 0 where
@@ -273,10 +255,15 @@ module _ (volume : volumes.Volume) (old : Image) (names : model.OwnNames) (force
         by false same None is = tt
         by false same (Some backup) is = cc
 
+    -- paths but the map's lead where they led
+    beside-mid : (path : List (List ℕ)) → IsBeside names settling.copy path → LeadsAsIn volume old mid path
+    beside-mid path beside = leads-kept volume path old mid done.keeps (done.others path beside.tilde beside.map)
+
     pub all-none : settling.copy ≡ false → IsSettledIn volume old names forced settling mid
     all-none copy = record {
       sound = done.sound;
       has = λ name. done.has name ∙ all-by (stale_of forced names) refl (facts.none copy) (copy-apart (stale_of forced names) refl) name;
+      paths = beside-mid;
       held = done.held;
     }
 
@@ -290,6 +277,11 @@ module _ (volume : volumes.Volume) (old : Image) (names : model.OwnNames) (force
           names-with volume mid c (with_tilde backup) None (has_names_law volume mid c (with_tilde backup) None None gone) name
           ∙ (with-as (with_tilde backup) name None (names_in volume mid) Settled-map done.has ∙ all-is name)
 
+      gone-paths : (c : Image) → HasTreeWith volume mid c (with_tilde backup) None None → KeepsPaths volume old names settling.copy c
+      gone-paths c gone path beside =
+          let apart = subst (λ (s : Option (List (List ℕ))). IfSome s (λ backup. path ≢ with_tilde backup)) (stale-copy names forced settling.copy backup copy stale) beside.stale in
+          leads-join volume path old mid c (beside-mid path beside) (leads-kept volume path mid c gone.tree.keeps (gone.tree.others path apart))
+
       pub all-left : (c : Image) → SeenOrWith volume mid (with_tilde backup) None None c → IsSettling volume old names forced settling c
       all-left c (inl seen) = record {
         sound = seen.sound;
@@ -299,7 +291,7 @@ module _ (volume : volumes.Volume) (old : Image) (names : model.OwnNames) (force
       all-left c (inr gone) = record { sound = gone.sound; has = inr (inr (inr (gone-names c gone))); held = held-foreign volume old c P settling copy }
 
       pub all-done : (c : Image) → HasTreeWith volume mid c (with_tilde backup) None None → IsSettledIn volume old names forced settling c
-      all-done c gone = record { sound = gone.sound; has = gone-names c gone; held = held-foreign volume old c P settling copy }
+      all-done c gone = record { sound = gone.sound; has = gone-names c gone; paths = gone-paths c gone; held = held-foreign volume old c P settling copy }
 
 -- ---- what is known of what is to be settled
 
@@ -315,13 +307,7 @@ module _ {D : Type 0} {disks : Ghosts D} (old : Volume D disks) (own : OwnNames)
     tilde-here = tilde-at (super_view old.layout) (parts_now old) names.map own.map.tilde found.map.tilde
 
     not-tilde : names.map ≢ with_tilde names.map
-    not-tilde same =
-        let is : with_tilde names.map ≡ (own.map.plain.name ++ codes "~") ∷ plain-here.above = ap with_tilde plain-here.is in
-        let both : own.map.plain.name ∷ plain-here.above ≡ (own.map.plain.name ++ codes "~") ∷ plain-here.above = sym plain-here.is ∙ (same ∙ is) in
-        let name : own.map.plain.name ≡ own.map.plain.name ++ codes "~" = ap (λ (p : List (List ℕ)). get_or p 0 []) both in
-        let long : length own.map.plain.name ≡ length (own.map.plain.name ++ codes "~") = ap length name in
-        let sum = length-append own.map.plain.name (codes "~") in
-        omega (arith, long, sum)
+    not-tilde = tilde-differs names.map own.map.plain.name plain-here.above plain-here.is
 
     no-name : (path : List (List ℕ)) (one : OwnName) → IsAt (super_view old.layout) (parts_now old) path one → is_there one ≡ false → names_in (volume_view old) (now (past_of old)) path ≡ None
     no-name path one at none = names-by (volume_view old) (now (past_of old)) path None (at.there ∙ none-there one none)

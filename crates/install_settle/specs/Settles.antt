@@ -1,13 +1,14 @@
 -- What settling leaves, at any moment of it and once it is done (a rule of this project's own). A path is a list of
 -- components, the last one first.
-use Rattle.std.specs.Prelude.{◌≡◌, ◌⊎◌, ℕ, Bool, true, false, if◌then◌else◌, List, Option, None, Result, OnOk}
+use Rattle.std.specs.Prelude.{◌≡◌, ◌≢◌, ◌⊎◌, ℕ, Bool, true, false, if◌then◌else◌, IfSome, List, Option, None, Result, OnOk}
 use Rattle.disk_trait.specs.declared.disks.Disks.{Ghosts}
 use Rattle.disk_trait.specs.Calls.{GoesOn}
 use Rattle.disk_trait.specs.Moments.{IsTold, now, IsQuiet, LeavesOnly}
 use Rattle.disk_trait.specs.NotWritten.{NotWritten}
 use Rattle.lilo_model.specs.Disks.{Image, Machine, Span, DiskSector}
 use Rattle.lilo_model.specs.MinixParts as parts
-use Rattle.lilo_model.specs.MinixNames.{names_in, IsSound}
+use Rattle.lilo_model.specs.MinixParts.{parts_of}
+use Rattle.lilo_model.specs.MinixNames.{names_in, reached, IsSound}
 use Rattle.lilo_model.specs.MinixFindNames.{Names}
 use Rattle.lilo_model.specs.NamePlaces.{with_tilde, with_name}
 use Rattle.lilo_model.specs.Settled as model
@@ -58,6 +59,24 @@ AreSettling volume old names forced left c =
     ⊎ (HasNames volume c (with_map_settled left names (names_in volume old))
     ⊎ HasNames volume c (with_all_settled left forced names (names_in volume old))))
 
+-- ---- paths
+
+-- a path is none of those that settling changes: neither of the map's, nor that of a stale copy, where one is removed
+pub record IsBeside (names : model.OwnNames) (copy : Bool) (path : List (List ℕ)) : Type 0 where
+  pub map : path ≢ names.map
+  pub tilde : path ≢ with_tilde names.map
+  pub stale : IfSome (stale_of copy names) (λ backup. path ≢ with_tilde backup)
+
+-- a path leads where it led, and what is there is of the same mode
+pub record LeadsAsIn (volume : parts.Volume) (old c : Image) (path : List (List ℕ)) : Type 0 where
+  pub leads : reached volume.layout (parts_of volume c) path ≡ reached volume.layout (parts_of volume old) path
+  pub mode : IfSome (reached volume.layout (parts_of volume old) path)
+      (λ number. ((parts_of volume c).node number).mode ≡ ((parts_of volume old).node number).mode)
+
+-- so does each path that settling doesn't change
+abbrev pub KeepsPaths : parts.Volume → Image → model.OwnNames → Bool → Image → Type 0
+KeepsPaths volume old names copy c = (path : List (List ℕ)) → IsBeside names copy path → LeadsAsIn volume old c path
+
 -- ---- the Holder
 
 -- a rename is finished exactly where the Holder is `map~` alone, and a copy is removed only where the boot sector is
@@ -84,6 +103,7 @@ pub record IsSettling (volume : parts.Volume) (old : Image) (names : model.OwnNa
 pub record IsSettledIn (volume : parts.Volume) (old : Image) (names : model.OwnNames) (forced : Bool) (settling : Settling) (c : Image) : Type 0 where
   pub sound : IsSound volume c
   pub has : HasNames volume c (with_all_settled settling.map forced names (names_in volume old))
+  pub paths : KeepsPaths volume old names settling.copy c
   pub held : KeepsHeld volume old names.map settling c
 
 -- ---- the call

@@ -25,9 +25,10 @@ use Rattle.map_plan.specs.declared.fault.PlanFault.TheVariants as plans
 use Rattle.write_model.specs.Wish as rooms
 use Rattle.install_apart.specs.Faults.{IsOfPath}
 use Rattle.install_laws.specs.InstallVerdict.{Reading, NotSound, NotApart, BadName, NoPlan, NoLink, NoRoom, install_line, name_refusal_line, plan_kind, room_text}
+use Rattle.install_order.specs.Faults.{IsOfFile}
 use Rattle.install_order.specs.declared.fault.InstallFault.TheVariants as faults
-use Rattle.install_answers.specs.Laws.{IsOfFile, TextLaw}
-use Rattle.install_answers.specs.Texts.{path_text, plan_text, write_text}
+use Rattle.install_answers.specs.Laws.{StatusLaw, TextLaw}
+use Rattle.install_answers.specs.Texts.{path_text, plan_status, plan_text, write_text}
 
 -- a path's
 path_line : (path : List ℕ) (fault : TreeFault) (why : find.TreeFault) → tree_views.Refuses {B = ℕ} fault (Err why) → IsOfPath fault → codes "lilo: " ++ path_text path fault ≡ name_refusal_line path why
@@ -136,3 +137,63 @@ text_law (faults.Write fault) phase (BadName it) refuses own = absurd refuses
 text_law (faults.Write fault) phase (NoPlan it) refuses own = absurd refuses
 text_law faults.Device phase refusal refuses own = absurd own
 text_law faults.Memory phase refusal refuses own = absurd own
+
+-- ---- the exit status
+
+plan_same : (fault : PlanFault) (why : model.PlanFault) → plan_views.plan_refusal fault ≡ Some why → plan_status fault ≡ model.plan_status why
+plan_same (plans.Missing text) why is = let same : why ≡ model.Missing text = cc in rw same refl
+plan_same plans.NoImagesLeft why is = let same : why ≡ model.NoImagesLeft = cc in rw same refl
+plan_same (plans.Header path fault) why is = let same : why ≡ model.Header path (setup_fault_view fault) = cc in rw same refl
+plan_same (plans.Address which fault) why is = let same : why ≡ model.Address (opt_view which) (address_fault_view fault) = cc in rw same refl
+plan_same (plans.TooManySlots which slots) why is = let same : why ≡ model.TooManySlots (opt_view which) slots = cc in rw same refl
+plan_same (plans.GeometryDiffers which have) why is = let same : why ≡ model.GeometryDiffers (opt_view which) have = cc in rw same refl
+plan_same (plans.OtherIsBoot path) why is = let same : why ≡ model.OtherIsBoot path = cc in rw same refl
+plan_same (plans.NoSignature path) why is = let same : why ≡ model.NoSignature path = cc in rw same refl
+plan_same (plans.MessageTooLong size) why is = let same : why ≡ model.MessageTooLong size = cc in rw same refl
+plan_same (plans.Table fault) why is = let same : why ≡ model.Table (table_fault_view fault) = cc in rw same refl
+plan_same (plans.Tree path fault) why is = by (plan_views.tree_refusal fault) is
+  where
+    by : (found : Option find.TreeFault) → option_map (model.Tree path) found ≡ Some why → 3 ≡ model.plan_status why
+    by None same = cc
+    by (Some inner) same = let e : why ≡ model.Tree path inner = cc in rw e refl
+plan_same plans.Device why is = cc
+plan_same plans.Memory why is = cc
+
+pub status_law : StatusLaw
+status_law (faults.Survey fault) phase (NotSound why) refuses own = refl
+status_law (faults.NotApart opt) phase (NotApart which) refuses own = refl
+status_law (faults.Path text fault) phase (BadName refusal) refuses own = refl
+status_law (faults.Plan fault) phase (NoPlan why) refuses own = plan_same fault why refuses
+status_law (faults.Write fault) phase NoLink refuses own = refl
+status_law (faults.Write fault) phase (NoRoom why) refuses own = refl
+status_law (faults.Survey fault) phase (Reading it) refuses own = absurd refuses
+status_law (faults.Survey fault) phase (NotApart it) refuses own = absurd refuses
+status_law (faults.Survey fault) phase (BadName it) refuses own = absurd refuses
+status_law (faults.Survey fault) phase (NoPlan it) refuses own = absurd refuses
+status_law (faults.Survey fault) phase NoLink refuses own = absurd refuses
+status_law (faults.Survey fault) phase (NoRoom it) refuses own = absurd refuses
+status_law (faults.NotApart which) phase (Reading it) refuses own = absurd refuses
+status_law (faults.NotApart which) phase (NotSound it) refuses own = absurd refuses
+status_law (faults.NotApart which) phase (BadName it) refuses own = absurd refuses
+status_law (faults.NotApart which) phase (NoPlan it) refuses own = absurd refuses
+status_law (faults.NotApart which) phase NoLink refuses own = absurd refuses
+status_law (faults.NotApart which) phase (NoRoom it) refuses own = absurd refuses
+status_law (faults.Path text fault) phase (Reading it) refuses own = absurd refuses
+status_law (faults.Path text fault) phase (NotSound it) refuses own = absurd refuses
+status_law (faults.Path text fault) phase (NotApart it) refuses own = absurd refuses
+status_law (faults.Path text fault) phase (NoPlan it) refuses own = absurd refuses
+status_law (faults.Path text fault) phase NoLink refuses own = absurd refuses
+status_law (faults.Path text fault) phase (NoRoom it) refuses own = absurd refuses
+status_law (faults.Plan fault) phase (Reading it) refuses own = absurd refuses
+status_law (faults.Plan fault) phase (NotSound it) refuses own = absurd refuses
+status_law (faults.Plan fault) phase (NotApart it) refuses own = absurd refuses
+status_law (faults.Plan fault) phase (BadName it) refuses own = absurd refuses
+status_law (faults.Plan fault) phase NoLink refuses own = absurd refuses
+status_law (faults.Plan fault) phase (NoRoom it) refuses own = absurd refuses
+status_law (faults.Write fault) phase (Reading it) refuses own = absurd refuses
+status_law (faults.Write fault) phase (NotSound it) refuses own = absurd refuses
+status_law (faults.Write fault) phase (NotApart it) refuses own = absurd refuses
+status_law (faults.Write fault) phase (BadName it) refuses own = absurd refuses
+status_law (faults.Write fault) phase (NoPlan it) refuses own = absurd refuses
+status_law faults.Device phase refusal refuses own = absurd own
+status_law faults.Memory phase refusal refuses own = absurd own

@@ -67,7 +67,7 @@ module _ {D : Type 0} {disks : Ghosts D} (old mid : Volume D disks) (same : Same
   told-mid told = subst IsTold (sym same.same_disks.same_past) told
 
   -- what is said of what the disks held is said of what they held before it
-  back : (P : volumes.Volume → Machine → Option Past → Type 0)
+  pub back : (P : volumes.Volume → Machine → Option Past → Type 0)
       → P (volume_view mid) (machine_of disks mid.disks.now) (past_of mid) → P (volume_view old) (machine_of disks old.disks.now) (past_of old)
   back P p =
       subst (P (volume_view old) (machine_of disks old.disks.now)) same.same_disks.same_past
@@ -89,9 +89,9 @@ pasts one (Some past) before none = absurd (none tt)
 pub cause-by : (before mid after : ℕ) (fault : InstallFault) → before ≤ mid → HasInstallCause mid after fault → HasInstallCause before after fault
 cause-by before mid after (faults.Survey fault) later cause = tt
 cause-by before mid after (faults.NotApart opt) later cause = tt
-cause-by before mid after (faults.Path text fault) later cause = tt
-cause-by before mid after (faults.Plan fault) later cause = tt
-cause-by before mid after (faults.Write fault) later cause = tt
+cause-by before mid after (faults.Path text fault) later cause = cause
+cause-by before mid after (faults.Plan fault) later cause = cause
+cause-by before mid after (faults.Write fault) later cause = cause
 cause-by before mid after faults.Device later cause = λ below. let rose = cause below in omega (arith, later, rose)
 cause-by before mid after faults.Memory later cause = tt
 

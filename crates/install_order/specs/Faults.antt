@@ -1,5 +1,5 @@
 -- Refusals of an installation, and their causes (this project's own).
-use Rattle.std.specs.Prelude.{◌≡◌, ℕ, List, Some, Result, Ok, Err}
+use Rattle.std.specs.Prelude.{◌≡◌, ℕ, List, Some, IsSome, Result, Ok, Err}
 use Rattle.lilo_model.specs.Faults.{Rose}
 use Rattle.conf_settings.specs.View.{opt_view}
 use Rattle.minix_survey.specs.View as survey_views
@@ -15,6 +15,7 @@ use Rattle.minix_write.specs.View as write_views
 use Rattle.minix_write.specs.declared.write_fault.WriteFault.{WriteFault}
 use Rattle.minix_write.specs.declared.write_fault.WriteFault.TheVariants as writes
 use Rattle.minix_zones.specs.declared.zone_fault.ZoneFault.TheVariants as zones
+use Rattle.install_apart.specs.Faults.{IsOfPath}
 use Rattle.install_apart.specs.declared.fault.ApartFault.{ApartFault}
 use Rattle.install_apart.specs.declared.fault.ApartFault.TheVariants as aparts
 use Rattle.install_apart.specs.declared.fault.NameFault.{NameFault}
@@ -115,12 +116,23 @@ abbrev pub Refuses : {B : Type 0} → InstallFault → Result B InstallRefusal �
 Refuses fault (Ok value) = IsStopped fault
 Refuses fault (Err refusal) = RefusesFor fault refusal
 
--- the cause: where a disk failed, the count of faults rose
+-- it is of a file that can't be made or renamed, and neither a disk failed nor memory ended
+abbrev pub IsOfFile : WriteFault → Type 0
+IsOfFile (writes.NoSpace need found) = Unit {0}
+IsOfFile writes.NoInode = Unit {0}
+IsOfFile writes.NameTooLong = Unit {0}
+IsOfFile writes.Exists = Unit {0}
+IsOfFile writes.Links = Unit {0}
+IsOfFile (writes.Tree fault) = Unit {0}
+IsOfFile writes.Device = ⊥
+IsOfFile writes.Memory = ⊥
+
+-- the cause: where a disk failed, the count of faults rose, and no path, plan or file is refused for that
 abbrev pub HasInstallCause : ℕ → ℕ → InstallFault → Type 0
 HasInstallCause before now (faults.Survey fault) = Unit {0}
 HasInstallCause before now (faults.NotApart opt) = Unit {0}
-HasInstallCause before now (faults.Path text fault) = Unit {0}
-HasInstallCause before now (faults.Plan fault) = Unit {0}
-HasInstallCause before now (faults.Write fault) = Unit {0}
+HasInstallCause before now (faults.Path text fault) = IsOfPath fault
+HasInstallCause before now (faults.Plan fault) = IsSome (plans.plan_refusal fault)
+HasInstallCause before now (faults.Write fault) = IsOfFile fault
 HasInstallCause before now faults.Device = Rose before now
 HasInstallCause before now faults.Memory = Unit {0}

@@ -8,4 +8,6 @@ mod call;
 #[cfg(test)]
 mod made;
 #[cfg(test)]
+mod preview;
+#[cfg(test)]
 mod scenes;

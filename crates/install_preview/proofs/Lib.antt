@@ -1,0 +1,3 @@
+pub mod PreviewLemmas
+pub mod StateLemmas
+pub mod RefusedLemmas

@@ -1,0 +1,13 @@
+use Rattle.std.proofs.Common.{sym, ◌∙◌}
+use Rattle.minix_zones.specs.Volume.{faults_of}
+use Rattle.install_preview.proofs.RefusedLemmas.{answers_refusal, rose_by}
+use Rattle.install_preview.proofs.answer.refuse.Goals as goal
+
+pub returns-clause-refused : goal.returns-clause-refused
+returns-clause-refused g c before cause =
+    answers_refusal c.args.halt.fault before (faults_of c.args.halt.volume) cause c.say_fault-status.result _ _
+    (rw c.requires.before at c.say_fault-status.ensures.status) (rw c.requires.before at c.say_fault-status.ensures.shown)
+
+pub returns-clause-cause : goal.returns-clause-cause
+returns-clause-cause g c before cause is =
+    rose_by c.args.halt.fault before (faults_of c.args.halt.volume) cause (sym (rw c.requires.before at c.say_fault-status.ensures.status) ∙ is)

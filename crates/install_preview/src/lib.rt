@@ -1,0 +1,7 @@
+//! What an installation would do: everything is looked at and planned, nothing is written, and what would be done is
+//! reported, with the room counted on the volume as it is.
+#![tactic(auto)]
+
+mod answer;
+
+pub use answer::preview;

@@ -327,3 +327,62 @@ fn each_call_that_fails_in_a_removal(rt: HostRuntime) -> Result<(), Fail> {
     assert!(rt; failed > 10 && failed < 80);
     Ok(())
 }
+
+const MKDIR: &[&str] = &["mkdir", "x.img", "/dev/hda", "/d"];
+
+const LN: &[&str] = &["ln", "x.img", "/dev/hda", "/l", "/d/../a"];
+
+// The status and text of arguments over a disk.
+fn told_on(alloc: Global, line: &[&str], disks: &mut MemDisks) -> Result<(u8, String), Fail> {
+    let words = words_of(alloc, line)?;
+    let mut source = MemSource::new(alloc, b"", &[])?;
+    let mut sink = MemSink::new(alloc, 4096, &[])?;
+    whole_disks(disks);
+    let status = ldisk(alloc, &words, disks, &mut source, &mut sink, 7);
+    let Ok(text) = str::from_utf8(sink.bytes()) else {
+        return Err(Fail::from("no text"));
+    };
+    Ok((status, String::from_str(alloc, text)?))
+}
+
+#[test]
+fn makes_a_directory_and_a_link(rt: HostRuntime) -> Result<(), Fail> {
+    let mut disks = sound_disk(rt.alloc(), &[])?;
+    for path in ["/", "/a", "/.", "/..", "/a/b", "/none/b"] {
+        let line = ["mkdir", "x.img", "/dev/hda", path];
+        assert_eq!(rt; status_on(rt.alloc(), &line, &mut disks)?, (3, 0));
+        let line = ["ln", "x.img", "/dev/hda", path, ""];
+        assert_eq!(rt; status_on(rt.alloc(), &line, &mut disks)?, (3, 0));
+    }
+    let long = ["ln", "x.img", "/dev/hda", "/123456789012345", ""];
+    assert_eq!(rt; status_on(rt.alloc(), &long, &mut disks)?, (4, 0));
+    let long = ["ln", "x.img", "/dev/hda", "/123456789012345", "x"];
+    assert_eq!(rt; status_on(rt.alloc(), &long, &mut disks)?, (5, 0));
+    assert_eq!(rt; status_on(rt.alloc(), MKDIR, &mut disks)?.0, 0);
+    assert_eq!(rt; status_on(rt.alloc(), MKDIR, &mut disks)?.0, 3);
+    assert_eq!(rt; status_on(rt.alloc(), LN, &mut disks)?.0, 0);
+    let listed = told_on(rt.alloc(), LS, &mut disks)?;
+    assert_eq!(rt; listed.0, 0);
+    assert_eq!(rt; listed.1.as_str(), "d 32 d\nf 3 a\nl 7 l\n");
+    Ok(())
+}
+
+#[test]
+fn each_call_that_fails_in_a_creation(rt: HostRuntime) -> Result<(), Fail> {
+    for line in [MKDIR, LN] {
+        let mut failed = 0_u64;
+        for call in 0..100 {
+            let failing = [Failing { call, made: false }];
+            let mut disks = sound_disk(rt.alloc(), &failing)?;
+            let status = status_on(rt.alloc(), line, &mut disks)?.0;
+            if status == 8 {
+                assert_eq!(rt; failed, call);
+                failed = call + 1;
+            } else {
+                assert_eq!(rt; status, 0);
+            }
+        }
+        assert!(rt; failed > 10 && failed < 100);
+    }
+    Ok(())
+}

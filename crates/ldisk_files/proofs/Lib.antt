@@ -1,5 +1,13 @@
 pub mod UntoldLemmas
 pub mod RefuseLemmas
 pub mod NameLemmas
+pub mod OutsideLemmas
+pub mod FlushLemmas
 pub mod RemoveLemmas
 pub mod PathLemmas
+pub mod CreateLemmas
+pub mod PlaceLemmas
+pub mod RoomLemmas
+pub mod MadeLemmas
+pub mod MakeLemmas
+pub mod NamedLemmas

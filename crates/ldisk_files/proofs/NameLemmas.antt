@@ -1,19 +1,18 @@
 -- A name that may be removed, by what was found at it.
-use Rattle.std.proofs.Common.{◌≡◌, ◌&&◌, ◌||◌, ℕ, Bool, true, false, not, List, [], ◌∷◌, bytes_eq, Option, Some, None, Result, Ok, Err, IsErr, refl, sym, ◌∙◌, ap, subst}
+use Rattle.std.proofs.Common.{◌≡◌, ℕ, Bool, true, false, List, ◌∷◌, bytes_eq, Option, Some, None, Result, Ok, Err, IsErr, refl, sym, ◌∙◌, ap, subst}
 use Rattle.std.specs.Prelude.{option_map, IfSome}
 use Rattle.disk_trait.specs.Past.{Past, Told}
 use Rattle.disk_trait.proofs.ToldLemmas.{told_all, told_three}
-use Rattle.lilo_model.specs.Checks.{◌>>=◌, require, with_fault}
+use Rattle.lilo_model.specs.Checks.{◌>>=◌, require}
 use Rattle.lilo_model.specs.Disks.{Image}
 use Rattle.lilo_model.specs.MinixEntries.{here_name, above_name, is_dots}
-use Rattle.lilo_model.specs.MinixLayout.{Super, Inode}
-use Rattle.lilo_model.specs.MinixNames.{Thing, lookup, then_lookup, reached, thing, names, names_in, IsSound, Sound}
+use Rattle.lilo_model.specs.MinixLayout.{Super}
+use Rattle.lilo_model.specs.MinixNames.{lookup, then_lookup, reached, thing, names, names_in, IsSound, Sound}
 use Rattle.lilo_model.specs.MinixParts.{Parts, Volume, parts_of, is_directory, is_file, is_link}
-use Rattle.lilo_model.specs.MinixSurvey.{survey, survey_walk, surveyable}
-use Rattle.lilo_model.specs.MinixFind as finds
+use Rattle.lilo_model.specs.MinixSurvey.{survey}
 use Rattle.lilo_model.specs.NamePlaces.{plain_path, name_path}
 use Rattle.minix_layout.specs.View.{inode_view}
-use Rattle.minix_names.specs.Places.{IsPlace, GivesPlace, GivesPath, GivesThere, LeadsToDirectory}
+use Rattle.minix_names.specs.Places.{GivesPlace, GivesPath, GivesThere, LeadsToDirectory}
 use Rattle.minix_names.specs.declared.place.NamePlace.{NamePlace}
 use Rattle.minix_remove_laws.specs.Held.{held_name, is_removable}
 use Rattle.minix_survey.specs.Sound.{SaysSound}
@@ -27,11 +26,11 @@ use Rattle.minix_tree.specs.View.{IsNode}
 use Rattle.minix_zones.specs.Volume.{volume_view, past_of, SameVolume}
 use Rattle.minix_zones.specs.declared.volume.Volume as held
 use Rattle.minix_zones.proofs.SameLemmas.{told_back}
-use Rattle.ldisk_files.specs.Answer.{Refuses, IsLaid, IsSurveyed, IsRemovable, GivesRemovable, GivesName, GivesChecked, GivesSurveyed, is_found_removable, name_check, volume_check, tree_fault, survey_fault, survey_answer}
-use Rattle.ldisk_model.specs.FileVerdict.{FileRefusal, NotSound, NoPlace, NoFile, checked_status, is_removable_thing}
+use Rattle.ldisk_files.specs.Answer.{Refuses, IsLaid, IsSurveyed, IsRemovable, GivesName, GivesChecked, GivesSurveyed, Answers, is_found_removable, tree_fault, survey_answer}
+use Rattle.ldisk_model.specs.FileVerdict.{FileRefusal, NotSound, NoPlace, NoFile, checked_status, sound_check, gone_check, is_removable_thing}
 use Rattle.ldisk_files.specs.declared.fault.FileFault.{FileFault}
-use Rattle.ldisk_files.specs.declared.fault.FileFault.TheVariants.{Refused, Device, Memory}
-use Rattle.ldisk_files.proofs.RefuseLemmas.{refuses-then, tree-refuses, survey-refuses}
+use Rattle.ldisk_files.specs.declared.fault.FileFault.TheVariants.{Refused}
+use Rattle.ldisk_files.proofs.RefuseLemmas.{answers-then, tree-refuses, survey-refuses}
 
 -- ---- names
 
@@ -108,17 +107,17 @@ module _ (volume : Volume) (image : Image) where
   -- ---- the checks of a name
 
   refuse-kind : (text : List ℕ) (path : List (List ℕ)) → name_path (names_in volume image) text ≡ Ok path → is_removable_thing (names_in volume image path) ≡ false
-      → IsErr (name_check volume image text)
+      → checked_status (gone_check text volume image) ≡ 3
   refuse-kind text path is kind = rw (is, kind) refl
 
   pass-kind : (text : List ℕ) (path : List (List ℕ)) → name_path (names_in volume image) text ≡ Ok path → is_removable_thing (names_in volume image path) ≡ true
-      → name_check volume image text ≡ Ok path
+      → gone_check text volume image ≡ Ok path
   pass-kind text path is kind = rw (is, kind) refl
 
   pub no-place : (text : List ℕ) (fault : TreeFault) → GivesPlace volume.layout (parts_of volume image) (Err fault) (name_path (names_in volume image) text)
       → GivesName volume image text (Err (tree_fault fault))
   no-place text fault refuses =
-      refuses-then (tree_fault fault) NoPlace (name_path (names_in volume image) text)
+      answers-then NamePlace (tree_fault fault) NoPlace (λ why. refl) (name_path (names_in volume image) text)
       (λ gone. require (is_removable_thing (names_in volume image gone)) NoFile >>= λ kind. Ok gone) (tree-refuses fault (name_path (names_in volume image) text) refuses)
 
   module _ (text : List ℕ) (place : NamePlace) (at : GivesPath volume.layout (parts_of volume image) (name_path (names_in volume image) text) place) where
@@ -167,20 +166,26 @@ module _ (volume : Volume) (image : Image) where
     sound = is-sound laid says.0;
   }
 
-  after-survey : (text : List ℕ) → IsSurveyed volume image → volume_check volume image text ≡ name_check volume image text
-  after-survey text is = by (survey volume.layout (parts_of volume image)) refl
+  -- once it was surveyed the other checks decide
+  pub after-survey : {A : Type 0} (check : Volume → Image → Result A FileRefusal) → IsSurveyed volume image → sound_check check volume image ≡ check volume image
+  after-survey check is = by (survey volume.layout (parts_of volume image)) refl
     where
-      by : (given : Result _ _) → survey volume.layout (parts_of volume image) ≡ given → volume_check volume image text ≡ name_check volume image text
+      by : (given : Result _ _) → survey volume.layout (parts_of volume image) ≡ given → sound_check check volume image ≡ check volume image
       by (Ok met) says = rw says refl
       by (Err fault) says = absurd (is.passes (rw says refl))
 
-  pub not-surveyed : (text : List ℕ) (fault : FileFault) → Refuses fault (survey volume.layout (parts_of volume image)) → GivesChecked volume image text (Err fault)
-  not-surveyed text fault refuses = refuses-then fault NotSound (survey volume.layout (parts_of volume image)) (λ met. name_check volume image text) refuses
+  pub not-surveyed : {A : Type 0} (B : Type 0) (check : Volume → Image → Result A FileRefusal) (fault : FileFault) → Refuses fault (survey volume.layout (parts_of volume image))
+      → Answers {B = B} (sound_check check volume image) (Err fault)
+  not-surveyed B check fault refuses = answers-then B fault NotSound (λ why. refl) (survey volume.layout (parts_of volume image)) (λ met. check volume image) refuses
+
+  pub answers-surveyed : {A B : Type 0} (check : Volume → Image → Result A FileRefusal) (result : Result B FileFault) → IsSurveyed volume image → Answers (check volume image) result
+      → Answers (sound_check check volume image) result
+  answers-surveyed {A} {B} check result is answers = subst (λ (given : Result A FileRefusal). Answers {B = B} given result) (sym (after-survey check is)) answers
 
   pub checked : (text : List ℕ) (result : Result NamePlace FileFault) → IsSurveyed volume image → GivesName volume image text result → GivesChecked volume image text result
   checked text (Ok place) is gives =
-      (gives, ap checked_status (after-survey text is ∙ pass-kind text gives.path gives.is gives.removable.kind))
-  checked text (Err fault) is refuses = subst (λ (check : Result (List (List ℕ)) FileRefusal). Refuses fault check) (sym (after-survey text is)) refuses
+      (gives, ap checked_status (after-survey (gone_check text) is ∙ pass-kind text gives.path gives.is gives.removable.kind))
+  checked text (Err fault) is refuses = answers-surveyed {B = NamePlace} (gone_check text) (Err fault) is refuses
 
   pub survey-answered : (result : Result Findings SurveyFault) → IsLaid volume image → SaysSound result volume.layout (parts_of volume image) → Finds result volume.layout (parts_of volume image)
       → GivesSurveyed volume image (survey_answer result)

@@ -1,11 +1,11 @@
--- A path whose name is removed, and the volume in a span.
-use Rattle.std.proofs.Common.{◌≡◌, ◌≤◌, ◌<◌, ◌+◌, ◌*◌, ◌⊎◌, ℕ, true, List, [], length, Option, Some, None, Result, Ok, Err, refl, sym, ◌∙◌, ap, subst, inl, inr, arith}
+-- A path whose name is changed, and the volume in a span.
+use Rattle.std.proofs.Common.{◌≡◌, ◌≤◌, ◌+◌, ◌⊎◌, ℕ, true, List, [], length, Option, None, Result, Ok, Err, refl, sym, ◌∙◌, ap, subst, inl, inr, arith}
 use Rattle.std.specs.Prelude.{OnOk, IfErr}
 use Rattle.disk_trait.specs.declared.disks.Disks.{Ghosts}
 use Rattle.disk_trait.specs.Calls.{GoesOn, SameOf}
-use Rattle.disk_trait.specs.Moments.{IsTold, now, MayLeave, IsQuiet, LeavesOnly, IsWhole, IsWholeImage}
+use Rattle.disk_trait.specs.Moments.{IsTold, now, IsQuiet, LeavesOnly, IsWhole, IsWholeImage}
 use Rattle.disk_trait.specs.NotWritten.{NotWritten}
-use Rattle.disk_trait.specs.Past.{Image, Past, Told, now_of}
+use Rattle.disk_trait.specs.Past.{Image, Past, Told}
 use Rattle.disk_trait.specs.Range.{IsOutside}
 use Rattle.disk_trait.proofs.CallLemmas.{goes_on_same, goes_on_join}
 use Rattle.disk_trait.proofs.MomentLemmas.{at_now, leaves_none, leaves_weaker, told_now, told_or_not}
@@ -15,10 +15,11 @@ use Rattle.lilo_model.specs.Checks.{◌>>=◌, with_fault}
 use Rattle.lilo_model.specs.Disks.{Span}
 use Rattle.lilo_model.specs.Faults.{Rose}
 use Rattle.lilo_model.specs.MinixLayout.{Super, IsSuper, LayoutFault, super_at, super_sector}
-use Rattle.lilo_model.specs.MinixNames.{IsSound, names_in}
+use Rattle.lilo_model.specs.MinixNames.{Thing, IsSound, names_in}
+use Rattle.lilo_model.specs.NamePlaces.{name_path}
 use Rattle.lilo_model.specs.MinixParts as model
 use Rattle.lilo_model.specs.MinixParts.{Layout, volume_at, volume_with, sector_of}
-use Rattle.minix_zones.specs.Volume.{volume_view, past_of, faults_of, sizes_of, SameVolume, KeepsVolume}
+use Rattle.minix_zones.specs.Volume.{volume_view, past_of, faults_of, SameVolume}
 use Rattle.minix_zones.specs.declared.volume.Volume.{Volume}
 use Rattle.minix_zones.proofs.SameLemmas.{same_view}
 use Rattle.minix_zones.proofs.ZoneLemmas.{zones_fit}
@@ -29,13 +30,25 @@ use Rattle.minix_zones.specs.declared.zone_fault.ZoneFault.TheVariants as zones
 use Rattle.minix_layout.specs.View.{super_view}
 use Rattle.minix_names.specs.declared.place.NamePlace.{NamePlace}
 use Rattle.minix_sees_laws.specs.Tree.{HasNamesWith}
-use Rattle.ldisk_files.specs.Answer.{Answers, HasFileCause, IsLaid, IsRemovable, IsSomeRemovable, GivesRemovable, GivesChecked, Refuses, is_refusal, volume_check, zone_fault}
-use Rattle.ldisk_model.specs.FileVerdict.{FileRefusal, NoVolume, remove_check, checked_status}
+use Rattle.ldisk_files.specs.Answer.{Answers, HasFileCause, IsLaid, IsRemovable, IsSomeRemovable, GivesRemovable, GivesChecked, Refuses, is_refusal, zone_fault}
+use Rattle.ldisk_model.specs.FileVerdict.{FileRefusal, NoVolume, volume_check, sound_check, gone_check, checked_status}
 use Rattle.ldisk_files.specs.Left.{HasNamesOf, HasNamesBetween, HasNamed, HasEither, HasSoundVolume, IsNamed, IsEither, ChangesName, LeavesOn, LeavesNames}
 use Rattle.ldisk_files.specs.declared.fault.FileFault.{FileFault}
-use Rattle.ldisk_files.specs.declared.fault.FileFault.TheVariants.{Refused, Device, Memory}
-use Rattle.ldisk_files.proofs.RefuseLemmas.{refused-answer, refuses-then}
+use Rattle.ldisk_files.specs.declared.fault.FileFault.TheVariants.{Refused, BadLength, NoSpace, Device, Memory}
+use Rattle.ldisk_files.proofs.RefuseLemmas.{answers-then}
 use Rattle.ldisk_files.proofs.UntoldLemmas.{told-from, untold-none, leaves-untold}
+
+-- a cause since a later moment is one since an earlier
+pub cause-since : (before mid after : ℕ) (fault : FileFault) → before ≤ mid → HasFileCause mid after fault → HasFileCause before after fault
+cause-since before mid after Refused later cause = tt
+cause-since before mid after BadLength later cause = tt
+cause-since before mid after NoSpace later cause = tt
+cause-since before mid after Device later cause = λ below. let rose = cause below in omega (arith, later, rose)
+cause-since before mid after Memory later cause = tt
+
+pub cause-up : (before mid after : ℕ) → before ≤ mid → (r : Result (Unit {0}) FileFault) → IfErr r (HasFileCause mid after) → IfErr r (HasFileCause before after)
+cause-up before mid after later (Ok done) cause = tt
+cause-up before mid after later (Err fault) cause = cause-since before mid after fault later cause
 
 -- ---- a call that made no event
 
@@ -44,10 +57,10 @@ module _ {D : Type 0} {disks : Ghosts D} (old new : Volume D disks) (same : Same
   goes-on-same = goes_on_same disks old.disks.now new.disks.now same.same_disks.same_past
       record { later = later; size = same.same_disks.same_size; count = same.same_disks.same_count; geometry = same.same_disks.same_geometry }
 
-  pub refused-on : (text : List ℕ) (fault : FileFault) → HasFileCause (faults_of old) (faults_of new) fault → LeavesOn old new text None (Err fault)
-  refused-on text fault cause = record {
-    any_moment = λ quiet sound. subst (λ (past : Option Past). LeavesOnly (past_of old) past (HasEither (volume_view old) (now (past_of old)) text None)) (sym same.same_disks.same_past)
-        (leaves_none (past_of old) (HasEither (volume_view old) (now (past_of old)) text None) (λ c left.
+  pub refused-on : (text : List ℕ) (what : Option Thing) (fault : FileFault) → HasFileCause (faults_of old) (faults_of new) fault → LeavesOn old new text what (Err fault)
+  refused-on text what fault cause = record {
+    any_moment = λ quiet sound. subst (λ (past : Option Past). LeavesOnly (past_of old) past (HasEither (volume_view old) (now (past_of old)) text what)) (sym same.same_disks.same_past)
+        (leaves_none (past_of old) (HasEither (volume_view old) (now (past_of old)) text what) (λ c left.
         let is : c ≡ now (past_of old) = quiet c left in
         inl (subst (λ (i : Image). HasNamesOf (volume_view old) (now (past_of old)) i) (sym is) (record { sound = sound; same = λ p. refl }))));
     done = λ told. tt;
@@ -55,21 +68,23 @@ module _ {D : Type 0} {disks : Ghosts D} (old new : Volume D disks) (same : Same
     refused = λ is. same.same_disks.same_past;
     outside = λ d s outside. subst (λ (past : Option Past). NotWritten (past_of old) past d s) (sym same.same_disks.same_past) (not_written_none (past_of old) d s);
     goes_on = goes-on-same;
-    cause = cause;
+    cause = λ told. cause;
   }
 
 -- ---- the name at a path
 
-module _ {D : Type 0} {disks : Ghosts D} (old mid : Volume D disks) (same : SameVolume old mid) (text : List ℕ) (place : NamePlace)
-    (checked : Told (past_of old) (λ now. GivesChecked (volume_view old) now text (Ok place))) where
+-- all checks of a text passed, and its path is this one
+pub record HasPassed (volume : model.Volume) (image : Image) (text : List ℕ) (check : model.Volume → Image → Result (List (List ℕ)) FileRefusal) : Type 0 where
+  pub path : List (List ℕ)
+  pub is : name_path (names_in volume image) text ≡ Ok path
+  pub passes : checked_status (sound_check check volume image) ≡ 0
+
+module _ {D : Type 0} {disks : Ghosts D} (old mid : Volume D disks) (same : SameVolume old mid) where
   abbrev V : model.Volume
   V = volume_view old
 
   abbrev I : Image
   I = now (past_of old)
-
-  found : IsTold (past_of old) → GivesRemovable V I text place
-  found told = (told_now (past_of old) (λ now. GivesChecked V now text (Ok place)) checked told).0
 
   forth-same : (P : model.Volume → Image → Type 0) → P V I → P (volume_view mid) (now (past_of mid))
   forth-same P is = subst (λ (v : model.Volume). P v (now (past_of mid))) (sym (same_view old mid same))
@@ -79,24 +94,14 @@ module _ {D : Type 0} {disks : Ghosts D} (old mid : Volume D disks) (same : Same
   back-same P is = subst (λ (past : Option Past). P V (now past)) same.same_disks.same_past
       (subst (λ (v : model.Volume). P v (now (past_of mid))) (same_view old mid same) is)
 
-  told-back : IsTold (past_of mid) → IsTold (past_of old)
+  pub told-back : IsTold (past_of mid) → IsTold (past_of old)
   told-back told = subst IsTold same.same_disks.same_past told
 
-  pub may-remove : IsTold (past_of mid) → IsSomeRemovable (volume_view mid) (now (past_of mid)) place.directory.inode place.name.now
-  may-remove told =
-      let is = found (told-back told) in
-      record { path = is.path; is = forth-same (λ (v : model.Volume) (i : Image). IsRemovable v i is.path place.directory.inode place.name.now) is.removable }
-
-  module _ (later : faults_of old ≤ faults_of mid) (new : Volume D disks) (result : Result (Unit {0}) FileFault)
-      (changes : (path : List (List ℕ)) → (IsTold (past_of mid) → IsRemovable (volume_view mid) (now (past_of mid)) path place.directory.inode place.name.now) → ChangesName mid new path None result)
-      (quiet : OnOk result (IsQuiet (past_of new))) (cause : IfErr result (HasFileCause (faults_of mid) (faults_of new))) where
-    changes-told : (told : IsTold (past_of old)) → ChangesName mid new (found told).path None result
-    changes-told told = changes (found told).path (λ t. forth-same (λ (v : model.Volume) (i : Image). IsRemovable v i (found told).path place.directory.inode place.name.now) (found told).removable)
-
-    -- where nothing is told any path will do
-    changes-untold : (IsTold (past_of old) → ⊥) → ChangesName mid new [] None result
-    changes-untold none = changes [] (λ told. absurd (none (told-back told)))
-
+  module _ (text : List ℕ) (what : Option Thing) (check : model.Volume → Image → Result (List (List ℕ)) FileRefusal) (passed : IsTold (past_of old) → HasPassed V I text check)
+      (later : faults_of old ≤ faults_of mid) (new : Volume D disks) (result : Result (Unit {0}) FileFault)
+      (changes-told : (told : IsTold (past_of old)) → ChangesName mid new (passed told).path what result)
+      (other : List (List ℕ)) (changes-untold : (IsTold (past_of old) → ⊥) → ChangesName mid new other what result)
+      (quiet : OnOk result (IsQuiet (past_of new))) (cause : IsTold (past_of old) → IfErr result (HasFileCause (faults_of mid) (faults_of new))) where
     goes-on-mid : GoesOn disks old.disks.now mid.disks.now
     goes-on-mid = goes-on-same old mid same later
 
@@ -113,42 +118,42 @@ module _ {D : Type 0} {disks : Ghosts D} (old mid : Volume D disks) (same : Same
     untold-new : (IsTold (past_of old) → ⊥) → IsTold (past_of new) → ⊥
     untold-new none told = none (goes-on-all.told_before told)
 
-    either : (told : IsTold (past_of old)) (c : Image) → HasNamesBetween V I (found told).path None c → HasEither V I text None c
+    either : (told : IsTold (past_of old)) (c : Image) → HasNamesBetween V I (passed told).path what c → HasEither V I text what c
     either told c (inl of) = inl of
-    either told c (inr with) = inr record { path = (found told).path; at = (found told).is; has = with }
+    either told c (inr with) = inr record { path = (passed told).path; at = (passed told).is; has = with }
 
-    moment-told : IsTold (past_of old) → IsQuiet (past_of old) → LeavesOnly (past_of old) (past_of new) (HasEither V I text None)
+    moment-told : IsTold (past_of old) → IsQuiet (past_of old) → LeavesOnly (past_of old) (past_of new) (HasEither V I text what)
     moment-told told quiet-old =
         let quiet-mid : IsQuiet (past_of mid) = subst IsQuiet (sym same.same_disks.same_past) quiet-old in
-        let run = back-same (λ (v : model.Volume) (i : Image). LeavesOnly (past_of mid) (past_of new) (HasNamesBetween v i (found told).path None)) ((changes-told told).any_moment quiet-mid) in
-        leaves_weaker (past_of old) (past_of new) (HasNamesBetween V I (found told).path None) (HasEither V I text None)
-        (subst (λ (past : Option Past). LeavesOnly past (past_of new) (HasNamesBetween V I (found told).path None)) same.same_disks.same_past run) (either told)
+        let run = back-same (λ (v : model.Volume) (i : Image). LeavesOnly (past_of mid) (past_of new) (HasNamesBetween v i (passed told).path what)) ((changes-told told).any_moment quiet-mid) in
+        leaves_weaker (past_of old) (past_of new) (HasNamesBetween V I (passed told).path what) (HasEither V I text what)
+        (subst (λ (past : Option Past). LeavesOnly past (past_of new) (HasNamesBetween V I (passed told).path what)) same.same_disks.same_past run) (either told)
 
-    moment-any : IsQuiet (past_of old) → LeavesOnly (past_of old) (past_of new) (HasEither V I text None)
+    moment-any : IsQuiet (past_of old) → LeavesOnly (past_of old) (past_of new) (HasEither V I text what)
     moment-any quiet-old = by (told_or_not (past_of old))
       where
-        by : IsTold (past_of old) ⊎ (IsTold (past_of old) → ⊥) → LeavesOnly (past_of old) (past_of new) (HasEither V I text None)
+        by : IsTold (past_of old) ⊎ (IsTold (past_of old) → ⊥) → LeavesOnly (past_of old) (past_of new) (HasEither V I text what)
         by (inl told) = moment-told told quiet-old
-        by (inr none) = leaves-untold (past_of old) (past_of new) (HasEither V I text None) none (untold-new none)
+        by (inr none) = leaves-untold (past_of old) (past_of new) (HasEither V I text what) none (untold-new none)
 
     device : IsTold (past_of old) → IfErr result (λ fault. fault ≡ Device)
     device told = (changes-told told).device (goes-on-mid.told told)
 
-    named-by : (told : IsTold (past_of old)) (r : Result (Unit {0}) FileFault) → OnOk r (HasNamesWith V I (now (past_of new)) (found told).path None)
-        → OnOk r (HasNamed V I text None (now (past_of new)))
-    named-by told (Ok done) has = record { path = (found told).path; at = (found told).is; has = has }
+    named-by : (told : IsTold (past_of old)) (r : Result (Unit {0}) FileFault) → OnOk r (HasNamesWith V I (now (past_of new)) (passed told).path what)
+        → OnOk r (HasNamed V I text what (now (past_of new)))
+    named-by told (Ok done) has = record { path = (passed told).path; at = (passed told).is; has = has }
     named-by told (Err fault) has = tt
 
     outside-all : (d s : ℕ) → IsOutside old.span.disk old.span.start old.span.count d s → NotWritten (past_of old) (past_of new) d s
     outside-all d s outside = by (told_or_not (past_of old))
       where
-        from : (path : List (List ℕ)) → ChangesName mid new path None result → NotWritten (past_of old) (past_of new) d s
+        from : (path : List (List ℕ)) → ChangesName mid new path what result → NotWritten (past_of old) (past_of new) d s
         from path changes = subst (λ (past : Option Past). NotWritten past (past_of new) d s) same.same_disks.same_past
             (changes.outside d s (rw same.same_span outside))
 
         by : IsTold (past_of old) ⊎ (IsTold (past_of old) → ⊥) → NotWritten (past_of old) (past_of new) d s
-        by (inl told) = from (found told).path (changes-told told)
-        by (inr none) = from [] (changes-untold none)
+        by (inl told) = from (passed told).path (changes-told told)
+        by (inr none) = from other (changes-untold none)
 
     refused-by : (r : Result (Unit {0}) FileFault) → (IsTold (past_of old) → IfErr r (λ fault. fault ≡ Device)) → IfErr r (λ fault. is_refusal fault ≡ true → past_of new ≡ past_of old)
     refused-by (Ok done) only = tt
@@ -158,30 +163,63 @@ module _ {D : Type 0} {disks : Ghosts D} (old mid : Volume D disks) (same : Same
         by is (inl told) = absurd (let no : is_refusal Device ≡ true = subst (λ (f : FileFault). is_refusal f ≡ true) (only told) is in cc)
         by is (inr none) = untold-none (past_of new) (untold-new none) ∙ sym (untold-none (past_of old) none)
 
-    cause-by : (r : Result (Unit {0}) FileFault) → IfErr r (HasFileCause (faults_of mid) (faults_of new)) → IfErr r (HasFileCause (faults_of old) (faults_of new))
-    cause-by (Ok done) cause = tt
-    cause-by (Err Refused) cause = tt
-    cause-by (Err Device) cause = λ below. let rose = cause below in omega (arith, later, rose)
-    cause-by (Err Memory) cause = tt
-
-    pub changed-on : LeavesOn old new text None result
-    changed-on = record {
+    pub leaves-on : LeavesOn old new text what result
+    leaves-on = record {
       any_moment = λ quiet sound. moment-any quiet;
-      done = λ told. named-by told result (back-same (λ (v : model.Volume) (i : Image). OnOk result (HasNamesWith v i (now (past_of new)) (found told).path None)) ((changes-told told).done (goes-on-mid.told told)));
+      done = λ told. named-by told result (back-same (λ (v : model.Volume) (i : Image). OnOk result (HasNamesWith v i (now (past_of new)) (passed told).path what)) ((changes-told told).done (goes-on-mid.told told)));
       quiet = quiet;
       refused = refused-by result device;
       outside = outside-all;
       goes_on = goes-on-all;
-      cause = cause-by result cause;
+      cause = λ told. cause-up (faults_of old) (faults_of mid) (faults_of new) later result (cause told);
     }
 
-    answer-by : (image : Image) (r : Result (Unit {0}) FileFault) → IfErr r (λ fault. fault ≡ Device) → checked_status (volume_check V image text) ≡ 0 → Answers (volume_check V image text) r
+    answer-by : (image : Image) (r : Result (Unit {0}) FileFault) → IfErr r (λ fault. fault ≡ Device) → checked_status (sound_check check V image) ≡ 0 → Answers (sound_check check V image) r
     answer-by image (Ok done) only passes = passes
-    answer-by image (Err fault) only passes = subst (λ (f : FileFault). Answers (volume_check V image text) (Err f)) (sym only) tt
+    answer-by image (Err fault) only passes = subst (λ (f : FileFault). Answers {B = Unit {0}} (sound_check check V image) (Err f)) (sym only) tt
 
-    pub changed-answer : Told (past_of old) (λ now. Answers (volume_check V now text) result)
-    changed-answer = told-from (past_of old) (λ now. Answers (volume_check V now text) result) (λ told.
-        answer-by I result (device told) (told_now (past_of old) (λ now. GivesChecked V now text (Ok place)) checked told).1)
+    pub answers-on : Told (past_of old) (λ now. Answers (sound_check check V now) result)
+    answers-on = told-from (past_of old) (λ now. Answers (sound_check check V now) result) (λ told.
+        answer-by I result (device told) (passed told).passes)
+
+-- ---- the name that goes
+
+module _ {D : Type 0} {disks : Ghosts D} (old mid : Volume D disks) (same : SameVolume old mid) (text : List ℕ) (place : NamePlace)
+    (checked : Told (past_of old) (λ now. GivesChecked (volume_view old) now text (Ok place))) where
+  found : IsTold (past_of old) → GivesRemovable (volume_view old) (now (past_of old)) text place
+  found told = (told_now (past_of old) (λ now. GivesChecked (volume_view old) now text (Ok place)) checked told).0
+
+  passed-by : IsTold (past_of old) → HasPassed (volume_view old) (now (past_of old)) text (gone_check text)
+  passed-by told = record {
+    path = (found told).path;
+    is = (found told).is;
+    passes = (told_now (past_of old) (λ now. GivesChecked (volume_view old) now text (Ok place)) checked told).1;
+  }
+
+  removable-mid : (told : IsTold (past_of old)) → IsRemovable (volume_view mid) (now (past_of mid)) (found told).path place.directory.inode place.name.now
+  removable-mid told = forth-same old mid same (λ (v : model.Volume) (i : Image). IsRemovable v i (found told).path place.directory.inode place.name.now) (found told).removable
+
+  pub may-remove : IsTold (past_of mid) → IsSomeRemovable (volume_view mid) (now (past_of mid)) place.directory.inode place.name.now
+  may-remove told =
+      let before = told-back old mid same told in
+      record { path = (found before).path; is = removable-mid before }
+
+  module _ (later : faults_of old ≤ faults_of mid) (new : Volume D disks) (result : Result (Unit {0}) FileFault)
+      (changes : (path : List (List ℕ)) → (IsTold (past_of mid) → IsRemovable (volume_view mid) (now (past_of mid)) path place.directory.inode place.name.now) → ChangesName mid new path None result)
+      (quiet : OnOk result (IsQuiet (past_of new))) (cause : IfErr result (HasFileCause (faults_of mid) (faults_of new))) where
+    at-path : (told : IsTold (past_of old)) → ChangesName mid new (passed-by told).path None result
+    unfolding passed-by found
+    at-path told = changes (passed-by told).path (λ t. removable-mid told)
+
+    -- where nothing is told any path will do
+    at-none : (IsTold (past_of old) → ⊥) → ChangesName mid new [] None result
+    at-none none = changes [] (λ told. absurd (none (told-back old mid same told)))
+
+    pub changed-on : LeavesOn old new text None result
+    changed-on = leaves-on old mid same text None (gone_check text) passed-by later new result at-path [] at-none quiet (λ told. cause)
+
+    pub changed-answer : Told (past_of old) (λ now. Answers (sound_check (gone_check text) (volume_view old) now) result)
+    changed-answer = answers-on old mid same text None (gone_check text) passed-by later new result at-path [] at-none quiet (λ told. cause)
 
 -- ---- the volume in a span
 
@@ -204,47 +242,47 @@ laid-at size_of image span volume is whole on_disk super =
     }
 
 -- the checks are those of the volume that is there
-check-is : (image : Image) (span : Span) (volume : model.Volume) (text : List ℕ) → volume_at image span ≡ Ok volume → remove_check image span text ≡ volume_check volume image text
-unfolding remove_check
-check-is image span volume text is = rw is refl
+check-is : {A : Type 0} (check : model.Volume → Image → Result A FileRefusal) (image : Image) (span : Span) (volume : model.Volume) → volume_at image span ≡ Ok volume
+    → volume_check check image span ≡ sound_check check volume image
+unfolding volume_check
+check-is check image span volume is = rw is refl
 
 volume-refuses : {B : Type 0} (fault : ZoneFault) (given : Result B model.ZoneFault) → volumes.Refuses fault given → Refuses (zone_fault fault) given
 volume-refuses (zones.Layout fault) given refuses = rw refuses refl
 volume-refuses (zones.ZoneOutside zone) given refuses = rw refuses refl
 volume-refuses zones.Device given refuses = tt
 
-pub no-volume : (image : Image) (span : Span) (text : List ℕ) (fault : ZoneFault) → volumes.Refuses fault (volume_at image span)
-    → Answers (remove_check image span text) (Err (zone_fault fault))
-unfolding remove_check
-no-volume image span text fault refuses =
-    refused-answer (remove_check image span text) (zone_fault fault)
-    (refuses-then (zone_fault fault) NoVolume (volume_at image span) (λ volume. volume_check volume image text) (volume-refuses fault (volume_at image span) refuses))
+pub no-volume : {A : Type 0} (check : model.Volume → Image → Result A FileRefusal) (image : Image) (span : Span) (fault : ZoneFault) → volumes.Refuses fault (volume_at image span)
+    → Answers {B = Unit {0}} (volume_check check image span) (Err (zone_fault fault))
+unfolding volume_check
+no-volume check image span fault refuses =
+    answers-then (Unit {0}) (zone_fault fault) NoVolume (λ why. refl) (volume_at image span) (λ volume. sound_check check volume image) (volume-refuses fault (volume_at image span) refuses)
 
-zone-cause : (before after : ℕ) (fault : ZoneFault) → (fault ≡ zones.Device → Rose before after) → HasFileCause before after (zone_fault fault)
+pub zone-cause : (before after : ℕ) (fault : ZoneFault) → (fault ≡ zones.Device → Rose before after) → HasFileCause before after (zone_fault fault)
 zone-cause before after (zones.Layout fault) rose = tt
 zone-cause before after (zones.ZoneOutside zone) rose = tt
 zone-cause before after zones.Device rose = rose refl
 
-module _ {D : Type 0} (disks : Ghosts D) (old : D) (span : Span) (text : List ℕ) where
+module _ {D : Type 0} (disks : Ghosts D) (old : D) (span : Span) (text : List ℕ) (what : Option Thing) where
   -- ---- nothing was done
 
   module _ (new : D) (same : SameOf disks old new) (later : disks.faults old ≤ disks.faults new) where
     goes-on-from : GoesOn disks old new
     goes-on-from = goes_on_same disks old new same.same_past record { later = later; size = same.same_size; count = same.same_count; geometry = same.same_geometry }
 
-    pub refused-names : (fault : ZoneFault) → (fault ≡ zones.Device → Rose (disks.faults old) (disks.faults new)) → LeavesNames disks old new span text None (Err (zone_fault fault))
+    pub refused-names : (fault : ZoneFault) → (fault ≡ zones.Device → Rose (disks.faults old) (disks.faults new)) → LeavesNames disks old new span text what (Err (zone_fault fault))
     refused-names fault rose = record {
-      any_moment = λ quiet sound. subst (λ (past : Option Past). LeavesOnly (disks.past old) past (IsEither span (now (disks.past old)) text None)) (sym same.same_past)
-          (leaves_none (disks.past old) (IsEither span (now (disks.past old)) text None) (λ c left.
+      any_moment = λ quiet sound. subst (λ (past : Option Past). LeavesOnly (disks.past old) past (IsEither span (now (disks.past old)) text what)) (sym same.same_past)
+          (leaves_none (disks.past old) (IsEither span (now (disks.past old)) text what) (λ c left.
           let is : c ≡ now (disks.past old) = quiet c left in
-          subst (λ (i : Image). IsEither span (now (disks.past old)) text None i) (sym is)
+          subst (λ (i : Image). IsEither span (now (disks.past old)) text what i) (sym is)
           (record { volume = sound.volume; is = sound.is; has = inl record { sound = sound.sound; same = λ p. refl } })));
       done = λ told. tt;
       quiet = tt;
       refused = λ is. same.same_past;
       outside = λ d s outside. subst (λ (past : Option Past). NotWritten (disks.past old) past d s) (sym same.same_past) (not_written_none (disks.past old) d s);
       goes_on = goes-on-from;
-      cause = zone-cause (disks.faults old) (disks.faults new) fault rose;
+      cause = λ told. zone-cause (disks.faults old) (disks.faults new) fault rose;
     }
 
   -- ---- what was done with the volume
@@ -259,13 +297,14 @@ module _ {D : Type 0} (disks : Ghosts D) (old : D) (span : Span) (text : List �
         (whole (now (disks.past old)) (at_now (disks.past old) told)) on_disk super))
 
     module _ (result : Result (Unit {0}) FileFault) where
-      pub answers-at : Told (past_of volume) (λ now. Answers (volume_check (volume_view volume) now text) result) → Told (disks.past old) (λ now. Answers (remove_check now span text) result)
-      answers-at told = told_both (disks.past old) (λ now. volume_at now span ≡ Ok (volume_view volume)) (λ now. Answers (volume_check (volume_view volume) now text) result)
-          (λ now. Answers (remove_check now span text) result)
-          (λ now at answers. subst (λ (check : Result (List (List ℕ)) FileRefusal). Answers check result) (sym (check-is now span (volume_view volume) text at)) answers)
-          is (subst (λ (past : Option Past). Told past (λ now. Answers (volume_check (volume_view volume) now text) result)) same.same_past told)
+      pub answers-at : (check : model.Volume → Image → Result (List (List ℕ)) FileRefusal) → Told (past_of volume) (λ now. Answers (sound_check check (volume_view volume) now) result)
+          → Told (disks.past old) (λ now. Answers (volume_check check now span) result)
+      answers-at check told = told_both (disks.past old) (λ now. volume_at now span ≡ Ok (volume_view volume)) (λ now. Answers (sound_check check (volume_view volume) now) result)
+          (λ now. Answers (volume_check check now span) result)
+          (λ now at answers. subst (λ (given : Result (List (List ℕ)) FileRefusal). Answers given result) (sym (check-is check now span (volume_view volume) at)) answers)
+          is (subst (λ (past : Option Past). Told past (λ now. Answers (sound_check check (volume_view volume) now) result)) same.same_past told)
 
-      module _ (leaves : LeavesOn volume new text None result) where
+      module _ (leaves : LeavesOn volume new text what result) where
         abbrev W : model.Volume
         W = volume_view volume
 
@@ -279,39 +318,33 @@ module _ {D : Type 0} (disks : Ghosts D) (old : D) (span : Span) (text : List �
         goes-on-whole = goes_on_join disks old volume.disks.now new.disks.now (goes-on-from volume.disks.now same later) leaves.goes_on
 
         moment-of : IsTold (disks.past old) → IsQuiet (disks.past old) → HasSoundVolume span (now (disks.past old))
-            → LeavesOnly (disks.past old) (past_of new) (IsEither span (now (disks.past old)) text None)
+            → LeavesOnly (disks.past old) (past_of new) (IsEither span (now (disks.past old)) text what)
         moment-of told quiet sound =
             let volume-same : sound.volume ≡ W = let e = sym sound.is ∙ at-now told in cc in
             let here : IsSound W (now (past_of volume)) =
             subst (λ (i : Image). IsSound W i) (sym same-held) (subst (λ (v : model.Volume). IsSound v (now (disks.past old))) volume-same sound.sound) in
             let run = leaves.any_moment (subst IsQuiet (sym same.same_past) quiet) here in
-            leaves_weaker (disks.past old) (past_of new) (HasEither W (now (past_of volume)) text None) (IsEither span (now (disks.past old)) text None)
-            (subst (λ (past : Option Past). LeavesOnly past (past_of new) (HasEither W (now (past_of volume)) text None)) same.same_past run)
-            (λ c has. record { volume = W; is = at-now told; has = subst (λ (i : Image). HasEither W i text None c) same-held has })
+            leaves_weaker (disks.past old) (past_of new) (HasEither W (now (past_of volume)) text what) (IsEither span (now (disks.past old)) text what)
+            (subst (λ (past : Option Past). LeavesOnly past (past_of new) (HasEither W (now (past_of volume)) text what)) same.same_past run)
+            (λ c has. record { volume = W; is = at-now told; has = subst (λ (i : Image). HasEither W i text what c) same-held has })
 
-        moment-all : IsQuiet (disks.past old) → HasSoundVolume span (now (disks.past old)) → LeavesOnly (disks.past old) (past_of new) (IsEither span (now (disks.past old)) text None)
+        moment-all : IsQuiet (disks.past old) → HasSoundVolume span (now (disks.past old)) → LeavesOnly (disks.past old) (past_of new) (IsEither span (now (disks.past old)) text what)
         moment-all quiet sound = by (told_or_not (disks.past old))
           where
-            by : IsTold (disks.past old) ⊎ (IsTold (disks.past old) → ⊥) → LeavesOnly (disks.past old) (past_of new) (IsEither span (now (disks.past old)) text None)
+            by : IsTold (disks.past old) ⊎ (IsTold (disks.past old) → ⊥) → LeavesOnly (disks.past old) (past_of new) (IsEither span (now (disks.past old)) text what)
             by (inl told) = moment-of told quiet sound
-            by (inr none) = leaves-untold (disks.past old) (past_of new) (IsEither span (now (disks.past old)) text None) none (λ told. none (goes-on-whole.told_before told))
+            by (inr none) = leaves-untold (disks.past old) (past_of new) (IsEither span (now (disks.past old)) text what) none (λ told. none (goes-on-whole.told_before told))
 
-        named-at : (told : IsTold (disks.past old)) (r : Result (Unit {0}) FileFault) → OnOk r (HasNamed W (now (past_of volume)) text None (now (past_of new)))
-            → OnOk r (IsNamed span (now (disks.past old)) text None (now (past_of new)))
-        named-at told (Ok done) has = record { volume = W; is = at-now told; has = subst (λ (i : Image). HasNamed W i text None (now (past_of new))) same-held has }
+        named-at : (told : IsTold (disks.past old)) (r : Result (Unit {0}) FileFault) → OnOk r (HasNamed W (now (past_of volume)) text what (now (past_of new)))
+            → OnOk r (IsNamed span (now (disks.past old)) text what (now (past_of new)))
+        named-at told (Ok done) has = record { volume = W; is = at-now told; has = subst (λ (i : Image). HasNamed W i text what (now (past_of new))) same-held has }
         named-at told (Err fault) has = tt
 
         refused-at : (r : Result (Unit {0}) FileFault) → IfErr r (λ fault. is_refusal fault ≡ true → past_of new ≡ past_of volume) → IfErr r (λ fault. is_refusal fault ≡ true → past_of new ≡ disks.past old)
         refused-at (Ok done) refused = tt
         refused-at (Err fault) refused = λ why. refused why ∙ same.same_past
 
-        cause-at : (r : Result (Unit {0}) FileFault) → IfErr r (HasFileCause (faults_of volume) (faults_of new)) → IfErr r (HasFileCause (disks.faults old) (faults_of new))
-        cause-at (Ok done) cause = tt
-        cause-at (Err Refused) cause = tt
-        cause-at (Err Device) cause = λ below. let rose = cause below in omega (arith, later, rose)
-        cause-at (Err Memory) cause = tt
-
-        pub leaves-at : LeavesNames disks old new.disks.now span text None result
+        pub leaves-at : LeavesNames disks old new.disks.now span text what result
         leaves-at = record {
           any_moment = moment-all;
           done = λ told. named-at told result (leaves.done (subst IsTold (sym same.same_past) told));
@@ -320,7 +353,7 @@ module _ {D : Type 0} (disks : Ghosts D) (old : D) (span : Span) (text : List �
           outside = λ d s outside. subst (λ (past : Option Past). NotWritten past (past_of new) d s) same.same_past
               (leaves.outside d s (subst (λ (at : Span). IsOutside at.disk at.start at.count d s) (sym place) outside));
           goes_on = goes-on-whole;
-          cause = cause-at result leaves.cause;
+          cause = λ told. cause-up (disks.faults old) (faults_of volume) (faults_of new) later result (leaves.cause (subst IsTold (sym same.same_past) told));
         }
 
 -- what holds of a value holds of another that is the same

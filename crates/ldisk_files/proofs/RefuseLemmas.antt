@@ -1,10 +1,7 @@
 -- Refusals of the calls below, as this crate reports them.
 use Rattle.std.proofs.Common.{◌≡◌, ℕ, Result, Ok, Err, IsErr, refl}
-use Rattle.std.specs.Prelude.{IfErr}
 use Rattle.lilo_model.specs.Checks.{◌>>=◌, with_fault}
-use Rattle.lilo_model.specs.Faults.{Rose}
 use Rattle.lilo_model.specs.MinixFind as finds
-use Rattle.lilo_model.specs.MinixParts as parts
 use Rattle.lilo_model.specs.MinixSurvey as model
 use Rattle.minix_survey.specs.View as surveys
 use Rattle.minix_survey.specs.declared.survey_fault.SurveyFault.{SurveyFault}
@@ -15,35 +12,25 @@ use Rattle.minix_tree.specs.declared.tree_fault.TreeFault.TheVariants as tree_fa
 use Rattle.minix_zones.specs.declared.zone_fault.ZoneFault.{ZoneFault}
 use Rattle.minix_zones.specs.declared.zone_fault.ZoneFault.TheVariants as zones
 use Rattle.ldisk_files.specs.Answer.{Answers, Refuses, HasFileCause, zone_fault, tree_fault, survey_fault}
-use Rattle.ldisk_model.specs.FileVerdict.{FileRefusal, NoRoom, NoVolume, NotSound, NoPlace, NoFile, checked_status}
+use Rattle.ldisk_model.specs.FileVerdict.{FileRefusal, file_status, checked_status}
 use Rattle.ldisk_files.specs.declared.fault.FileFault.{FileFault}
-use Rattle.ldisk_files.specs.declared.fault.FileFault.TheVariants.{Refused, Device, Memory}
+use Rattle.ldisk_files.specs.declared.fault.FileFault.TheVariants.{Refused, BadLength, NoSpace, Device, Memory}
 
 -- ---- a chain of checks
 
-then-refused : {A B F G : Type 0} (told : F → G) (given : Result A F) (next : A → Result B G) → IsErr given → IsErr (with_fault told given >>= next)
-then-refused told (Ok value) next refused = absurd cc
-then-refused told (Err fault) next refused = refl
+first-three : {A B F : Type 0} (told : F → FileRefusal) → ((why : F) → file_status (told why) ≡ 3) → (given : Result A F) (next : A → Result B FileRefusal) → IsErr given
+    → checked_status (with_fault told given >>= next) ≡ 3
+first-three told three (Ok value) next refused = absurd cc
+first-three told three (Err why) next refused = three why
 
--- the first of two checks refuses both
-pub refuses-then : {A B F G : Type 0} (fault : FileFault) (told : F → G) (given : Result A F) (next : A → Result B G) → Refuses fault given → Refuses fault (with_fault told given >>= next)
-refuses-then Refused told given next refuses = then-refused told given next refuses
-refuses-then Device told given next refuses = tt
-refuses-then Memory told given next refuses = tt
-
--- what is refused has the status 3
-three : {A : Type 0} (check : Result A FileRefusal) → IsErr check → checked_status check ≡ 3
-three (Ok value) refused = absurd cc
-three (Err (NoRoom refusal)) refused = refl
-three (Err (NoVolume fault)) refused = refl
-three (Err (NotSound fault)) refused = refl
-three (Err (NoPlace fault)) refused = refl
-three (Err NoFile) refused = refl
-
-pub refused-answer : {A : Type 0} (check : Result A FileRefusal) (fault : FileFault) → Refuses fault check → Answers check (Err fault)
-refused-answer check Refused refuses = three check refuses
-refused-answer check Device refuses = tt
-refused-answer check Memory refuses = tt
+-- the first of two checks refuses both, with the status 3
+pub answers-then : {A B F : Type 0} (C : Type 0) (fault : FileFault) (told : F → FileRefusal) → ((why : F) → file_status (told why) ≡ 3) → (given : Result A F) (next : A → Result B FileRefusal)
+    → Refuses fault given → Answers {B = C} (with_fault told given >>= next) (Err fault)
+answers-then C Refused told three given next refuses = first-three told three given next refuses
+answers-then C BadLength told three given next refuses = absurd refuses
+answers-then C NoSpace told three given next refuses = absurd refuses
+answers-then C Device told three given next refuses = tt
+answers-then C Memory told three given next refuses = tt
 
 is-err : {A F : Type 0} (given : Result A F) (why : F) → given ≡ Err why → IsErr given
 is-err given why is = rw is refl

@@ -1,13 +1,11 @@
 -- How what was done compares with what the definitions give.
-use Rattle.std.specs.Prelude.{◌≡◌, ◌≢◌, ◌<◌, ◌*◌, ℕ, Bool, true, false, List, ◌∷◌, length, IsErr, Option, Some, None, Result, Ok, Err}
-use Rattle.disk_trait.specs.declared.disks.Disks.{Ghosts}
+use Rattle.std.specs.Prelude.{◌≡◌, ◌<◌, ◌*◌, ℕ, Bool, true, false, List, length, IsErr, Option, Some, None, Result, Ok, Err}
 use Rattle.disk_trait.specs.Moments.{now}
-use Rattle.lilo_model.specs.Checks.{◌>>=◌, require, with_fault}
 use Rattle.lilo_model.specs.Disks.{Image}
 use Rattle.lilo_model.specs.Faults.{Rose}
-use Rattle.lilo_model.specs.MinixLayout.{Super, super_at, super_sector}
+use Rattle.lilo_model.specs.MinixLayout.{super_at, super_sector}
 use Rattle.lilo_model.specs.MinixNames.{names_in, IsSound}
-use Rattle.lilo_model.specs.MinixParts.{Volume, Parts, parts_of, sector_of}
+use Rattle.lilo_model.specs.MinixParts.{Volume, parts_of, sector_of}
 use Rattle.lilo_model.specs.MinixSurvey.{survey}
 use Rattle.lilo_model.specs.NamePlaces.{name_path}
 use Rattle.minix_layout.specs.View.{inode_view}
@@ -24,20 +22,24 @@ use Rattle.minix_write.specs.declared.write_fault.WriteFault.{WriteFault}
 use Rattle.minix_write.specs.declared.write_fault.WriteFault.TheVariants as writes
 use Rattle.minix_zones.specs.declared.zone_fault.ZoneFault.{ZoneFault}
 use Rattle.minix_zones.specs.declared.zone_fault.ZoneFault.TheVariants as zones
-use Rattle.ldisk_model.specs.FileVerdict.{FileRefusal, NotSound, NoPlace, NoFile, checked_status, is_removable_thing}
+use Rattle.ldisk_model.specs.FileVerdict.{FileRefusal, checked_status, sound_check, gone_check, is_removable_thing}
 use Rattle.ldisk_files.specs.declared.fault.FileFault.{FileFault}
-use Rattle.ldisk_files.specs.declared.fault.FileFault.TheVariants.{Refused, Device, Memory}
+use Rattle.ldisk_files.specs.declared.fault.FileFault.TheVariants.{Refused, BadLength, NoSpace, Device, Memory}
 
 -- the exit status that reports a fault
 abbrev pub fault_status : FileFault → ℕ
 fault_status Refused = 3
+fault_status BadLength = 4
+fault_status NoSpace = 5
 fault_status Device = 8
 fault_status Memory = 13
 
 -- What was answered is what was checked, unless the disk failed or memory ended.
-abbrev pub Answers : {A : Type 0} → Result A FileRefusal → Result (Unit {0}) FileFault → Type 0
+abbrev pub Answers : {A B : Type 0} → Result A FileRefusal → Result B FileFault → Type 0
 Answers check (Ok done) = checked_status check ≡ 0
 Answers check (Err Refused) = checked_status check ≡ 3
+Answers check (Err BadLength) = checked_status check ≡ 4
+Answers check (Err NoSpace) = checked_status check ≡ 5
 Answers check (Err Device) = Unit {0}
 Answers check (Err Memory) = Unit {0}
 
@@ -73,14 +75,22 @@ survey_answer (Ok found) = Ok tt
 survey_answer (Err fault) = Err (survey_fault fault)
 
 abbrev pub write_fault : WriteFault → FileFault
+write_fault (writes.NoSpace need found) = NoSpace
+write_fault writes.NoInode = NoSpace
+write_fault writes.NameTooLong = NoSpace
+write_fault writes.Exists = Refused
+write_fault writes.Links = Refused
+write_fault (writes.Tree fault) = Refused
 write_fault writes.Device = Device
 write_fault writes.Memory = Memory
-write_fault fault = Refused
 
--- a check refuses, unless the disk failed or memory ended
+-- a reader refuses, unless the disk failed or memory ended
 abbrev pub Refuses : {A F : Type 0} → FileFault → Result A F → Type 0
 Refuses Refused check = IsErr check
-Refuses fault check = Unit {0}
+Refuses BadLength check = ⊥
+Refuses NoSpace check = ⊥
+Refuses Device check = Unit {0}
+Refuses Memory check = Unit {0}
 
 -- ---- on the way there
 
@@ -115,11 +125,6 @@ abbrev pub is_found_removable : Option Stat → Bool
 is_found_removable (Some stat) = is_removable (inode_view stat.node)
 is_found_removable None = false
 
--- the last two checks
-abbrev pub name_check : Volume → Image → List ℕ → Result (List (List ℕ)) FileRefusal
-name_check volume image text =
-    with_fault NoPlace (name_path (names_in volume image) text) >>= λ gone. require (is_removable_thing (names_in volume image gone)) NoFile >>= λ kind. Ok gone
-
 -- a text leads to such a name
 pub record GivesRemovable (volume : Volume) (image : Image) (text : List ℕ) (place : NamePlace) : Type 0 where
   pub path : List (List ℕ)
@@ -128,13 +133,9 @@ pub record GivesRemovable (volume : Volume) (image : Image) (text : List ℕ) (p
 
 abbrev pub GivesName : Volume → Image → List ℕ → Result NamePlace FileFault → Type 0
 GivesName volume image text (Ok place) = GivesRemovable volume image text place
-GivesName volume image text (Err fault) = Refuses fault (name_check volume image text)
-
--- the checks of a volume that is there
-abbrev pub volume_check : Volume → Image → List ℕ → Result (List (List ℕ)) FileRefusal
-volume_check volume image text = with_fault NotSound (survey volume.layout (parts_of volume image)) >>= λ met. name_check volume image text
+GivesName volume image text (Err fault) = Answers {B = NamePlace} (gone_check text volume image) (Err fault)
 
 -- what is removed was found, and no check refuses it, or one does
 abbrev pub GivesChecked : Volume → Image → List ℕ → Result NamePlace FileFault → Type 0
-GivesChecked volume image text (Ok place) = GivesRemovable volume image text place × (checked_status (volume_check volume image text) ≡ 0)
-GivesChecked volume image text (Err fault) = Refuses fault (volume_check volume image text)
+GivesChecked volume image text (Ok place) = GivesRemovable volume image text place × (checked_status (sound_check (gone_check text) volume image) ≡ 0)
+GivesChecked volume image text (Err fault) = Answers {B = NamePlace} (sound_check (gone_check text) volume image) (Err fault)

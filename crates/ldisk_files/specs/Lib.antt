@@ -1,2 +1,3 @@
 pub mod Answer
 pub mod Left
+pub mod Made

@@ -16,7 +16,10 @@ use minix_zones::Volume;
 use std::alloc::Global;
 
 /// Surveys a volume: it is sound, or refused.
-fn check_sound<D: Disks>(alloc: Global, volume: &mut Volume<'_, D>) -> Result<(), FileFault>
+pub(crate) fn check_sound<D: Disks>(
+    alloc: Global,
+    volume: &mut Volume<'_, D>,
+) -> Result<(), FileFault>
     requires laid { Told (past_of volume.old) (IsLaid (volume_view volume.old)) }
     ensures sound { Told (past_of volume.old) (λ now. GivesSurveyed (volume_view volume.old) now result) }
     ensures cause { IfErr result (HasFileCause (faults_of volume.old) (faults_of volume.new)) }

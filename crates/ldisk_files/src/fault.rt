@@ -10,8 +10,12 @@ use minix_zones::ZoneFault;
 /// Why no name is changed.
 #[derive(Clone, Copy, Debug, PartialEq, Eq)]
 pub enum FileFault {
-    /// A volume, its survey, a path or a kind is refused.
+    /// A volume, its survey, a path or a kind is refused, or something is at a new name.
     Refused,
+    /// A link's target has no byte, or too many.
+    BadLength,
+    /// Inodes, zones or the length of names don't suffice.
+    NoSpace,
     /// The disk failed.
     Device,
     /// There is no memory.
@@ -25,6 +29,8 @@ impl FileFault {
     {
         match self {
             FileFault::Refused => 3,
+            FileFault::BadLength => 4,
+            FileFault::NoSpace => 5,
             FileFault::Device => 8,
             FileFault::Memory => 13,
         }
@@ -70,6 +76,9 @@ pub(crate) fn write_fault(fault: WriteFault) -> FileFault
     match fault {
         WriteFault::Device => FileFault::Device,
         WriteFault::Memory => FileFault::Memory,
+        WriteFault::NoSpace { .. } | WriteFault::NoInode | WriteFault::NameTooLong => {
+            FileFault::NoSpace
+        }
         _ => FileFault::Refused,
     }
 }

@@ -5,24 +5,18 @@ ghost use Rattle.disk_trait.specs.Moments.{IsTold, now, IsQuiet, IsWhole};
 ghost use Rattle.minix_tree.specs.View.{IsStat};
 ghost use Rattle.minix_zones.specs.View.{span_view};
 ghost use Rattle.minix_zones.specs.Volume.{volume_view, past_of, faults_of};
-ghost use Rattle.ldisk_files.specs.Answer.{Answers, IsLaid, IsRemovable, IsSomeRemovable, HasFileCause, volume_check, zone_fault};
-ghost use Rattle.ldisk_model.specs.FileVerdict.{remove_check};
+ghost use Rattle.ldisk_files.specs.Answer.{Answers, IsLaid, IsRemovable, IsSomeRemovable, HasFileCause};
+ghost use Rattle.ldisk_model.specs.FileVerdict.{volume_check, sound_check, gone_check};
 ghost use Rattle.ldisk_files.specs.Left.{ChangesName, LeavesOn, LeavesNames};
 
 use crate::check::find_checked;
-use crate::fault::{FileFault, write_fault, zone_fault};
+use crate::ended::{Ended, refused};
+use crate::fault::{FileFault, write_fault};
 use disk_trait::{Disks, Span};
 use minix_names::NamePlace;
 use minix_remove::remove;
-use minix_zones::{Volume, ZoneFault};
+use minix_zones::Volume;
 use std::alloc::Global;
-
-/// A volume, and what was done with it.
-#[derive(Drop)]
-struct Ended<'d, D: Disks> {
-    volume: Volume<'d, D>,
-    result: Result<(), FileFault>,
-}
 
 // Removes a name of a file or a link of a sound volume. What was written before is made durable first.
 fn remove_name<'d, D: Disks>(volume: Volume<'d, D>, place: &NamePlace<'_>) -> Ended<'d, D>
@@ -59,8 +53,9 @@ fn remove_name<'d, D: Disks>(volume: Volume<'d, D>, place: &NamePlace<'_>) -> En
 fn remove_path<'d, D: Disks>(alloc: Global, volume: Volume<'d, D>, path: &[u8]) -> Ended<'d, D>
     requires laid { Told (past_of volume) (IsLaid (volume_view volume)) }
     ensures answers { Told (past_of volume.entry)
-        (λ now. Answers (volume_check (volume_view volume.entry) now path.now) result.result) }
+        (λ now. Answers (sound_check (gone_check path.now) (volume_view volume.entry) now) result.result) }
     ensures leaves { LeavesOn volume.entry result.volume path.now None result.result }
+    ensures cause { IfErr result.result (HasFileCause (faults_of volume.entry) (faults_of result.volume)) }
     ensures same_reference { result.volume.disks.ghost_name ≡ volume.entry.disks.ghost_name }
 {
     let mut volume = volume;
@@ -84,19 +79,13 @@ pub fn rm<D: Disks>(alloc: Global, disks: &mut D, span: Span, path: &[u8]) -> Re
     requires on_disk { span.start + span.count ≤ D.size_of disks.old span.disk }
     requires room { 4 ≤ span.count }
     requires whole { IsWhole (D.size_of disks.old) (D.past disks.old) }
-    ensures answers { Told (D.past disks.old) (λ now. Answers (remove_check now (span_view span) path.now) result) }
+    ensures answers { Told (D.past disks.old) (λ now.
+        Answers (volume_check (gone_check path.now) now (span_view span)) result) }
     ensures leaves { LeavesNames D.Disks disks.old disks.new (span_view span) path.now None result }
+    ensures cause { IfErr result (HasFileCause (D.faults disks.old) (D.faults disks.new)) }
 {
     match Volume::attach(disks, span) {
         Ok(volume) => remove_path(alloc, volume, path).result,
         Err((disks, fault)) => Err(refused(disks, fault)),
     }
-}
-
-// How it is reported that there is no volume. The disks are handed back.
-fn refused<D: Disks>(disks: &mut D, fault: ZoneFault) -> FileFault
-    ensures told { result ≡ zone_fault fault }
-    ensures same { disks.new ≡ disks.old }
-{
-    zone_fault(fault)
 }

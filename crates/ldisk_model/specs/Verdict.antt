@@ -14,7 +14,7 @@ use Rattle.lilo_model.specs.LdiskVerdict as reads_verdict
 use Rattle.ldisk_model.specs.Arguments.{PartWish, Command, Make, Mkfs, Put, Get, Ls, Rm, Mkdir, Ln, Asked, asked_at}
 use Rattle.ldisk_model.specs.DiskTable.{are_placed, table_sector}
 use Rattle.ldisk_model.specs.MinixFormat.{format_layout, format_at}
-use Rattle.ldisk_model.specs.FileVerdict.{NameChange, removal, checked_status, rm_check}
+use Rattle.ldisk_model.specs.FileVerdict.{NameChange, NewDirectory, NewLink, removal, addition, checked_status, device_check, gone_check, made_check}
 
 -- why a table or a volume isn't made
 pub data Refusal : Type 0 where
@@ -78,9 +78,12 @@ command_verdict now machine sectors (Get device path) =
 command_verdict now machine sectors (Ls device path) =
     reads_verdict.command_verdict now machine (reads.Ls device path)
 command_verdict now machine sectors (Put device path) = silent 1
-command_verdict now machine sectors (Rm device path) = silent (checked_status (rm_check now machine device path))
-command_verdict now machine sectors (Mkdir device path) = silent 1
-command_verdict now machine sectors (Ln device path target) = silent 1
+command_verdict now machine sectors (Rm device path) =
+    silent (checked_status (device_check (gone_check path) now machine device))
+command_verdict now machine sectors (Mkdir device path) =
+    silent (checked_status (device_check (made_check NewDirectory path) now machine device))
+command_verdict now machine sectors (Ln device path target) =
+    silent (checked_status (device_check (made_check (NewLink target) path) now machine device))
 
 -- whether a command may be carried out, whatever the disks hold
 unfoldable pub is_carried_out : ℕ → Command → Bool
@@ -89,7 +92,9 @@ is_carried_out sectors (Mkfs device kind inodes) = true
 is_carried_out sectors (Get device path) = true
 is_carried_out sectors (Ls device path) = true
 is_carried_out sectors (Rm device path) = true
-is_carried_out sectors command = false
+is_carried_out sectors (Mkdir device path) = true
+is_carried_out sectors (Ln device path target) = true
+is_carried_out sectors (Put device path) = false
 
 -- arguments that ask for something that may be carried out
 abbrev pub are_carried_out : Option Asked → Bool
@@ -115,6 +120,8 @@ formatted_on (Err fault) kind inodes time now = None
 -- the name that a command changes, if it changes one
 abbrev pub name_change : Command → Option NameChange
 name_change (Rm device path) = Some (removal device path)
+name_change (Mkdir device path) = Some (addition device path NewDirectory)
+name_change (Ln device path target) = Some (addition device path (NewLink target))
 name_change command = None
 
 -- the same of arguments
@@ -142,11 +149,14 @@ abbrev pub is_in_found : Result Span TableFault → ℕ → ℕ → Bool
 is_in_found (Ok span) disk sector = is_in span disk sector
 is_in_found (Err fault) disk sector = false
 
--- whether a command may write a sector: `make` that of the table, `mkfs` and `rm` those of the device, and others none
+-- whether a command may write a sector: `make` that of the table, `mkfs`, `rm`, `mkdir` and `ln` those of the device, and
+-- others none
 unfoldable pub may_write : Image → Machine → Command → ℕ → ℕ → Bool
 may_write now machine (Make parts) disk sector = disk == 0 && sector == 0
 may_write now machine (Mkfs device kind inodes) disk sector = is_in_found (span_of now machine device) disk sector
 may_write now machine (Rm device path) disk sector = is_in_found (span_of now machine device) disk sector
+may_write now machine (Mkdir device path) disk sector = is_in_found (span_of now machine device) disk sector
+may_write now machine (Ln device path target) disk sector = is_in_found (span_of now machine device) disk sector
 may_write now machine command disk sector = false
 
 -- the same of arguments
@@ -159,6 +169,8 @@ unfoldable pub only_reads : Command → Bool
 only_reads (Make parts) = false
 only_reads (Mkfs device kind inodes) = false
 only_reads (Rm device path) = false
+only_reads (Mkdir device path) = false
+only_reads (Ln device path target) = false
 only_reads command = true
 
 -- the same of arguments

@@ -7,4 +7,5 @@ pub mod LawLemmas
 pub mod ListingLemmas
 pub mod MadeLemmas
 pub mod StepLemmas
-pub mod RmLemmas
+pub mod FileLemmas
+pub mod WordLemmas

@@ -34,7 +34,7 @@ use Rattle.ldisk_words.specs.declared.asked.Command as words
 use Rattle.ldisk_words.specs.declared.asked.Command.TheVariants as others
 use Rattle.ldisk_run.specs.Left.{IsAfter, LeavesChanging, IsDone, is_refusal, AnswersAs, HasVolumeOf, LeavesBy, LeavesAsked, IsAskedDone, HasAskedVolume, held_now}
 use Rattle.ldisk_run.specs.Pieces.{Held}
-use Rattle.ldisk_run.specs.Run.{DoesAs, is_command_status}
+use Rattle.ldisk_run.specs.Run.{DoesAs, asked_makes_name, is_command_status}
 use Rattle.ldisk_run.proofs.AddsLemmas.{adds_nothing, adds_same}
 use Rattle.ldisk_run.specs.Made.{made_status}
 
@@ -126,7 +126,7 @@ module _ {D : Type 0} (disks : Ghosts D) (old new : D) (result : Result (Unit {0
     outside = told_all (disks.past old) _ (λ image d s out. others d s (elsewhere_by d s (d == 0) (s == 0) refl refl out));
     same = λ is. absurd cc;
     goes_on = goes_on;
-    device = device_by (disks.faults old) (disks.faults new) result cause;
+    device = λ told. device_by (disks.faults old) (disks.faults new) result cause;
   }
 
   pub mkfs_leaves : (time : ℕ) (device : devices.Device) (kind : Kind) (inodes : ℕ)
@@ -145,7 +145,7 @@ module _ {D : Type 0} (disks : Ghosts D) (old new : D) (result : Result (Unit {0
     outside = outside;
     same = λ is. absurd cc;
     goes_on = goes_on;
-    device = device_by (disks.faults old) (disks.faults new) result cause;
+    device = λ told. device_by (disks.faults old) (disks.faults new) result cause;
   }
 
 -- ---- commands that only read
@@ -167,8 +167,8 @@ module _ {D : Type 0} (disks : Ghosts D) (old new : D) (same : SameOf disks old 
   kept image left machine time (Get device path) is same = ap Some same
   kept image left machine time (Ls device path) is same = ap Some same
   kept image left machine time (Rm device path) is same = absurd cc
-  kept image left machine time (Mkdir device path) is same = ap Some same
-  kept image left machine time (Ln device path target) is same = ap Some same
+  kept image left machine time (Mkdir device path) is same = absurd cc
+  kept image left machine time (Ln device path target) is same = absurd cc
 
   no_volume : (image left : Image) (machine : Machine) (command : Command) → only_reads command ≡ true → HasVolumeOf image machine command left
   unfolding only_reads
@@ -178,8 +178,8 @@ module _ {D : Type 0} (disks : Ghosts D) (old new : D) (same : SameOf disks old 
   no_volume image left machine (Get device path) is = tt
   no_volume image left machine (Ls device path) is = tt
   no_volume image left machine (Rm device path) is = absurd cc
-  no_volume image left machine (Mkdir device path) is = tt
-  no_volume image left machine (Ln device path target) is = tt
+  no_volume image left machine (Mkdir device path) is = absurd cc
+  no_volume image left machine (Ln device path target) is = absurd cc
 
   no_change : (image : Image) (machine : Machine) (command : Command) → only_reads command ≡ true → LeavesChanging disks old new image machine (name_change command)
   unfolding only_reads
@@ -189,8 +189,8 @@ module _ {D : Type 0} (disks : Ghosts D) (old new : D) (same : SameOf disks old 
   no_change image machine (Get device path) is = tt
   no_change image machine (Ls device path) is = tt
   no_change image machine (Rm device path) is = absurd cc
-  no_change image machine (Mkdir device path) is = tt
-  no_change image machine (Ln device path target) is = tt
+  no_change image machine (Mkdir device path) is = absurd cc
+  no_change image machine (Ln device path target) is = absurd cc
 
   pub reading_leaves : (time : ℕ) (command : Command) (status : ℕ) → only_reads command ≡ true
       → (status ≡ 8 → Rose (disks.faults old) (disks.faults new)) → LeavesBy disks old new time command status
@@ -203,7 +203,7 @@ module _ {D : Type 0} (disks : Ghosts D) (old new : D) (same : SameOf disks old 
     outside = told_all (disks.past old) _ (λ image d s out. not_written_flushed (disks.past old) (disks.past new) (inr same.same_past) d s);
     same = λ is. same;
     goes_on = goes_on;
-    device = rose;
+    device = λ told. rose;
   }
 
 -- ---- commands that aren't built
@@ -216,16 +216,11 @@ pub record IsUnbuilt (command : Command) : Type 0 where
 
 module _ (command : words.Command) where
   abbrev pub IsOther : Type 0
-  IsOther =
-      ((device : Device) × (path : Bor (List ℕ)) × (command ≡ others.Put device path))
-      ⊎ (((device : Device) × (path : Bor (List ℕ)) × (command ≡ others.Mkdir device path))
-      ⊎ ((device : Device) × (path : Bor (List ℕ)) × (target : Bor (List ℕ)) × (command ≡ others.Ln device path target)))
+  IsOther = (device : Device) × (path : Bor (List ℕ)) × (command ≡ others.Put device path)
 
   pub unbuilt : IsOther → IsUnbuilt (command_view command)
   unfolding is_carried_out only_reads command_verdict
-  unbuilt (inl (device, path, is)) = rw is record { carried = λ sectors. refl; reads = refl; verdict = λ now machine sectors. refl }
-  unbuilt (inr (inl (device, path, is))) = rw is record { carried = λ sectors. refl; reads = refl; verdict = λ now machine sectors. refl }
-  unbuilt (inr (inr (device, path, target, is))) = rw is record { carried = λ sectors. refl; reads = refl; verdict = λ now machine sectors. refl }
+  unbuilt (device, path, is) = rw is record { carried = λ sectors. refl; reads = refl; verdict = λ now machine sectors. refl }
 
 -- ---- a command without a text
 
@@ -315,10 +310,10 @@ module _ {D : Type 0} (disks : Ghosts D) (old new : D) (time : ℕ) (status : �
   asked_goes_on None left = left.1.0
   asked_goes_on (Some asked) left = left.goes_on
 
-  pub asked_device : (asked : Option Asked) → LeavesAsked disks old new time asked status → answer_of status failed ≡ 8
+  pub asked_device : (asked : Option Asked) → LeavesAsked disks old new time asked status → (asked_makes_name asked ≡ true → IsTold (disks.past old)) → answer_of status failed ≡ 8
       → Rose (disks.faults old) (disks.faults new)
-  asked_device None left eight = absurd (let is = device_status status failed eight in let no : 1 ≡ 8 = sym left.1.1 ∙ is in cc)
-  asked_device (Some asked) left eight = left.device (device_status status failed eight)
+  asked_device None left told eight = absurd (let is = device_status status failed eight in let no : 1 ≡ 8 = sym left.1.1 ∙ is in cc)
+  asked_device (Some asked) left told eight = left.device told (device_status status failed eight)
 
 -- arguments that ask for nothing
 pub nothing_left : {D : Type 0} (disks : Ghosts D) (old : D) (time : ℕ) (asked : Option Asked) → asked ≡ None → LeavesAsked disks old old time asked 1

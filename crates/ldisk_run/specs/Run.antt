@@ -5,7 +5,8 @@ use Rattle.lilo_model.specs.Faults.{Rose}
 use Rattle.stream_trait.specs.Sink.{TakesFront}
 use Rattle.stream_trait.specs.Shows.{Prints}
 use Rattle.lilo_model.specs.Verdict.{Verdict}
-use Rattle.ldisk_model.specs.Arguments.{Command, Rm, Asked}
+use Rattle.ldisk_model.specs.Arguments.{Command, Rm, Mkdir, Ln, Asked}
+use Rattle.minix_names.specs.Component.{HasNoZero}
 use Rattle.mbr_table.specs.declared.table_fault.TableFault.{TableFault}
 use Rattle.mbr_table.specs.declared.table_fault.TableFault.TheVariants as tables
 use Rattle.minix_zones.specs.declared.zone_fault.ZoneFault.{ZoneFault}
@@ -74,12 +75,31 @@ DoesAs verdict status old new =
 -- whether a command takes memory
 abbrev pub takes_memory : Command → Bool
 takes_memory (Rm device path) = true
+takes_memory (Mkdir device path) = true
+takes_memory (Ln device path target) = true
 takes_memory command = false
 
 -- the same of arguments
 abbrev pub asked_takes_memory : Option Asked → Bool
 asked_takes_memory (Some asked) = takes_memory asked.command
 asked_takes_memory None = false
+
+-- whether a command makes a name
+abbrev pub makes_name : Command → Bool
+makes_name (Mkdir device path) = true
+makes_name (Ln device path target) = true
+makes_name command = false
+
+-- the same of arguments
+abbrev pub asked_makes_name : Option Asked → Bool
+asked_makes_name (Some asked) = makes_name asked.command
+asked_makes_name None = false
+
+-- the path of what a command makes has no zero byte
+abbrev pub HasPlainPath : Command → Type 0
+HasPlainPath (Mkdir device path) = HasNoZero path
+HasPlainPath (Ln device path target) = HasNoZero path
+HasPlainPath command = Unit {0}
 
 -- ---- the whole
 
@@ -95,8 +115,8 @@ Tells verdict status old new before now =
 
 -- whether a command may end with this status, but for the sink
 abbrev pub is_command_status : ℕ → Bool
-is_command_status status = list_any (λ known. known == status) (0 ∷ 1 ∷ 3 ∷ 5 ∷ 8 ∷ 13 ∷ [])
+is_command_status status = list_any (λ known. known == status) (0 ∷ 1 ∷ 3 ∷ 4 ∷ 5 ∷ 8 ∷ 13 ∷ [])
 
 -- whether a call may end with this status
 abbrev pub is_status : ℕ → Bool
-is_status status = list_any (λ known. known == status) (0 ∷ 1 ∷ 3 ∷ 5 ∷ 8 ∷ 12 ∷ 13 ∷ [])
+is_status status = list_any (λ known. known == status) (0 ∷ 1 ∷ 3 ∷ 4 ∷ 5 ∷ 8 ∷ 12 ∷ 13 ∷ [])

@@ -1,10 +1,12 @@
 //! What the program `ldisk` does with its arguments, over disks and a sink of text that the caller gives: it makes a
-//! partition table and empty Minix volumes, lists directories, prints files and removes them.
+//! partition table and empty Minix volumes, lists directories, prints and removes files, and makes directories
+//! and symbolic links.
 //!
 //! [`ldisk`] is the top call; ldisk_words says what arguments ask for.
 #![tactic(auto)]
 
 mod command;
+mod files;
 mod get;
 mod halt;
 mod laws;
@@ -12,7 +14,6 @@ mod ls;
 mod made;
 mod pieces;
 mod reading;
-mod rm;
 mod room;
 mod run;
 

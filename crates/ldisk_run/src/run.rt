@@ -1,7 +1,7 @@
 // The top call: what the program `ldisk` does with its arguments.
 ghost use Rattle.std.specs.Prelude.{◌≡◌, ◌≢◌, ◌↔◌, ◌≤◌, ℕ, true, false, IsTrue};
 ghost use Rattle.disk_trait.specs.Calls.{SameOf, GoesOn};
-ghost use Rattle.disk_trait.specs.Moments.{IsQuiet, IsWhole, IsWholeImage};
+ghost use Rattle.disk_trait.specs.Moments.{IsTold, IsQuiet, IsWhole, IsWholeImage};
 ghost use Rattle.disk_trait.specs.NotWritten.{NotWritten};
 ghost use Rattle.sector_address.specs.Machine.{OnDisks};
 ghost use Rattle.lilo_model.specs.Faults.{Rose};
@@ -13,15 +13,15 @@ ghost use Rattle.lilo_model.specs.LdiskVerdict as reads;
 ghost use Rattle.ldisk_words.specs.View.{command_view};
 ghost use Rattle.ldisk_run.specs.Left.{IsDone, is_refusal, LeavesBy, LeavesAsked, LeavesChanging, IsAskedDone, HasAskedVolume, held_now};
 ghost use Rattle.ldisk_run.specs.Pieces.{sink_of, held_by};
-ghost use Rattle.ldisk_run.specs.Run.{DoesAs, Answers, Tells, asked_takes_memory, takes_memory, is_status, is_command_status};
+ghost use Rattle.ldisk_run.specs.Run.{DoesAs, Answers, Tells, asked_makes_name, asked_takes_memory, takes_memory, is_status, is_command_status, HasPlainPath};
 ghost use Rattle.ldisk_run.specs.View.{reading_view};
 
 use crate::command::carry_out;
+use crate::files::{ln, mkdir, rm};
 use crate::halt::status_of;
 use crate::made::{make, mkfs};
 use crate::pieces::Pieces;
 use crate::reading::Reading;
-use crate::rm::rm;
 use disk_trait::Disks;
 use ldisk_words::{Command, ask};
 use std::alloc::Global;
@@ -34,22 +34,24 @@ use stream_trait::{Shown, Sink, Source, Words, answer};
 /// DEVICE PATH` lists a directory: a line for each entry in the directory's order, but for `.` and `..`, with `f`, `d`,
 /// `l` or `o`, the size and the name. `get IMAGE DEVICE PATH` prints a file. Both follow a link in the last component.
 /// `rm IMAGE DEVICE PATH` removes a regular file or a symbolic link: all checks come before anything is written, a survey
-/// of the volume among them; and whatever a stop leaves is sound, with the names before or after.
+/// of the volume among them; and whatever a stop leaves is sound, with the names before or after. So do `mkdir IMAGE
+/// DEVICE PATH`, which makes a directory, and `ln IMAGE DEVICE PATH TARGET`, which makes a symbolic link.
 ///
 /// | status | comes |
 /// |---|---|
 /// | 0 | done |
 /// | 1 | the arguments ask for nothing; of `make`, partitions overlap, lie outside the disk or touch its first sector |
-/// | 3 | disk 0 isn't there; a table, the volume, its survey, the path or the kind is refused, or an inode of an entry |
-/// | 5 | the device has too few sectors for the volume's tables and root, or too many inodes are asked for |
+/// | 3 | disk 0 isn't there; a table, the volume, its survey, the path or the kind is refused, or an inode of an entry; something is at a new name, or a directory would be nested too deep |
+/// | 4 | a link's target has no byte, or more than 1,023 |
+/// | 5 | the device has too few sectors for the volume's tables and root, or too many inodes are asked for; of a new name inodes, zones or its length don't suffice |
 /// | 8 | a disk failed |
 /// | 12 | the sink failed, and the status would be 0 |
 /// | 13 | memory ended |
 ///
 /// No text is put for a fault. What was printed before a refusal stays printed: the blocks of a file or the lines of
 /// entries before it. Once the sink failed nothing more is put, and the command goes on. `make` and `mkfs` write only
-/// once all their checks passed; what a stop leaves of them isn't said. The source isn't asked; `rm`
-/// alone takes memory, for the survey.
+/// once all their checks passed; what a stop leaves of them isn't said. The source isn't asked; `rm`,
+/// `mkdir` and `ln` alone take memory, for the survey and for what is chosen.
 #[tactic(auto, unfolding(ldisk_model::specs::Verdict::ldisk_verdict))]
 pub fn ldisk<D: Disks, I: Source, O: Sink>(
     alloc: Global,
@@ -62,9 +64,11 @@ pub fn ldisk<D: Disks, I: Source, O: Sink>(
     // Each sector has 512 bytes: so it is of disks that hold whole sectors, or that don't report what they hold.
     requires whole { IsWhole (D.size_of disks.old) (D.past disks.old) }
 
-    // Where the disks report what they hold, the status is the verdict's, but for faults.
+    // Where the disks report what they hold, the status is the verdict's, but for faults; 8 has a cause, which of what
+    // makes a name is known there alone.
     ensures status { OnDisks D.Disks disks.old (λ now machine. Answers (ldisk_verdict now machine words.now) result) }
-    ensures device { result ≡ 8 → Rose (D.faults disks.old) (D.faults disks.new) }
+    ensures device { (asked_makes_name (asked_at words.now) ≡ true → IsTold (D.past disks.old))
+        → result ≡ 8 → Rose (D.faults disks.old) (D.faults disks.new) }
     ensures sink { result ≡ 12 → Rose (O.faults out.old) (O.faults out.new) }
     ensures memory { result ≡ 13 → asked_takes_memory (asked_at words.now) ≡ true }
 
@@ -144,6 +148,7 @@ fn run_command<D: Disks, O: Sink>(
     time: u32,
 ) -> u8
     requires whole { IsWhole (D.size_of disks.old) (D.past disks.old) }
+    requires path { HasPlainPath (command_view command) }
     ensures does { OnDisks D.Disks disks.old (λ now machine.
         DoesAs (command_verdict now machine sectors (command_view command.entry)) result
         (held_by O.Sink out.old) (held_by O.Sink out.new)) }
@@ -166,7 +171,13 @@ fn run_command<D: Disks, O: Sink>(
         Command::Get { device, path } => read(Reading::Get { device, path }, disks, out),
         Command::Ls { device, path } => read(Reading::Ls { device, path }, disks, out),
         Command::Rm { device, path } => rm(alloc, disks, device, path),
-        Command::Put { .. } | Command::Mkdir { .. } | Command::Ln { .. } => 1,
+        Command::Mkdir { device, path } => mkdir(alloc, disks, device, path, time),
+        Command::Ln {
+            device,
+            path,
+            target,
+        } => ln(alloc, disks, device, path, target, time),
+        Command::Put { .. } => 1,
     }
 }
 

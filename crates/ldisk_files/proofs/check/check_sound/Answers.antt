@@ -1,6 +1,5 @@
 -- A survey finds a volume sound, or refuses it.
-use Rattle.disk_trait.proofs.ToldLemmas.{told_map, told_three}
-use Rattle.lilo_model.specs.MinixParts.{parts_of}
+use Rattle.disk_trait.proofs.ToldLemmas.{told_three}
 use Rattle.minix_zones.specs.Volume.{volume_view, past_of}
 use Rattle.ldisk_files.proofs.NameLemmas.{survey-answered}
 use Rattle.ldisk_files.proofs.check.check_sound.Goals as goal

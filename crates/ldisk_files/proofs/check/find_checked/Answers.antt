@@ -1,6 +1,5 @@
 -- The survey, then the name.
-use Rattle.std.proofs.Common.{Err}
-use Rattle.disk_trait.proofs.ToldLemmas.{told_map, told_both}
+use Rattle.disk_trait.proofs.ToldLemmas.{told_both}
 use Rattle.lilo_model.specs.Disks.{Image}
 use Rattle.lilo_model.specs.MinixNames.{IsSound}
 use Rattle.lilo_model.specs.MinixParts as model

@@ -1,14 +1,12 @@
 -- What is at the name decides.
 use Rattle.std.proofs.Common.{◌≡◌, ℕ, true, false, List, ◌∷◌, Ok, rules}
-use Rattle.std.specs.Prelude.{IfSome}
 use Rattle.disk_trait.proofs.ToldLemmas.{told_map}
 use Rattle.lilo_model.specs.Disks.{Image}
 use Rattle.lilo_model.specs.MinixEntries.{is_dots}
-use Rattle.lilo_model.specs.MinixNames.{names_in, IsSound}
+use Rattle.lilo_model.specs.MinixNames.{IsSound}
 use Rattle.lilo_model.specs.MinixParts as model
 use Rattle.lilo_model.specs.MinixParts.{parts_of}
-use Rattle.lilo_model.specs.NamePlaces.{name_path}
-use Rattle.minix_names.specs.Places.{LeadsToDirectory, GivesPlace, GivesThere}
+use Rattle.minix_names.specs.Places.{LeadsToDirectory, GivesThere}
 use Rattle.minix_zones.specs.Volume.{volume_view, past_of}
 use Rattle.minix_zones.proofs.SameLemmas.{told_back}
 use Rattle.ldisk_files.specs.Answer.{is_found_removable}

@@ -113,26 +113,68 @@ returns-in-Rm-clause-usage g c = rw c.in-Rm.is (λ one. absurd (c.rm.ensures.usa
 pub returns-in-Rm-clause-leaves : goal.returns-in-Rm-clause-leaves
 returns-in-Rm-clause-leaves g c = rw c.in-Rm.is (c.rm.ensures.leaves c.args.time)
 
--- ---- those that aren't built
+-- ---- mkdir
+
+pub mkdir-requires-clause-path : goal.mkdir-requires-clause-path
+mkdir-requires-clause-path g c = rw c.in-Mkdir.is at c.requires.path
+
+pub returns-in-Mkdir-clause-does : goal.returns-in-Mkdir-clause-does
+unfolding command_verdict
+returns-in-Mkdir-clause-does g c =
+    let machine = machine_of g.D.Disks c.args.disks.now in
+    rw c.in-Mkdir.is
+    (told_silent (g.D.Disks.past c.args.disks.now)
+    (λ now. command_verdict now machine c.args.sectors (model.Mkdir (device_view c.in-Mkdir.device) c.in-Mkdir.path.now))
+    c.mkdir.result (held_by g.O.Sink c.args.out.now) (λ now. refl) (c.mkdir.ensures.answers c.args.sectors))
+
+pub returns-in-Mkdir-clause-usage : goal.returns-in-Mkdir-clause-usage
+unfolding is_carried_out
+returns-in-Mkdir-clause-usage g c = rw c.in-Mkdir.is (λ one. absurd (c.mkdir.ensures.usage one), λ no. absurd cc)
+
+pub returns-in-Mkdir-clause-leaves : goal.returns-in-Mkdir-clause-leaves
+returns-in-Mkdir-clause-leaves g c = rw c.in-Mkdir.is c.mkdir.ensures.leaves
+
+-- ---- ln
+
+pub ln-requires-clause-path : goal.ln-requires-clause-path
+ln-requires-clause-path g c = rw c.in-Ln.is at c.requires.path
+
+pub returns-in-Ln-clause-does : goal.returns-in-Ln-clause-does
+unfolding command_verdict
+returns-in-Ln-clause-does g c =
+    let machine = machine_of g.D.Disks c.args.disks.now in
+    rw c.in-Ln.is
+    (told_silent (g.D.Disks.past c.args.disks.now)
+    (λ now. command_verdict now machine c.args.sectors (model.Ln (device_view c.in-Ln.device) c.in-Ln.path.now c.in-Ln.target.now))
+    c.ln.result (held_by g.O.Sink c.args.out.now) (λ now. refl) (c.ln.ensures.answers c.args.sectors))
+
+pub returns-in-Ln-clause-usage : goal.returns-in-Ln-clause-usage
+unfolding is_carried_out
+returns-in-Ln-clause-usage g c = rw c.in-Ln.is (λ one. absurd (c.ln.ensures.usage one), λ no. absurd cc)
+
+pub returns-in-Ln-clause-leaves : goal.returns-in-Ln-clause-leaves
+returns-in-Ln-clause-leaves g c = rw c.in-Ln.is c.ln.ensures.leaves
+
+-- ---- that which isn't built
 
 pub returns-in-Put-clause-does : goal.returns-in-Put-clause-does
 returns-in-Put-clause-does g c =
     let machine = machine_of g.D.Disks c.args.disks.now in
-    let other = unbuilt c.args.command c.in-Put.is in
+    let other = unbuilt c.args.command (c.in-Put.device, c.in-Put.path, c.in-Put.is) in
     told_silent (g.D.Disks.past c.args.disks.now) (λ now. command_verdict now machine c.args.sectors (command_view c.args.command))
     1 (held_by g.O.Sink c.args.out.now) (λ now. rw (other.verdict now machine c.args.sectors) refl)
     (told_all (g.D.Disks.past c.args.disks.now) (λ now. AnswersAs (command_verdict now machine c.args.sectors (command_view c.args.command)) 1)
     (λ now. rw (other.verdict now machine c.args.sectors) (inl refl)))
 
 pub returns-in-Put-clause-usage : goal.returns-in-Put-clause-usage
-returns-in-Put-clause-usage g c = (λ one. (unbuilt c.args.command c.in-Put.is).carried c.args.sectors, λ no. refl)
+returns-in-Put-clause-usage g c = (λ one. (unbuilt c.args.command (c.in-Put.device, c.in-Put.path, c.in-Put.is)).carried c.args.sectors, λ no. refl)
 
 pub returns-in-Put-clause-no_disk : goal.returns-in-Put-clause-no_disk
 returns-in-Put-clause-no_disk g c = λ none carried.
-    let no : false ≡ true = sym ((unbuilt c.args.command c.in-Put.is).carried c.args.sectors) ∙ carried in absurd cc
+    let no : false ≡ true = sym ((unbuilt c.args.command (c.in-Put.device, c.in-Put.path, c.in-Put.is)).carried c.args.sectors) ∙ carried in absurd cc
 
 pub returns-in-Put-clause-leaves : goal.returns-in-Put-clause-leaves
 returns-in-Put-clause-leaves g c =
     reading_leaves g.D.Disks c.args.disks.now c.args.disks.now
     record { same_past = refl; same_size = refl; same_count = refl; same_geometry = refl } (omega arith) c.args.time
-    (command_view c.args.command) 1 (unbuilt c.args.command c.in-Put.is).reads (λ eight. absurd cc)
+    (command_view c.args.command) 1 (unbuilt c.args.command (c.in-Put.device, c.in-Put.path, c.in-Put.is)).reads (λ eight. absurd cc)

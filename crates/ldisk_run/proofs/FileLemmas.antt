@@ -1,0 +1,297 @@
+-- The commands that change a name: their statuses, and what they leave.
+use Rattle.std.proofs.Common.{◌≡◌, ◌≢◌, ◌≤◌, ◌+◌, ◌∙◌, ◌==◌, ◌&&◌, nat_le, nat_lt, inl, inr, ℕ, Bool, true, false, List, Option, Some, Result, Ok, Err, IsErr, refl, sym, ap, subst, arith}
+use Rattle.std.specs.Prelude.{IsTrue, OnOk, IfErr}
+use Rattle.disk_trait.specs.declared.disks.Disks.{Ghosts}
+use Rattle.disk_trait.specs.declared.disks.Span as declared
+use Rattle.disk_trait.specs.Calls.{SameOf, GoesOn}
+use Rattle.disk_trait.specs.Past.{Past, Image, Told}
+use Rattle.disk_trait.specs.Moments.{IsTold, now, IsQuiet, LeavesOnly}
+use Rattle.disk_trait.specs.NotWritten.{NotWritten}
+use Rattle.disk_trait.specs.Range.{IsOutside}
+use Rattle.disk_trait.proofs.CallLemmas.{goes_on_same, goes_on_join}
+use Rattle.disk_trait.proofs.MomentLemmas.{leaves_none, leaves_weaker, told_now}
+use Rattle.disk_trait.proofs.NotWrittenLemmas.{not_written_flushed}
+use Rattle.disk_trait.proofs.ToldLemmas.{told_all}
+use Rattle.lilo_model.specs.Checks.{◌>>=◌, with_fault}
+use Rattle.lilo_model.specs.Devices as devices
+use Rattle.lilo_model.specs.Disks.{Machine, Span}
+use Rattle.lilo_model.specs.Faults.{Rose}
+use Rattle.lilo_model.specs.LdiskVerdict.{Refusal, room_of, silent}
+use Rattle.lilo_model.specs.Partitions.{TableFault, span_of}
+use Rattle.mbr_table.specs.View.{span_view}
+use Rattle.sector_address.specs.Machine.{machine_of}
+use Rattle.ldisk_model.specs.Arguments.{Command, Rm, Mkdir, Ln}
+use Rattle.ldisk_model.specs.FileVerdict.{FileRefusal, NoRoom, NameChange, NewDirectory, NewLink, volume_check, device_check, gone_check, made_check, removal, addition, checked_status}
+use Rattle.ldisk_model.specs.Verdict.{command_verdict, image_after, is_in, is_in_found, may_write, name_change, only_reads}
+use Rattle.lilo_model.specs.MinixParts.{Volume}
+use Rattle.lilo_model.specs.Verdict.{Verdict}
+use Rattle.ldisk_files.specs.Answer.{Answers, HasFileCause, is_refusal as is_file_refusal}
+use Rattle.ldisk_files.specs.Left.{HasSoundVolume, IsNamed, IsEither, LeavesNames}
+use Rattle.ldisk_files.specs.declared.fault.FileFault.{FileFault}
+use Rattle.ldisk_files.specs.declared.fault.FileFault.TheVariants as faults
+use Rattle.std.proofs.lemmas.Bool.{eq-eqb, leb-false, ltb-false}
+use Rattle.ldisk_run.specs.Left.{AnswersAs, HasSoundOn, HasVolumeOf, IsAfter, IsAfterChange, IsChanged, IsChanging, LeavesBy, LeavesChanging, is_refusal}
+use Rattle.ldisk_run.specs.Made.{file_status}
+use Rattle.ldisk_run.specs.Run.{Halts, HasCause, is_command_status, makes_name, status_of}
+use Rattle.ldisk_run.specs.declared.halt.Halt.{Halt}
+use Rattle.ldisk_run.specs.declared.halt.Halt.TheVariants.{Device, Refused}
+use Rattle.ldisk_run.proofs.MadeLemmas.{told_from}
+
+-- ---- statuses
+
+pub file_known : (result : Result (Unit {0}) FileFault) → IsTrue (is_command_status (file_status result))
+file_known (Ok done) = refl
+file_known (Err faults.Refused) = refl
+file_known (Err faults.BadLength) = refl
+file_known (Err faults.NoSpace) = refl
+file_known (Err faults.Device) = refl
+file_known (Err faults.Memory) = refl
+
+pub file_usage : (result : Result (Unit {0}) FileFault) → file_status result ≢ 1
+file_usage (Ok done) is = cc
+file_usage (Err faults.Refused) is = cc
+file_usage (Err faults.BadLength) is = cc
+file_usage (Err faults.NoSpace) is = cc
+file_usage (Err faults.Device) is = cc
+file_usage (Err faults.Memory) is = cc
+
+no-room : {A : Type 0} (room : Result Span Refusal) (next : Span → Result A _) → IsErr room → checked_status (with_fault NoRoom room >>= next) ≡ 3
+no-room (Ok span) next refused = absurd cc
+no-room (Err refusal) next refused = refl
+
+-- ---- commands
+
+-- a command changes one name, once a check of the volume passed
+pub record IsFileCommand (command : Command) (change : NameChange) (check : Volume → Image → Result (List (List ℕ)) FileRefusal) : Type 0 where
+  pub verdict : (image : Image) (machine : Machine) (sectors : ℕ) → command_verdict image machine sectors command ≡ silent (checked_status (device_check check image machine change.device))
+  pub names : name_change command ≡ Some change
+  pub writes : only_reads command ≡ false
+  pub may : (image : Image) (machine : Machine) (d s : ℕ) → may_write image machine command d s ≡ is_in_found (span_of image machine change.device) d s
+  pub no_volume : (old image : Image) (machine : Machine) → HasVolumeOf old machine command image
+
+pub removes : (device : devices.Device) (path : List ℕ) → IsFileCommand (Rm device path) (removal device path) (gone_check path)
+unfolding command_verdict only_reads may_write
+removes device path = record {
+  verdict = λ image machine sectors. refl;
+  names = refl;
+  writes = refl;
+  may = λ image machine d s. refl;
+  no_volume = λ old image machine. tt;
+}
+
+pub makes_directory : (device : devices.Device) (path : List ℕ) → IsFileCommand (Mkdir device path) (addition device path NewDirectory) (made_check NewDirectory path)
+unfolding command_verdict only_reads may_write
+makes_directory device path = record {
+  verdict = λ image machine sectors. refl;
+  names = refl;
+  writes = refl;
+  may = λ image machine d s. refl;
+  no_volume = λ old image machine. tt;
+}
+
+pub makes_link : (device : devices.Device) (path target : List ℕ) → IsFileCommand (Ln device path target) (addition device path (NewLink target)) (made_check (NewLink target) path)
+unfolding command_verdict only_reads may_write
+makes_link device path target = record {
+  verdict = λ image machine sectors. refl;
+  names = refl;
+  writes = refl;
+  may = λ image machine d s. refl;
+  no_volume = λ old image machine. tt;
+}
+
+module _ (image : Image) (machine : Machine) (device : devices.Device) where
+  module _ (check : Volume → Image → Result (List (List ℕ)) FileRefusal) where
+    halted-check : (halt : Halt) → Halts halt (room_of image machine device) → AnswersAs (silent (checked_status (device_check check image machine device))) (status_of (Err halt))
+    unfolding device_check
+    halted-check Refused halts = inl (sym (no-room (room_of image machine device) (λ span. volume_check check image span) halts))
+    halted-check Device halts = inr (inl refl)
+
+  module _ (span : Span) (room : room_of image machine device ≡ Ok span) where
+    by-room : (check : Volume → Image → Result (List (List ℕ)) FileRefusal) → device_check check image machine device ≡ volume_check check image span
+    unfolding device_check
+    by-room check = rw room refl
+
+    checked-answer : (check : Volume → Image → Result (List (List ℕ)) FileRefusal) (result : Result (Unit {0}) FileFault) → Answers (volume_check check image span) result
+        → AnswersAs (silent (checked_status (device_check check image machine device))) (file_status result)
+    checked-answer check (Ok done) is = inl (sym (ap checked_status (by-room check) ∙ is))
+    checked-answer check (Err faults.Refused) is = inl (sym (ap checked_status (by-room check) ∙ is))
+    checked-answer check (Err faults.BadLength) is = inl (sym (ap checked_status (by-room check) ∙ is))
+    checked-answer check (Err faults.NoSpace) is = inl (sym (ap checked_status (by-room check) ∙ is))
+    checked-answer check (Err faults.Device) is = inr (inl refl)
+    checked-answer check (Err faults.Memory) is = inr (inr refl)
+
+    -- the room is the device's sectors
+    pub span-is : span_of image machine device ≡ Ok span
+    unfolding room_of
+    span-is = by (machine.size_of 0 == 0) (span_of image machine device) refl refl room
+      where
+        by : (none : Bool) (found : Result Span TableFault) → (machine.size_of 0 == 0) ≡ none → span_of image machine device ≡ found
+            → room_of image machine device ≡ Ok span → span_of image machine device ≡ Ok span
+        by true found size says is = absurd (let no = rw size at is in cc)
+        by false (Err fault) size says is = absurd (let no = rw (size, says) at is in cc)
+        by false (Ok other) size says is = last (nat_le 4 other.count) refl
+          where
+            last : (wide : Bool) → nat_le 4 other.count ≡ wide → span_of image machine device ≡ Ok span
+            last true wide = let e = rw (size, says, wide) at is in let same : other ≡ span = cc in says ∙ ap Ok same
+            last false wide = absurd (let no = rw (size, says, wide) at is in cc)
+
+module _ (command : Command) (change : NameChange) (check : Volume → Image → Result (List (List ℕ)) FileRefusal) (is : IsFileCommand command change check)
+    (image : Image) (machine : Machine) (sectors : ℕ) where
+  pub halted_answer : (halt : Halt) → Halts halt (room_of image machine change.device) → AnswersAs (command_verdict image machine sectors command) (status_of (Err halt))
+  halted_answer halt halts = subst (λ (v : Verdict). AnswersAs v (status_of (Err halt))) (sym (is.verdict image machine sectors)) (halted-check image machine change.device check halt halts)
+
+  pub file_answer : (span : Span) → room_of image machine change.device ≡ Ok span → (result : Result (Unit {0}) FileFault) → Answers (volume_check check image span) result
+      → AnswersAs (command_verdict image machine sectors command) (file_status result)
+  file_answer span room result answers = subst (λ (v : Verdict). AnswersAs v (file_status result)) (sym (is.verdict image machine sectors))
+      (checked-answer image machine change.device span room check result answers)
+
+-- a sector that isn't one of a device's lies outside them
+is-outside : (span : declared.Span) (d s : ℕ) → is_in (span_view span) d s ≡ false → IsOutside span.disk span.start span.count d s
+is-outside span d s out = by (span.disk == d) (nat_le span.start s) (nat_lt s (span.start + span.count)) refl refl refl out
+  where
+    by : (a b c : Bool) → (span.disk == d) ≡ a → nat_le span.start s ≡ b → nat_lt s (span.start + span.count) ≡ c
+        → ((span.disk == d) && nat_le span.start s && nat_lt s (span.start + span.count)) ≡ false → IsOutside span.disk span.start span.count d s
+    by false b c e f g out = inl (λ same. let t = eq-eqb span.disk d (sym same) in cc)
+    by true false c e f g out = inr (inl (leb-false span.start s f))
+    by true true false e f g out = inr (inr (ltb-false s (span.start + span.count) g))
+    by true true true e f g out = absurd (let no = rw (e, f, g) at out in cc)
+
+-- ---- nothing was done
+
+module _ (command : Command) (change : NameChange) (check : Volume → Image → Result (List (List ℕ)) FileRefusal) (is-one : IsFileCommand command change check) where
+  module _ {D : Type 0} (disks : Ghosts D) (old new : D) where
+    -- what is said of its change is said of the command
+    changes-as : (image : Image) (machine : Machine) → (HasSoundOn image machine change.device → LeavesOnly (disks.past old) (disks.past new) (IsChanging image machine change))
+        → LeavesChanging disks old new image machine (name_change command)
+    changes-as image machine leaves = subst (λ (c : Option NameChange). LeavesChanging disks old new image machine c) (sym is-one.names) leaves
+
+    after-as : (image left : Image) (machine : Machine) (time : ℕ) → IsChanged image machine change left → IsAfter image machine time command left
+    after-as image left machine time changed = subst (λ (c : Option NameChange). IsAfterChange image machine c (image_after image machine time command) left) (sym is-one.names) changed
+
+  module _ {D : Type 0} (disks : Ghosts D) (old new : D) (same : SameOf disks old new) (later : disks.faults old ≤ disks.faults new) (status : ℕ) (some : status ≢ 0) where
+    nothing_done : (time : ℕ) → (status ≡ 8 → Rose (disks.faults old) (disks.faults new)) → LeavesBy disks old new time command status
+    nothing_done time rose = record {
+      done = told_all (disks.past old) _ (λ image is. absurd (some is));
+      empty = told_all (disks.past old) _ (λ image is whole. absurd (some is));
+      any_moment = λ quiet. told_from (disks.past old) _ (λ told. changes-as disks old new (now (disks.past old)) (machine_of disks old) (λ sound.
+          subst (λ (past : Option Past). LeavesOnly (disks.past old) past (IsChanging (now (disks.past old)) (machine_of disks old) change)) (sym same.same_past)
+          (leaves_none (disks.past old) (IsChanging (now (disks.past old)) (machine_of disks old) change) (λ c left.
+          let is : c ≡ now (disks.past old) = quiet c left in
+          subst (λ (i : Image). IsChanging (now (disks.past old)) (machine_of disks old) change i) (sym is) (record {
+            span = sound.span;
+            room = sound.room;
+            either = record { volume = sound.volume.volume; is = sound.volume.is; has = inl record { sound = sound.volume.sound; same = λ p. refl } };
+          })))));
+      quiet = λ is writes. absurd (some is);
+      refused = λ is. same.same_past;
+      outside = told_all (disks.past old) _ (λ image d s out. not_written_flushed (disks.past old) (disks.past new) (inr same.same_past) d s);
+      same = λ reads. absurd (let no : true ≡ false = sym reads ∙ is-one.writes in cc);
+      goes_on = goes_on_same disks old new same.same_past record { later = later; size = same.same_size; count = same.same_count; geometry = same.same_geometry };
+      device = λ told. rose;
+    }
+
+  pub halted_leaves : {D : Type 0} (disks : Ghosts D) (old new : D) → SameOf disks old new → disks.faults old ≤ disks.faults new
+      → (halt : Halt) → HasCause (disks.faults old) (disks.faults new) halt → (time : ℕ) → LeavesBy disks old new time command (status_of (Err halt))
+  halted_leaves disks old new same later Refused cause time = nothing_done disks old new same later 3 (omega arith) time (λ is. absurd cc)
+  halted_leaves disks old new same later Device cause time = nothing_done disks old new same later 8 (omega arith) time (λ is. cause)
+
+-- ---- a name was changed
+
+module _ (result : Result (Unit {0}) FileFault) where
+  zero-of : {P : Type 0} → OnOk result P → file_status result ≡ 0 → P
+  zero-of {P} ok is = by result ok is
+    where
+      by : (r : Result (Unit {0}) FileFault) → OnOk r P → file_status r ≡ 0 → P
+      by (Ok done) ok is = ok
+      by (Err faults.Refused) ok is = absurd cc
+      by (Err faults.BadLength) ok is = absurd cc
+      by (Err faults.NoSpace) ok is = absurd cc
+      by (Err faults.Device) ok is = absurd cc
+      by (Err faults.Memory) ok is = absurd cc
+
+  refused-of : {P : Type 0} → IfErr result (λ fault. is_file_refusal fault ≡ true → P) → is_refusal (file_status result) ≡ true → P
+  refused-of {P} refused is = by result refused is
+    where
+      by : (r : Result (Unit {0}) FileFault) → IfErr r (λ fault. is_file_refusal fault ≡ true → P) → is_refusal (file_status r) ≡ true → P
+      by (Ok done) refused is = absurd cc
+      by (Err faults.Refused) refused is = refused refl
+      by (Err faults.BadLength) refused is = refused refl
+      by (Err faults.NoSpace) refused is = refused refl
+      by (Err faults.Device) refused is = absurd cc
+      by (Err faults.Memory) refused is = refused refl
+
+  rose-of : (before mid after : ℕ) → before ≤ mid → IfErr result (HasFileCause mid after) → file_status result ≡ 8 → Rose before after
+  rose-of before mid after later cause is = by result cause is
+    where
+      by : (r : Result (Unit {0}) FileFault) → IfErr r (HasFileCause mid after) → file_status r ≡ 8 → Rose before after
+      by (Ok done) cause is = absurd cc
+      by (Err faults.Refused) cause is = absurd cc
+      by (Err faults.BadLength) cause is = absurd cc
+      by (Err faults.NoSpace) cause is = absurd cc
+      by (Err faults.Device) cause is = λ below. let rose = cause below in omega (arith, later, rose)
+      by (Err faults.Memory) cause is = absurd cc
+
+module _ (command : Command) (change : NameChange) (check : Volume → Image → Result (List (List ℕ)) FileRefusal) (is-one : IsFileCommand command change check)
+    {D : Type 0} (disks : Ghosts D) (old mid new : D) (same : SameOf disks old mid) (later : disks.faults old ≤ disks.faults mid)
+    (span : declared.Span) (result : Result (Unit {0}) FileFault)
+    (room : Told (disks.past old) (λ now. room_of now (machine_of disks old) change.device ≡ Ok (span_view span)))
+    (leaves : LeavesNames disks mid new (span_view span) change.path change.what result)
+    (cause : (makes_name command ≡ true → IsTold (disks.past old)) → IfErr result (HasFileCause (disks.faults mid) (disks.faults new))) where
+  abbrev I : Image
+  I = now (disks.past old)
+
+  abbrev M : Machine
+  M = machine_of disks old
+
+  room-now : IsTold (disks.past old) → room_of I M change.device ≡ Ok (span_view span)
+  room-now told = told_now (disks.past old) (λ now. room_of now M change.device ≡ Ok (span_view span)) room told
+
+  told-mid : IsTold (disks.past old) → IsTold (disks.past mid)
+  told-mid told = subst IsTold (sym same.same_past) told
+
+  now-mid : now (disks.past mid) ≡ I
+  now-mid = ap now same.same_past
+
+  named : IsTold (disks.past old) → file_status result ≡ 0 → IsChanged I M change (now (disks.past new))
+  named told is = record {
+    span = span_view span;
+    room = room-now told;
+    named = subst (λ (i : Image). IsNamed (span_view span) i change.path change.what (now (disks.past new))) now-mid (zero-of result (leaves.done (told-mid told)) is);
+  }
+
+  moment : IsTold (disks.past old) → IsQuiet (disks.past old) → HasSoundOn I M change.device → LeavesOnly (disks.past old) (disks.past new) (IsChanging I M change)
+  moment told quiet sound =
+      let span-same : sound.span ≡ span_view span = let e = sym sound.room ∙ room-now told in cc in
+      let volume : HasSoundVolume (span_view span) (now (disks.past mid)) =
+      subst (λ (i : Image). HasSoundVolume (span_view span) i) (sym now-mid) (subst (λ (s : Span). HasSoundVolume s I) span-same sound.volume) in
+      let run = leaves.any_moment (subst IsQuiet (sym same.same_past) quiet) volume in
+      leaves_weaker (disks.past old) (disks.past new) (IsEither (span_view span) (now (disks.past mid)) change.path change.what) (IsChanging I M change)
+      (subst (λ (past : Option Past). LeavesOnly past (disks.past new) (IsEither (span_view span) (now (disks.past mid)) change.path change.what)) same.same_past run)
+      (λ c either. record {
+        span = span_view span;
+        room = room-now told;
+        either = subst (λ (i : Image). IsEither (span_view span) i change.path change.what c) now-mid either;
+      })
+
+  apart : (d s : ℕ) → IsOutside span.disk span.start span.count d s → NotWritten (disks.past old) (disks.past new) d s
+  apart d s outside = subst (λ (past : Option Past). NotWritten past (disks.past new) d s) same.same_past (leaves.outside d s outside)
+
+  goes-on-mid : GoesOn disks old mid
+  goes-on-mid = goes_on_same disks old mid same.same_past record { later = later; size = same.same_size; count = same.same_count; geometry = same.same_geometry }
+
+  pub file_leaves : (time : ℕ) → LeavesBy disks old new time command (file_status result)
+  file_leaves time = record {
+    done = told_from (disks.past old) _ (λ told is. after-as command change check is-one disks old new I (now (disks.past new)) M time (named told is));
+    empty = told_all (disks.past old) _ (λ image is whole. is-one.no_volume image (now (disks.past new)) M);
+    any_moment = λ quiet. told_from (disks.past old) _ (λ told. changes-as command change check is-one disks old new I M (moment told quiet));
+    quiet = λ is writes. zero-of result leaves.quiet is;
+    refused = λ is. refused-of result leaves.refused is ∙ same.same_past;
+    outside = told_from (disks.past old) _ (λ told d s out. apart d s (outside-span I M d s (span-is I M change.device (span_view span) (room-now told)) (sym (is-one.may I M d s) ∙ out)));
+    same = λ reads. absurd (let no : true ≡ false = sym reads ∙ is-one.writes in cc);
+    goes_on = goes_on_join disks old mid new goes-on-mid leaves.goes_on;
+    device = λ told is. rose-of result (disks.faults old) (disks.faults mid) (disks.faults new) later (cause told) is;
+  }
+    where
+      outside-span : (image : Image) (machine : Machine) (d s : ℕ) → span_of image machine change.device ≡ Ok (span_view span) → is_in_found (span_of image machine change.device) d s ≡ false
+          → IsOutside span.disk span.start span.count d s
+      outside-span image machine d s is out = is-outside span d s (rw is at out)

@@ -29,7 +29,7 @@ use Rattle.minix_sees_laws.proofs.Inode.{file-zones}
 use Rattle.minix_sees_laws.proofs.Seen.{opened}
 use Rattle.minix_zones.specs.Volume.{volume_view, past_of}
 use Rattle.minix_zones.specs.declared.volume.Volume.{Volume}
-use Rattle.install_made_laws.specs.Sectors.{IsWholeFile, AreGiven, sector_in, HasSectors, LieWhereChosen, file_places, HasPlaces}
+use Rattle.install_made_laws.specs.Sectors.{IsWholeFile, AreGiven, sector_in, HasSectors, LieWhereChosen, file_places, IsFileThere, HasPlaces}
 
 -- ---- parts of blocks
 
@@ -256,8 +256,8 @@ module _ {D : Type 0} {disks : Ghosts D} (start volume : Volume D disks) (chosen
   abbrev Place : ℕ → DiskSector
   Place index = record { disk = start.span.disk; sector = sector_of chosen index }
 
-  pub has_places : inode_places View New Inode ≡ map Some (file_places chosen start.span.disk count)
-  has_places =
+  places-are : inode_places View New Inode ≡ map Some (file_places chosen start.span.disk count)
+  places-are =
       places-opened View New Inode
       ∙ ap (λ (n : ℕ). map (λ index. sector_in_zone View.span (zone_number (super_view start.layout) New Inode (index / 2)) index) (range_with_len 0 n)) size-count
       ∙ maps-same (λ index. sector_in_zone View.span (zone_number (super_view start.layout) New Inode (index / 2)) index) (λ index. Some (Place index)) count place-is
@@ -265,6 +265,9 @@ module _ {D : Type 0} {disks : Ghosts D} (start volume : Volume D disks) (chosen
     where
       size-count : sectors_for (New.node Inode).size ≡ count
       size-count = let size = whole.size in omega (arith, size-is, size)
+
+  pub has_places : IsFileThere View Then chosen count
+  has_places = record { file = file.0; size = size-is; places = places-are }
 
   pub has_sectors : HasSectors Then start.span.disk chosen given count
   has_sectors index low =

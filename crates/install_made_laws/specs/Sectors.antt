@@ -5,6 +5,7 @@ use Rattle.disk_trait.specs.declared.disks.Disks.{Ghosts}
 use Rattle.disk_trait.specs.Moments.{now}
 use Rattle.lilo_model.specs.Bytes.{part_of}
 use Rattle.lilo_model.specs.Disks.{Image, DiskSector}
+use Rattle.lilo_model.specs.MinixParts as model
 use Rattle.lilo_model.specs.MinixParts.{is_file, blocks_for, parts_of}
 use Rattle.lilo_model.specs.Planned.{inode_places}
 use Rattle.minix_create.specs.Chosen.{sector_of, new_inode}
@@ -41,9 +42,14 @@ LieWhereChosen start volume chosen =
 abbrev pub file_places : Chosen → ℕ → ℕ → List DiskSector
 file_places chosen disk count = map (λ index. record { disk = disk; sector = sector_of chosen index }) (range_with_len 0 count)
 
--- and there the file's inode has them, in order and no others
+-- in an image a file's inode is a regular file of its length, and has these places, in order and no others
+pub record IsFileThere (volume : model.Volume) (image : Image) (chosen : Chosen) (count : ℕ) : Type 0 where
+  pub file : is_file ((parts_of volume image).node chosen.choice.inode) ≡ true
+  pub size : ((parts_of volume image).node chosen.choice.inode).size ≡ chosen.length
+  pub places : inode_places volume (parts_of volume image) chosen.choice.inode ≡ map Some (file_places chosen volume.span.disk count)
+
+-- so it is now, where it was made of its blocks since a volume was as it is here
 abbrev pub HasPlaces : {D : Type 0} {disks : Ghosts D} → Volume D disks → Volume D disks → Chosen → Type 0
 HasPlaces start volume chosen =
     (outer : List (List ℕ)) (given : ℕ → List ℕ) (count : ℕ) → Creates start volume outer chosen given (Ok tt)
-    → IsWholeFile chosen count → AreGiven chosen given
-    → inode_places (volume_view start) (parts_of (volume_view start) (now (past_of volume))) chosen.choice.inode ≡ map Some (file_places chosen start.span.disk count)
+    → IsWholeFile chosen count → AreGiven chosen given → IsFileThere (volume_view start) (now (past_of volume)) chosen count

@@ -68,20 +68,20 @@ module _ {D : Type 0} {disks : Ghosts D} (start old new : Volume D disks) (chose
         subst K (sym is.node) (kept_fields (kind_view old.layout.kind) (new_inode chosen) (tops_of (kind_view old.layout.kind) (file_of chosen.choice)))
 
     -- each block has its bytes
+    block_written : (index : ℕ) → slice_index chosen.choice.blocks index ≢ 0 → (parts_now new).zone (slice_index chosen.choice.blocks index) ≡ given index
+    block_written index some =
+        let inside : index < length chosen.choice.blocks = ⊎_elim (λ low. low) (λ past. absurd (some (past_end chosen.choice.blocks index past))) (cases_lt index (length chosen.choice.blocks)) in
+        let apart : (place : ℕ) → slice_index chosen.choice.indirect place ≢ slice_index chosen.choice.blocks index =
+        λ place e. let same : Block index ≡ Indirect place = file.once (Block index) (Indirect place) (sym e) some in cc in
+        is.bytes (slice_index chosen.choice.blocks index) (may.free.range (Block index) some).0 apart
+        ∙ reserved.blocks told index (omega (arith, inside, all)) some
+
     block_is : (index : ℕ) → zone_bytes (parts_now new) (slice_index chosen.choice.blocks index) ≡ block_with chosen.choice.blocks given index
     block_is index = by (slice_index chosen.choice.blocks index == 0) refl
       where
-        written : slice_index chosen.choice.blocks index ≢ 0 → (parts_now new).zone (slice_index chosen.choice.blocks index) ≡ given index
-        written some =
-            let inside : index < length chosen.choice.blocks = ⊎_elim (λ low. low) (λ past. absurd (some (past_end chosen.choice.blocks index past))) (cases_lt index (length chosen.choice.blocks)) in
-            let apart : (place : ℕ) → slice_index chosen.choice.indirect place ≢ slice_index chosen.choice.blocks index =
-            λ place e. let same : Block index ≡ Indirect place = file.once (Block index) (Indirect place) (sym e) some in cc in
-            is.bytes (slice_index chosen.choice.blocks index) (may.free.range (Block index) some).0 apart
-            ∙ reserved.blocks told index (omega (arith, inside, all)) some
-
         by : (hole : Bool) → (slice_index chosen.choice.blocks index == 0) ≡ hole → zone_bytes (parts_now new) (slice_index chosen.choice.blocks index) ≡ block_with chosen.choice.blocks given index
         by true e = rw e refl
-        by false e = rw e (written (λ none. let t = eq-eqb (slice_index chosen.choice.blocks index) 0 none in cc))
+        by false e = rw e (block_written index (λ none. let t = eq-eqb (slice_index chosen.choice.blocks index) 0 none in cc))
 
     content_is : blocks_for chosen.length ≤ reach (kind_view old.layout.kind) → content (super_view old.layout) (parts_now new) chosen.choice.inode ≡ content_with chosen given
     content_is few =
@@ -151,6 +151,7 @@ module _ {D : Type 0} {disks : Ghosts D} (start old new : Volume D disks) (chose
         clear = at_new (λ layout. IsClearOf (super_view layout) (parts_now new) chosen.choice.inode chosen.choice.growth) clear_is;
         is = at_new (λ layout. thing (super_view layout) (parts_now new) chosen.choice.inode ≡ thing_with chosen given) (thing_is few);
         lies = at_new (λ layout. (index : ℕ) → index < reach (kind_view layout.kind) → zone_number (super_view layout) (parts_now new) chosen.choice.inode index ≡ slice_index chosen.choice.blocks index) zone_is;
+        blocks = block_written;
       }
 
   off_indirect : (d s : ℕ) → IsOffFile start chosen d s → fill.IsOffIndirect old (file_of chosen.choice) d s

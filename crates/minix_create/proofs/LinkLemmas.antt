@@ -59,7 +59,7 @@ use Rattle.minix_create.specs.Chosen.{MayLinkNow, MayNest, new_inode, thing_with
 use Rattle.minix_create.specs.Created.{MarksOnly, IsFilled}
 use Rattle.minix_create.specs.Entered.{SameMarks, KeepsDirectories, MayBeNamed, links_above, MayEnterNow, IsOffEntered, Enters}
 use Rattle.minix_create.specs.Grown.{MayGrowNow, LiesNow, IsOffGrowth, GrowsChosen}
-use Rattle.minix_create.specs.Linked.{IsOffName, IsRaisedBefore, MarksLinked, LiesAsChosen, Creates}
+use Rattle.minix_create.specs.Linked.{IsOffName, IsRaisedBefore, MarksLinked, LiesAsChosen, HoldsGiven, Creates}
 use Rattle.minix_create.specs.declared.chosen.Chosen.{Chosen}
 use Rattle.minix_create.specs.declared.place_at.PlaceAt.{PlaceAt}
 use Rattle.minix_create.proofs.BroughtLemmas.{off_later, rises, device_of, same_unseen}
@@ -93,6 +93,7 @@ pub record IsLinkable {D : Type 0} {disks : Ghosts D} (start next : Volume D dis
   pub links : IsTold (past_of start) → ((model.parts_of (volume_view start) (now (past_of next))).node chosen.directory).links ≡ ((parts_now start).node chosen.directory).links
   pub marks : IsTold (past_of start) → MarksLinked (super_view start.layout) (parts_now start) (model.parts_of (volume_view start) (now (past_of next))) chosen
   pub blocks : IsTold (past_of start) → LiesAsChosen (super_view start.layout) (model.parts_of (volume_view start) (now (past_of next))) chosen
+  pub holds : IsTold (past_of start) → HoldsGiven (super_view start.layout) (model.parts_of (volume_view start) (now (past_of next))) chosen given
   pub places : IsTold (past_of start) → KeepsPlaces (super_view start.layout) (parts_now start) (model.parts_of (volume_view start) (now (past_of next))) chosen.directory chosen.choice.place
   pub points : IsTold (past_of start) → (number : ℕ) (at : Pointer) (zone : ℕ) → Named (super_view start.layout) (parts_now start) number
       → PointsTo (super_view start.layout) (model.parts_of (volume_view start) (now (past_of next))) number at zone
@@ -220,6 +221,7 @@ module _ {D : Type 0} {disks : Ghosts D} (start old next : Volume D disks) (oute
     marks = λ told. tt;
     made = λ told. tt;
     lies = λ told. tt;
+    holds = λ told. tt;
     others = others;
     device = cause;
   }
@@ -431,6 +433,20 @@ module _ {D : Type 0} {disks : Ghosts D} (start old next read : Volume D disks) 
         points_kept (super_view old.layout) Old Next chosen.choice.inode kept (block_pointer (kind_view old.layout.kind) index) (slice_index chosen.choice.blocks index)
         (block_pointed (super_view old.layout) Old chosen.choice.inode index (slice_index chosen.choice.blocks index) (has_zones_by (Old.node chosen.choice.inode) (new_inode chosen) f.mode zones) (f.lies index low) some)))
 
+    -- and what they hold
+    holds_read : IsTold (past_of start) → HoldsGiven (super_view start.layout) (model.parts_of (volume_view start) (now (past_of read))) chosen given
+    holds_read told =
+        let f = filled.filled told in
+        let kept = kept_old told in
+        let L : model.Volume → Type 0 = λ view. HoldsGiven view.layout (model.parts_of view (now (past_of next))) chosen given in
+        let I : Option Past → Type 0 = λ past. HoldsGiven (super_view start.layout) (model.parts_of (volume_view start) (now past)) chosen given in
+        subst I (sym same.same_disks.same_past)
+        (at_start start old next outer chosen given filled (Ok tt) grows none L
+        (λ zones index low some.
+        kept.zones (block_pointer (kind_view old.layout.kind) index) (slice_index chosen.choice.blocks index)
+        (block_pointed (super_view old.layout) Old chosen.choice.inode index (slice_index chosen.choice.blocks index) (has_zones_by (Old.node chosen.choice.inode) (new_inode chosen) f.mode zones) (f.lies index low) some)
+        ∙ f.blocks index some))
+
     -- pointers that came are those of growth
     points_read : IsTold (past_of start) → (number : ℕ) (to_it : Pointer) (zone : ℕ) → Named (super_view start.layout) (parts_now start) number
         → PointsTo (super_view start.layout) (model.parts_of (volume_view start) (now (past_of read))) number to_it zone
@@ -475,6 +491,7 @@ module _ {D : Type 0} {disks : Ghosts D} (start old next read : Volume D disks) 
       links = links_stay;
       marks = marks_read;
       blocks = blocks_read;
+      holds = holds_read;
       places = λ told. seen_places_law (super_view start.layout) (parts_now start) (model.parts_of (volume_view start) (now (past_of read))) chosen.directory chosen.choice.place (unseen_read.held told).sees;
       points = points_read;
       own = own_read;
@@ -552,6 +569,12 @@ module _ {D : Type 0} {disks : Ghosts D} (start mid : Volume D disks) (outer : L
         (λ kept zones index low some.
         points_kept (super_view start.layout) (model.parts_of (volume_view start) (now (past_of mid))) (model.parts_of (volume_view start) (now (past_of new))) chosen.choice.inode kept
         (block_pointer (kind_view start.layout.kind) index) (slice_index chosen.choice.blocks index) (ready.blocks told zones index low some));
+    holds = λ told.
+        let V : model.Volume → Type 0 = λ view. OnOk result (KeepsInode view.layout (model.parts_of view (now (past_of mid))) (model.parts_of view (now (past_of new))) chosen.choice.inode) in
+        on_ok result _ _ (subst V (same_view start mid ready.unseen.kept) (enters.stays (told_mid told)))
+        (λ kept zones index low some.
+        kept.zones (block_pointer (kind_view start.layout.kind) index) (slice_index chosen.choice.blocks index) (ready.blocks told zones index low some)
+        ∙ ready.holds told zones index low some);
     made = λ told.
         let super = super_view start.layout in
         let Mid : Parts = model.parts_of (volume_view start) (now (past_of mid)) in

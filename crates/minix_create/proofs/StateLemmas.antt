@@ -139,6 +139,7 @@ module _ {D : Type 0} {disks : Ghosts D} (start : Volume D disks) (chosen : Chos
     marks = λ told. tt;
     made = λ told. tt;
     lies = λ told. tt;
+    holds = λ told. tt;
     others = λ told d s off. wrong.others d s off.file;
     device = λ told. (wrong.device, wrong.rose);
   }

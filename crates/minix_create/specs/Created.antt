@@ -84,7 +84,7 @@ pub record IsReserved {D : Type 0} {disks : Ghosts D} (start volume : Volume D d
 -- ---- the whole file
 
 -- it was filled too: its inode may get a name, points to zones of the file alone and to none of growth, is what was given, and
--- each block lies in the zone that was chosen
+-- each block lies whole in the zone that was chosen
 pub record IsFilledWith {D : Type 0} {disks : Ghosts D} (volume : Volume D disks) (chosen : Chosen) (given : ℕ → List ℕ) : Type 0 where
   pub mode : ((parts_now volume).node chosen.choice.inode).mode ≡ chosen.mode
   pub named : (outer : List (List ℕ)) → MayNest outer chosen → MayBeNamed (super_view volume.layout) (parts_now volume) outer chosen.directory chosen.choice.inode
@@ -93,6 +93,7 @@ pub record IsFilledWith {D : Type 0} {disks : Ghosts D} (volume : Volume D disks
   pub clear : IsClearOf (super_view volume.layout) (parts_now volume) chosen.choice.inode chosen.choice.growth
   pub is : thing (super_view volume.layout) (parts_now volume) chosen.choice.inode ≡ thing_with chosen given
   pub lies : (index : ℕ) → index < reach (kind_view volume.layout.kind) → zone_number (super_view volume.layout) (parts_now volume) chosen.choice.inode index ≡ slice_index chosen.choice.blocks index
+  pub blocks : (index : ℕ) → slice_index chosen.choice.blocks index ≢ 0 → (parts_now volume).zone (slice_index chosen.choice.blocks index) ≡ given index
 
 pub record IsFilled {D : Type 0} {disks : Ghosts D} (start volume : Volume D disks) (chosen : Chosen) (given : ℕ → List ℕ) : Type 0 where
   pub quiet : IsQuiet (past_of start)

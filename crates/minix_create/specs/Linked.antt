@@ -56,9 +56,15 @@ LiesAsChosen super parts chosen =
     has_zones (new_inode chosen) ≡ true → (index : ℕ) → index < reach super.kind → slice_index chosen.choice.blocks index ≢ 0
     → PointsTo super parts chosen.choice.inode (block_pointer super.kind index) (slice_index chosen.choice.blocks index)
 
+-- and has the bytes that were given, those past the file's size too
+abbrev pub HoldsGiven : Super → Parts → Chosen → (ℕ → List ℕ) → Type 0
+HoldsGiven super parts chosen given =
+    has_zones (new_inode chosen) ≡ true → (index : ℕ) → index < reach super.kind → slice_index chosen.choice.blocks index ≢ 0
+    → parts.zone (slice_index chosen.choice.blocks index) ≡ given index
+
 -- Since a volume was as it is here, a file was reserved, filled and linked. Whatever a stop left, at any moment, is seen as
 -- before or has the name, which leads to the whole of the file; where the name is there, the directory above a new one has a
--- link more, if it can have, and once it is done both are there, each block lies where it was chosen, all other places of
+-- link more, if it can have, and once it is done both are there, each block lies whole where it was chosen, all other places of
 -- directories are kept, and no bitmap bit is set but those that were chosen. No other sector was written, and it was refused where
 -- the disk failed alone.
 pub record Creates {D : Type 0} {disks : Ghosts D} (start volume : Volume D disks) (outer : List (List ℕ)) (chosen : Chosen) (given : ℕ → List ℕ) (result : Result (Unit {0}) WriteFault) : Type 0 where
@@ -69,6 +75,7 @@ pub record Creates {D : Type 0} {disks : Ghosts D} (start volume : Volume D disk
   pub marks : IsTold (past_of start) → OnOk result (MarksLinked (super_view start.layout) (parts_now start) (model.parts_of (volume_view start) (now (past_of volume))) chosen)
   pub made : IsTold (past_of start) → OnOk result (HasMade (super_view start.layout) (parts_now start) (model.parts_of (volume_view start) (now (past_of volume))) chosen.directory chosen.choice)
   pub lies : IsTold (past_of start) → OnOk result (LiesAsChosen (super_view start.layout) (model.parts_of (volume_view start) (now (past_of volume))) chosen)
+  pub holds : IsTold (past_of start) → OnOk result (HoldsGiven (super_view start.layout) (model.parts_of (volume_view start) (now (past_of volume))) chosen given)
   pub others : IsTold (past_of start) → (d s : ℕ) → IsOffName start chosen d s → NotWritten (past_of start) (past_of volume) d s
   pub device : IsTold (past_of start) → IfErr result (λ fault. (fault ≡ Device) × Rose (faults_of start) (faults_of volume))
 

@@ -1,25 +1,25 @@
 -- Where the sectors of a file lie that was made.
-use Rattle.std.proofs.Common.{◌≡◌, ◌≢◌, ◌≤◌, ◌<◌, ◌+◌, ◌-◌, ◌*◌, ◌/◌, ◌%◌, ◌||◌, ℕ, zero, suc, Bool, true, false, List, [], ◌∷◌, ◌++◌, length, take, drop, map, Option, Some, Ok, refl, sym, ◌∙◌, ap, ⊎_elim, arith, length-append}
+use Rattle.std.proofs.Common.{◌≡◌, ◌≢◌, ◌≤◌, ◌<◌, ◌+◌, ◌*◌, ◌/◌, ◌%◌, ◌||◌, ℕ, zero, suc, Bool, true, false, List, [], ◌∷◌, ◌++◌, length, take, map, Option, Some, Ok, refl, sym, ◌∙◌, ap, ⊎_elim, arith, length-append}
 use Rattle.std.specs.Prelude.{slice_index}
 use Rattle.std.specs.List.{range_with_len}
 use Rattle.std.proofs.Math.Seq.{take-length}
 use Rattle.std.proofs.lemmas.Bool.{cases_eq, cases_lt, ne_eqb, or_left, or_right}
 use Rattle.std.proofs.lemmas.Simd.{map-map}
 use Rattle.std.proofs.lemmas.List.FromFn.{map-range_with_len_more}
-use Rattle.std.proofs.lemmas.List.{drop-take, length-take-le, take-append-le, take-take, drop-append-le, length-drop}
+use Rattle.std.proofs.lemmas.List.{length-take-le}
 use Rattle.disk_trait.specs.declared.disks.Disks.{Ghosts}
 use Rattle.disk_trait.specs.Moments.{IsTold, now}
 use Rattle.lilo_model.specs.Bytes.{part_of}
 use Rattle.lilo_model.specs.Disks.{Image, Span, DiskSector}
 use Rattle.lilo_model.specs.MinixLayout.{Super, reach}
-use Rattle.lilo_model.specs.MinixNames.{File, Link, Directory, Other, zone_number, block, blocks, content, thing, Named, PointsTo}
+use Rattle.lilo_model.specs.MinixNames.{File, Link, Directory, Other, zone_number, blocks, content, thing, Named, PointsTo}
 use Rattle.lilo_model.specs.MinixParts as model
-use Rattle.lilo_model.specs.MinixParts.{Parts, is_directory, is_file, is_link, has_zones, block_pointer, blocks_for, zone_bytes, parts_of}
+use Rattle.lilo_model.specs.MinixParts.{Parts, is_directory, is_file, is_link, has_zones, block_pointer, blocks_for, parts_of}
 use Rattle.lilo_model.specs.Planned.{sector_in_zone, inode_places}
 use Rattle.lilo_model.specs.Section.{sectors_for}
 use Rattle.map_again_laws.proofs.Parts.{part-after, part-prefix}
 use Rattle.minix_create.specs.Chosen.{Suits, IsFreeNow, sector_of, block_with, content_with, new_inode, thing_with}
-use Rattle.minix_create.specs.Linked.{LiesAsChosen, Creates}
+use Rattle.minix_create.specs.Linked.{LiesAsChosen, HoldsGiven, Creates}
 use Rattle.minix_create.specs.declared.chosen.Chosen.{Chosen}
 use Rattle.minix_fill_laws.proofs.Given.{past_end}
 use Rattle.minix_layout.specs.View.{kind_view, super_view}
@@ -29,21 +29,9 @@ use Rattle.minix_sees_laws.proofs.Inode.{file-zones}
 use Rattle.minix_sees_laws.proofs.Seen.{opened}
 use Rattle.minix_zones.specs.Volume.{volume_view, past_of}
 use Rattle.minix_zones.specs.declared.volume.Volume.{Volume}
-use Rattle.install_made_laws.specs.Sectors.{IsWholeFile, AreGiven, sector_in, HasSectors, LieWhereChosen, file_places, IsFileThere, HasPlaces}
+use Rattle.install_made_laws.specs.Sectors.{IsWholeFile, AreGiven, HasSectors, LieWhereChosen, file_places, IsFileThere, HasPlaces}
 
 -- ---- parts of blocks
-
--- a part of the first bytes
-part-front : (first others : List ℕ) (at len : ℕ) → at + len ≤ length first → part_of (first ++ others) at len ≡ part_of first at len
-part-front first others at len fits =
-    let rest = length-drop at first in
-    ap (take len) (drop-append-le at first others (omega (arith, fits))) ∙ take-append-le len (drop at first) others (omega (arith, rest, fits))
-
--- a part of what is cut off further on
-part-cut : (bytes : List ℕ) (size at len : ℕ) → at + len ≤ size → part_of (take size bytes) at len ≡ part_of bytes at len
-part-cut bytes size at len fits =
-    let parted : size ≡ at + (size - at) = omega (arith, fits) in
-    ap (λ (n : ℕ). take len (drop at (take n bytes))) parted ∙ ap (take len) (drop-take at (size - at) bytes) ∙ take-take len (size - at) (drop at bytes) (omega (arith, fits))
 
 module _ (at : ℕ → List ℕ) where
   -- the first blocks are whole
@@ -56,24 +44,6 @@ module _ (at : ℕ → List ℕ) where
       let one = length-blocks count (λ index low. long index (omega (arith, low))) in
       let last = long count (omega arith) in
       length-append (blocks at count) (at count) ∙ omega (arith, one, last)
-
-  -- a sector of them is one of a block
-  sector-of-blocks : (count index : ℕ) → AreLong count → index < 2 * count → part_of (blocks at count) (512 * index) 512 ≡ sector_in at index
-  sector-of-blocks zero index long low = absurd (omega (arith, low))
-  sector-of-blocks (suc count) index long low = ⊎_elim
-      (λ before. part-front (blocks at count) (at count) (512 * index) 512 (omega (arith, long-first, before))
-      ∙ sector-of-blocks count index long-before before)
-      (λ since.
-      let here : index / 2 ≡ count = omega (arith, since, low) in
-      part-after (blocks at count) (at count) (512 * index) (512 * (index % 2)) 512 (omega (arith, long-first, since, low))
-      ∙ ap (λ (n : ℕ). part_of (at n) (512 * (index % 2)) 512) (sym here))
-      (cases_lt index (2 * count))
-    where
-      long-before : AreLong count
-      long-before at' low' = long at' (omega (arith, low'))
-
-      long-first : length (blocks at count) ≡ 1024 * count
-      long-first = length-blocks count long-before
 
 -- all of a sector
 part-whole : (bytes : List ℕ) → length bytes ≡ 512 → part_of bytes 0 512 ≡ bytes
@@ -101,15 +71,6 @@ file-by super parts number bytes true link directory f l d same = let e : File (
 file-by super parts number bytes false true directory f l d same = let e : Link (content super parts number) ≡ File bytes = rw (f, l) at same in absurd (cc)
 file-by super parts number bytes false false true f l d same = let e : Directory ≡ File bytes = rw (f, l, d) at same in absurd (cc)
 file-by super parts number bytes false false false f l d same = let e : Other ≡ File bytes = rw (f, l, d) at same in absurd (cc)
-
-content-opened : (super : Super) (parts : Parts) (number : ℕ) → take (parts.node number).size (blocks (block super parts number) (blocks_for (parts.node number).size)) ≡ content super parts number
-unfolding content
-content-opened super parts number = refl
-
--- the bytes of a block that lies in a zone
-block-in : (super : Super) (parts : Parts) (number index zone : ℕ) → PointsTo super parts number (block_pointer super.kind index) zone → block super parts number index ≡ parts.zone zone
-unfolding block zone_number
-block-in super parts number index zone to = ap (zone_bytes parts) to.is ∙ rw (ne_eqb zone 0 to.some) refl
 
 zone-halves : (volume : model.Volume) (image : Image) (zone : ℕ) → (parts_of volume image).zone zone ≡ model.sector_of volume image (2 * zone) ++ model.sector_of volume image (2 * zone + 1)
 unfolding parts_of
@@ -157,6 +118,9 @@ module _ {D : Type 0} {disks : Ghosts D} (start volume : Volume D disks) (chosen
 
   lies : LiesAsChosen (super_view start.layout) New chosen
   lies = creates.lies told
+
+  holds : HoldsGiven (super_view start.layout) New chosen given
+  holds = creates.holds told
 
   named : Named (super_view start.layout) New Inode
   named = record { path = chosen.name ∷ outer; leads = tree.tree.here }
@@ -220,25 +184,14 @@ module _ {D : Type 0} {disks : Ghosts D} (start volume : Volume D disks) (chosen
     high-long : length (model.sector_of View Then (2 * Zone + 1)) ≡ 512
     high-long = (opened View Then tree.sound).whole (2 * Zone + 1) (omega (arith, below))
 
-    block-is : block (super_view start.layout) New Inode index ≡ model.sector_of View Then (2 * Zone) ++ model.sector_of View Then (2 * Zone + 1)
-    block-is = block-in (super_view start.layout) New Inode index Zone points ∙ zone-halves View Then Zone
-
-    block-long : length (block (super_view start.layout) New Inode index) ≡ 1024
-    block-long = ap length block-is ∙ length-append (model.sector_of View Then (2 * Zone)) (model.sector_of View Then (2 * Zone + 1)) ∙ omega (arith, low-long, high-long)
-
-    half-is : (half : ℕ) → half < 2 → part_of (block (super_view start.layout) New Inode index) (512 * half) 512 ≡ model.sector_of View Then (2 * Zone + half)
+    half-is : (half : ℕ) → half < 2 → part_of (given index) (512 * half) 512 ≡ model.sector_of View Then (2 * Zone + half)
     half-is half few =
         let even : 2 * Zone + 0 ≡ 2 * Zone = omega arith in
-        ap (λ (bytes : List ℕ). part_of bytes (512 * half) 512) block-is
+        ap (λ (bytes : List ℕ). part_of bytes (512 * half) 512) (sym (holds new-zones index in-reach (whole.each index low)) ∙ zone-halves View Then Zone)
         ∙ half-of-two (model.sector_of View Then (2 * Zone)) (model.sector_of View Then (2 * Zone + 1)) half low-long high-long few
         (λ (n : ℕ). model.sector_of View Then (2 * Zone + n)) (ap (λ (n : ℕ). model.sector_of View Then n) even) refl
 
-  -- ---- the content by its blocks
-
-  content-is : take chosen.length (blocks (block (super_view start.layout) New Inode) (blocks_for chosen.length)) ≡ content_with chosen given
-  content-is =
-      ap (λ (size : ℕ). take size (blocks (block (super_view start.layout) New Inode) (blocks_for size))) (sym size-is)
-      ∙ content-opened (super_view start.layout) New Inode ∙ file.1
+  -- ---- its sectors
 
   place-of : (index : ℕ) → sector_of chosen index ≡ start.span.start + (2 * slice_index chosen.choice.blocks (index / 2) + index % 2)
   place-of index = let begins = suits.begins in omega (arith, begins)
@@ -269,21 +222,9 @@ module _ {D : Type 0} {disks : Ghosts D} (start volume : Volume D disks) (chosen
   pub has_places : IsFileThere View Then chosen count
   has_places = record { file = file.0; size = size-is; places = places-are }
 
-  pub has_sectors : HasSectors Then start.span.disk chosen given count
+  pub has_sectors : HasSectors Then start.span.disk chosen given (2 * blocks_for chosen.length)
   has_sectors index low =
-      ap (Then start.span.disk) (place-of index) ∙ sym (half-is (index / 2) (in-blocks index low) (index % 2) (omega arith))
-      ∙ sym (sector-of-blocks (block (super_view start.layout) New Inode) (blocks_for chosen.length) index block-long in-sectors)
-      ∙ sym (part-cut (blocks (block (super_view start.layout) New Inode) (blocks_for chosen.length)) chosen.length (512 * index) 512 in-size)
-      ∙ ap (λ (bytes : List ℕ). part_of bytes (512 * index) 512) content-is
-      ∙ part-cut (blocks (block_with chosen.choice.blocks given) (blocks_for chosen.length)) chosen.length (512 * index) 512 in-size
-      ∙ sector-of-blocks (block_with chosen.choice.blocks given) (blocks_for chosen.length) index long-given in-sectors
-      ∙ ap (λ (bytes : List ℕ). part_of bytes (512 * (index % 2)) 512) (block-given (index / 2) (in-blocks index low))
-    where
-      in-size : 512 * index + 512 ≤ chosen.length
-      in-size = let size = whole.size in omega (arith, size, low)
-
-      in-sectors : index < 2 * blocks_for chosen.length
-      in-sectors = omega (arith, in-size)
+      ap (Then start.span.disk) (place-of index) ∙ sym (half-is (index / 2) (omega (arith, low)) (index % 2) (omega arith))
 
 pub lie_where_chosen : {D : Type 0} {disks : Ghosts D} (start volume : Volume D disks) (chosen : Chosen) → IsTold (past_of start) → Suits start.layout start.span chosen → IsFreeNow start chosen → LieWhereChosen start volume chosen
 lie_where_chosen start volume chosen told suits free outer given count creates whole long = has_sectors start volume chosen told suits free outer given count creates whole long

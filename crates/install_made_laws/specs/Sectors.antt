@@ -32,11 +32,11 @@ sector_in given index = part_of (given (index / 2)) (512 * (index % 2)) 512
 abbrev pub HasSectors : Image → ℕ → Chosen → (ℕ → List ℕ) → ℕ → Type 0
 HasSectors image disk chosen given count = (index : ℕ) → index < count → image disk (sector_of chosen index) ≡ sector_in given index
 
--- so it is now, where it was made of them since a volume was as it is here
+-- so it is now of all its blocks' sectors, those past its size too, where it was made of them since a volume was as it is here
 abbrev pub LieWhereChosen : {D : Type 0} {disks : Ghosts D} → Volume D disks → Volume D disks → Chosen → Type 0
 LieWhereChosen start volume chosen =
     (outer : List (List ℕ)) (given : ℕ → List ℕ) (count : ℕ) → Creates start volume outer chosen given (Ok tt)
-    → IsWholeFile chosen count → AreGiven chosen given → HasSectors (now (past_of volume)) start.span.disk chosen given count
+    → IsWholeFile chosen count → AreGiven chosen given → HasSectors (now (past_of volume)) start.span.disk chosen given (2 * blocks_for chosen.length)
 
 -- where its first sectors lie
 abbrev pub file_places : Chosen → ℕ → ℕ → List DiskSector

@@ -1,9 +1,12 @@
 -- Names that were found are those of the model, where they were examined and once they are settled.
-use Rattle.std.proofs.Common.{◌≡◌, ◌≢◌, ◌∙◌, ◌&&◌, ◌||◌, ℕ, Bool, true, false, not, List, is_some, unwrap_or, Option, None, Some, refl, sym, ap, subst}
+use Rattle.std.proofs.Common.{◌≡◌, ◌≢◌, ◌∙◌, ◌&&◌, ◌||◌, ℕ, Bool, true, false, not, List, is_some, unwrap_or, Option, None, Some, Result, Ok, Err, IfOk, refl, sym, ap, subst}
 use Rattle.std.specs.Prelude.{IfSome}
 use Rattle.std.proofs.lemmas.Bool.{and_parts}
 use Rattle.disk_trait.specs.declared.disks.Disks.{Ghosts}
+use Rattle.disk_trait.specs.declared.disks.Span.{Span}
 use Rattle.disk_trait.specs.Moments.{IsTold, now}
+use Rattle.disk_trait.specs.Past.{Told}
+use Rattle.disk_trait.proofs.MomentLemmas.{told_now}
 use Rattle.lilo_model.specs.Disks.{Image, Machine, DiskSector}
 use Rattle.lilo_model.specs.Mapped.{mapped_sectors}
 use Rattle.lilo_model.specs.MinixLayout.{Super}
@@ -11,11 +14,16 @@ use Rattle.lilo_model.specs.MinixNames.{reached}
 use Rattle.lilo_model.specs.MinixParts.{Volume, Parts, parts_of, is_directory}
 use Rattle.lilo_model.specs.NamePlaces.{with_tilde}
 use Rattle.lilo_model.specs.Settled as model
+use Rattle.lilo_conf.specs.View.{config_view}
+use Rattle.lilo_conf.specs.declared.config.Config.{Config}
+use Rattle.mbr_table.specs.View.{device_view}
+use Rattle.mbr_table.specs.declared.device.Device.{Device}
 use Rattle.minix_layout.specs.declared.superblock.Super as layouts
 use Rattle.minix_names.specs.Places.{IsPlace, number_found}
 use Rattle.minix_tree.specs.declared.stat.Stat.{Stat}
 use Rattle.minix_zones.specs.View.{span_view}
 use Rattle.minix_zones.specs.Volume.{volume_view, past_of}
+use Rattle.minix_zones.specs.declared.volume.Volume as volumes
 use Rattle.sector_address.specs.Machine.{machine_of}
 use Rattle.install_apart.specs.Names.{IsPair, is_replaceable}
 use Rattle.install_apart.specs.Own.{AreReplaceable, IsBackup, IsBackupReplaceable}
@@ -31,11 +39,13 @@ use Rattle.install_settle.specs.Found.{AreFound, has_copy}
 use Rattle.install_settle.specs.Settles.{IsBeside, KeepsPaths, stale_of}
 use Rattle.install_settle.proofs.LeadLemmas.{plain-at, tilde-at}
 use Rattle.install_settle.proofs.PathLemmas.{file-apart, tilde-differs}
-use Rattle.install_order.specs.Answers.{IsKnown, begun_in}
+use Rattle.install_order.specs.Answers.{IsFor, IsKnown, IsLookedAt, Leaves, Settled, begun_in, found_in, volume_in}
 use Rattle.install_order.specs.Begins.{AreOwn, FitsVolume, IsBegun, IsSurveyed}
-use Rattle.install_order.specs.Checks.{IsExamined}
-use Rattle.install_order.specs.Plans.{IsAsFound, AreSurveyed, IsPairPlaced, IsBackupPlaced, ArePlaced}
+use Rattle.install_order.specs.Checks.{GivesExamined, IsExamined}
+use Rattle.install_order.specs.Plans.{IsAsFound, AreSurveyed, Surveys, IsPairPlaced, IsBackupPlaced, ArePlaced}
+use Rattle.install_order.specs.View.{begun_of}
 use Rattle.install_order.specs.declared.examination.Examined.{Examined}
+use Rattle.install_order.specs.declared.halt.Halt.{Halt}
 use Rattle.install_order.specs.declared.surveyed.Surveyed.{Surveyed}
 use Rattle.install_order.proofs.BeginLemmas.{backup-apart, value-is}
 
@@ -227,3 +237,74 @@ surveyed_placed image machine s known names places are =
 pub known_found : {D : Type 0} {disks : Ghosts D} (s : Surveyed D disks) (known : IsKnown s) (told : IsTold (past_of s.volume))
     → IsAsFound (now (past_of s.volume)) (volume_view s.volume) (mapped_sectors (known.known told).entry (machine_of disks s.volume.disks.now) (span_view s.boot)) (known.known told).examined.names s.found
 known_found {D} {disks} s known told = surveyed_found (now (past_of s.volume)) (machine_of disks s.volume.disks.now) s known _ _ (known_surveyed s known told)
+
+-- ---- what a beginning answers
+
+-- what was found of what the disks held before it, and is settled
+module _ {D : Type 0} {disks : Ghosts D} (old : volumes.Volume D disks) (config : Config) (device : Device) (boot : Span) (time : ℕ) (s : Surveyed D disks)
+    (is_for : IsFor config boot time true s) (boots : config.boot ≡ Some device) (leaves : Leaves old s.volume (begun_of old config device boot)) where
+  view-same : volume_view s.volume ≡ volume_view old
+  view-same = rw (leaves.kept.same_span, leaves.kept.same_layout) refl
+
+  machine-same : machine_of disks s.volume.disks.now ≡ machine_of disks old.disks.now
+  machine-same = rw (leaves.goes_on.size, leaves.goes_on.geometry) refl
+
+  device-same : s.device ≡ device
+  device-same = let both : Some s.device ≡ Some device = sym is_for.device_is ∙ boots in cc
+
+  begun-same : begun_in s ≡ begun_of old config device boot
+  begun-same =
+      ap (λ (v : Volume). record { volume = v; config = config_view s.config; boot = device_view s.device; span = span_view s.boot }) view-same
+      ∙ (ap (λ (c : Config). begun_of old c s.device s.boot) is_for.config_is
+      ∙ (ap (λ (d : Device). begun_of old config d s.boot) device-same ∙ ap (begun_of old config device) is_for.boot_is))
+
+  -- what is said of the disks as they were is said of what was surveyed
+  forth : (P : Machine → Begun → Type 0) → P (machine_of disks old.disks.now) (begun_of old config device boot) → P (machine_of disks s.volume.disks.now) (begun_in s)
+  forth P p = subst (λ (m : Machine). P m (begun_in s)) (sym machine-same) (subst (P (machine_of disks old.disks.now)) (sym begun-same) p)
+
+  pub begun_surveyed : IsExamined (now (past_of old)) (machine_of disks old.disks.now) (volume_view old) (config_view config) (device_view device) (span_view boot) s.found
+      → IsBegun (now (past_of old)) (machine_of disks old.disks.now) (begun_of old config device boot) s.found (now (past_of s.volume))
+      → (names : model.OwnNames) (places : List DiskSector) → AreOwn (now (past_of old)) (begun_of old config device boot) names → KeepsOut (volume_view old) places s.found.old
+      → AreSurveyed (now (past_of s.volume)) (machine_of disks s.volume.disks.now) s names places
+  begun_surveyed examined done names places own keeps = record {
+    survey = record {
+      entry = now (past_of old);
+      examined = forth (λ m b. IsExamined (now (past_of old)) m b.volume b.config b.boot b.span s.found) examined;
+      is_settled = λ on. forth (λ m b. IsBegun (now (past_of old)) m b s.found (now (past_of s.volume))) done;
+      is_looked_at = λ off. absurd (clash off);
+    };
+    own = forth (λ m b. AreOwn (now (past_of old)) b names) own;
+    keeps = forth (λ m b. KeepsOut b.volume places s.found.old) keeps;
+  }
+    where
+      clash : s.settled ≡ false → ⊥
+      clash off = let both : true ≡ false = sym is_for.settled_is ∙ off in cc
+
+-- so it is for what was looked at and is settled
+module _ {D : Type 0} {disks : Ghosts D} (old : volumes.Volume D disks) (config : Config) (boot : Span) (time : ℕ) (looked : Surveyed D disks) (is_for : IsFor config boot time false looked) where
+  for-settled : (s : Surveyed D disks) → IsLookedAt looked s → IsFor config boot time true s
+  for-settled s is = record {
+    config_is = is.config_is ∙ is_for.config_is;
+    device_is = is_for.device_is ∙ ap Some (sym is.device_is);
+    boot_is = is.boot_is ∙ is_for.boot_is;
+    time_is = is.time_is ∙ is_for.time_is;
+    settled_is = is.settled_is;
+  }
+
+  abbrev At : Device → Begun
+  At device = begun_of old config device boot
+
+  pub surveys_of : (result : Result (Surveyed D disks) (Halt D disks)) → IfOk result (IsLookedAt looked) → IfSome config.boot (λ device. Leaves old (volume_in result) (At device))
+      → IfSome config.boot (λ device. IfOk result (Settled old (At device)))
+      → IfSome config.boot (λ device. Told (past_of old) (λ image. GivesExamined image (machine_of disks old.disks.now) (volume_view old) (config_view config) (device_view device) (span_view boot) (found_in result)))
+      → IfSome config.boot (λ device. IfOk result (Surveys old (At device)))
+  surveys_of result held leaves settled found = by config.boot refl result held leaves settled found
+    where
+      by : (o : Option Device) → config.boot ≡ o → (r : Result (Surveyed D disks) (Halt D disks)) → IfOk r (IsLookedAt looked) → IfSome o (λ device. Leaves old (volume_in r) (At device))
+          → IfSome o (λ device. IfOk r (Settled old (At device)))
+          → IfSome o (λ device. Told (past_of old) (λ image. GivesExamined image (machine_of disks old.disks.now) (volume_view old) (config_view config) (device_view device) (span_view boot) (found_in r)))
+          → IfSome o (λ device. IfOk r (Surveys old (At device)))
+      by None same r held leaves settled found = tt
+      by (Some device) same (Ok s) held leaves settled found = λ told.
+          begun_surveyed old config device boot time s (for-settled s held) same leaves (told_now (past_of old) _ found told) (settled told)
+      by (Some device) same (Err halt) held leaves settled found = tt

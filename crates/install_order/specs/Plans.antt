@@ -1,6 +1,7 @@
 -- What an installation plans, by the first of the model's checks (this project's own).
 use Rattle.std.specs.Prelude.{◌≡◌, ℕ, Bool, not, is_some, List, length, All, Option, None, Some, Result, Ok, Err}
 use Rattle.disk_trait.specs.declared.disks.Disks.{Ghosts}
+use Rattle.disk_trait.specs.Moments.{IsTold, now}
 use Rattle.lilo_model.specs.Checks.{◌>>=◌, with_fault}
 use Rattle.lilo_model.specs.Conf.{Config}
 use Rattle.lilo_model.specs.Disks.{Image, Machine, Span, DiskSector}
@@ -17,12 +18,13 @@ use Rattle.map_sectors.specs.Map.{plan_view}
 use Rattle.map_sectors.specs.declared.map.MapPlan.{MapPlan}
 use Rattle.minix_names.specs.Places.{IsPlace}
 use Rattle.minix_zones.specs.View.{span_view}
-use Rattle.minix_zones.specs.Volume.{volume_view}
+use Rattle.minix_zones.specs.Volume.{volume_view, past_of}
 use Rattle.minix_zones.specs.declared.volume.Volume as volumes
+use Rattle.sector_address.specs.Machine.{machine_of}
 use Rattle.write_model.specs.Wish as rooms
 use Rattle.install_apart.specs.declared.name.NamePair.{NamePair}
 use Rattle.install_apart.specs.declared.own.OwnNames.{OwnNames}
-use Rattle.install_laws.specs.InstallVerdict.{InstallRefusal, NoPlan, NoRoom}
+use Rattle.install_laws.specs.InstallVerdict.{Begun, InstallRefusal, NoPlan, NoRoom}
 use Rattle.install_room.specs.Names.{AreNamesOf}
 use Rattle.install_room.specs.Room.{KeepsOut, room_for, places_view}
 use Rattle.install_room.specs.declared.room.Room.{Room}
@@ -159,6 +161,13 @@ pub record AreSurveyed {D : Type 0} {disks : Ghosts D} (image : Image) (machine 
   pub survey : IsSurveyed image machine (begun_in surveyed) surveyed.found surveyed.settled
   pub own : AreOwn survey.entry (begun_in surveyed) names
   pub keeps : KeepsOut (volume_view surveyed.volume) places surveyed.found.old
+
+-- the names that are replaced and such places, by what disks held before, are those of what was surveyed
+abbrev pub Surveys : {D : Type 0} {disks : Ghosts D} → volumes.Volume D disks → Begun → Surveyed D disks → Type 0
+Surveys {D} {disks} old begun surveyed =
+    IsTold (past_of old) → (names : model.OwnNames) (places : List DiskSector) → AreOwn (now (past_of old)) begun names
+    → KeepsOut begun.volume places surveyed.found.old
+    → AreSurveyed (now (past_of surveyed.volume)) (machine_of disks surveyed.volume.disks.now) surveyed names places
 
 -- the names of a pair are each in the directory to which its path leads
 pub record IsPairPlaced (super : Super) (parts : Parts) (path : List (List ℕ)) (pair : NamePair) : Type 0 where

@@ -11,6 +11,7 @@ ghost use Rattle.sector_address.specs.Machine.{OnDisks};
 ghost use Rattle.install_order.specs.Answers.{volume_in, found_in, IsFor, IsKnown, IsLookedAt, Leaves, Promises, SaysClear, Settled};
 ghost use Rattle.install_order.specs.Checks.{IsLaid, GivesExamined};
 ghost use Rattle.install_order.specs.Faults.{HasInstallCause};
+ghost use Rattle.install_order.specs.Plans.{Surveys};
 ghost use Rattle.install_order.specs.View.{begun_of};
 
 use crate::examination::examine;
@@ -179,6 +180,8 @@ impl<'d, D: Disks> Surveyed<'d, D> {
         ensures quiet { IsQuiet (past_of volume.entry) → IfOk result (λ surveyed. IsQuiet (past_of surveyed.volume)) }
         ensures held { IfOk result (IsFor config boot now true) }
         ensures known { IfOk result IsKnown }
+        ensures surveyed { IfSome config.boot (λ device.
+            IfOk result (Surveys volume.entry (begun_of volume.entry config device boot))) }
         ensures clear { IfSome config.boot (λ device.
             IfOk result (SaysClear volume.entry (begun_of volume.entry config device boot))) }
     {

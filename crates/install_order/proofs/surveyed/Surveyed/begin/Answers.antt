@@ -5,6 +5,7 @@ use Rattle.mbr_table.specs.declared.device.Device.{Device}
 use Rattle.install_order.specs.Answers.{volume_in}
 use Rattle.install_order.specs.View.{begun_of}
 use Rattle.install_order.proofs.AnswerLemmas.{leaves_nothing, quiet_forth, leaves_back, settled_back, clear_back, found_back, refused_back, cause_back, promises_of}
+use Rattle.install_order.proofs.NamedLemmas.{surveys_of}
 use Rattle.install_order.proofs.surveyed.Surveyed.begin.Goals as goal
 
 some-all : (o : Option Device) (P : Device → Type 0) → ((device : Device) → P device) → IfSome o P
@@ -54,3 +55,8 @@ returns-clause-clear g c =
 pub returns-clause-promises : goal.returns-clause-promises
 returns-clause-promises g c = λ quiet.
     promises_of c.args.volume (λ device. begun_of c.args.volume c.args.config device c.args.boot) c.args.config.boot c.settle_names.result quiet (returns-clause-leaves g c) (returns-clause-settled g c)
+
+pub returns-clause-surveyed : goal.returns-clause-surveyed
+returns-clause-surveyed g c =
+    surveys_of c.args.volume c.args.config c.args.boot c.args.now c.in_ok-looked.looked c.in_ok-looked.ensures.held c.settle_names.result c.settle_names.ensures.held
+    (returns-clause-leaves g c) (returns-clause-settled g c) (returns-clause-found g c)

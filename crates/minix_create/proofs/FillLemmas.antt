@@ -8,14 +8,13 @@ use Rattle.disk_trait.specs.Moments.{IsTold}
 use Rattle.disk_trait.specs.NotWritten.{IsOther}
 use Rattle.disk_trait.specs.Range.{IsOutside}
 use Rattle.disk_trait.proofs.NotWrittenLemmas.{not_written_join}
-use Rattle.lilo_model.specs.MinixLayout.{Inode, inode_place, numbers_in_zone, reach, zone_sector}
+use Rattle.lilo_model.specs.MinixLayout.{Kind, V1Short, V1Long, V2Short, V2Long, Inode, inode_place, kept_inode, numbers_in_zone, reach, zone_sector}
 use Rattle.lilo_model.specs.MinixNames.{thing, block, blocks, content, zone_number, PointsTo}
 use Rattle.lilo_model.specs.MinixParts.{Pointer, is_directory, zone_bytes, blocks_for, block_pointer}
 use Rattle.minix_choice_laws.specs.Choice.{file_of}
 use Rattle.minix_entry_laws.specs.Enter.{DirectoryMayStand}
 use Rattle.minix_fill.specs.Fill as fill
 use Rattle.minix_fill.specs.Fill.{FillsFile, AreMarked, IsOfSome, MayGetName, IsFitThen}
-use Rattle.minix_fill.proofs.FillLemmas.{KeepsFields, kept_fields}
 use Rattle.minix_fill.specs.Numbers.{tops_of}
 use Rattle.minix_fill_laws.specs.Laws.{MayBeFile}
 use Rattle.minix_fill_laws.specs.Sources.{Source, Block, Indirect, zone_from, source_of}
@@ -31,7 +30,7 @@ use Rattle.minix_steps.proofs.ReadyLemmas.{quiet_ready}
 use Rattle.minix_steps.proofs.StepLemmas.{steps_join}
 use Rattle.minix_zones.specs.Volume.{past_of}
 use Rattle.minix_zones.specs.declared.volume.Volume.{Volume}
-use Rattle.minix_create.specs.Chosen.{Suits, IsOfDirectory, MayBeMade, MayNest, block_with, content_with, new_inode, thing_with}
+use Rattle.minix_create.specs.Chosen.{Suits, IsNewInode, IsOfDirectory, MayBeMade, MayNest, block_with, content_with, new_inode, thing_with}
 use Rattle.minix_create.specs.Created.{IsOffFile, IsOpen, IsReserved, IsFilledWith, IsFilled}
 use Rattle.minix_create.specs.Entered.{MayBeNamed}
 use Rattle.minix_create.specs.declared.chosen.Chosen.{Chosen}
@@ -42,6 +41,14 @@ use Rattle.minix_create.proofs.FromLemmas.{file_zone, has_one}
 same_blocks : (one other : ℕ → List ℕ) (count : ℕ) → ((index : ℕ) → one index ≡ other index) → blocks one count ≡ blocks other count
 same_blocks one other zero same = refl
 same_blocks one other (suc count) same = rw (same_blocks one other count same, same count) refl
+
+-- what a volume keeps of a new inode is that, whatever zones it has
+kept_new : (kind : Kind) (chosen : Chosen) (tops : List ℕ) → IsNewInode chosen (kept_inode kind (record (new_inode chosen) { zones = tops }))
+unfolding kept_inode
+kept_new V1Short chosen tops = refl
+kept_new V1Long chosen tops = refl
+kept_new V2Short chosen tops = refl
+kept_new V2Long chosen tops = refl
 
 -- a sector that isn't of the file isn't of its indirect zones
 pub off_indirect_of : {D : Type 0} {disks : Ghosts D} (volume : Volume D disks) (chosen : Chosen) → Suits volume.layout volume.span chosen → (d s : ℕ) → IsOffFile volume chosen d s
@@ -62,10 +69,16 @@ module _ {D : Type 0} {disks : Ghosts D} (start old new : Volume D disks) (chose
     file : MayBeFile (kind_view old.layout.kind) (file_of chosen.choice)
     file = may.file (told_old told)
 
-    fields : KeepsFields ((parts_now new).node chosen.choice.inode) (new_inode chosen)
-    fields =
-        let K : Inode → Type 0 = λ node. KeepsFields node (new_inode chosen) in
-        subst K (sym is.node) (kept_fields (kind_view old.layout.kind) (new_inode chosen) (tops_of (kind_view old.layout.kind) (file_of chosen.choice)))
+    node_is : IsNewInode chosen ((parts_now new).node chosen.choice.inode)
+    node_is =
+        let N : Inode → Type 0 = IsNewInode chosen in
+        subst N (sym is.node) (kept_new (kind_view old.layout.kind) chosen (tops_of (kind_view old.layout.kind) (file_of chosen.choice)))
+
+    mode_is : ((parts_now new).node chosen.choice.inode).mode ≡ chosen.mode
+    mode_is = ap (λ (i : Inode). i.mode) node_is
+
+    size_is : ((parts_now new).node chosen.choice.inode).size ≡ chosen.length
+    size_is = ap (λ (i : Inode). i.size) node_is
 
     -- each block has its bytes
     block_written : (index : ℕ) → slice_index chosen.choice.blocks index ≢ 0 → (parts_now new).zone (slice_index chosen.choice.blocks index) ≡ given index
@@ -85,16 +98,15 @@ module _ {D : Type 0} {disks : Ghosts D} (start old new : Volume D disks) (chose
 
     content_is : blocks_for chosen.length ≤ reach (kind_view old.layout.kind) → content (super_view old.layout) (parts_now new) chosen.choice.inode ≡ content_with chosen given
     content_is few =
-        let size : ((parts_now new).node chosen.choice.inode).size ≡ chosen.length = fields.size in
         let F : ℕ → Type 0 = λ n. blocks_for n ≤ reach (kind_view old.layout.kind) in
         let C : ℕ → List ℕ = λ n. take n (blocks (λ index. zone_bytes (parts_now new) (slice_index chosen.choice.blocks index)) (blocks_for n)) in
-        content_law (super_view old.layout) (parts_now new) chosen.choice.inode (file_of chosen.choice) file is.has (subst F (sym size) few)
-        ∙ (ap C size
+        content_law (super_view old.layout) (parts_now new) chosen.choice.inode (file_of chosen.choice) file is.has (subst F (sym size_is) few)
+        ∙ (ap C size_is
         ∙ ap (take chosen.length) (same_blocks (λ index. zone_bytes (parts_now new) (slice_index chosen.choice.blocks index)) (block_with chosen.choice.blocks given) (blocks_for chosen.length) block_is))
 
     thing_is : blocks_for chosen.length ≤ reach (kind_view old.layout.kind) → thing (super_view old.layout) (parts_now new) chosen.choice.inode ≡ thing_with chosen given
     unfolding thing
-    thing_is few = rw (fields.mode, content_is few) refl
+    thing_is few = rw (mode_is, content_is few) refl
 
     at_new : (P : Super → Type 0) → P old.layout → P new.layout
     at_new P holds = subst P (sym fills.steps.kept.same_layout) holds
@@ -133,8 +145,8 @@ module _ {D : Type 0} {disks : Ghosts D} (start old new : Volume D disks) (chose
           → DirectoryMayStand (super_view old.layout) (parts_now new) outer chosen.directory chosen.choice.inode
       of_directory outer nests of =
           let D : ℕ → Type 0 = λ mode. (mode / 4096 == 4) ≡ true in
-          directory_stands (super_view old.layout) (parts_now new) chosen.directory chosen.choice.inode (block_with chosen.choice.blocks given 0) (fields.size ∙ of.two) first_block of.dots
-          outer (subst D (sym fields.mode) of.is) (fit (some_of of.is) (told_old told) marked) (nests of.is)
+          directory_stands (super_view old.layout) (parts_now new) chosen.directory chosen.choice.inode (block_with chosen.choice.blocks given 0) (size_is ∙ of.two) first_block of.dots
+          outer (subst D (sym mode_is) of.is) (fit (some_of of.is) (told_old told) marked) (nests of.is)
         where
           some_of : is_directory (new_inode chosen) ≡ true → IsOfSome (new_inode chosen)
           some_of is' = record {
@@ -144,7 +156,7 @@ module _ {D : Type 0} {disks : Ghosts D} (start old new : Volume D disks) (chose
 
       pub filled_with : IsFilledWith new chosen given
       filled_with = record {
-        mode = fields.mode;
+        node = node_is;
         named = at_new (λ layout. (outer : List (List ℕ)) → MayNest outer chosen → MayBeNamed (super_view layout) (parts_now new) outer chosen.directory chosen.choice.inode)
             (λ outer nests. ⊎_elim (λ of. inl (stands of (told_old told) marked)) (λ of. inr (of_directory outer nests of)) made);
         own = at_new (λ layout. (at : Pointer) (zone : ℕ) → PointsTo (super_view layout) (parts_now new) chosen.choice.inode at zone → (source : Source) × (zone_from (file_of chosen.choice) source ≡ zone)) own_is;

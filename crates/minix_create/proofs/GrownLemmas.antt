@@ -41,7 +41,7 @@ use Rattle.minix_steps.specs.Written.{parts_now}
 use Rattle.minix_steps.proofs.StepLemmas.{same_view}
 use Rattle.minix_turns.specs.Joined.{Unseen}
 use Rattle.minix_turns.proofs.JoinedLemmas.{unseen_join}
-use Rattle.minix_write.specs.View.{HasWriteCause}
+use Rattle.minix_write.specs.View.{HasWriteCause, zone_refusal}
 use Rattle.minix_write.specs.declared.write_fault.WriteFault.{WriteFault}
 use Rattle.minix_write.specs.declared.write_fault.WriteFault.TheVariants as refusals
 use Rattle.minix_zones.specs.Volume.{volume_view, past_of, faults_of, SameVolume}
@@ -388,11 +388,11 @@ module _ {D : Type 0} {disks : Ghosts D} (old : Volume D disks) (chosen : Chosen
     device = λ told. tt;
   }
 
-  pub last_failed : (new : Volume D disks) (fault : ZoneFault) → grow.GrowsTo old new chosen.directory chosen.choice.place chosen.choice.growth (Err fault) → GrowsChosen old new chosen (Err refusals.Device)
+  pub last_failed : (new : Volume D disks) (fault : ZoneFault) → grow.GrowsTo old new chosen.directory chosen.choice.place chosen.choice.growth (Err fault) → GrowsChosen old new chosen (Err (zone_refusal fault))
   last_failed new fault grows = record {
     unseen = grows.unseen;
     free = λ told. tt;
     keeps = λ told. tt;
     others = λ told d s off. grows.others told d s off.zones (off-way told d s off.directory) off.directory.inode;
-    device = λ told. (refl, (grows.device told).1);
+    device = λ told. (ap zone_refusal (grows.device told).0, (grows.device told).1);
   }

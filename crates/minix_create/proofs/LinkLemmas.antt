@@ -55,7 +55,7 @@ use Rattle.lilo_model.specs.Faults.{Rose}
 use Rattle.minix_zones.specs.Volume.{volume_view, past_of, faults_of, SameVolume}
 use Rattle.minix_zones.specs.declared.volume.Volume.{Volume}
 use Rattle.minix_create.specs.Brought.{IsInDirectory, GivesPlace}
-use Rattle.minix_create.specs.Chosen.{MayLinkNow, MayNest, new_inode, thing_with}
+use Rattle.minix_create.specs.Chosen.{MayLinkNow, MayNest, IsNewInode, new_inode, thing_with}
 use Rattle.minix_create.specs.Created.{MarksOnly, IsFilled}
 use Rattle.minix_create.specs.Entered.{SameMarks, KeepsDirectories, MayBeNamed, links_above, MayEnterNow, IsOffEntered, Enters}
 use Rattle.minix_create.specs.Grown.{MayGrowNow, LiesNow, IsOffGrowth, GrowsChosen}
@@ -92,6 +92,7 @@ pub record IsLinkable {D : Type 0} {disks : Ghosts D} (start next : Volume D dis
   pub is : IsTold (past_of start) → thing (super_view next.layout) (parts_now next) chosen.choice.inode ≡ thing_with chosen given
   pub links : IsTold (past_of start) → ((model.parts_of (volume_view start) (now (past_of next))).node chosen.directory).links ≡ ((parts_now start).node chosen.directory).links
   pub marks : IsTold (past_of start) → MarksLinked (super_view start.layout) (parts_now start) (model.parts_of (volume_view start) (now (past_of next))) chosen
+  pub node : IsTold (past_of start) → IsNewInode chosen ((model.parts_of (volume_view start) (now (past_of next))).node chosen.choice.inode)
   pub blocks : IsTold (past_of start) → LiesAsChosen (super_view start.layout) (model.parts_of (volume_view start) (now (past_of next))) chosen
   pub holds : IsTold (past_of start) → HoldsGiven (super_view start.layout) (model.parts_of (volume_view start) (now (past_of next))) chosen given
   pub places : IsTold (past_of start) → KeepsPlaces (super_view start.layout) (parts_now start) (model.parts_of (volume_view start) (now (past_of next))) chosen.directory chosen.choice.place
@@ -220,6 +221,7 @@ module _ {D : Type 0} {disks : Ghosts D} (start old next : Volume D disks) (oute
     above = λ told. tt;
     marks = λ told. tt;
     made = λ told. tt;
+    node = λ told. tt;
     lies = λ told. tt;
     holds = λ told. tt;
     others = others;
@@ -324,7 +326,7 @@ module _ {D : Type 0} {disks : Ghosts D} (start old next read : Volume D disks) 
       × MayBeNamed view.layout (model.parts_of view (now (past_of next))) outer chosen.directory chosen.choice.inode
       × (thing view.layout (model.parts_of view (now (past_of next))) chosen.choice.inode ≡ thing_with chosen given) in
       let v = from_old start old next outer chosen given filled (Ok tt) grows none V (
-        ap (λ (i : Inode). i.mode) kept.node ∙ (filled.filled told).mode,
+        ap (λ (i : Inode). i.mode) kept.node ∙ ap (λ (i : Inode). i.mode) (filled.filled told).node,
         named_kept (super_view old.layout) Old Next chosen.choice.inode kept (sees_old told)
             (fit_kept (super_view old.layout) Old Next chosen.directory chosen.choice.growth (sees_old told) (keeps_old told) chosen.choice.inode (fit_old told) (apart_old told) (filled.filled told).clear)
             outer chosen.directory (may_be_named told),
@@ -420,6 +422,14 @@ module _ {D : Type 0} {disks : Ghosts D} (start old next read : Volume D disks) 
           stay_marked = λ z is set. keeps'.stay_marked z is (only.zones z is ∙ rw set refl);
         })
 
+    node_read : IsTold (past_of start) → IsNewInode chosen ((model.parts_of (volume_view start) (now (past_of read))).node chosen.choice.inode)
+    node_read told =
+        let N : Inode → Type 0 = IsNewInode chosen in
+        let V : model.Volume → Type 0 = λ view. N ((model.parts_of view (now (past_of next))).node chosen.choice.inode) in
+        let I : Option Past → Type 0 = λ past. N ((model.parts_of (volume_view start) (now past)).node chosen.choice.inode) in
+        subst I (sym same.same_disks.same_past)
+        (at_start start old next outer chosen given filled (Ok tt) grows none V (subst N (sym (kept_old told).node) (filled.filled told).node))
+
     -- where its blocks lie
     blocks_read : IsTold (past_of start) → LiesAsChosen (super_view start.layout) (model.parts_of (volume_view start) (now (past_of read))) chosen
     blocks_read told =
@@ -431,7 +441,7 @@ module _ {D : Type 0} {disks : Ghosts D} (start old next read : Volume D disks) 
         (at_start start old next outer chosen given filled (Ok tt) grows none L
         (λ zones index low some.
         points_kept (super_view old.layout) Old Next chosen.choice.inode kept (block_pointer (kind_view old.layout.kind) index) (slice_index chosen.choice.blocks index)
-        (block_pointed (super_view old.layout) Old chosen.choice.inode index (slice_index chosen.choice.blocks index) (has_zones_by (Old.node chosen.choice.inode) (new_inode chosen) f.mode zones) (f.lies index low) some)))
+        (block_pointed (super_view old.layout) Old chosen.choice.inode index (slice_index chosen.choice.blocks index) (has_zones_by (Old.node chosen.choice.inode) (new_inode chosen) (ap (λ (i : Inode). i.mode) f.node) zones) (f.lies index low) some)))
 
     -- and what they hold
     holds_read : IsTold (past_of start) → HoldsGiven (super_view start.layout) (model.parts_of (volume_view start) (now (past_of read))) chosen given
@@ -444,7 +454,7 @@ module _ {D : Type 0} {disks : Ghosts D} (start old next read : Volume D disks) 
         (at_start start old next outer chosen given filled (Ok tt) grows none L
         (λ zones index low some.
         kept.zones (block_pointer (kind_view old.layout.kind) index) (slice_index chosen.choice.blocks index)
-        (block_pointed (super_view old.layout) Old chosen.choice.inode index (slice_index chosen.choice.blocks index) (has_zones_by (Old.node chosen.choice.inode) (new_inode chosen) f.mode zones) (f.lies index low) some)
+        (block_pointed (super_view old.layout) Old chosen.choice.inode index (slice_index chosen.choice.blocks index) (has_zones_by (Old.node chosen.choice.inode) (new_inode chosen) (ap (λ (i : Inode). i.mode) f.node) zones) (f.lies index low) some)
         ∙ f.blocks index some))
 
     -- pointers that came are those of growth
@@ -490,6 +500,7 @@ module _ {D : Type 0} {disks : Ghosts D} (start old next read : Volume D disks) 
       is = λ told. (facts_read told).4;
       links = links_stay;
       marks = marks_read;
+      node = node_read;
       blocks = blocks_read;
       holds = holds_read;
       places = λ told. seen_places_law (super_view start.layout) (parts_now start) (model.parts_of (volume_view start) (now (past_of read))) chosen.directory chosen.choice.place (unseen_read.held told).sees;
@@ -563,6 +574,10 @@ module _ {D : Type 0} {disks : Ghosts D} (start mid : Volume D disks) (outer : L
           zones = λ z is apart. stay.zones z is ∙ m.zones z is apart;
           stay_marked = λ z is set. stay.zones z is ∙ m.stay_marked z is set;
         });
+    node = λ told.
+        let N : Inode → Type 0 = IsNewInode chosen in
+        let V : model.Volume → Type 0 = λ view. OnOk result (KeepsInode view.layout (model.parts_of view (now (past_of mid))) (model.parts_of view (now (past_of new))) chosen.choice.inode) in
+        on_ok result _ _ (subst V (same_view start mid ready.unseen.kept) (enters.stays (told_mid told))) (λ kept. subst N (sym kept.node) (ready.node told));
     lies = λ told.
         let V : model.Volume → Type 0 = λ view. OnOk result (KeepsInode view.layout (model.parts_of view (now (past_of mid))) (model.parts_of view (now (past_of new))) chosen.choice.inode) in
         on_ok result _ _ (subst V (same_view start mid ready.unseen.kept) (enters.stays (told_mid told)))

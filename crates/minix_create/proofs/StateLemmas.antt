@@ -22,14 +22,16 @@ use Rattle.minix_steps.specs.Written.{parts_now}
 use Rattle.minix_steps.proofs.ReadyLemmas.{quiet_ready}
 use Rattle.minix_steps.proofs.StepLemmas.{steps_join}
 use Rattle.minix_turns.proofs.JoinedLemmas.{steps_unseen}
+use Rattle.minix_write.specs.View.{HasWriteCause}
 use Rattle.minix_write.specs.declared.write_fault.WriteFault.{WriteFault}
+use Rattle.minix_write.specs.declared.write_fault.WriteFault.TheVariants as faults
 use Rattle.minix_write.specs.declared.write_fault.WriteFault.TheVariants.{Device}
 use Rattle.minix_zones.specs.Volume.{volume_view, past_of, faults_of, KeepsVolume, HasDeviceCause}
 use Rattle.minix_zones.specs.declared.volume.Volume.{Volume}
 use Rattle.minix_zones.specs.declared.zone_fault.ZoneFault.{ZoneFault}
 use Rattle.minix_zones.specs.declared.zone_fault.ZoneFault.TheVariants as zones
 use Rattle.minix_create.specs.Chosen.{Suits, IsFreeNow, IsNextBlock, MayBeMade, new_inode}
-use Rattle.minix_create.specs.Created.{IsOffFile, MarksChosen}
+use Rattle.minix_create.specs.Created.{IsFilled, IsOffFile, MarksChosen}
 use Rattle.minix_create.specs.Linked.{LinksFilled}
 use Rattle.minix_create.specs.States.{IsInHand, IsReservedSince, Reserves, WritesBlock, Fills, GoesWrong, Links, LinkHalts, CreatesOn, CreatesFile, CreationHalts}
 use Rattle.minix_create.specs.declared.chosen.Chosen.{Chosen}
@@ -138,6 +140,7 @@ module _ {D : Type 0} {disks : Ghosts D} (start : Volume D disks) (chosen : Chos
     above = λ told. tt;
     marks = λ told. tt;
     made = λ told. tt;
+    node = λ told. tt;
     lies = λ told. tt;
     holds = λ told. tt;
     others = λ told d s off. wrong.others d s off.file;
@@ -154,6 +157,17 @@ module _ {D : Type 0} {disks : Ghosts D} (start : Volume D disks) (chosen : Chos
   }
 
 -- ---- all of it
+
+-- a cause since a later moment is one since an earlier
+cause_since : (before mid after : ℕ) → before ≤ mid → (fault : WriteFault) → HasWriteCause mid after fault → HasWriteCause before after fault
+cause_since before mid after later (faults.NoSpace need found) cause = tt
+cause_since before mid after later faults.NoInode cause = tt
+cause_since before mid after later faults.NameTooLong cause = tt
+cause_since before mid after later faults.Exists cause = tt
+cause_since before mid after later faults.Links cause = tt
+cause_since before mid after later (faults.Tree fault) cause = tt
+cause_since before mid after later faults.Device cause = rises before mid after later cause
+cause_since before mid after later faults.Memory cause = tt
 
 -- the next block, by what was answered
 pub next_is : (next len index : ℕ) (answer : Option ℕ) → answer ≡ (if nat_lt next len then Some next else None) → answer ≡ Some index → index ≡ next
@@ -172,11 +186,20 @@ module _ {D : Type 0} {disks : Ghosts D} (start : Volume D disks) (given : ℕ �
       (later_wrong start reserved.chosen given since.quiet since.free reserved.volume new fault since.steps since.others wrong))
 
   module _ (made : IsTold (past_of start) → MayBeMade (kind_view start.layout.kind) chosen given) (filled : Filled D disks) (fills : Fills reserved filled) where
+    filled_since : IsFilled start filled.volume filled.chosen given
+    filled_since =
+        let M : Chosen → Type 0 = λ it. IsTold (past_of start) → MayBeMade (kind_view start.layout.kind) it given in
+        fills.since start given (subst M (sym same) made) since
+
     creates : (new : Volume D disks) (result : Result (Unit {0}) WriteFault) → LinksFilled filled.volume new filled.chosen result → CreatesOn start new chosen given result
     creates new result links =
         let P : Chosen → Type 0 = λ it. CreatesOn start new it given result in
-        let M : Chosen → Type 0 = λ it. IsTold (past_of start) → MayBeMade (kind_view start.layout.kind) it given in
-        subst P (fills.same ∙ same) (λ outer nests may. links start outer given (fills.since start given (subst M (sym same) made) since) nests may)
+        subst P (fills.same ∙ same) (λ outer nests may. links start outer given filled_since nests may)
+
+    pub created_cause : (result : Result (Volume D disks × Linked) (WriteHalt D disks)) → IfErr result (λ halt. HasWriteCause (faults_of filled.volume) (faults_of halt.volume) halt.fault)
+        → IfErr result (λ halt. HasWriteCause (faults_of start) (faults_of halt.volume) halt.fault)
+    created_cause (Ok linked) cause = tt
+    created_cause (Err halt) cause = cause_since (faults_of start) (faults_of filled.volume) (faults_of halt.volume) filled_since.steps.goes_on.later halt.fault cause
 
     pub created_ok : (result : Result (Volume D disks × Linked) (WriteHalt D disks)) → IfOk result (Links filled) → IfOk result (CreatesFile start chosen given)
     created_ok (Ok linked) links = record {

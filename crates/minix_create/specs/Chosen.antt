@@ -120,6 +120,10 @@ new_inode chosen = record {
   zones = replicate 10 0;
 }
 
+-- an inode is that of a new file, whatever zones it has
+abbrev pub IsNewInode : Chosen → Inode → Type 0
+IsNewInode chosen inode = inode ≡ record (new_inode chosen) { zones = inode.zones }
+
 -- what a file is whose blocks are given
 abbrev pub thing_with : Chosen → (ℕ → List ℕ) → Thing
 thing_with chosen given =

@@ -21,7 +21,7 @@ use Rattle.minix_zones.specs.Volume.{volume_view, past_of, HasDeviceCause}
 use Rattle.minix_zones.specs.declared.volume.Volume.{Volume}
 use Rattle.minix_zones.specs.declared.zone_fault.ZoneFault.{ZoneFault}
 use Rattle.minix_zones.specs.declared.zone_fault.ZoneFault.TheVariants.{Device}
-use Rattle.minix_create.specs.Chosen.{Suits, IsClearGrowth, IsFreeNow, MayNest, thing_with}
+use Rattle.minix_create.specs.Chosen.{Suits, IsClearGrowth, IsFreeNow, IsNewInode, MayNest, thing_with}
 use Rattle.minix_create.specs.Entered.{MayBeNamed}
 use Rattle.minix_create.specs.Grown.{MayGrowIn}
 use Rattle.minix_create.specs.declared.chosen.Chosen.{Chosen}
@@ -83,10 +83,10 @@ pub record IsReserved {D : Type 0} {disks : Ghosts D} (start volume : Volume D d
 
 -- ---- the whole file
 
--- it was filled too: its inode may get a name, points to zones of the file alone and to none of growth, is what was given, and
+-- it was filled too: its inode is the new one, may get a name, points to zones of the file alone and to none of growth, is what was given, and
 -- each block lies whole in the zone that was chosen
 pub record IsFilledWith {D : Type 0} {disks : Ghosts D} (volume : Volume D disks) (chosen : Chosen) (given : ℕ → List ℕ) : Type 0 where
-  pub mode : ((parts_now volume).node chosen.choice.inode).mode ≡ chosen.mode
+  pub node : IsNewInode chosen ((parts_now volume).node chosen.choice.inode)
   pub named : (outer : List (List ℕ)) → MayNest outer chosen → MayBeNamed (super_view volume.layout) (parts_now volume) outer chosen.directory chosen.choice.inode
   pub own : (at : Pointer) (zone : ℕ) → PointsTo (super_view volume.layout) (parts_now volume) chosen.choice.inode at zone
       → (source : Source) × (zone_from (file_of chosen.choice) source ≡ zone)

@@ -23,7 +23,7 @@ use Rattle.minix_write.specs.declared.write_fault.WriteFault.{WriteFault}
 use Rattle.minix_write.specs.declared.write_fault.WriteFault.TheVariants.{Device}
 use Rattle.minix_zones.specs.Volume.{volume_view, past_of, faults_of}
 use Rattle.minix_zones.specs.declared.volume.Volume.{Volume}
-use Rattle.minix_create.specs.Chosen.{MayLinkNow, MayNest, new_inode, thing_with}
+use Rattle.minix_create.specs.Chosen.{MayLinkNow, MayNest, IsNewInode, new_inode, thing_with}
 use Rattle.minix_create.specs.Created.{IsOffFile, IsFilled}
 use Rattle.minix_create.specs.Entered.{links_above}
 use Rattle.minix_create.specs.Grown.{LiesNow, IsOffGrowth}
@@ -64,9 +64,9 @@ HoldsGiven super parts chosen given =
 
 -- Since a volume was as it is here, a file was reserved, filled and linked. Whatever a stop left, at any moment, is seen as
 -- before or has the name, which leads to the whole of the file; where the name is there, the directory above a new one has a
--- link more, if it can have, and once it is done both are there, each block lies whole where it was chosen, all other places of
--- directories are kept, and no bitmap bit is set but those that were chosen. No other sector was written, and it was refused where
--- the disk failed alone.
+-- link more, if it can have, and once it is done both are there, the inode has the new mode, owner, links, times and size, each block
+-- lies whole where it was chosen, all other places of directories are kept, and no bitmap bit is set but those that were chosen. No
+-- other sector was written, and it was refused where the disk failed alone.
 pub record Creates {D : Type 0} {disks : Ghosts D} (start volume : Volume D disks) (outer : List (List ℕ)) (chosen : Chosen) (given : ℕ → List ℕ) (result : Result (Unit {0}) WriteFault) : Type 0 where
   pub leads : LeadsPath start volume (chosen.name ∷ outer) (Some chosen.choice.inode) (Some (thing_with chosen given)) result
   pub before : LeavesOnly (past_of start) (past_of volume) (IsRaisedBefore start outer chosen)
@@ -74,6 +74,7 @@ pub record Creates {D : Type 0} {disks : Ghosts D} (start volume : Volume D disk
       ≡ links_above (kind_view start.layout.kind) chosen ((parts_now start).node chosen.directory).links)
   pub marks : IsTold (past_of start) → OnOk result (MarksLinked (super_view start.layout) (parts_now start) (model.parts_of (volume_view start) (now (past_of volume))) chosen)
   pub made : IsTold (past_of start) → OnOk result (HasMade (super_view start.layout) (parts_now start) (model.parts_of (volume_view start) (now (past_of volume))) chosen.directory chosen.choice)
+  pub node : IsTold (past_of start) → OnOk result (IsNewInode chosen ((model.parts_of (volume_view start) (now (past_of volume))).node chosen.choice.inode))
   pub lies : IsTold (past_of start) → OnOk result (LiesAsChosen (super_view start.layout) (model.parts_of (volume_view start) (now (past_of volume))) chosen)
   pub holds : IsTold (past_of start) → OnOk result (HoldsGiven (super_view start.layout) (model.parts_of (volume_view start) (now (past_of volume))) chosen given)
   pub others : IsTold (past_of start) → (d s : ℕ) → IsOffName start chosen d s → NotWritten (past_of start) (past_of volume) d s

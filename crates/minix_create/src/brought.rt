@@ -1,12 +1,13 @@
 // Places of a directory that get below its size before a name is made there.
-ghost use Rattle.std.specs.Prelude.{◌≡◌, ◌≢◌, ◌+◌, ◌≤◌, ◌<◌, OnOk};
+ghost use Rattle.std.specs.Prelude.{◌≡◌, ◌≢◌, ◌+◌, ◌≤◌, ◌<◌, OnOk, IfErr};
 ghost use Rattle.disk_trait.specs.Moments.{IsTold, IsQuiet};
 ghost use Rattle.lilo_model.specs.MinixLayout.{FitsInode};
 ghost use Rattle.minix_create.specs.Brought.{MayBring, IsNextAt, Brings};
 ghost use Rattle.minix_grow.specs.Places.{size_to};
 ghost use Rattle.minix_layout.specs.View.{kind_view, inode_view};
 ghost use Rattle.minix_zones.specs.View.{IsDataZone};
-ghost use Rattle.minix_zones.specs.Volume.{past_of, KeepsVolume, SameVolume};
+ghost use Rattle.minix_write.specs.View.{HasWriteCause};
+ghost use Rattle.minix_zones.specs.Volume.{past_of, faults_of, KeepsVolume, SameVolume, HasDeviceCause};
 ghost use Rattle.write_model.specs.Places.{most_places};
 
 use crate::place_at::{PlaceAt, place_at};
@@ -51,6 +52,8 @@ fn write_next<D: Disks>(
         → IsNextAt volume.old directory (inode_view at.now.node) place at.now.zone)
         → Brings volume.old volume.new directory (place + 1) ZoneFault.Device result }
     ensures quiet { OnOk result (IsQuiet (past_of volume.new)) }
+    ensures device { HasDeviceCause volume.old volume.new ZoneFault.Device result }
+    ensures later { faults_of volume.old ≤ faults_of volume.new }
     ensures kept { KeepsVolume volume.old volume.new }
 {
     let kind = volume.layout().kind;
@@ -75,6 +78,8 @@ fn bring_next<D: Disks>(
     ensures brings { (IsTold (past_of volume.old) → MayBring volume.old directory place)
         → Brings volume.old volume.new directory (place + 1) WriteFault.Device result }
     ensures quiet { OnOk result (IsQuiet (past_of volume.new)) }
+    ensures cause { IfErr result (HasWriteCause (faults_of volume.old) (faults_of volume.new)) }
+    ensures later { faults_of volume.old ≤ faults_of volume.new }
     ensures kept { KeepsVolume volume.old volume.new }
 {
     let at = place_at(volume, directory, place)?;
@@ -103,6 +108,8 @@ pub(crate) fn bring<D: Disks>(
         → Brings volume.old volume.new directory place WriteFault.Device result }
     ensures none { place < have → SameVolume volume.old volume.new }
     ensures quiet { OnOk result (IsQuiet (past_of volume.new)) }
+    ensures cause { IfErr result (HasWriteCause (faults_of volume.old) (faults_of volume.new)) }
+    ensures later { faults_of volume.old ≤ faults_of volume.new }
     ensures kept { KeepsVolume volume.old volume.new }
 {
     if place < have {

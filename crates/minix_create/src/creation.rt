@@ -4,7 +4,8 @@ ghost use Rattle.disk_trait.specs.Moments.{IsTold, IsQuiet};
 ghost use Rattle.minix_create.specs.Chosen.{Suits, IsFreeNow, MayBeMade, block_of};
 ghost use Rattle.minix_create.specs.States.{CreatesFile, CreationHalts};
 ghost use Rattle.minix_layout.specs.View.{kind_view};
-ghost use Rattle.minix_zones.specs.Volume.{past_of};
+ghost use Rattle.minix_write.specs.View.{HasWriteCause};
+ghost use Rattle.minix_zones.specs.Volume.{past_of, faults_of};
 
 use crate::chosen::Chosen;
 use crate::linked::Linked;
@@ -17,7 +18,8 @@ use minix_zones::Volume;
 ///
 /// # Errors
 ///
-/// `Device` alone, where the disks report their past. Then the file isn't there, or the whole of it is.
+/// `Device` where the disk failed, and then the file isn't there, or the whole of it is; where the disks report their past
+/// no other comes. Where they don't, those of [`grow_directory`](crate::grow_directory) too.
 pub fn create<'d, D: Disks>(
     volume: Volume<'d, D>,
     chosen: Chosen,
@@ -31,6 +33,8 @@ pub fn create<'d, D: Disks>(
     requires free { IsTold (past_of volume) → IsFreeNow volume chosen }
     ensures created { IfOk result (CreatesFile volume.entry chosen (block_of blocks.now)) }
     ensures halted { IfErr result (CreationHalts volume.entry chosen (block_of blocks.now)) }
+    ensures cause { IfErr result (λ halt.
+        HasWriteCause (faults_of volume.entry) (faults_of halt.volume) halt.fault) }
 {
     let mut reserved = chosen.reserve(volume)?;
     while let Some(index) = reserved.next_index() {

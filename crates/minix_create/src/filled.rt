@@ -16,16 +16,21 @@ pub struct Filled<'d, D: Disks> {
 impl<'d, D: Disks> Filled<'d, D> {
     ghost use Rattle.std.specs.Prelude.{IfOk, IfErr};
     ghost use Rattle.minix_create.specs.States.{IsInPlace, Links, LinkHalts};
+    ghost use Rattle.minix_write.specs.View.{HasWriteCause};
+    ghost use Rattle.minix_zones.specs.Volume.{faults_of};
 
     /// Makes the name of the file at its place, and makes that durable.
     ///
     /// # Errors
     ///
-    /// `Device` alone, where the disks report their past. Then the name is there or not.
+    /// `Device` where the disk failed, and then the name is there or not; where the disks report their past no other comes.
+    /// Where they don't, those of [`grow_directory`](crate::grow_directory) too.
     pub fn link(self) -> Result<(Volume<'d, D>, Linked), WriteHalt<'d, D>>
         requires { IsInPlace self }
         ensures linked { IfOk result (Links self.entry) }
         ensures halted { IfErr result (LinkHalts self.entry) }
+        ensures cause { IfErr result (λ halt.
+            HasWriteCause (faults_of self.entry.volume) (faults_of halt.volume) halt.fault) }
     {
         let Filled { mut volume, chosen } = self;
         let inode = chosen.inode();

@@ -7,7 +7,8 @@ ghost use Rattle.minix_create.specs.Chosen.{Suits};
 ghost use Rattle.minix_create.specs.Grown.{MayGrowNow, LiesNow, IsLastNow, IsAmong, HasRoom, MayGoTo, GrowsChosen};
 ghost use Rattle.minix_grow.specs.Zones.{AreData};
 ghost use Rattle.minix_layout.specs.View.{kind_view, inode_view};
-ghost use Rattle.minix_zones.specs.Volume.{past_of, SameVolume};
+ghost use Rattle.minix_write.specs.View.{HasWriteCause};
+ghost use Rattle.minix_zones.specs.Volume.{past_of, faults_of, SameVolume};
 
 use crate::brought::{bring, most_places};
 use crate::chosen::Chosen;
@@ -70,6 +71,7 @@ fn grow_last<D: Disks>(
     requires last { IsTold (past_of volume.old) → IsLastNow volume.old chosen.now (inode_view node.now) }
     ensures grows { GrowsChosen volume.old volume.new chosen.now result }
     ensures quiet { OnOk result (IsQuiet (past_of volume.new)) }
+    ensures cause { IfErr result (HasWriteCause (faults_of volume.old) (faults_of volume.new)) }
 {
     if !has_room(volume.layout(), chosen, node) {
         return Err(WriteFault::NoSpace { need: 1, found: 0 });
@@ -82,7 +84,7 @@ fn grow_last<D: Disks>(
         chosen.choice.growth(),
     ) {
         Ok(()) => Ok(()),
-        Err(_) => Err(WriteFault::Device),
+        Err(fault) => Err(WriteFault::from(fault)),
     }
 }
 
@@ -98,6 +100,7 @@ fn grow_to<D: Disks>(
     requires may { IsTold (past_of volume.old) → MayGoTo volume.old chosen.now have }
     ensures grows { GrowsChosen volume.old volume.new chosen.now result }
     ensures quiet { OnOk result (IsQuiet (past_of volume.new)) }
+    ensures cause { IfErr result (HasWriteCause (faults_of volume.old) (faults_of volume.new)) }
 {
     let place = chosen.choice.place();
     bring(volume, chosen.directory, have, place)?;
@@ -116,6 +119,7 @@ pub(crate) fn grow_chosen<D: Disks>(
     ensures grows { GrowsChosen volume.old volume.new chosen.now result }
     ensures none { IsTold (past_of volume.old) → LiesNow volume.old chosen.now → SameVolume volume.old volume.new }
     ensures quiet { OnOk result (IsQuiet (past_of volume.new)) }
+    ensures cause { IfErr result (HasWriteCause (faults_of volume.old) (faults_of volume.new)) }
 {
     let place = chosen.choice.place();
     let at = place_at(volume, chosen.directory, place)?;
@@ -131,7 +135,8 @@ pub(crate) fn grow_chosen<D: Disks>(
 ///
 /// # Errors
 ///
-/// `Device` alone, where the disks report their past.
+/// `Device` where the disk failed, and where the disks report their past no other. Where they don't, `NoSpace` or `Tree`
+/// too: the directory can't be read, isn't as chosen, or has a zone outside.
 pub fn grow_directory<'d, D: Disks>(
     volume: Volume<'d, D>,
     chosen: &Chosen,
@@ -142,6 +147,8 @@ pub fn grow_directory<'d, D: Disks>(
     ensures grown { IfOk result (λ new. GrowsChosen volume.entry new chosen.now (Ok tt)) }
     ensures quiet { IfOk result (λ new. IsQuiet (past_of new)) }
     ensures halted { IfErr result (λ halt. GrowsChosen volume.entry halt.volume chosen.now (Err halt.fault)) }
+    ensures cause { IfErr result (λ halt.
+        HasWriteCause (faults_of volume.entry) (faults_of halt.volume) halt.fault) }
 {
     let mut volume = volume;
     match grow_chosen(&mut volume, chosen) {

@@ -1,10 +1,11 @@
 // Links of the directory above a new one.
-ghost use Rattle.std.specs.Prelude.{◌≡◌, ◌≤◌, OnOk};
+ghost use Rattle.std.specs.Prelude.{◌≡◌, ◌≤◌, OnOk, IfErr};
 ghost use Rattle.disk_trait.specs.Moments.{IsTold, IsQuiet};
 ghost use Rattle.lilo_model.specs.MinixLayout.{most_links};
 ghost use Rattle.minix_create.specs.Entered.{IsDirectoryNow, RaisesLinks};
 ghost use Rattle.minix_layout.specs.View.{kind_view};
-ghost use Rattle.minix_zones.specs.Volume.{past_of, KeepsVolume};
+ghost use Rattle.minix_write.specs.View.{HasWriteCause};
+ghost use Rattle.minix_zones.specs.Volume.{past_of, faults_of, KeepsVolume};
 
 use disk_trait::Disks;
 use minix_layout::FsKind;
@@ -31,6 +32,8 @@ pub(crate) fn raise_links<D: Disks>(
     ensures raises { (IsTold (past_of volume.old) → IsDirectoryNow volume.old directory)
         → RaisesLinks volume.old volume.new directory WriteFault.Device result }
     ensures quiet { OnOk result (IsQuiet (past_of volume.new)) }
+    ensures cause { IfErr result (HasWriteCause (faults_of volume.old) (faults_of volume.new)) }
+    ensures later { faults_of volume.old ≤ faults_of volume.new }
     ensures kept { KeepsVolume volume.old volume.new }
 {
     let stat = stat_of(volume, directory)?;

@@ -1,5 +1,5 @@
 // The steps of a creation.
-ghost use Rattle.std.specs.Prelude.{◌≡◌, ◌≤◌, ◌<◌, ◌^◌, OnOk};
+ghost use Rattle.std.specs.Prelude.{◌≡◌, ◌≤◌, ◌<◌, ◌^◌, OnOk, IfErr};
 ghost use Rattle.disk_trait.specs.Moments.{IsTold, IsQuiet};
 ghost use Rattle.lilo_model.specs.MinixParts.{is_directory};
 ghost use Rattle.minix_choice_laws.specs.Choice.{file_of};
@@ -11,8 +11,9 @@ ghost use Rattle.minix_create.specs.Linked.{LinksFilled};
 ghost use Rattle.minix_fill.specs.Fill.{FillsFile, MayGetName, IsFitThen};
 ghost use Rattle.minix_layout.specs.View.{inode_view};
 ghost use Rattle.minix_steps.specs.Steps.{IsReady};
+ghost use Rattle.minix_write.specs.View.{HasWriteCause};
 ghost use Rattle.minix_zones.specs.View.{IsDataZone};
-ghost use Rattle.minix_zones.specs.Volume.{past_of, KeepsVolume};
+ghost use Rattle.minix_zones.specs.Volume.{past_of, faults_of, KeepsVolume};
 
 use crate::chosen::Chosen;
 use crate::grown::grow_chosen;
@@ -86,6 +87,7 @@ pub(crate) fn link_chosen<D: Disks>(
     requires grows { IsTold (past_of volume.old) → MayGrowNow volume.old chosen.now }
     ensures links { LinksFilled volume.old volume.new chosen.now result }
     ensures quiet { OnOk result (IsQuiet (past_of volume.new)) }
+    ensures cause { IfErr result (HasWriteCause (faults_of volume.old) (faults_of volume.new)) }
 {
     grow_chosen(volume, chosen)?;
     let at = place_at(volume, chosen.directory, chosen.choice.place())?;
@@ -107,6 +109,7 @@ fn enter_chosen<D: Disks>(
     requires quiet { IsQuiet (past_of volume.old) }
     ensures enters { EntersFilled volume.old volume.new chosen.now zone result }
     ensures quiet { OnOk result (IsQuiet (past_of volume.new)) }
+    ensures cause { IfErr result (HasWriteCause (faults_of volume.old) (faults_of volume.new)) }
 {
     ready_links(volume, chosen)?;
     let index = slot_of(volume.layout().kind, chosen.choice.place());
@@ -124,6 +127,8 @@ fn ready_links<D: Disks>(volume: &mut Volume<'_, D>, chosen: &Chosen) -> Result<
     ensures readies { (IsTold (past_of volume.old) → IsDirectoryNow volume.old chosen.now.directory)
         → Readies volume.old volume.new chosen.now result }
     ensures quiet { OnOk result (IsQuiet (past_of volume.new)) }
+    ensures cause { IfErr result (HasWriteCause (faults_of volume.old) (faults_of volume.new)) }
+    ensures later { faults_of volume.old ≤ faults_of volume.new }
     ensures kept { KeepsVolume volume.old volume.new }
 {
     if is_directory(chosen) {

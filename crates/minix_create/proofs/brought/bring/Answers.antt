@@ -21,6 +21,7 @@ pub loop-next-init : goal.loop-next-init
 loop-next-init g c = record {
   brings = λ may. bring_none c.args.volume.now c.args.directory c.args.have c.requires.quiet may c.args.have (omega arith);
   quiet = c.requires.quiet;
+  later = omega arith;
   kept = keeps_same c.args.volume.now c.args.volume.now (same_self c.args.volume.now);
   from = omega arith;
   to = let f = c.if-place-have.false in omega (arith, f);
@@ -42,6 +43,7 @@ loop-next-preserved g c = record {
       bring_on c.args.volume.now c.args.directory c.args.have c.requires.quiet may c.loop-next.volume c.bring_next.new.volume c.loop-next.next (c.loop-next.next + 1) (Ok tt) first
       (c.in_ok-bring_next.ensures.brings (may_next c.args.volume.now c.args.directory c.args.have c.requires.quiet may c.loop-next.volume c.loop-next.next first));
   quiet = c.in_ok-bring_next.ensures.quiet;
+  later = let was = c.loop-next.invariant.later in let then = c.bring_next.ensures.later in omega (arith, was, then);
   kept = keeps_join c.args.volume.now c.loop-next.volume c.bring_next.new.volume c.loop-next.invariant.kept c.bring_next.ensures.kept;
   from = let f = c.loop-next.invariant.from in omega (arith, f);
   to = let t = c.loop-next-test.true in omega (arith, t);

@@ -1,6 +1,6 @@
 use Rattle.std.proofs.Common.{◌≡◌, Err, ap, ◌∙◌, rules}
 use Rattle.minix_create.specs.Chosen.{block_of}
-use Rattle.minix_create.proofs.StateLemmas.{wrong_creates, next_is, since_halts, created_ok, created_err}
+use Rattle.minix_create.proofs.StateLemmas.{wrong_creates, next_is, since_halts, created_ok, created_err, created_cause}
 use Rattle.minix_create.proofs.creation.create.Goals as goal
 
 pub returns-in_err-reserved-clause-halted : goal.returns-in_err-reserved-clause-halted
@@ -48,3 +48,9 @@ returns-clause-halted g c =
     let inv = c.loop-index.invariant in
     created_err c.args.volume (block_of c.args.blocks.now) c.args.chosen c.loop-index.reserved inv.same inv.since c.requires.whole c.in_ok-filled.filled c.in_ok-filled.ensures.filled
     c.link.result c.link.ensures.halted
+
+pub returns-clause-cause : goal.returns-clause-cause
+returns-clause-cause g c =
+    let inv = c.loop-index.invariant in
+    created_cause c.args.volume (block_of c.args.blocks.now) c.args.chosen c.loop-index.reserved inv.same inv.since c.requires.whole c.in_ok-filled.filled c.in_ok-filled.ensures.filled
+    c.link.result c.link.ensures.cause

@@ -31,5 +31,5 @@ pub returns-in-Err-clause-grows : goal.returns-in-Err-clause-grows
 returns-in-Err-clause-grows g c =
     let old = c.args.volume.now in
     let grows = rw (c.place.ensures, c.growth.ensures) at c.in-Err.ensures.grows in
-    last_failed old c.args.chosen.now (inode_view c.args.node.now) c.requires.quiet c.requires.last c.grow_directory.new.volume _
-    (grows (last_may old c.args.chosen.now (inode_view c.args.node.now) c.requires.quiet c.requires.last))
+    rw c.from.ensures (last_failed old c.args.chosen.now (inode_view c.args.node.now) c.requires.quiet c.requires.last c.grow_directory.new.volume c.in-Err.fault
+    (grows (last_may old c.args.chosen.now (inode_view c.args.node.now) c.requires.quiet c.requires.last)))

@@ -27,10 +27,10 @@ use Rattle.minix_steps.proofs.RegionLemmas.{lies, place_there, zone_mark_in, bit
 use Rattle.minix_turns.specs.Joined.{SeenOrWith}
 use Rattle.minix_write.specs.declared.write_fault.WriteFault.{WriteFault}
 use Rattle.minix_zones.specs.View.{IsDataZone}
-use Rattle.minix_zones.specs.Volume.{volume_view, past_of, faults_of, KeepsVolume}
+use Rattle.minix_zones.specs.Volume.{volume_view, past_of, KeepsVolume}
 use Rattle.minix_zones.specs.declared.volume.Volume.{Volume}
 use Rattle.ldisk_model.specs.FileVerdict.{Making, thing_made}
-use Rattle.ldisk_files.specs.Answer.{HasFileCause, write_fault}
+use Rattle.ldisk_files.specs.Answer.{write_fault}
 use Rattle.ldisk_files.specs.Left.{HasNamesBetween, ChangesName}
 use Rattle.ldisk_files.specs.Made.{MayMake, MayMakeSome}
 use Rattle.ldisk_files.specs.declared.fault.FileFault.{FileFault}
@@ -199,9 +199,3 @@ module _ {D : Type 0} {disks : Ghosts D} (start new : Volume D disks) (chosen : 
       by : IsTold (past_of start) ⊎ (IsTold (past_of start) → ⊥) → KeepsVolume start new
       by (inl told) = (somewhere told).leads.kept
       by (inr none) = (creates [] (λ is. omega arith) (λ told. absurd (none told))).leads.kept
-
-pub created-cause : {D : Type 0} {disks : Ghosts D} (start new : Volume D disks) (chosen : Chosen) (blocks : List (List ℕ)) (may : IsTold (past_of start) → MayMakeSome start chosen blocks)
-    (fault : WriteFault) → CreatesOn start new chosen (block_of blocks) (Err fault) → IsTold (past_of start) → HasFileCause (faults_of start) (faults_of new) (write_fault fault)
-created-cause start new chosen blocks may fault creates told =
-    let device = (creates (may told).outer (may told).may.nests (λ t. (may told).may.links)).device told in
-    subst (λ (f : WriteFault). HasFileCause (faults_of start) (faults_of new) (write_fault f)) (sym device.0) device.1

@@ -11,3 +11,4 @@ pub mod RoomLemmas
 pub mod MadeLemmas
 pub mod MakeLemmas
 pub mod NamedLemmas
+pub mod InodeLemmas

@@ -57,6 +57,7 @@ module _ {D : Type 0} {disks : Ghosts D} (old new : Volume D disks) (view : volu
       free = free-as may.free;
       links = back (λ v i. MayHavePlace v i outer chosen.directory chosen.choice.place chosen.name) may.links;
       nests = may.nests;
+      mode = may.mode;
       made = back (λ v i. MayBeMade v.layout.kind chosen (block_of given)) may.made;
       is = may.is;
     }

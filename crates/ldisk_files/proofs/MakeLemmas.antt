@@ -63,7 +63,7 @@ module _ {D : Type 0} {disks : Ghosts D} (old mid : Volume D disks) (same : Same
   pub may-back : (outer : List (List ℕ)) (making : Making) (chosen : Chosen) (blocks : List (List ℕ)) → MayMake mid outer making chosen blocks → MayMake old outer making chosen blocks
   may-back outer making chosen blocks = may-as old mid (same_view old mid same) held-same chosen outer making blocks
 
-  may-forth : (outer : List (List ℕ)) (making : Making) (chosen : Chosen) (blocks : List (List ℕ)) → MayMake old outer making chosen blocks → MayMake mid outer making chosen blocks
+  pub may-forth : (outer : List (List ℕ)) (making : Making) (chosen : Chosen) (blocks : List (List ℕ)) → MayMake old outer making chosen blocks → MayMake mid outer making chosen blocks
   may-forth outer making chosen blocks = may-as mid old (sym (same_view old mid same)) (sym held-same) chosen outer making blocks
 
   -- what may be made by the name may be made at the text's path
@@ -108,7 +108,7 @@ module _ {D : Type 0} {disks : Ghosts D} (old mid : Volume D disks) (same : Same
 
     module _ (later : faults_of old ≤ faults_of mid) (new : Volume D disks) (result : Result (Unit {0}) FileFault)
         (changes : (made : Making) (outer : List (List ℕ)) → (IsTold (past_of mid) → MayMake mid outer made chosen blocks) → ChangesName mid new (chosen.name ∷ outer) (Some (thing_made made)) result)
-        (quiet : OnOk result (IsQuiet (past_of new))) (cause : IsTold (past_of mid) → IfErr result (HasFileCause (faults_of mid) (faults_of new))) where
+        (quiet : OnOk result (IsQuiet (past_of new))) (cause : IfErr result (HasFileCause (faults_of mid) (faults_of new))) where
       at-path : (told : IsTold (past_of old)) → ChangesName mid new (passed-by told).path (Some (thing_made making)) result
       unfolding passed-by
       at-path told = changes making (may told).outer (λ t. may-forth (may told).outer making chosen blocks (may told).may)
@@ -117,7 +117,7 @@ module _ {D : Type 0} {disks : Ghosts D} (old mid : Volume D disks) (same : Same
       at-none none = changes making [] (λ told. absurd (none (told-back old mid same told)))
 
       pub made-on : LeavesOn old new text (Some (thing_made making)) result
-      made-on = leaves-on old mid same text (Some (thing_made making)) (made_check making text) passed-by later new result at-path (chosen.name ∷ []) at-none quiet (λ told. cause (told-mid told))
+      made-on = leaves-on old mid same text (Some (thing_made making)) (made_check making text) passed-by later new result at-path (chosen.name ∷ []) at-none quiet cause
 
       pub made-answer : Told (past_of old) (λ now. Answers (sound_check (made_check making text) (volume_view old) now) result)
-      made-answer = answers-on old mid same text (Some (thing_made making)) (made_check making text) passed-by later new result at-path (chosen.name ∷ []) at-none quiet (λ told. cause (told-mid told))
+      made-answer = answers-on old mid same text (Some (thing_made making)) (made_check making text) passed-by later new result at-path (chosen.name ∷ []) at-none quiet cause

@@ -76,6 +76,7 @@ module _ {D : Type 0} {disks : Ghosts D} (old last : Volume D disks) (same : Sam
         free = is.free outer told-last promised;
         links = is.links outer told-last promised;
         nests = nests-by outer place.name.now making chosen mode-is status;
+        mode = mode-is;
         made = made-by (kind_view last.layout.kind) making chosen block some is.wish_is.short mode-is long-is first;
         is = thing-by (kind_view last.layout.kind) making chosen block some is.wish_is.short mode-is long-is first;
       } in

@@ -68,7 +68,7 @@ module _ {D : Type 0} {disks : Ghosts D} (old new : Volume D disks) (same : Same
     refused = λ is. same.same_disks.same_past;
     outside = λ d s outside. subst (λ (past : Option Past). NotWritten (past_of old) past d s) (sym same.same_disks.same_past) (not_written_none (past_of old) d s);
     goes_on = goes-on-same;
-    cause = λ told. cause;
+    cause = cause;
   }
 
 -- ---- the name at a path
@@ -101,7 +101,7 @@ module _ {D : Type 0} {disks : Ghosts D} (old mid : Volume D disks) (same : Same
       (later : faults_of old ≤ faults_of mid) (new : Volume D disks) (result : Result (Unit {0}) FileFault)
       (changes-told : (told : IsTold (past_of old)) → ChangesName mid new (passed told).path what result)
       (other : List (List ℕ)) (changes-untold : (IsTold (past_of old) → ⊥) → ChangesName mid new other what result)
-      (quiet : OnOk result (IsQuiet (past_of new))) (cause : IsTold (past_of old) → IfErr result (HasFileCause (faults_of mid) (faults_of new))) where
+      (quiet : OnOk result (IsQuiet (past_of new))) (cause : IfErr result (HasFileCause (faults_of mid) (faults_of new))) where
     goes-on-mid : GoesOn disks old.disks.now mid.disks.now
     goes-on-mid = goes-on-same old mid same later
 
@@ -171,7 +171,7 @@ module _ {D : Type 0} {disks : Ghosts D} (old mid : Volume D disks) (same : Same
       refused = refused-by result device;
       outside = outside-all;
       goes_on = goes-on-all;
-      cause = λ told. cause-up (faults_of old) (faults_of mid) (faults_of new) later result (cause told);
+      cause = cause-up (faults_of old) (faults_of mid) (faults_of new) later result cause;
     }
 
     answer-by : (image : Image) (r : Result (Unit {0}) FileFault) → IfErr r (λ fault. fault ≡ Device) → checked_status (sound_check check V image) ≡ 0 → Answers (sound_check check V image) r
@@ -216,10 +216,10 @@ module _ {D : Type 0} {disks : Ghosts D} (old mid : Volume D disks) (same : Same
     at-none none = changes [] (λ told. absurd (none (told-back old mid same told)))
 
     pub changed-on : LeavesOn old new text None result
-    changed-on = leaves-on old mid same text None (gone_check text) passed-by later new result at-path [] at-none quiet (λ told. cause)
+    changed-on = leaves-on old mid same text None (gone_check text) passed-by later new result at-path [] at-none quiet cause
 
     pub changed-answer : Told (past_of old) (λ now. Answers (sound_check (gone_check text) (volume_view old) now) result)
-    changed-answer = answers-on old mid same text None (gone_check text) passed-by later new result at-path [] at-none quiet (λ told. cause)
+    changed-answer = answers-on old mid same text None (gone_check text) passed-by later new result at-path [] at-none quiet cause
 
 -- ---- the volume in a span
 
@@ -282,7 +282,7 @@ module _ {D : Type 0} (disks : Ghosts D) (old : D) (span : Span) (text : List �
       refused = λ is. same.same_past;
       outside = λ d s outside. subst (λ (past : Option Past). NotWritten (disks.past old) past d s) (sym same.same_past) (not_written_none (disks.past old) d s);
       goes_on = goes-on-from;
-      cause = λ told. zone-cause (disks.faults old) (disks.faults new) fault rose;
+      cause = zone-cause (disks.faults old) (disks.faults new) fault rose;
     }
 
   -- ---- what was done with the volume
@@ -353,7 +353,7 @@ module _ {D : Type 0} (disks : Ghosts D) (old : D) (span : Span) (text : List �
           outside = λ d s outside. subst (λ (past : Option Past). NotWritten past (past_of new) d s) same.same_past
               (leaves.outside d s (subst (λ (at : Span). IsOutside at.disk at.start at.count d s) (sym place) outside));
           goes_on = goes-on-whole;
-          cause = λ told. cause-up (disks.faults old) (faults_of volume) (faults_of new) later result (leaves.cause (subst IsTold (sym same.same_past) told));
+          cause = cause-up (disks.faults old) (faults_of volume) (faults_of new) later result leaves.cause;
         }
 
 -- what holds of a value holds of another that is the same

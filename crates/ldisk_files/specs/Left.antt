@@ -72,8 +72,8 @@ pub record LeavesNames {D : Type 0} (disks : Ghosts D) (old new : D) (span : Spa
   pub refused : IfErr result (λ fault. is_refusal fault ≡ true → disks.past new ≡ disks.past old)
   pub outside : (d s : ℕ) → IsOutside span.disk span.start span.count d s → NotWritten (disks.past old) (disks.past new) d s
   pub goes_on : GoesOn disks old new
-  -- where the disks report their past, a failure of theirs was counted
-  pub cause : IsTold (disks.past old) → IfErr result (HasFileCause (disks.faults old) (disks.faults new))
+  -- a failure of the disks was counted
+  pub cause : IfErr result (HasFileCause (disks.faults old) (disks.faults new))
 
 -- ---- on the way there
 
@@ -86,7 +86,7 @@ pub record LeavesOn {D : Type 0} {disks : Ghosts D} (old new : held.Volume D dis
   pub refused : IfErr result (λ fault. is_refusal fault ≡ true → past_of new ≡ past_of old)
   pub outside : (d s : ℕ) → IsOutside old.span.disk old.span.start old.span.count d s → NotWritten (past_of old) (past_of new) d s
   pub goes_on : GoesOn disks old.disks.now new.disks.now
-  pub cause : IsTold (past_of old) → IfErr result (HasFileCause (faults_of old) (faults_of new))
+  pub cause : IfErr result (HasFileCause (faults_of old) (faults_of new))
 
 -- What a change of the name at a path of a sound volume leaves; it is refused as the disk failed.
 pub record ChangesName {D : Type 0} {disks : Ghosts D} (old new : held.Volume D disks) (path : List (List ℕ)) (what : Option Thing) (result : Result (Unit {0}) FileFault) : Type 0 where

@@ -1,3 +1,4 @@
 pub mod Answer
 pub mod Left
 pub mod Made
+pub mod Inode

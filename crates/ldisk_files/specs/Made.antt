@@ -126,6 +126,7 @@ pub record MayMake {D : Type 0} {disks : Ghosts D} (volume : Volume D disks) (ou
   pub free : IsFreeNow volume chosen
   pub links : MayLinkNow volume outer chosen
   pub nests : MayNest outer chosen
+  pub mode : chosen.mode ≡ mode_made making
   pub made : MayBeMade (kind_view volume.layout.kind) chosen (block_of blocks)
   pub is : thing_with chosen (block_of blocks) ≡ thing_made making
 

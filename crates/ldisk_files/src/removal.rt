@@ -55,7 +55,6 @@ fn remove_path<'d, D: Disks>(alloc: Global, volume: Volume<'d, D>, path: &[u8]) 
     ensures answers { Told (past_of volume.entry)
         (λ now. Answers (sound_check (gone_check path.now) (volume_view volume.entry) now) result.result) }
     ensures leaves { LeavesOn volume.entry result.volume path.now None result.result }
-    ensures cause { IfErr result.result (HasFileCause (faults_of volume.entry) (faults_of result.volume)) }
     ensures same_reference { result.volume.disks.ghost_name ≡ volume.entry.disks.ghost_name }
 {
     let mut volume = volume;
@@ -82,7 +81,6 @@ pub fn rm<D: Disks>(alloc: Global, disks: &mut D, span: Span, path: &[u8]) -> Re
     ensures answers { Told (D.past disks.old) (λ now.
         Answers (volume_check (gone_check path.now) now (span_view span)) result) }
     ensures leaves { LeavesNames D.Disks disks.old disks.new (span_view span) path.now None result }
-    ensures cause { IfErr result (HasFileCause (D.faults disks.old) (D.faults disks.new)) }
 {
     match Volume::attach(disks, span) {
         Ok(volume) => remove_path(alloc, volume, path).result,

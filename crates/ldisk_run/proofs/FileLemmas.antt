@@ -32,7 +32,7 @@ use Rattle.ldisk_files.specs.declared.fault.FileFault.TheVariants as faults
 use Rattle.std.proofs.lemmas.Bool.{eq-eqb, leb-false, ltb-false}
 use Rattle.ldisk_run.specs.Left.{AnswersAs, HasSoundOn, HasVolumeOf, IsAfter, IsAfterChange, IsChanged, IsChanging, LeavesBy, LeavesChanging, is_refusal}
 use Rattle.ldisk_run.specs.Made.{file_status}
-use Rattle.ldisk_run.specs.Run.{Halts, HasCause, is_command_status, makes_name, status_of}
+use Rattle.ldisk_run.specs.Run.{Halts, HasCause, is_command_status, status_of}
 use Rattle.ldisk_run.specs.declared.halt.Halt.{Halt}
 use Rattle.ldisk_run.specs.declared.halt.Halt.TheVariants.{Device, Refused}
 use Rattle.ldisk_run.proofs.MadeLemmas.{told_from}
@@ -187,7 +187,7 @@ module _ (command : Command) (change : NameChange) (check : Volume → Image →
       outside = told_all (disks.past old) _ (λ image d s out. not_written_flushed (disks.past old) (disks.past new) (inr same.same_past) d s);
       same = λ reads. absurd (let no : true ≡ false = sym reads ∙ is-one.writes in cc);
       goes_on = goes_on_same disks old new same.same_past record { later = later; size = same.same_size; count = same.same_count; geometry = same.same_geometry };
-      device = λ told. rose;
+      device = rose;
     }
 
   pub halted_leaves : {D : Type 0} (disks : Ghosts D) (old new : D) → SameOf disks old new → disks.faults old ≤ disks.faults new
@@ -235,8 +235,7 @@ module _ (command : Command) (change : NameChange) (check : Volume → Image →
     {D : Type 0} (disks : Ghosts D) (old mid new : D) (same : SameOf disks old mid) (later : disks.faults old ≤ disks.faults mid)
     (span : declared.Span) (result : Result (Unit {0}) FileFault)
     (room : Told (disks.past old) (λ now. room_of now (machine_of disks old) change.device ≡ Ok (span_view span)))
-    (leaves : LeavesNames disks mid new (span_view span) change.path change.what result)
-    (cause : (makes_name command ≡ true → IsTold (disks.past old)) → IfErr result (HasFileCause (disks.faults mid) (disks.faults new))) where
+    (leaves : LeavesNames disks mid new (span_view span) change.path change.what result) where
   abbrev I : Image
   I = now (disks.past old)
 
@@ -289,7 +288,7 @@ module _ (command : Command) (change : NameChange) (check : Volume → Image →
     outside = told_from (disks.past old) _ (λ told d s out. apart d s (outside-span I M d s (span-is I M change.device (span_view span) (room-now told)) (sym (is-one.may I M d s) ∙ out)));
     same = λ reads. absurd (let no : true ≡ false = sym reads ∙ is-one.writes in cc);
     goes_on = goes_on_join disks old mid new goes-on-mid leaves.goes_on;
-    device = λ told is. rose-of result (disks.faults old) (disks.faults mid) (disks.faults new) later (cause told) is;
+    device = rose-of result (disks.faults old) (disks.faults mid) (disks.faults new) later leaves.cause;
   }
     where
       outside-span : (image : Image) (machine : Machine) (d s : ℕ) → span_of image machine change.device ≡ Ok (span_view span) → is_in_found (span_of image machine change.device) d s ≡ false

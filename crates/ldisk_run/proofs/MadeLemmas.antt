@@ -34,7 +34,7 @@ use Rattle.ldisk_words.specs.declared.asked.Command as words
 use Rattle.ldisk_words.specs.declared.asked.Command.TheVariants as others
 use Rattle.ldisk_run.specs.Left.{IsAfter, LeavesChanging, IsDone, is_refusal, AnswersAs, HasVolumeOf, LeavesBy, LeavesAsked, IsAskedDone, HasAskedVolume, held_now}
 use Rattle.ldisk_run.specs.Pieces.{Held}
-use Rattle.ldisk_run.specs.Run.{DoesAs, asked_makes_name, is_command_status}
+use Rattle.ldisk_run.specs.Run.{DoesAs, is_command_status}
 use Rattle.ldisk_run.proofs.AddsLemmas.{adds_nothing, adds_same}
 use Rattle.ldisk_run.specs.Made.{made_status}
 
@@ -126,7 +126,7 @@ module _ {D : Type 0} (disks : Ghosts D) (old new : D) (result : Result (Unit {0
     outside = told_all (disks.past old) _ (λ image d s out. others d s (elsewhere_by d s (d == 0) (s == 0) refl refl out));
     same = λ is. absurd cc;
     goes_on = goes_on;
-    device = λ told. device_by (disks.faults old) (disks.faults new) result cause;
+    device = device_by (disks.faults old) (disks.faults new) result cause;
   }
 
   pub mkfs_leaves : (time : ℕ) (device : devices.Device) (kind : Kind) (inodes : ℕ)
@@ -145,7 +145,7 @@ module _ {D : Type 0} (disks : Ghosts D) (old new : D) (result : Result (Unit {0
     outside = outside;
     same = λ is. absurd cc;
     goes_on = goes_on;
-    device = λ told. device_by (disks.faults old) (disks.faults new) result cause;
+    device = device_by (disks.faults old) (disks.faults new) result cause;
   }
 
 -- ---- commands that only read
@@ -203,7 +203,7 @@ module _ {D : Type 0} (disks : Ghosts D) (old new : D) (same : SameOf disks old 
     outside = told_all (disks.past old) _ (λ image d s out. not_written_flushed (disks.past old) (disks.past new) (inr same.same_past) d s);
     same = λ is. same;
     goes_on = goes_on;
-    device = λ told. rose;
+    device = rose;
   }
 
 -- ---- commands that aren't built
@@ -310,10 +310,10 @@ module _ {D : Type 0} (disks : Ghosts D) (old new : D) (time : ℕ) (status : �
   asked_goes_on None left = left.1.0
   asked_goes_on (Some asked) left = left.goes_on
 
-  pub asked_device : (asked : Option Asked) → LeavesAsked disks old new time asked status → (asked_makes_name asked ≡ true → IsTold (disks.past old)) → answer_of status failed ≡ 8
+  pub asked_device : (asked : Option Asked) → LeavesAsked disks old new time asked status → answer_of status failed ≡ 8
       → Rose (disks.faults old) (disks.faults new)
-  asked_device None left told eight = absurd (let is = device_status status failed eight in let no : 1 ≡ 8 = sym left.1.1 ∙ is in cc)
-  asked_device (Some asked) left told eight = left.device told (device_status status failed eight)
+  asked_device None left eight = absurd (let is = device_status status failed eight in let no : 1 ≡ 8 = sym left.1.1 ∙ is in cc)
+  asked_device (Some asked) left eight = left.device (device_status status failed eight)
 
 -- arguments that ask for nothing
 pub nothing_left : {D : Type 0} (disks : Ghosts D) (old : D) (time : ℕ) (asked : Option Asked) → asked ≡ None → LeavesAsked disks old old time asked 1

@@ -3,7 +3,7 @@ use Rattle.std.specs.Prelude.{◌≡◌, ◌⊎◌, ◌==◌, ℕ, Bool, true, f
 use Rattle.std.specs.List.{list_any}
 use Rattle.disk_trait.specs.declared.disks.Disks.{Ghosts}
 use Rattle.disk_trait.specs.Calls.{SameOf, GoesOn}
-use Rattle.disk_trait.specs.Moments.{IsTold, now, IsQuiet, IsWholeImage, LeavesOnly}
+use Rattle.disk_trait.specs.Moments.{now, IsQuiet, IsWholeImage, LeavesOnly}
 use Rattle.disk_trait.specs.NotWritten.{NotWritten}
 use Rattle.lilo_model.specs.Devices.{Device}
 use Rattle.lilo_model.specs.Disks.{Image, Machine, Span}
@@ -17,7 +17,7 @@ use Rattle.ldisk_model.specs.FileVerdict.{NameChange}
 use Rattle.ldisk_model.specs.Verdict.{image_after, may_write, name_change, only_reads}
 use Rattle.ldisk_files.specs.Left.{HasSoundVolume, IsNamed, IsEither}
 use Rattle.ldisk_make.specs.Answer.{HasEmptyVolume}
-use Rattle.ldisk_run.specs.Run.{IsFailure, makes_name}
+use Rattle.ldisk_run.specs.Run.{IsFailure}
 
 -- the command was carried out: the status is 0, or 12 where the sink failed
 abbrev pub IsDone : ℕ → Type 0
@@ -93,8 +93,8 @@ pub record LeavesBy {D : Type 0} (disks : Ghosts D) (old new : D) (time : ℕ) (
   pub outside : OnDisks disks old (λ image machine. (d s : ℕ) → may_write image machine command d s ≡ false → NotWritten (disks.past old) (disks.past new) d s)
   pub same : only_reads command ≡ true → SameOf disks old new
   pub goes_on : GoesOn disks old new
-  -- a failure of the disks was counted; of a command that makes a name, where they report their past
-  pub device : (makes_name command ≡ true → IsTold (disks.past old)) → status ≡ 8 → Rose (disks.faults old) (disks.faults new)
+  -- a failure of the disks was counted
+  pub device : status ≡ 8 → Rose (disks.faults old) (disks.faults new)
 
 -- The same after arguments; those that ask for nothing leave all as it was.
 abbrev pub LeavesAsked : {D : Type 0} → Ghosts D → D → D → ℕ → Option Asked → ℕ → Type 0

@@ -84,17 +84,6 @@ abbrev pub asked_takes_memory : Option Asked → Bool
 asked_takes_memory (Some asked) = takes_memory asked.command
 asked_takes_memory None = false
 
--- whether a command makes a name
-abbrev pub makes_name : Command → Bool
-makes_name (Mkdir device path) = true
-makes_name (Ln device path target) = true
-makes_name command = false
-
--- the same of arguments
-abbrev pub asked_makes_name : Option Asked → Bool
-asked_makes_name (Some asked) = makes_name asked.command
-asked_makes_name None = false
-
 -- the path of what a command makes has no zero byte
 abbrev pub HasPlainPath : Command → Type 0
 HasPlainPath (Mkdir device path) = HasNoZero path

@@ -1,7 +1,7 @@
 // The top call: what the program `ldisk` does with its arguments.
 ghost use Rattle.std.specs.Prelude.{◌≡◌, ◌≢◌, ◌↔◌, ◌≤◌, ℕ, true, false, IsTrue};
 ghost use Rattle.disk_trait.specs.Calls.{SameOf, GoesOn};
-ghost use Rattle.disk_trait.specs.Moments.{IsTold, IsQuiet, IsWhole, IsWholeImage};
+ghost use Rattle.disk_trait.specs.Moments.{IsQuiet, IsWhole, IsWholeImage};
 ghost use Rattle.disk_trait.specs.NotWritten.{NotWritten};
 ghost use Rattle.sector_address.specs.Machine.{OnDisks};
 ghost use Rattle.lilo_model.specs.Faults.{Rose};
@@ -13,7 +13,7 @@ ghost use Rattle.lilo_model.specs.LdiskVerdict as reads;
 ghost use Rattle.ldisk_words.specs.View.{command_view};
 ghost use Rattle.ldisk_run.specs.Left.{IsDone, is_refusal, LeavesBy, LeavesAsked, LeavesChanging, IsAskedDone, HasAskedVolume, held_now};
 ghost use Rattle.ldisk_run.specs.Pieces.{sink_of, held_by};
-ghost use Rattle.ldisk_run.specs.Run.{DoesAs, Answers, Tells, asked_makes_name, asked_takes_memory, takes_memory, is_status, is_command_status, HasPlainPath};
+ghost use Rattle.ldisk_run.specs.Run.{DoesAs, Answers, Tells, asked_takes_memory, takes_memory, is_status, is_command_status, HasPlainPath};
 ghost use Rattle.ldisk_run.specs.View.{reading_view};
 
 use crate::command::carry_out;
@@ -64,11 +64,9 @@ pub fn ldisk<D: Disks, I: Source, O: Sink>(
     // Each sector has 512 bytes: so it is of disks that hold whole sectors, or that don't report what they hold.
     requires whole { IsWhole (D.size_of disks.old) (D.past disks.old) }
 
-    // Where the disks report what they hold, the status is the verdict's, but for faults; 8 has a cause, which of what
-    // makes a name is known there alone.
+    // Where the disks report what they hold, the status is the verdict's, but for faults; 8 and 12 have a cause.
     ensures status { OnDisks D.Disks disks.old (λ now machine. Answers (ldisk_verdict now machine words.now) result) }
-    ensures device { (asked_makes_name (asked_at words.now) ≡ true → IsTold (D.past disks.old))
-        → result ≡ 8 → Rose (D.faults disks.old) (D.faults disks.new) }
+    ensures device { result ≡ 8 → Rose (D.faults disks.old) (D.faults disks.new) }
     ensures sink { result ≡ 12 → Rose (O.faults out.old) (O.faults out.new) }
     ensures memory { result ≡ 13 → asked_takes_memory (asked_at words.now) ≡ true }
 

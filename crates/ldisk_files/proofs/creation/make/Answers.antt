@@ -3,9 +3,11 @@ use Rattle.std.proofs.Common.{Some, Err, refl, ap, rules}
 use Rattle.disk_trait.proofs.ToldLemmas.{told_map}
 use Rattle.ldisk_model.specs.FileVerdict.{made_check, thing_made}
 use Rattle.ldisk_files.specs.Answer.{zone_fault}
+use Rattle.ldisk_files.specs.Inode.{MakesInode}
 use Rattle.ldisk_files.specs.Left.{LeavesNames}
 use Rattle.ldisk_files.specs.Made.{making_view}
 use Rattle.minix_zones.specs.View.{span_view}
+use Rattle.ldisk_files.proofs.InodeLemmas.{inode-in}
 use Rattle.ldisk_files.proofs.PathLemmas.{held-of, laid-told, answers-at, leaves-at, no-volume, refused-names}
 use Rattle.ldisk_files.proofs.creation.make.Goals as goal
 
@@ -25,6 +27,14 @@ returns-in-Ok-clause-leaves g c =
     held-of (λ last. LeavesNames g.D.Disks c.args.disks.now last (span_view c.args.span) c.args.path.now what c.make_path.result.result) c.make_path.result.volume.disks.now
     (leaves-at g.D.Disks c.args.disks.now (span_view c.args.span) c.args.path.now what c.in-Ok.volume c.make_path.result.volume c.in-Ok.ensures.same c.in-Ok.ensures.later
     (ap span_view c.in-Ok.ensures.span) c.in-Ok.ensures.volume c.make_path.result.result c.make_path.ensures.leaves)
+    (search rules)
+
+pub returns-in-Ok-clause-inode : goal.returns-in-Ok-clause-inode
+returns-in-Ok-clause-inode g c =
+    let made = making_view c.args.making.now in
+    held-of (λ last. MakesInode g.D.Disks c.args.disks.now last (span_view c.args.span) c.args.path.now made c.make_path.result.result) c.make_path.result.volume.disks.now
+    (inode-in g.D.Disks c.args.disks.now (span_view c.args.span) c.args.path.now made c.in-Ok.volume c.make_path.result.volume c.in-Ok.ensures.same c.in-Ok.ensures.volume
+    c.make_path.result.result c.make_path.ensures.inode)
     (search rules)
 
 pub returns-in-Err-clause-answers : goal.returns-in-Err-clause-answers

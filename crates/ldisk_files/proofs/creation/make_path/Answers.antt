@@ -2,6 +2,7 @@
 use Rattle.std.proofs.Common.{◌∷◌, [], Some}
 use Rattle.ldisk_model.specs.FileVerdict.{thing_made}
 use Rattle.ldisk_files.specs.Made.{making_view}
+use Rattle.ldisk_files.proofs.InodeLemmas.{inode-at}
 use Rattle.ldisk_files.proofs.MakeLemmas.{may-some, made-on, made-answer}
 use Rattle.ldisk_files.proofs.PathLemmas.{refused-on}
 use Rattle.ldisk_files.proofs.creation.make_path.Goals as goal
@@ -23,6 +24,11 @@ pub returns-in-Ok-clause-leaves : goal.returns-in-Ok-clause-leaves
 returns-in-Ok-clause-leaves g c =
     made-on c.args.volume c.choose_at.new.volume c.in-Ok.ensures.same c.args.path.now (making_view c.args.making.now) c.in-Ok.ready.chosen (c.in-Ok.ready.block ∷ []) c.in-Ok.ready
     c.in-Ok.ensures.may c.in-Ok.ensures.answers c.in-Ok.ensures.later c.make_ready.result.volume c.make_ready.result.result c.make_ready.ensures.changes c.make_ready.ensures.quiet c.make_ready.ensures.cause
+
+pub returns-in-Ok-clause-inode : goal.returns-in-Ok-clause-inode
+returns-in-Ok-clause-inode g c =
+    inode-at c.args.volume c.choose_at.new.volume c.in-Ok.ensures.same c.args.path.now (making_view c.args.making.now) c.in-Ok.ready.chosen (c.in-Ok.ready.block ∷ [])
+    c.in-Ok.ensures.may c.make_ready.result.volume c.make_ready.result.result c.make_ready.ensures.inode
 
 pub returns-in-Err-clause-leaves : goal.returns-in-Err-clause-leaves
 returns-in-Err-clause-leaves g c =

@@ -2,13 +2,13 @@
 use Rattle.std.proofs.Common.{◌∷◌, [], Ok, Err, Some, sym, ◌∙◌}
 use Rattle.disk_trait.specs.Moments.{IsTold, IsQuiet}
 use Rattle.minix_create.specs.Chosen.{Suits}
-use Rattle.minix_zones.specs.Volume.{past_of, faults_of}
+use Rattle.minix_zones.specs.Volume.{past_of}
 use Rattle.ldisk_model.specs.FileVerdict.{thing_made}
 use Rattle.ldisk_files.specs.Answer.{write_fault}
-use Rattle.ldisk_files.proofs.CreateLemmas.{created, not-created, created-kept, created-cause}
+use Rattle.ldisk_files.proofs.CreateLemmas.{created, not-created, created-kept}
 use Rattle.ldisk_files.proofs.FlushLemmas.{flushed-view, not-flushed, then-changed, when-ok}
+use Rattle.ldisk_files.proofs.InodeLemmas.{inode-created, inode-flushed}
 use Rattle.ldisk_files.proofs.MadeLemmas.{may-as, some-forth}
-use Rattle.ldisk_files.proofs.PathLemmas.{cause-since}
 use Rattle.ldisk_files.proofs.creation.make_ready.Goals as goal
 
 pub create-requires : goal.create-requires
@@ -41,6 +41,15 @@ returns-in-Ok-clause-changes g c = λ making outer may.
     (may (syncs.flushes.goes_on.told_before told)))
     c.in-Ok.ensures.created.creates)
 
+pub returns-in-Ok-clause-inode : goal.returns-in-Ok-clause-inode
+returns-in-Ok-clause-inode g c = λ making outer may.
+    let syncs = c.sync.ensures.syncs in
+    inode-flushed c.args.volume c.sync.new.self c.sync.result syncs c.in-Ok.volume (c.args.ready.chosen.name ∷ outer) making (Ok tt)
+    (inode-created c.sync.new.self c.in-Ok.volume outer making c.args.ready.chosen (c.args.ready.block ∷ [])
+    (λ told. may-as c.sync.new.self c.args.volume (sym (flushed-view c.args.volume c.sync.new.self c.sync.result syncs)) (sym syncs.flushes.same_now) c.args.ready.chosen outer making (c.args.ready.block ∷ [])
+    (may (syncs.flushes.goes_on.told_before told)))
+    c.in-Ok.ensures.created.creates)
+
 pub returns-in-Err-clause-changes : goal.returns-in-Err-clause-changes
 returns-in-Err-clause-changes g c = λ making outer may.
     let syncs = c.sync.ensures.syncs in
@@ -64,11 +73,3 @@ returns-in-Err-clause-same_reference g c =
     let syncs = c.sync.ensures.syncs in
     (created-kept c.sync.new.self c.in-Err.halt.volume c.args.ready.chosen (c.args.ready.block ∷ []) (some-forth c.args.volume c.sync.new.self c.sync.result syncs c.args.ready.chosen (c.args.ready.block ∷ []) c.requires.may)
     (Err c.in-Err.halt.fault) c.in-Err.ensures.halted).same_reference ∙ syncs.kept.same_reference
-
-pub returns-in-Err-clause-cause : goal.returns-in-Err-clause-cause
-returns-in-Err-clause-cause g c = λ told.
-    let syncs = c.sync.ensures.syncs in
-    rw c.write_fault.ensures
-    (cause-since (faults_of c.args.volume) (faults_of c.sync.new.self) (faults_of c.in-Err.halt.volume) (write_fault c.in-Err.halt.fault) syncs.flushes.goes_on.later
-    (created-cause c.sync.new.self c.in-Err.halt.volume c.args.ready.chosen (c.args.ready.block ∷ []) (some-forth c.args.volume c.sync.new.self c.sync.result syncs c.args.ready.chosen (c.args.ready.block ∷ []) c.requires.may)
-    c.in-Err.halt.fault c.in-Err.ensures.halted (syncs.flushes.goes_on.told told)))

@@ -1,7 +1,6 @@
 -- The checks, then the removal.
 use Rattle.std.proofs.Common.{None}
-use Rattle.minix_zones.specs.Volume.{faults_of}
-use Rattle.ldisk_files.proofs.PathLemmas.{cause-up, refused-on, may-remove, changed-on, changed-answer}
+use Rattle.ldisk_files.proofs.PathLemmas.{refused-on, may-remove, changed-on, changed-answer}
 use Rattle.ldisk_files.proofs.removal.remove_path.Goals as goal
 
 pub remove_name-requires-clause-may : goal.remove_name-requires-clause-may
@@ -21,7 +20,3 @@ returns-in-Ok-clause-leaves g c =
 pub returns-in-Err-clause-leaves : goal.returns-in-Err-clause-leaves
 returns-in-Err-clause-leaves g c =
     refused-on c.args.volume c.find_checked.new.volume c.in-Err.ensures.same c.in-Err.ensures.later c.args.path.now None c.in-Err.fault c.in-Err.ensures.cause
-
-pub returns-in-Ok-clause-cause : goal.returns-in-Ok-clause-cause
-returns-in-Ok-clause-cause g c =
-    cause-up (faults_of c.args.volume) (faults_of c.find_checked.new.volume) (faults_of c.remove_name.result.volume) c.in-Ok.ensures.later c.remove_name.result.result c.remove_name.ensures.cause

@@ -2,12 +2,10 @@
 use Rattle.std.proofs.Common.{None, Err, refl, ap, rules}
 use Rattle.disk_trait.proofs.ToldLemmas.{told_map}
 use Rattle.ldisk_model.specs.FileVerdict.{gone_check}
-use Rattle.std.specs.Prelude.{IfErr}
-use Rattle.minix_zones.specs.Volume.{faults_of}
-use Rattle.ldisk_files.specs.Answer.{HasFileCause, zone_fault}
+use Rattle.ldisk_files.specs.Answer.{zone_fault}
 use Rattle.ldisk_files.specs.Left.{LeavesNames}
 use Rattle.minix_zones.specs.View.{span_view}
-use Rattle.ldisk_files.proofs.PathLemmas.{cause-up, zone-cause, held-of, laid-told, answers-at, leaves-at, no-volume, refused-names}
+use Rattle.ldisk_files.proofs.PathLemmas.{held-of, laid-told, answers-at, leaves-at, no-volume, refused-names}
 use Rattle.ldisk_files.proofs.removal.rm.Goals as goal
 
 pub remove_path-requires : goal.remove_path-requires
@@ -39,17 +37,4 @@ returns-in-Err-clause-leaves g c =
     (held-of (λ last. LeavesNames g.D.Disks c.args.disks.now last (span_view c.args.span) c.args.path.now None (Err (zone_fault c.in-Err.fault))) c.in-Err.disks.now
     (refused-names g.D.Disks c.args.disks.now (span_view c.args.span) c.args.path.now None c.in-Err.disks.now c.in-Err.ensures.same c.in-Err.ensures.later c.in-Err.fault
     (λ is. c.in-Err.ensures.device (rw is refl)))
-    (search rules))
-
-pub returns-in-Ok-clause-cause : goal.returns-in-Ok-clause-cause
-returns-in-Ok-clause-cause g c =
-    held-of (λ last. IfErr c.remove_path.result.result (HasFileCause (g.D.Disks.faults c.args.disks.now) (g.D.Disks.faults last))) c.remove_path.result.volume.disks.now
-    (cause-up (g.D.Disks.faults c.args.disks.now) (faults_of c.in-Ok.volume) (faults_of c.remove_path.result.volume) c.in-Ok.ensures.later c.remove_path.result.result c.remove_path.ensures.cause)
-    (search rules)
-
-pub returns-in-Err-clause-cause : goal.returns-in-Err-clause-cause
-returns-in-Err-clause-cause g c =
-    rw c.refused.ensures.told
-    (held-of (λ last. HasFileCause (g.D.Disks.faults c.args.disks.now) (g.D.Disks.faults last) (zone_fault c.in-Err.fault)) c.in-Err.disks.now
-    (zone-cause (g.D.Disks.faults c.args.disks.now) (g.D.Disks.faults c.in-Err.disks.now) c.in-Err.fault (λ is. c.in-Err.ensures.device (rw is refl)))
     (search rules))

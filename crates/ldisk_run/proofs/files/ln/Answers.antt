@@ -1,6 +1,5 @@
 -- What was answered and written, by the status.
-use Rattle.std.proofs.Common.{◌≡◌, Ok, refl, sym, subst}
-use Rattle.disk_trait.specs.Moments.{IsTold}
+use Rattle.std.proofs.Common.{◌≡◌, Ok}
 use Rattle.disk_trait.proofs.ToldLemmas.{told_map, told_both}
 use Rattle.lilo_model.specs.LdiskVerdict.{room_of}
 use Rattle.mbr_table.specs.View.{device_view, span_view}
@@ -32,8 +31,7 @@ pub returns-in-Ok-clause-leaves : goal.returns-in-Ok-clause-leaves
 returns-in-Ok-clause-leaves g c =
     rw c.file_status.ensures
     (file_leaves (Ln (device_view c.args.device) c.args.path.now c.args.target.now) (addition (device_view c.args.device) c.args.path.now (NewLink c.args.target.now)) (made_check (NewLink c.args.target.now) c.args.path.now) (makes_link (device_view c.args.device) c.args.path.now c.args.target.now) g.D.Disks c.args.disks.now c.find_room.new.disks c.ln.new.disks c.in-Ok.ensures.same c.in-Ok.ensures.later
-    c.in-Ok.span c.ln.result c.in-Ok.ensures.room c.ln.ensures.leaves
-    (λ told. c.ln.ensures.leaves.cause (subst IsTold (sym c.in-Ok.ensures.same.same_past) (told refl))) c.args.time)
+    c.in-Ok.span c.ln.result c.in-Ok.ensures.room c.ln.ensures.leaves c.args.time)
 
 pub returns-in-Err-clause-answers : goal.returns-in-Err-clause-answers
 returns-in-Err-clause-answers g c =

@@ -31,7 +31,7 @@ pub returns-in-Ok-clause-leaves : goal.returns-in-Ok-clause-leaves
 returns-in-Ok-clause-leaves g c =
     rw c.file_status.ensures
     (file_leaves (Rm (device_view c.args.device) c.args.path.now) (removal (device_view c.args.device) c.args.path.now) (gone_check c.args.path.now) (removes (device_view c.args.device) c.args.path.now) g.D.Disks c.args.disks.now c.find_room.new.disks c.rm.new.disks c.in-Ok.ensures.same c.in-Ok.ensures.later
-    c.in-Ok.span c.rm.result c.in-Ok.ensures.room c.rm.ensures.leaves (λ told. c.rm.ensures.cause))
+    c.in-Ok.span c.rm.result c.in-Ok.ensures.room c.rm.ensures.leaves)
 
 pub returns-in-Err-clause-answers : goal.returns-in-Err-clause-answers
 returns-in-Err-clause-answers g c =

@@ -1,0 +1,72 @@
+-- The inode of what was made, from the creation up to the span.
+use Rattle.std.proofs.Common.{◌≡◌, ℕ, List, ◌∷◌, Result, Ok, refl, sym, ◌∙◌, ap, subst}
+use Rattle.std.specs.Prelude.{OnOk}
+use Rattle.disk_trait.specs.declared.disks.Disks.{Ghosts}
+use Rattle.disk_trait.specs.Calls.{SameOf}
+use Rattle.disk_trait.specs.Moments.{IsTold, now}
+use Rattle.disk_trait.specs.Past.{Image, Told}
+use Rattle.disk_trait.proofs.MomentLemmas.{told_now, on_ok}
+use Rattle.lilo_model.specs.Disks.{Span}
+use Rattle.lilo_model.specs.MinixLayout.{Inode}
+use Rattle.lilo_model.specs.MinixParts as model
+use Rattle.lilo_model.specs.MinixParts.{volume_at}
+use Rattle.ldisk_model.specs.FileVerdict.{Making, NewDirectory, NewLink, NewFile}
+use Rattle.minix_create.specs.Chosen.{block_of, new_inode}
+use Rattle.minix_create.specs.States.{CreatesOn}
+use Rattle.minix_create.specs.declared.chosen.Chosen.{Chosen}
+use Rattle.minix_zones.specs.Volume.{volume_view, past_of, SameVolume, Syncs}
+use Rattle.minix_zones.specs.declared.volume.Volume.{Volume}
+use Rattle.minix_zones.specs.declared.zone_fault.ZoneFault.{ZoneFault}
+use Rattle.minix_zones.specs.declared.zone_fault.ZoneFault.TheVariants as zones
+use Rattle.minix_zones.proofs.SameLemmas.{same_view}
+use Rattle.ldisk_files.specs.Inode.{links_made, HasInode, HasInodeAt, MakesInode, MakesInodeAt, MakesInodeBy}
+use Rattle.ldisk_files.specs.Made.{MayMake, MayMakeAt, mode_made}
+use Rattle.ldisk_files.specs.declared.fault.FileFault.{FileFault}
+use Rattle.ldisk_files.proofs.FlushLemmas.{flushed-view}
+use Rattle.ldisk_files.proofs.MakeLemmas.{told-mid, may-forth}
+
+links-by : (making : Making) (chosen : Chosen) → chosen.mode ≡ mode_made making → (new_inode chosen).links ≡ links_made making
+links-by NewDirectory chosen mode = rw mode refl
+links-by (NewLink target) chosen mode = rw mode refl
+links-by (NewFile bytes) chosen mode = rw mode refl
+
+pub inode-created : {D : Type 0} {disks : Ghosts D} (start new : Volume D disks) (outer : List (List ℕ)) (making : Making) (chosen : Chosen) (blocks : List (List ℕ))
+    → (IsTold (past_of start) → MayMake start outer making chosen blocks) → CreatesOn start new chosen (block_of blocks) (Ok tt) → MakesInodeBy start new (chosen.name ∷ outer) making (Ok tt)
+inode-created start new outer making chosen blocks may creates told =
+    let one = creates outer (may told).nests (λ t. (may t).links) in
+    let node = one.node told in
+    record {
+      number = chosen.choice.inode;
+      leads = (one.leads.done told).tree.here;
+      mode = ap (λ (i : Inode). i.mode) node ∙ (may told).mode;
+      links = ap (λ (i : Inode). i.links) node ∙ links-by making chosen (may told).mode;
+    }
+
+-- what was written before was made durable first
+pub inode-flushed : {D : Type 0} {disks : Ghosts D} (old mid : Volume D disks) (first : Result (Unit {0}) ZoneFault) → Syncs old mid zones.Device first
+    → (new : Volume D disks) (path : List (List ℕ)) (making : Making) (result : Result (Unit {0}) FileFault) → MakesInodeBy mid new path making result → MakesInodeBy old new path making result
+inode-flushed old mid first syncs new path making result makes told =
+    subst (λ (v : model.Volume). OnOk result (HasInode v (now (past_of new)) path making)) (flushed-view old mid first syncs) (makes (syncs.flushes.goes_on.told told))
+
+-- the path is that of the text
+pub inode-at : {D : Type 0} {disks : Ghosts D} (old mid : Volume D disks) (same : SameVolume old mid) (text : List ℕ) (making : Making) (chosen : Chosen) (blocks : List (List ℕ))
+    → (IsTold (past_of old) → MayMakeAt old text making chosen blocks) → (new : Volume D disks) (result : Result (Unit {0}) FileFault)
+    → ((made : Making) (outer : List (List ℕ)) → (IsTold (past_of mid) → MayMake mid outer made chosen blocks) → MakesInodeBy mid new (chosen.name ∷ outer) made result)
+    → MakesInodeAt old new text making result
+inode-at old mid same text making chosen blocks may new result makes told =
+    let at = may told in
+    on_ok result _ _
+    (subst (λ (v : model.Volume). OnOk result (HasInode v (now (past_of new)) (chosen.name ∷ at.outer) making)) (same_view old mid same)
+    (makes making at.outer (λ t. may-forth old mid same at.outer making chosen blocks at.may) (told-mid old mid same told)))
+    (λ has. record { path = chosen.name ∷ at.outer; at = at.is; has = has })
+
+-- the volume is the one in the span
+pub inode-in : {D : Type 0} (disks : Ghosts D) (old : D) (span : Span) (text : List ℕ) (making : Making) (volume new : Volume D disks) → SameOf disks old volume.disks.now
+    → Told (disks.past old) (λ now. volume_at now span ≡ Ok (volume_view volume)) → (result : Result (Unit {0}) FileFault) → MakesInodeAt volume new text making result
+    → MakesInode disks old new.disks.now span text making result
+inode-in disks old span text making volume new same is result makes told =
+    on_ok result _ _ (makes (subst IsTold (sym same.same_past) told)) (λ has. record {
+      volume = volume_view volume;
+      is = told_now (disks.past old) (λ now. volume_at now span ≡ Ok (volume_view volume)) is told;
+      has = subst (λ (i : Image). HasInodeAt (volume_view volume) i text making (now (past_of new))) (ap now same.same_past) has;
+    })

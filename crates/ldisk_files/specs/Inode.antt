@@ -1,0 +1,53 @@
+-- The inode of what is made at a path: its mode, and how many links it has. A path is a list of components, the last one
+-- first.
+use Rattle.std.specs.Prelude.{◌≡◌, ℕ, List, Some, Result, Ok, OnOk}
+use Rattle.disk_trait.specs.declared.disks.Disks.{Ghosts}
+use Rattle.disk_trait.specs.Moments.{IsTold, now}
+use Rattle.lilo_model.specs.Disks.{Image, Span}
+use Rattle.lilo_model.specs.MinixNames.{reached, names_in}
+use Rattle.lilo_model.specs.MinixParts.{Volume, parts_of, volume_at}
+use Rattle.lilo_model.specs.NamePlaces.{name_path}
+use Rattle.ldisk_model.specs.FileVerdict.{Making, NewDirectory, NewLink, NewFile}
+use Rattle.minix_zones.specs.Volume.{volume_view, past_of}
+use Rattle.minix_zones.specs.declared.volume.Volume as held
+use Rattle.ldisk_files.specs.Made.{mode_made}
+use Rattle.ldisk_files.specs.declared.fault.FileFault.{FileFault}
+
+-- a directory has its own `.` beside its name
+abbrev pub links_made : Making → ℕ
+links_made NewDirectory = 2
+links_made (NewLink target) = 1
+links_made (NewFile bytes) = 1
+
+-- in an image a path leads to an inode with the mode and the links of what is made
+pub record HasInode (volume : Volume) (image : Image) (path : List (List ℕ)) (making : Making) : Type 0 where
+  pub number : ℕ
+  pub leads : reached volume.layout (parts_of volume image) path ≡ Some number
+  pub mode : ((parts_of volume image).node number).mode ≡ mode_made making
+  pub links : ((parts_of volume image).node number).links ≡ links_made making
+
+-- so does the path that a text had in another image
+pub record HasInodeAt (volume : Volume) (old : Image) (text : List ℕ) (making : Making) (image : Image) : Type 0 where
+  pub path : List (List ℕ)
+  pub at : name_path (names_in volume old) text ≡ Ok path
+  pub has : HasInode volume image path making
+
+-- on the volume that was in a span
+pub record HasInodeIn (span : Span) (old : Image) (text : List ℕ) (making : Making) (image : Image) : Type 0 where
+  pub volume : Volume
+  pub is : volume_at old span ≡ Ok volume
+  pub has : HasInodeAt volume old text making image
+
+-- once a call made something at a text's path it is there with its inode
+abbrev pub MakesInode : {D : Type 0} → Ghosts D → D → D → Span → List ℕ → Making → Result (Unit {0}) FileFault → Type 0
+MakesInode disks old new span text making result =
+    IsTold (disks.past old) → OnOk result (HasInodeIn span (now (disks.past old)) text making (now (disks.past new)))
+
+-- the same of a volume that is held
+abbrev pub MakesInodeAt : {D : Type 0} {disks : Ghosts D} → held.Volume D disks → held.Volume D disks → List ℕ → Making → Result (Unit {0}) FileFault → Type 0
+MakesInodeAt old new text making result =
+    IsTold (past_of old) → OnOk result (HasInodeAt (volume_view old) (now (past_of old)) text making (now (past_of new)))
+
+-- and by its path
+abbrev pub MakesInodeBy : {D : Type 0} {disks : Ghosts D} → held.Volume D disks → held.Volume D disks → List (List ℕ) → Making → Result (Unit {0}) FileFault → Type 0
+MakesInodeBy old new path making result = IsTold (past_of old) → OnOk result (HasInode (volume_view old) (now (past_of new)) path making)

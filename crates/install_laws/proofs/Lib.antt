@@ -1,4 +1,5 @@
 pub mod Answered
+pub mod Stopped
 pub mod Headline
 pub mod Outside
 pub mod Planned

@@ -32,9 +32,8 @@ pub record Installs (machine : Machine) (volume : Volume) (span : Span) (place :
   pub told : IsTold begun × IsTold staged × IsTold committed
   -- what a boot of the old installation may look at is spared until the commit, and so is the boot sector
   pub begin : Clear volume (now entry) machine span → SparesMapped machine span entry begun
-  pub begin_clear : Clear volume (now entry) machine span → Clear volume (now begun) machine span
   pub begin_boot : LeavesOnly entry begun (HasBootOf span (now entry))
-  pub stage : Clear volume (now begun) machine span → SparesMapped machine span begun staged
+  pub stage : Clear volume (now entry) machine span → SparesMapped machine span begun staged
   pub stage_boot : LeavesOnly begun staged (HasBootOf span (now begun))
   -- with the boot sector written, what is staged boots as is meant
   pub means : Means machine span place meant (with_sector (now staged) span.disk span.start bytes)

@@ -3,12 +3,23 @@ ghost use Rattle.install_laws.specs.Answered.{AnsweredLaw, RefusedLaw};
 ghost use Rattle.install_laws.specs.ClearTest.{ClearTestLaw};
 ghost use Rattle.install_laws.specs.Headline.{HeadlineLaw};
 ghost use Rattle.install_laws.specs.Planned.{AcceptedMeansLaw, MeansLaw};
+ghost use Rattle.install_laws.specs.Stopped.{CommitEndsLaw, PreparesLaw};
 ghost use Rattle.install_laws.specs.Writes.{ApartWriteLaw, OutsideLaw, SparesLaw, UnwrittenLaw, WritesOnlyLaw};
 
 /// At every moment of an installation whose steps promise what is stated, a stop leaves what boots as before or as is
 /// meant, the same of the two for all keys and any memory; and from the commit on only as is meant.
 pub fn stop_leaves_what_boots_as_before_or_as_meant()
     ensures { HeadlineLaw }
+{}
+
+/// An installation that ends before its commit leaves at every moment what boots as before, where the old map is Clear.
+pub fn stop_before_the_commit_leaves_what_boots_as_before()
+    ensures { PreparesLaw }
+{}
+
+/// One that ends in its commit leaves what boots as before or as is meant, the same of the two for all keys and any memory.
+pub fn stop_in_the_commit_leaves_one_of_the_two()
+    ensures { CommitEndsLaw }
 {}
 
 /// Where what a configuration plans lies, and its default line is empty, an image means the configuration and its

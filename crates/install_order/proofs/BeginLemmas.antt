@@ -149,6 +149,7 @@ module _ (image : Image) (machine : Machine) (begun : Begun) (found : Examined) 
         is = λ name. done.has name ∙ ap (λ (s : Option (List (List ℕ))). settled (finishes found.settling.map) is.names.map s (names_in begun.volume image) name) (stale-same foreign refl);
       };
       paths = done.paths;
+      file = done.file;
       gains = gains;
       clear = λ there clear. clear_again_law begun.volume machine begun.span image c clear (left.spared there clear) gains;
       map = map-stays;

@@ -5,3 +5,7 @@ pub mod ExamineLemmas
 pub mod BeginLemmas
 pub mod SurveyedLemmas
 pub mod AnswerLemmas
+pub mod DeviceLemmas
+pub mod WishedLemmas
+pub mod StageLemmas
+pub mod ReadyLemmas

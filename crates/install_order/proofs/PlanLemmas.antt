@@ -21,6 +21,7 @@ use Rattle.lilo_model.specs.Settled as model
 use Rattle.lilo_conf.specs.View.{config_view}
 use Rattle.map_plan.specs.View as plan_views
 use Rattle.map_sectors.specs.Map.{plan_view}
+use Rattle.map_sectors.specs.Places.{AreOwnPlaces}
 use Rattle.map_sectors.specs.declared.map.MapPlan.{MapPlan}
 use Rattle.minix_layout.specs.declared.superblock.Super.{Super}
 use Rattle.minix_zones.specs.View.{span_view}
@@ -79,7 +80,7 @@ sound_now s known told = by s.settled refl
         let k = known.known told in
         subst (IsSound (volume_view s.volume)) (sym (k.is_looked_at is)) k.examined.sound
 
-told-by : (past : Option Past) (P : Image → Type 0) → (IsTold past → P (now past)) → Told past P
+pub told-by : (past : Option Past) (P : Image → Type 0) → (IsTold past → P (now past)) → Told past P
 unfolding IsTold now
 told-by None P f = tt
 told-by (Some past) P f = f tt
@@ -140,6 +141,11 @@ pub places_refused : (machine : Machine) (config : Config) (given : Result (List
     → Refuses fault (with_fault NoPlan (own_places_check config machine (places_view room))) → GivesPlacesOf machine config given (Err fault)
 places_refused machine config given room fault is refused = rw is refused
 
+-- each sector of a map has its place, and that can be named
+pub own_places : (machine : Machine) (plan : MapPlan) (room : Room) (bytes : ℕ) → bytes ≡ 512 * map_size (plan_view plan) machine → length room.places.items ≡ bytes / 512
+    → own_places_check (config_view plan.config) machine (places_view room) ≡ Ok tt → AreOwnPlaces machine plan room.places.items
+own_places machine plan room bytes long count check = record { count = omega (arith, long, count); check = check }
+
 -- ---- the whole
 
 module _ (image : Image) (machine : Machine) (volume : Volume) (config : Config) (span : Span) (time : ℕ) (settled : Bool) (found : Examined) where
@@ -174,17 +180,18 @@ module _ (image : Image) (machine : Machine) (volume : Volume) (config : Config)
 
     -- and the boot sector
     pub finished : (room : Room) (result : Result Choices InstallFault) → IfOk result (λ choices. (choices.plan ≡ plan) × (choices.room ≡ room)) → IfErr result (λ fault. fault ≡ faults.Device)
-        → IfOk result (λ choices. choices.present ≡ image span.disk span.start) → GivesPlaces image machine volume config found Wish (Ok room)
+        → IfOk result (λ choices. choices.present ≡ image span.disk span.start) → AreOwnPlaces machine plan room.places.items → GivesPlaces image machine volume config found Wish (Ok room)
         → GivesChoices image machine volume config span time settled found result
-    finished room (Ok choices) kept device present gives = record {
+    finished room (Ok choices) kept device present own gives = record {
       map = subst (IsMap image machine volume config span time) (sym kept.0) is_map;
+      own = subst (λ (p : MapPlan). AreOwnPlaces machine p choices.room.places.items) (sym kept.0) (subst (λ (r : Room). AreOwnPlaces machine plan r.places.items) (sym kept.1) own);
       places = λ names places is.
           subst (λ (p : MapPlan). ArePlaces machine config (room_for volume (parts_of volume image) places names (wish_of machine config (not settled) time (plan_view p))) choices.room) (sym kept.0)
           (subst (ArePlaces machine config (room_for volume (parts_of volume image) places names (wish_of machine config (not settled) time (plan_view plan)))) (sym kept.1)
           (has_places room gives names places is));
       present = present;
     }
-    finished room (Err fault) kept device present gives = λ names places is.
+    finished room (Err fault) kept device present own gives = λ names places is.
         subst (λ (f : InstallFault). Refuses f (plan_checks image machine volume config span places names (not settled) time)) (sym device)
         (stopped faults.Device (plan_checks image machine volume config span places names (not settled) time) tt)
 

@@ -30,7 +30,7 @@ use Rattle.install_apart.proofs.NoZeroLemmas.{no-zero}
 use Rattle.install_laws.specs.InstallVerdict.{Begun}
 use Rattle.install_settle.specs.Found.{AreNamesNow, MaySettle}
 use Rattle.install_settle.specs.Settles.{Settles}
-use Rattle.install_settle.proofs.StepLemmas.{leaves-untold}
+use Rattle.install_settle.proofs.RenameLemmas.{leaves-untold}
 use Rattle.install_order.specs.Answers.{IsKnown, Leaves}
 use Rattle.install_order.specs.Begins.{FitsVolume, IsBegun, IsSurveyed, AnswersClear}
 use Rattle.install_order.specs.Checks.{IsExamined}

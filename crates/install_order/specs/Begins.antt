@@ -16,7 +16,7 @@ use Rattle.install_begin_laws.specs.Laws.{GainsNothing}
 use Rattle.install_laws.specs.Boots.{HasBootOf}
 use Rattle.install_laws.specs.InstallVerdict.{Begun}
 use Rattle.install_settle.specs.Found.{IsCopyLeft, IsLeft, has_copy}
-use Rattle.install_settle.specs.Settles.{HasNames, AreSettling, KeepsPaths, finishes, stale_of}
+use Rattle.install_settle.specs.Settles.{HasNames, AreSettling, KeepsPaths, KeepsMap, finishes, stale_of}
 use Rattle.install_settle.specs.declared.settling.LeftMap.{LeftMap}
 use Rattle.old_map.specs.Old.{IsOldMap}
 use Rattle.install_order.specs.Checks.{IsExamined}
@@ -68,8 +68,8 @@ pub record IsBeginning (image : Image) (machine : Machine) (begun : Begun) (c : 
 
 -- ---- once it is done
 
--- Names are settled, other paths lead where they led, no inode refers to another zone than before, and a Clear map is Clear
--- again, with what was read of it
+-- Names are settled, other paths lead where they led, and `map` where it or `map~` did, no inode refers to another zone than
+-- before, and a Clear map is Clear again, with what was read of it
 pub record IsBegun (image : Image) (machine : Machine) (begun : Begun) (found : Examined) (c : Image) : Type 0 where
   pub sound : IsSound begun.volume c
   pub left : IsBeginning image machine begun c
@@ -78,6 +78,7 @@ pub record IsBegun (image : Image) (machine : Machine) (begun : Begun) (found : 
   pub settled : IsSettled image machine begun.volume begun.span names.map (stale_of (is_some begun.config.force_backup) names)
       (names_in begun.volume image) (names_in begun.volume c)
   pub paths : KeepsPaths begun.volume image names found.settling.copy c
+  pub file : KeepsMap begun.volume image names settled.finishes c
   pub gains : GainsNothing begun.volume image c
   pub clear : LiesThere image machine begun → Clear begun.volume image machine begun.span → Clear begun.volume c machine begun.span
   pub map : LiesThere image machine begun → Clear begun.volume image machine begun.span

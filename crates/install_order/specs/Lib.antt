@@ -4,3 +4,4 @@ pub mod View
 pub mod Begins
 pub mod Answers
 pub mod Plans
+pub mod Stageable

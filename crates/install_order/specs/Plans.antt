@@ -15,6 +15,7 @@ use Rattle.lilo_conf.specs.View.{config_view}
 use Rattle.map_plan.specs.Skipped.{skipped_paths}
 use Rattle.map_sectors.specs.Accepted.{IsFor}
 use Rattle.map_sectors.specs.Map.{plan_view}
+use Rattle.map_sectors.specs.Places.{AreOwnPlaces}
 use Rattle.map_sectors.specs.declared.map.MapPlan.{MapPlan}
 use Rattle.minix_names.specs.Places.{IsPlace}
 use Rattle.minix_zones.specs.View.{span_view}
@@ -115,6 +116,7 @@ pub record IsOfPlan (plan : MapPlan) (sectors : ℕ) (room : Room) : Type 0 wher
 -- the map, its room and the boot sector as it is
 pub record AreChosen (image : Image) (machine : Machine) (volume : Volume) (config : Config) (span : Span) (time : ℕ) (settled : Bool) (found : Examined) (choices : Choices) : Type 0 where
   pub map : IsMap image machine volume config span time choices.plan
+  pub own : AreOwnPlaces machine choices.plan choices.room.places.items
   pub places : (names : model.OwnNames) (places : List DiskSector) → IsAsFound image volume places names found
       → ArePlaces machine config (room_for volume (parts_of volume image) places names (wish_of machine config (not settled) time (plan_view choices.plan))) choices.room
   pub present : choices.present ≡ image span.disk span.start

@@ -4,6 +4,7 @@
 #![tactic(auto)]
 
 mod begin;
+mod directories;
 mod examination;
 mod fault;
 mod halt;

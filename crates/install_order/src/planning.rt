@@ -1,5 +1,5 @@
 // An installation is planned.
-ghost use Rattle.std.specs.Prelude.{◌≡◌, ◌<◌, ◌≤◌, ◌*◌, All, is_some, not, ℕ, List, IfOk, IfErr, OnOk};
+ghost use Rattle.std.specs.Prelude.{◌≡◌, ◌<◌, ◌≤◌, ◌*◌, All, is_some, not, ℕ, List, Ok, IfOk, IfErr, OnOk};
 ghost use Rattle.disk_trait.specs.Past.{Told};
 ghost use Rattle.lilo_model.specs.ConfLawful.{IsLawful};
 ghost use Rattle.lilo_model.specs.Disks.{DiskSector, Machine};
@@ -14,20 +14,23 @@ ghost use Rattle.map_sectors.specs.Map.{HasGeometries};
 ghost use Rattle.map_plan.specs.Sound.{machine_for};
 ghost use Rattle.sector_address.specs.Machine.{machine_with, OnDisks};
 ghost use Rattle.write_model.specs.Places.{most_size};
-ghost use Rattle.install_apart.specs.Own.{AreInside};
+ghost use Rattle.install_apart.specs.Own.{AreInside, AreOwnTwins};
 ghost use Rattle.install_laws.specs.InstallVerdict.{sectors_of_blocks};
 ghost use Rattle.install_room.specs.Names.{AreCalled};
 ghost use Rattle.install_room.specs.Room.{SuitRoom, places_view};
 ghost use Rattle.install_order.specs.Answers.{IsKnown};
 ghost use Rattle.install_order.specs.Faults.{HasInstallCause};
 ghost use Rattle.install_order.specs.Plans.{IsMap, GivesMap, GivesRoom, GivesChecked, GivesPlaces, GivesChoices, IsOfPlan, GivesPlanned, GivesPlanOf, AreSurveyed, IsPlannedFor, planned_volume};
+ghost use Rattle.install_order.specs.Stageable.{GivesStage, IsReady, IsWishedRoom, LieWhereSound, wish_for};
 
+use crate::directories::look_at_names;
 use crate::examination::Examined;
 use crate::fault::{InstallFault, plan_refusal, write_refusal};
 use crate::halt::Halt;
 use crate::planned::Planned;
 use crate::surveyed::Surveyed;
 use disk_trait::{Disks, Phase, Span};
+use install_apart::OwnNames;
 use install_room::{Room, RoomWish, find_room};
 use lilo_conf::Config;
 use map_sectors::{MapPlan, plan};
@@ -88,6 +91,7 @@ fn find_wished<D: Disks>(
     ensures suits { IfOk result (SuitRoom volume.old.layout volume.old.span) }
     ensures places { IfOk result (λ room. places_view room
         ≡ sectors_of_blocks (span_view volume.old.span) room.map.choice.blocks wish.sectors) }
+    ensures wished { IfOk result (IsWishedRoom volume.new found.now wish) }
     ensures cause { IfErr result (HasInstallCause (faults_of volume.old) (faults_of volume.new)) }
     ensures later { faults_of volume.old ≤ faults_of volume.new }
     ensures same { SameVolume volume.old volume.new }
@@ -136,6 +140,9 @@ fn place_map<D: Disks>(
         → GivesPlaces image machine (volume_view volume.old) (config_view plan.now.config) found.now wish result) }
     ensures suits { IfOk result (SuitRoom volume.old.layout volume.old.span) }
     ensures of_plan { IfOk result (IsOfPlan plan.now wish.sectors) }
+    ensures own { IfOk result (λ room. own_places_check (config_view plan.now.config) (machine_for volume.old)
+        (places_view room) ≡ Ok tt) }
+    ensures wished { IfOk result (IsWishedRoom volume.new found.now wish) }
     ensures cause { IfErr result (HasInstallCause (faults_of volume.old) (faults_of volume.new)) }
     ensures later { faults_of volume.old ≤ faults_of volume.new }
     ensures same { SameVolume volume.old volume.new }
@@ -180,23 +187,47 @@ struct Choices {
     present: Sector,
 }
 
-// A map and its room, with the boot sector as it is.
-fn with_present<D: Disks>(
+// The boot sector as it is, once the directories of the names were read.
+fn look_again<D: Disks>(
     volume: &mut Volume<'_, D>,
     boot: Span,
-    plan: MapPlan,
-    room: Room,
-) -> Result<Choices, InstallFault>
-    requires { boot.start < sizes_of volume.old boot.disk }
-    ensures kept { IfOk result (λ choices. (choices.plan ≡ plan) × (choices.room ≡ room)) }
-    ensures present { Told (past_of volume.old) (λ image.
-        IfOk result (λ choices. choices.present ≡ image boot.disk boot.start)) }
+    own: &OwnNames,
+) -> Result<Sector, InstallFault>
+    requires on_disk { boot.start < sizes_of volume.old boot.disk }
+    requires inside { AreInside volume.old.layout own.now }
+    requires twins { AreOwnTwins own.now }
+    ensures present { IfOk result (λ present. Told (past_of volume.old) (λ image. present ≡ image boot.disk boot.start)) }
+    ensures lie { OnOk result (LieWhereSound volume.new own.now) }
     ensures fault { IfErr result (λ fault. fault ≡ InstallFault.Device) }
     ensures cause { IfErr result (HasInstallCause (faults_of volume.old) (faults_of volume.new)) }
     ensures later { faults_of volume.old ≤ faults_of volume.new }
     ensures same { SameVolume volume.old volume.new }
 {
-    match read_present(volume, boot) {
+    look_at_names(volume, own)?;
+    read_present(volume, boot)
+}
+
+// A map and its room, with the boot sector as it is.
+fn with_present<D: Disks>(
+    volume: &mut Volume<'_, D>,
+    boot: Span,
+    own: &OwnNames,
+    plan: MapPlan,
+    room: Room,
+) -> Result<Choices, InstallFault>
+    requires on_disk { boot.start < sizes_of volume.old boot.disk }
+    requires inside { AreInside volume.old.layout own.now }
+    requires twins { AreOwnTwins own.now }
+    ensures kept { IfOk result (λ choices. (choices.plan ≡ plan) × (choices.room ≡ room)) }
+    ensures present { Told (past_of volume.old) (λ image.
+        IfOk result (λ choices. choices.present ≡ image boot.disk boot.start)) }
+    ensures lie { OnOk result (LieWhereSound volume.new own.now) }
+    ensures fault { IfErr result (λ fault. fault ≡ InstallFault.Device) }
+    ensures cause { IfErr result (HasInstallCause (faults_of volume.old) (faults_of volume.new)) }
+    ensures later { faults_of volume.old ≤ faults_of volume.new }
+    ensures same { SameVolume volume.old volume.new }
+{
+    match look_again(volume, boot, own) {
         Ok(present) => Ok(Choices {
             plan,
             room,
@@ -226,6 +257,7 @@ fn choose_for<D: Disks>(
     requires on_disk { boot.start < sizes_of volume.old boot.disk }
     requires inside { AreInside volume.old.layout found.now.own }
     requires called { AreCalled found.now.own }
+    requires twins { AreOwnTwins found.now.own }
     requires disk { plan.disk ≡ volume.old.span.disk }
     requires geometries { HasGeometries (machine_for volume.old) plan.geometries }
     ensures found { OnDisks D.Disks volume.old.disks.now (λ image machine. IsSound (volume_view volume.old) image
@@ -235,6 +267,10 @@ fn choose_for<D: Disks>(
     ensures suits { IfOk result (λ choices. SuitRoom volume.old.layout volume.old.span choices.room) }
     ensures disk { IfOk result (λ choices. All (λ place. place.disk ≡ choices.plan.disk) choices.room.places.items) }
     ensures config { IfOk result (λ choices. choices.plan.config ≡ plan.config) }
+    ensures volume_disk { IfOk result (λ choices. choices.plan.disk ≡ volume.old.span.disk) }
+    ensures wished { IfOk result (λ choices. IsWishedRoom volume.new found.now
+        (wish_for forced (not settled) time choices.room) choices.room) }
+    ensures lie { OnOk result (LieWhereSound volume.new found.now.own) }
     ensures cause { IfErr result (HasInstallCause (faults_of volume.old) (faults_of volume.new)) }
     ensures later { faults_of volume.old ≤ faults_of volume.new }
     ensures same { SameVolume volume.old volume.new }
@@ -247,7 +283,7 @@ fn choose_for<D: Disks>(
         time,
     };
     match place_map(alloc, volume, found, &plan, wish, length) {
-        Ok(room) => with_present(volume, boot, plan, room),
+        Ok(room) => with_present(volume, boot, &found.own, plan, room),
         Err(fault) => {
             let_plan_go(plan);
             Err(fault)
@@ -269,12 +305,17 @@ fn choose<D: Disks>(
     requires on_disk { boot.start < sizes_of volume.old boot.disk }
     requires inside { AreInside volume.old.layout found.now.own }
     requires called { AreCalled found.now.own }
+    requires twins { AreOwnTwins found.now.own }
     ensures found { OnDisks D.Disks volume.old.disks.now (λ image machine. IsSound (volume_view volume.old) image
         → GivesChoices image machine (volume_view volume.old) (config_view config) (span_view boot) time settled
         found.now result) }
     ensures suits { IfOk result (λ choices. SuitRoom volume.old.layout volume.old.span choices.room) }
     ensures disk { IfOk result (λ choices. All (λ place. place.disk ≡ choices.plan.disk) choices.room.places.items) }
     ensures config { IfOk result (λ choices. choices.plan.config ≡ config) }
+    ensures volume_disk { IfOk result (λ choices. choices.plan.disk ≡ volume.old.span.disk) }
+    ensures wished { IfOk result (λ choices. IsWishedRoom volume.new found.now
+        (wish_for (is_some config.force_backup) (not settled) time choices.room) choices.room) }
+    ensures lie { OnOk result (LieWhereSound volume.new found.now.own) }
     ensures cause { IfErr result (HasInstallCause (faults_of volume.old) (faults_of volume.new)) }
     ensures later { faults_of volume.old ≤ faults_of volume.new }
     ensures same { SameVolume volume.old volume.new }
@@ -304,6 +345,14 @@ impl<'d, D: Disks> Surveyed<'d, D> {
         ensures planned { OnDisks D.Disks self.entry.volume.disks.now (λ image machine. (names : model.OwnNames)
             (places : List DiskSector) → AreSurveyed image machine self.entry names places
             → GivesPlanOf image machine self.entry names places result) }
+
+        // What may be done with it.
+        ensures may { OnDisks D.Disks self.entry.volume.disks.now (λ image machine. (names : model.OwnNames)
+            (places : List DiskSector) → AreSurveyed image machine self.entry names places
+            → GivesStage image machine self.entry names places result) }
+        ensures ready { IfOk result IsReady }
+
+        // When it is refused.
         ensures cause { IfErr result (λ halt. HasInstallCause (faults_of self.entry.volume) (faults_of halt.volume) halt.fault) }
         ensures phase { IfErr result (λ halt. halt.phase ≡ Phase.Before) }
         ensures later { faults_of self.entry.volume ≤ faults_of (planned_volume result) }

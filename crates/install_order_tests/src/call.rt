@@ -8,7 +8,8 @@ use minix_tree::{TreeFault, lookup_name};
 use minix_zones::Volume;
 use std::alloc::Global;
 use std::process::Abort;
-use test_disks::Untold;
+use std::test::Fail;
+use test_disks::{Untold, choices, image_left};
 
 // Begins by a configuration, or only looks.
 #[tactic(auto, unfolding(disk_trait::specs::Moments::IsTold, disk_trait::specs::Moments::MayLeave))]
@@ -72,4 +73,44 @@ pub(crate) fn names_in(
         *name = inode_of(&mut volume, path);
     }
     Some(names)
+}
+
+// What five names lead to at first, and after each of some turns, by the event that brings it about, counted from 1.
+#[derive(Clone, Copy)]
+pub(crate) struct Way {
+    pub before: [u32; 5],
+    pub turns: &'static [(u32, [u32; 5])],
+}
+
+// The names that a stop after so many events leaves, with these of the unflushed writes made.
+fn names_then(way: Way, prefix: u32, choice: u32) -> [u32; 5] {
+    let mut names = way.before;
+    for (event, then) in way.turns {
+        if prefix > *event || prefix == *event && choice == 1 {
+            names = *then;
+        }
+    }
+    names
+}
+
+// Each image that a stop after so many events leaves has the names that it should have.
+pub(crate) fn look(
+    rt: &impl Abort,
+    alloc: Global,
+    disks: &MemDisks,
+    paths: &[&[u8]; 5],
+    way: Way,
+    prefix: u32,
+) -> Result<(), Fail> {
+    assert!(rt; prefix <= disks.events());
+    for choice in 0..choices(disks, prefix) {
+        let mut image = image_left(alloc, disks, prefix, choice)?;
+        let found = names_in(alloc, &mut image, paths);
+        let wanted = names_then(way, prefix, choice);
+        assert!(rt;
+            found == Some(wanted),
+            "{found:?} for {wanted:?}, choice {choice} after {prefix} events"
+        );
+    }
+    Ok(())
 }

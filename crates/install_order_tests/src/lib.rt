@@ -11,3 +11,5 @@ mod made;
 mod preview;
 #[cfg(test)]
 mod scenes;
+#[cfg(test)]
+mod tidying;

@@ -1,14 +1,13 @@
 // Beginnings after installations that were stopped.
-use crate::call::{IN_BOOT, IN_ROOT, begin, names_in};
+use crate::call::{IN_BOOT, IN_ROOT, Way, begin, look};
 use crate::made::{Edit, made};
-use disk_trait::MemDisks;
 use install_order::InstallFault;
 use minix_tree::TreeFault;
 use minix_write::WriteFault;
 use std::alloc::Global;
 use std::process::Abort;
 use std::test::Fail;
-use test_disks::{Untold, choices, image_left, made_again};
+use test_disks::{Untold, made_again};
 
 const CONF: &[u8] = b"boot=/dev/hda\nmap=/map\nimage=/kernel\nlabel=linux\n";
 
@@ -116,38 +115,6 @@ const SCENES: [Scene; 7] = [
     },
 ];
 
-// The names that a stop after so many events leaves, with these of the unflushed writes made.
-fn names_then(scene: &Scene, prefix: u32, choice: u32) -> [u32; 5] {
-    let mut names = scene.before;
-    for (event, then) in scene.turns {
-        if prefix > *event || prefix == *event && choice == 1 {
-            names = *then;
-        }
-    }
-    names
-}
-
-// Each image that a stop after so many events leaves has the names that it should have.
-fn look(
-    rt: &impl Abort,
-    alloc: Global,
-    disks: &MemDisks,
-    scene: &Scene,
-    prefix: u32,
-) -> Result<(), Fail> {
-    assert!(rt; prefix <= disks.events());
-    for choice in 0..choices(disks, prefix) {
-        let mut image = image_left(alloc, disks, prefix, choice)?;
-        let found = names_in(alloc, &mut image, scene.paths);
-        let wanted = names_then(scene, prefix, choice);
-        assert!(rt;
-            found == Some(wanted),
-            "{found:?} for {wanted:?}, choice {choice} after {prefix} events"
-        );
-    }
-    Ok(())
-}
-
 // A beginning, and each of its stops.
 fn play(rt: &impl Abort, alloc: Global, scene: &Scene) -> Result<(), Fail> {
     let start = made(alloc, scene.edits)?;
@@ -159,8 +126,12 @@ fn play(rt: &impl Abort, alloc: Global, scene: &Scene) -> Result<(), Fail> {
     );
     let Untold { disks } = disks;
     assert_eq!(rt; disks.events(), scene.events);
+    let way = Way {
+        before: scene.before,
+        turns: scene.turns,
+    };
     for prefix in 0..disks.events().saturating_add(1) {
-        look(rt, alloc, &disks, scene, prefix)?;
+        look(rt, alloc, &disks, scene.paths, way, prefix)?;
     }
     Ok(())
 }

@@ -106,7 +106,7 @@ module _ (super : Super) (parts : Parts) where
   found-in directory number name found true is = is
   found-in directory number name found false is = let none : None ≡ Some number = rw is at found in cc
 
-  above-directory : (above : List (List ℕ)) (directory : ℕ) → reached super parts above ≡ Some directory → is_directory (parts.node directory) ≡ true
+  pub above-directory : (above : List (List ℕ)) (directory : ℕ) → reached super parts above ≡ Some directory → is_directory (parts.node directory) ≡ true
       → (outer : ℕ) × (reached super parts (path_above above) ≡ Some outer) × (is_directory (parts.node outer) ≡ true)
   unfolding reached
   above-directory [] directory leads is = (directory, leads, is)

@@ -3,6 +3,7 @@ pub mod LeadLemmas
 pub mod FoundLemmas
 pub mod HeldLemmas
 pub mod WriteLemmas
+pub mod RenameLemmas
 pub mod StepLemmas
 pub mod SettleLemmas
 pub mod FlushLemmas

@@ -44,7 +44,7 @@ use Rattle.install_apart.specs.declared.own.OwnNames.{OwnNames}
 use Rattle.install_begin_laws.specs.Laws.{GainsNothing}
 use Rattle.install_laws.specs.Writes.{IsApartSector}
 use Rattle.install_settle.specs.Found.{AreFound, AreNamesNow, MaySettle, IsLeft, IsApartCopy, is_there, has_copy}
-use Rattle.install_settle.specs.Settles.{HasNames, finishes, stale_of, with_map_settled, with_all_settled, AreSettling, KeepsHeld, IsBeside, LeadsAsIn, KeepsPaths, IsSettling, IsSettledIn, Settles}
+use Rattle.install_settle.specs.Settles.{HasNames, finishes, stale_of, with_map_settled, with_all_settled, AreSettling, KeepsHeld, IsBeside, LeadsAsIn, KeepsPaths, KeepsMap, IsSettling, IsSettledIn, Settles}
 use Rattle.install_settle.specs.At.{IsAt}
 use Rattle.install_settle.specs.Steps.{IsSomewhere, IsSomePair, DoesMap, DoesRemove, IsMapLeft, IsMapSettled}
 use Rattle.install_settle.specs.declared.settling.LeftMap.{LeftMap}
@@ -55,7 +55,7 @@ use Rattle.install_settle.proofs.LeadLemmas.{tilde-at, plain-at, held-is}
 use Rattle.install_settle.proofs.PathLemmas.{tilde-differs, file-apart, stale-copy, leads-kept, leads-join}
 use Rattle.install_settle.proofs.NamesLemmas.{absent-same, with-as, names-with, names-moved}
 use Rattle.install_settle.proofs.GainLemmas.{gains_none, gains_join}
-use Rattle.install_settle.proofs.StepLemmas.{leaves-untold}
+use Rattle.install_settle.proofs.RenameLemmas.{leaves-untold}
 use Rattle.install_settle.proofs.WriteLemmas.{apart-not}
 
 -- ---- what was answered
@@ -133,6 +133,7 @@ pub record MapDone (volume : volumes.Volume) (old : Image) (names : model.OwnNam
   pub held : KeepsHeld volume old names.map settling c
   pub keeps : KeepsNamed volume.layout (parts_of volume old) (parts_of volume c)
   pub others : (other : List (List ℕ)) → other ≢ with_tilde names.map → other ≢ names.map → reached volume.layout (parts_of volume c) other ≡ reached volume.layout (parts_of volume old) other
+  pub file : KeepsMap volume old names (finishes left) c
 
 module _ (volume : volumes.Volume) (old : Image) (names : model.OwnNames) (forced : Bool) (settling : Settling) (facts : Facts volume old names forced settling) where
   abbrev Old : Names
@@ -202,6 +203,7 @@ module _ (volume : volumes.Volume) (old : Image) (names : model.OwnNames) (force
         held = here.held;
         keeps = (tree old seen).keeps;
         others = λ other one two. refl;
+        file = refl;
       })
   done-is Finish c is moved = record {
     sound = moved.sound;
@@ -209,6 +211,7 @@ module _ (volume : volumes.Volume) (old : Image) (names : model.OwnNames) (force
     held = (moved-is c is moved).held;
     keeps = moved.tree.keeps;
     others = λ other one two. moved.tree.others other one two;
+    file = moved.tree.here;
   }
   done-is Remove c is gone = record {
     sound = gone.sound;
@@ -216,6 +219,7 @@ module _ (volume : volumes.Volume) (old : Image) (names : model.OwnNames) (force
     held = (gone-is c is gone).held;
     keeps = gone.tree.keeps;
     others = λ other one two. gone.tree.others other one;
+    file = gone.tree.others P facts.apart;
   }
 
   pub map-done : (c : Image) → IsMapSettled volume old P settling.map c → MapDone volume old names settling.map settling c
@@ -264,6 +268,7 @@ module _ (volume : volumes.Volume) (old : Image) (names : model.OwnNames) (force
       sound = done.sound;
       has = λ name. done.has name ∙ all-by (stale_of forced names) refl (facts.none copy) (copy-apart (stale_of forced names) refl) name;
       paths = beside-mid;
+      file = done.file;
       held = done.held;
     }
 
@@ -282,6 +287,9 @@ module _ (volume : volumes.Volume) (old : Image) (names : model.OwnNames) (force
           let apart = subst (λ (s : Option (List (List ℕ))). IfSome s (λ backup. path ≢ with_tilde backup)) (stale-copy names forced settling.copy backup copy stale) beside.stale in
           leads-join volume path old mid c (beside-mid path beside) (leads-kept volume path mid c gone.tree.keeps (gone.tree.others path apart))
 
+      gone-file : (c : Image) → HasTreeWith volume mid c (with_tilde backup) None None → KeepsMap volume old names (finishes settling.map) c
+      gone-file c gone = gone.tree.others P (λ same. copy-apart (Some backup) stale (sym same)) ∙ done.file
+
       pub all-left : (c : Image) → SeenOrWith volume mid (with_tilde backup) None None c → IsSettling volume old names forced settling c
       all-left c (inl seen) = record {
         sound = seen.sound;
@@ -291,7 +299,7 @@ module _ (volume : volumes.Volume) (old : Image) (names : model.OwnNames) (force
       all-left c (inr gone) = record { sound = gone.sound; has = inr (inr (inr (gone-names c gone))); held = held-foreign volume old c P settling copy }
 
       pub all-done : (c : Image) → HasTreeWith volume mid c (with_tilde backup) None None → IsSettledIn volume old names forced settling c
-      all-done c gone = record { sound = gone.sound; has = gone-names c gone; paths = gone-paths c gone; held = held-foreign volume old c P settling copy }
+      all-done c gone = record { sound = gone.sound; has = gone-names c gone; paths = gone-paths c gone; file = gone-file c gone; held = held-foreign volume old c P settling copy }
 
 -- ---- what is known of what is to be settled
 
@@ -568,7 +576,7 @@ module _ {D : Type 0} {disks : Ghosts D} (old mid : Volume D disks) (settling : 
 
 -- ---- faults
 
-cause-by : (before mid after : ℕ) (fault : WriteFault) → before ≤ mid → HasWriteCause mid after fault → HasWriteCause before after fault
+pub cause-by : (before mid after : ℕ) (fault : WriteFault) → before ≤ mid → HasWriteCause mid after fault → HasWriteCause before after fault
 cause-by before mid after (faults.NoSpace need found) later cause = tt
 cause-by before mid after faults.NoInode later cause = tt
 cause-by before mid after faults.NameTooLong later cause = tt

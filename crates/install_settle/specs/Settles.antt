@@ -48,14 +48,14 @@ abbrev pub with_all_settled : LeftMap → Bool → model.OwnNames → Names → 
 with_all_settled left forced names old = settled (finishes left) names.map (stale_of forced names) old
 
 -- Names where what is at `map~` is at `map` too
-abbrev pub with_both : model.OwnNames → Names → Names
-with_both names old = with_name names.map (old (with_tilde names.map)) old
+abbrev pub with_both : List (List ℕ) → Names → Names
+with_both path old = with_name path (old (with_tilde path)) old
 
 -- an image has the Names of another, or, where a rename is finished, both names of the map, or the map settled, or all
 abbrev pub AreSettling : parts.Volume → Image → model.OwnNames → Bool → LeftMap → Image → Type 0
 AreSettling volume old names forced left c =
     HasNames volume c (names_in volume old)
-    ⊎ (((finishes left ≡ true) × HasNames volume c (with_both names (names_in volume old)))
+    ⊎ (((finishes left ≡ true) × HasNames volume c (with_both names.map (names_in volume old)))
     ⊎ (HasNames volume c (with_map_settled left names (names_in volume old))
     ⊎ HasNames volume c (with_all_settled left forced names (names_in volume old))))
 
@@ -76,6 +76,15 @@ pub record LeadsAsIn (volume : parts.Volume) (old c : Image) (path : List (List 
 -- so does each path that settling doesn't change
 abbrev pub KeepsPaths : parts.Volume → Image → model.OwnNames → Bool → Image → Type 0
 KeepsPaths volume old names copy c = (path : List (List ℕ)) → IsBeside names copy path → LeadsAsIn volume old c path
+
+-- the path of what is at `map` once it is settled: that of `map~`, where a rename is finished
+abbrev pub kept_path : Bool → model.OwnNames → List (List ℕ)
+kept_path finishes names = if finishes then with_tilde names.map else names.map
+
+-- `map` leads where that path led
+abbrev pub KeepsMap : parts.Volume → Image → model.OwnNames → Bool → Image → Type 0
+KeepsMap volume old names finishes c =
+    reached volume.layout (parts_of volume c) names.map ≡ reached volume.layout (parts_of volume old) (kept_path finishes names)
 
 -- ---- the Holder
 
@@ -104,6 +113,7 @@ pub record IsSettledIn (volume : parts.Volume) (old : Image) (names : model.OwnN
   pub sound : IsSound volume c
   pub has : HasNames volume c (with_all_settled settling.map forced names (names_in volume old))
   pub paths : KeepsPaths volume old names settling.copy c
+  pub file : KeepsMap volume old names (finishes settling.map) c
   pub held : KeepsHeld volume old names.map settling c
 
 -- ---- the call

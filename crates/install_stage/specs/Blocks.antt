@@ -1,5 +1,5 @@
 -- The blocks of the files that an installation makes (this project's own).
-use Rattle.std.specs.Prelude.{◌+◌, ◌*◌, ◌++◌, ℕ, List, [], ◌∷◌, map, replicate, slice_index_or}
+use Rattle.std.specs.Prelude.{◌≡◌, ◌+◌, ◌*◌, ◌++◌, ℕ, List, map, replicate, slice_index_or}
 use Rattle.lilo_model.specs.Disks.{Machine}
 use Rattle.lilo_model.specs.Plan.{plan_sectors}
 use Rattle.map_sectors.specs.Accepted.{IsFor}
@@ -26,6 +26,8 @@ pub record MayLieAt (machine : Machine) (plan : MapPlan) (places : List DiskSect
   pub plan_is : IsFor machine plan
   pub places_are : AreOwnPlaces machine plan places
 
--- the blocks of a boot sector's backup: one, with the sector and zeros after it
-abbrev pub backup_blocks : List ℕ → List (List ℕ)
-backup_blocks present = (present ++ replicate 512 0) ∷ []
+-- blocks that are given for a file are those of a map which lies so
+pub record AreMapBlocks (plan : MapPlan) (places : List DiskSector) (given : ℕ → List ℕ) : Type 0 where
+  pub machine : Machine
+  pub lies : MayLieAt machine plan places
+  pub are : (index : ℕ) → given index ≡ block_of_sectors (sectors_of_map machine plan places) index

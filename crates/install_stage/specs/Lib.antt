@@ -1,2 +1,3 @@
 pub mod Blocks
-pub mod Files
+pub mod MapFile
+pub mod Staged

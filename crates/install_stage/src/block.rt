@@ -1,8 +1,9 @@
 // The blocks of a map's file.
-ghost use Rattle.std.specs.Prelude.{◌≡◌, ◌<◌, ◌+◌, ◌*◌, ◌^◌, ◌++◌, All, length};
+ghost use Rattle.std.specs.Prelude.{◌≡◌, ◌<◌, ◌+◌, ◌*◌, ◌^◌, All, length};
 ghost use Rattle.lilo_model.specs.Disks.{Machine};
 ghost use Rattle.install_stage.specs.Blocks.{MayLieAt, block_of_sectors, sector_or_zeros, sectors_of_map};
 
+use install_backup::block_of;
 use map_sectors::MapPlan;
 use sector_parts::Sector;
 use slot_lists::DiskSector;
@@ -18,16 +19,6 @@ fn map_sector(plan: &MapPlan, places: &[DiskSector], index: u32) -> Sector
         plan.sector(index, places, &mut sector);
     }
     sector
-}
-
-/// A block of two sectors.
-pub(crate) fn block_of(first: &Sector, second: &Sector) -> [u8; 1024]
-    ensures { result ≡ first.now ++ second.now }
-{
-    let mut block = [0; 1024];
-    block[..512].copy_from_slice(first);
-    block[512..].copy_from_slice(second);
-    block
 }
 
 /// A block of the map: two of its sectors.

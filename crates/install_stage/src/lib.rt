@@ -1,10 +1,9 @@
-//! The files of an installation are made: a backup of the boot sector, where one is made, and the new map under its name with
-//! `~`, each whole and durable before the next begins. Nothing that boots is touched.
+//! The new map of an installation is made under its name with `~`, whole and durable. Nothing that boots is touched.
 #![tactic(auto)]
 
-mod backup;
 mod block;
+mod laws;
 mod map;
 
-pub use backup::make_backup;
+pub use laws::made_map_is_staged;
 pub use map::make_map;

@@ -24,11 +24,11 @@ use Rattle.minix_sees_laws.specs.Tree.{TreeAs}
 use Rattle.map_laws.proofs.MeantFiles.{inode-named}
 use Rattle.map_laws.specs.MapStays.{file_sectors_of, section_places}
 use Rattle.install_laws.specs.Writes.{IsApartSector}
-use Rattle.install_begin_laws.proofs.Apart.{apart_boot_law}
 use Rattle.install_stays_laws.specs.Laws.{planned_places}
-use Rattle.install_stage_laws.specs.ClearMap.{KeepsFiles, AddedKeepsLaw, SeenKeepsLaw, KeepsJoinedLaw, StagedClearLaw}
-use Rattle.install_stage_laws.proofs.Devices.{others-apart, tables-apart, device-apart}
-use Rattle.install_stage_laws.proofs.Files.{place_of, first-of, refers-block, Each, EachOptional, places-have, file-has, optional-has}
+use Rattle.install_stage_laws.specs.ClearMap.{AddedKeepsLaw, SeenKeepsLaw, KeepsJoinedLaw, KeepsAllLaw, KeepsButJoinedLaw}
+use Rattle.install_stage_laws.specs.Mapped.{OnFile, OnKernel, OnSection, StaysThere, StagedClearLaw}
+use Rattle.install_stage_laws.proofs.Devices.{others-apart, tables-apart, device-apart, boot-outside}
+use Rattle.install_stage_laws.proofs.Files.{place_of, first-of, refers-block, Each, EachOptional, places-have, file-has, optional-on}
 use Rattle.install_stage_laws.proofs.Sectors.{same-sector, same-zone, from-zone, from-two, half, file-not-directory, lies}
 
 -- ---- what stays
@@ -57,6 +57,25 @@ keeps_joined_law volume before middle c one two = record {
   keeps = keeps_join_law volume.layout (parts_of volume before) (parts_of volume middle) (parts_of volume c) one.keeps two.keeps (λ number was now. one.named number was);
 }
 
+pub keeps_all_law : KeepsAllLaw
+keeps_all_law volume but before c kept none = record {
+  sound = kept.sound;
+  named = λ number was. kept.named was.path number (other was.path number was.leads) was.leads;
+  keeps = kept.keeps;
+}
+  where
+    other : (one : List (List ℕ)) (number : ℕ) → reached volume.layout (parts_of volume before) one ≡ Some number → one ≢ but
+    other one number leads is =
+        let both : None ≡ Some number = sym none ∙ subst (λ p. reached volume.layout (parts_of volume before) p ≡ Some number) is leads in
+        grind (arith, both)
+
+pub keeps_but_joined_law : KeepsButJoinedLaw
+keeps_but_joined_law volume but before middle c one two stays = record {
+  sound = two.sound;
+  named = λ name number other leads. two.named number (one.named name number other leads);
+  keeps = keeps_join_law volume.layout (parts_of volume before) (parts_of volume middle) (parts_of volume c) one.keeps two.keeps stays;
+}
+
 -- ---- the pointer of a block
 
 not-with : (per top depth index : ℕ) → top - 6 ≤ depth → IsIndirect (pointer_with per top depth index) → ⊥
@@ -77,7 +96,7 @@ not-by per index short = by (nat_lt index 7) (nat_lt index (7 + per)) (nat_lt in
 not-indirect : (kind : Kind) (index : ℕ) → IsIndirect (block_pointer kind index) → ⊥
 not-indirect kind index short = not-by (numbers_in_zone kind) index short
 
-no-directory : (mode : ℕ) → (mode / 4096 == 8) ≡ true → (mode / 4096 == 4) ≡ false
+pub no-directory : (mode : ℕ) → (mode / 4096 == 8) ≡ true → (mode / 4096 == 4) ≡ false
 no-directory mode regular = by (mode / 4096 == 4) refl
   where
     by : (test : Bool) → (mode / 4096 == 4) ≡ test → (mode / 4096 == 4) ≡ false
@@ -133,7 +152,7 @@ module _ (volume : Volume) (c : Image) (sound : IsSound volume c) where
 -- ---- what is planned
 
 module _ (before c : Image) (machine : Machine) (volume : Volume) (zero_place : DiskSector)
-    (sound : IsSound volume before) (keeps : KeepsFiles volume before c) (zero_clear : IsClearPlace volume c zero_place) where
+    (sound : IsSound volume before) (now_sound : IsSound volume c) (zero_clear : IsClearPlace volume c zero_place) where
   abbrev AllClear : List DiskSector → Type 0
   AllClear places = AllByRecursion (IsClearPlace volume c) places
 
@@ -147,20 +166,21 @@ module _ (before c : Image) (machine : Machine) (volume : Volume) (zero_place : 
   filled-clear (Some place ∷ places) each = (each.0, filled-clear places each.1)
 
   -- a file that was mapped
-  file-clear : (number : ℕ) → Named volume.layout (parts_of volume before) number → is_file ((parts_of volume before).node number) ≡ true
+  file-clear : (number : ℕ) → Named volume.layout (parts_of volume before) number → is_file ((parts_of volume before).node number) ≡ true → StaysThere volume before c number
       → Each volume before (IsClearPlace volume c) (mapped_inode volume (parts_of volume before) number).places
-  file-clear number was regular = file-has volume before (IsClearPlace volume c) number (λ index zone is some.
-      let now = keeps.named number was in
+  file-clear number was regular stays = file-has volume before (IsClearPlace volume c) number (λ index zone is some.
       let refers : Refers volume.layout (parts_of volume c) number (block_pointer volume.layout.kind (index / 2)) zone =
-      record { named = now; to = keeps.keeps.stays number (block_pointer volume.layout.kind (index / 2)) zone (refers-block volume before number was regular index zone is some) now } in
-      clear-block volume c keeps.sound number (index / 2) zone (2 * zone + index % 2) refers (ap (λ mode. mode / 4096 == 8) (keeps.keeps.modes number was now) ∙ regular) (half zone index))
+      record { named = stays.named; to = stays.to (block_pointer volume.layout.kind (index / 2)) zone (refers-block volume before number was regular index zone is some) } in
+      clear-block volume c now_sound number (index / 2) zone (2 * zone + index % 2) refers (ap (λ mode. mode / 4096 == 8) stays.mode ∙ regular) (half zone index))
 
   optional-clear : (file : Option MappedFile) → EachOptional volume before (IsClearPlace volume c) file → AllClear (file_sectors_of zero_place file)
   optional-clear None each = tt
   optional-clear (Some file) each = filled-clear file.places each
 
-  pub path-clear : (path : Option (List ℕ)) → AllClear (file_sectors_of zero_place (optional_file volume (parts_of volume before) path))
-  path-clear path = optional-clear (optional_file volume (parts_of volume before) path) (optional-has volume before (IsClearPlace volume c) sound file-clear path)
+  pub path-clear : (path : Option (List ℕ)) → IfSome path (λ text. OnFile before volume text (StaysThere volume before c))
+      → AllClear (file_sectors_of zero_place (optional_file volume (parts_of volume before) path))
+  path-clear path stays =
+      optional-clear (optional_file volume (parts_of volume before) path) (optional-on volume before (IsClearPlace volume c) sound (StaysThere volume before c) file-clear path stays)
 
   -- devices
   abbrev IsApartDevice : Device → Type 0
@@ -172,7 +192,7 @@ module _ (before c : Image) (machine : Machine) (volume : Volume) (zero_place : 
       by : (found : Result Span TableFault) → is_apart_place volume found ≡ true
           → IfSome (option_map first-of (result_ok found)) (IsClearPlace volume c)
       by (Err fault) is = tt
-      by (Ok found) is = clear-apart volume c keeps.sound (record { disk = found.disk; sector = found.start }) (device-apart volume before sound found is)
+      by (Ok found) is = clear-apart volume c now_sound (record { disk = found.disk; sector = found.start }) (device-apart volume before sound found is)
 
   system-clear : (device : Device) (other : Option Device) → IsApartDevice device → IfSome other IsApartDevice → Each volume before (IsClearPlace volume c) (system_places before machine device other)
   system-clear device None is also = (device-clear device is, tt)
@@ -182,30 +202,35 @@ module _ (before c : Image) (machine : Machine) (volume : Volume) (zero_place : 
   abbrev AreClear : List MappedSection → Type 0
   AreClear sections = AllByRecursion (λ mapped. AllClear (section_places zero_place mapped)) sections
 
-  section-clear : (section : ConfSection) (rest : List MappedSection) → IfSome section.other IsApartDevice → IfSome section.table IsApartDevice → AreClear rest
+  section-clear : (section : ConfSection) (rest : List MappedSection) → OnSection before volume (StaysThere volume before c) section
+      → IfSome section.other IsApartDevice → IfSome section.table IsApartDevice → AreClear rest
       → AreClear (mapped_section before machine volume section ++ rest)
   unfolding mapped_section
-  section-clear section rest one two after = by section.other one
+  section-clear section rest stays one two after = by section.other one stays.kernel
     where
-      by-inode : (inode : Option ℕ) → file_inode volume (parts_of volume before) section.path ≡ inode → AreClear (kernel_section volume (parts_of volume before) section inode ++ rest)
-      by-inode None is = after
-      by-inode (Some number) is =
+      by-inode : (inode : Option ℕ) → file_inode volume (parts_of volume before) section.path ≡ inode → IfSome inode (StaysThere volume before c)
+          → AreClear (kernel_section volume (parts_of volume before) section inode ++ rest)
+      by-inode None is there = after
+      by-inode (Some number) is there =
           let named = inode-named volume before sound section.path number is in
           let main = mapped_inode volume (parts_of volume before) number in
           let initrd = optional_file volume (parts_of volume before) section.initrd in
-          (joined (filled_places zero_place main.places) (file_sectors_of zero_place initrd) (filled-clear main.places (file-clear number named.0 named.1)) (path-clear section.initrd), after)
+          (joined (filled_places zero_place main.places) (file_sectors_of zero_place initrd) (filled-clear main.places (file-clear number named.0 named.1 there)) (path-clear section.initrd stays.initrd), after)
 
-      by : (other : Option Device) → IfSome other IsApartDevice → AreClear (mapped_by before machine volume section other ++ rest)
-      by None apart = by-inode (file_inode volume (parts_of volume before) section.path) refl
-      by (Some device) apart =
+      by : (other : Option Device) → IfSome other IsApartDevice → OnKernel before volume section.path other (StaysThere volume before c)
+          → AreClear (mapped_by before machine volume section other ++ rest)
+      by None apart there = by-inode (file_inode volume (parts_of volume before) section.path) refl there
+      by (Some device) apart there =
           let places = system_places before machine device section.table in
           (joined (filled_places zero_place places) [] (filled-clear places (system-clear device section.table apart two)) tt, after)
 
-  sections-clear : (sections : List ConfSection) → AllByRecursion (λ (section : ConfSection). IfSome section.other IsApartDevice) sections
+  sections-clear : (sections : List ConfSection) → AllByRecursion (OnSection before volume (StaysThere volume before c)) sections
+      → AllByRecursion (λ (section : ConfSection). IfSome section.other IsApartDevice) sections
       → AllByRecursion (λ (section : ConfSection). IfSome section.table IsApartDevice) sections
       → AreClear (flat_map (mapped_section before machine volume) sections)
-  sections-clear [] others tables = tt
-  sections-clear (section ∷ sections) others tables = section-clear section (flat_map (mapped_section before machine volume) sections) others.0 tables.0 (sections-clear sections others.1 tables.1)
+  sections-clear [] stays others tables = tt
+  sections-clear (section ∷ sections) stays others tables =
+      section-clear section (flat_map (mapped_section before machine volume) sections) stays.0 others.0 tables.0 (sections-clear sections stays.1 others.1 tables.1)
 
   pub mapped-clear : (sections : List MappedSection) → AreClear sections → AllClear (flat_map (section_places zero_place) sections)
   mapped-clear [] clear = tt
@@ -227,11 +252,11 @@ staged_clear_law before c machine volume span config device time p0 p1 p2 p3 p4 
     All-from_recursion (IsClearPlace volume c) (planned_places before machine volume span config time p0 p1 p2 p3 p4 rest) (
       own.0,
       (
-        clear-apart volume c keeps.sound (record { disk = span.disk; sector = span.start }) (apart_boot_law before machine volume config device span sound apart is),
-        joined before c machine volume p4 sound keeps zeros after (message ++ sections) own.1
-            (joined before c machine volume p4 sound keeps zeros message sections (path-clear before c machine volume p4 sound keeps zeros config.message)
-            (mapped-clear before c machine volume p4 sound keeps zeros (flat_map (mapped_section before machine volume) config.sections)
-            (sections-clear before c machine volume p4 sound keeps zeros config.sections (others-apart before machine volume config device apart) (tables-apart before machine volume config device apart)))),
+        clear-apart volume c keeps.sound (record { disk = span.disk; sector = span.start }) (boot-outside before machine volume config device span sound apart is),
+        joined before c machine volume p4 sound keeps.sound zeros after (message ++ sections) own.1
+            (joined before c machine volume p4 sound keeps.sound zeros message sections (path-clear before c machine volume p4 sound keeps.sound zeros config.message keeps.mapped.message)
+            (mapped-clear before c machine volume p4 sound keeps.sound zeros (flat_map (mapped_section before machine volume) config.sections)
+            (sections-clear before c machine volume p4 sound keeps.sound zeros config.sections keeps.mapped.sections (others-apart before machine volume config device apart) (tables-apart before machine volume config device apart)))),
       ),
     )
   where

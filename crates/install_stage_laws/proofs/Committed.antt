@@ -1,24 +1,23 @@
 -- What was staged, once its boot sector is written.
-use Rattle.std.proofs.Common.{◌≡◌, ◌≢◌, ◌≤◌, ◌<◌, ◌⊎◌, inl, inr, ℕ, zero, suc, ◌+◌, ◌*◌, ◌/◌, ◌%◌, Bool, List, [], ◌∷◌, ◌++◌, map, length, Option, None, Some, refl, sym, ap, subst, ◌∙◌, arith, get_or}
-use Rattle.std.specs.Prelude.{All, replicate}
-use Rattle.std.specs.List.{range_with_len}
-use Rattle.std.proofs.lemmas.List.FromFn.{get_or-map-range_with_len, length-map-range_with_len, fill_by_all}
+use Rattle.std.proofs.Common.{◌≡◌, ◌≢◌, ◌≤◌, ◌<◌, ◌⊎◌, inl, inr, ℕ, suc, ◌+◌, ◌*◌, ◌%◌, Bool, List, ◌∷◌, ◌++◌, length, Some, refl, sym, ap, subst, ◌∙◌, arith}
+use Rattle.std.specs.Prelude.{All}
 use Rattle.disk_trait.specs.Past as past
 use Rattle.disk_trait.specs.Moments.{now}
+use Rattle.disk_trait.proofs.MomentLemmas.{leaves_weaker}
 use Rattle.lilo_model.specs.Bytes.{part_of}
 use Rattle.lilo_model.specs.Clear.{IsClearPlace}
 use Rattle.lilo_model.specs.Conf.{Config}
 use Rattle.lilo_model.specs.DefaultLine.{Empty}
 use Rattle.lilo_model.specs.Devices.{Device}
 use Rattle.lilo_model.specs.Disks.{Image, Machine, Span, DiskSector, bytes_at}
-use Rattle.lilo_model.specs.Lays.{tail_place}
-use Rattle.lilo_model.specs.MinixLayout.{Inode, inode_size, inode_of, inode_place, zone_sector, super_sector}
-use Rattle.lilo_model.specs.MinixNames.{Named, zone_number, reached, IsSound}
-use Rattle.lilo_model.specs.MinixParts.{Volume, sector_of, bit, inode_mark_sector, zone_bit, zone_mark_sector, block_pointer, parts_of, is_file}
+use Rattle.lilo_model.specs.Lays.{Lays}
+use Rattle.lilo_model.specs.LineSector.{line_at}
+use Rattle.lilo_model.specs.Meant.{menu_of}
+use Rattle.lilo_model.specs.MinixLayout.{inode_size, inode_of, inode_place, zone_sector, super_sector}
+use Rattle.lilo_model.specs.MinixNames.{names_in, reached, IsSound}
+use Rattle.lilo_model.specs.MinixParts.{Volume, sector_of, bit, inode_mark_sector, zone_bit, zone_mark_sector, parts_of}
 use Rattle.lilo_model.specs.NamePlaces.{with_tilde}
-use Rattle.lilo_model.specs.Plan.{Plan, map_size}
-use Rattle.lilo_model.specs.Planned.{sector_in_zone, inode_places, devices_in, planned}
-use Rattle.lilo_model.specs.Section.{sectors_for}
+use Rattle.lilo_model.specs.Planned.{devices_in, planned}
 use Rattle.minix_beside_laws.specs.Beside.{IsOfBitmaps, Regions}
 use Rattle.minix_beside_laws.specs.Keeps.{Keeps}
 use Rattle.minix_beside_laws.proofs.Harmless.{region_law}
@@ -29,20 +28,23 @@ use Rattle.minix_sees_laws.proofs.Tree.{sees_tree_law}
 use Rattle.minix_sees_laws.specs.Sees.{SeenAsIn}
 use Rattle.minix_sees_laws.specs.Tree.{TreeAs}
 use Rattle.map_laws.proofs.AcceptedWhole.{accepted_lies_law}
-use Rattle.map_laws.proofs.Laid.{accepted_lays_law}
+use Rattle.map_laws.proofs.Laid.{accepted_lays_law, lays_stays_law}
+use Rattle.map_laws.proofs.Planned.{map-lies}
 use Rattle.map_laws.specs.Accepted.{IsWritten}
 use Rattle.map_laws.specs.MapLays.{HoldsMap}
-use Rattle.map_laws.specs.PlannedLies.{PlannedLies}
+use Rattle.map_laws.specs.PlannedLies.{PlannedLies, targets_for}
 use Rattle.install_laws.specs.Writes.{IsApartSector}
-use Rattle.install_begin_laws.proofs.Apart.{apart_boot_law}
 use Rattle.install_stays_laws.specs.Laws.{planned_places}
-use Rattle.install_stays_laws.proofs.Stays.{tidy_law}
-use Rattle.install_stage_laws.specs.ClearMap.{KeepsFiles}
-use Rattle.install_stage_laws.specs.Committed.{SectorsSeenLaw, CommitSeenLaw, CommitHoldsLaw, IsStaged, StagedLaysLaw, StagedTidiesLaw}
+use Rattle.install_stays_laws.proofs.Stays.{clear_stays_law, tidy_law}
+use Rattle.install_stage_laws.specs.Mapped.{KeepsMapped}
+use Rattle.install_stage_laws.specs.Committed.{SectorsSeenLaw, CommitSeenLaw, CommitHoldsLaw, IsStaged, StagedLaysLaw, StagedTidiesLaw, TidiedLaysLaw}
 use Rattle.install_stage_laws.proofs.BootBytes.{boot-long}
-use Rattle.install_stage_laws.proofs.Clear.{seen_keeps_law, keeps_joined_law, staged_clear_law}
-use Rattle.install_stage_laws.proofs.Files.{place_of, refers-block}
-use Rattle.install_stage_laws.proofs.Sectors.{apart-other, from-two, lies, some-first, below-zones}
+use Rattle.install_stage_laws.proofs.Clear.{seen_keeps_law, staged_clear_law}
+use Rattle.install_stage_laws.proofs.Mapped.{mapped_joined_law}
+use Rattle.install_stage_laws.proofs.Devices.{boot-outside}
+use Rattle.install_stage_laws.proofs.Files.{place_of}
+use Rattle.install_stage_laws.proofs.HoldsMap.{holds_map_stays_law}
+use Rattle.install_stage_laws.proofs.Sectors.{apart-other, from-two, lies, some-first}
 use Rattle.install_stage_laws.proofs.Staged.{else-same, still-long, staged_written_law}
 
 -- ---- a volume whose sectors past block 0 stay
@@ -89,124 +91,21 @@ commit_seen_law volume staged span bytes sound apart long =
 
 -- ---- the map's file
 
-some-at : (places : List DiskSector) (index : ℕ) → index < length places → (place : DiskSector) × (get_or (map Some places) index None ≡ Some place)
-some-at [] index below = absurd (omega (arith, below))
-some-at (place ∷ places) zero below = (place, refl)
-some-at (place ∷ places) (suc index) below = some-at places index (omega (arith, below))
-
-length-some : (places : List DiskSector) → length (map Some places) ≡ length places
-length-some [] = refl
-length-some (place ∷ places) = ap suc (length-some places)
-
-module _ (volume : Volume) (staged : Image) (span : Span) (bytes : List ℕ) (machine : Machine) (plan : Plan) (path : List (List ℕ)) (places : List DiskSector)
-    (sound : IsSound volume staged) (apart : IsApartSector volume span.disk span.start) (long : length bytes ≡ 512) (h : HoldsMap staged machine volume plan path places) where
-  abbrev c : Image
-  c = past.with_sector staged span.disk span.start bytes
-
-  seen : SeenAsIn volume staged c
-  seen = commit_seen_law volume staged span bytes sound apart long
-
-  tree : TreeAs volume.layout (parts_of volume staged) (parts_of volume c)
-  tree = sees_tree_law volume.layout (parts_of volume staged) (parts_of volume c) (opened volume staged sound).parts seen.sees
-
-  leads-by : (reached volume.layout (parts_of volume staged) path ≡ Some h.holder) ⊎ (reached volume.layout (parts_of volume staged) (with_tilde path) ≡ Some h.holder)
-      → Named volume.layout (parts_of volume staged) h.holder
-  leads-by (inl leads) = record { path = path; leads = leads }
-  leads-by (inr leads) = record { path = with_tilde path; leads = leads }
-
-  was : Named volume.layout (parts_of volume staged) h.holder
-  was = leads-by h.leads
-
-  is-named : Named volume.layout (parts_of volume c) h.holder
-  is-named = record { path = was.path; leads = tree.leads was.path ∙ was.leads }
-
-  leads-still : (reached volume.layout (parts_of volume staged) path ≡ Some h.holder) ⊎ (reached volume.layout (parts_of volume staged) (with_tilde path) ≡ Some h.holder)
-      → (reached volume.layout (parts_of volume c) path ≡ Some h.holder) ⊎ (reached volume.layout (parts_of volume c) (with_tilde path) ≡ Some h.holder)
-  leads-still (inl leads) = inl (tree.leads path ∙ leads)
-  leads-still (inr leads) = inr (tree.leads (with_tilde path) ∙ leads)
-
-  stays-past : (sector : ℕ) → 2 ≤ sector → sector < 2 * volume.layout.zones → sector_of volume c sector ≡ sector_of volume staged sector
-  stays-past sector from below = else-same staged span bytes (place_of volume sector) (apart-other volume span.disk span.start sector (place_of volume sector) apart refl from below)
-
-  node-same : (parts_of volume c).node h.holder ≡ (parts_of volume staged).node h.holder
-  node-same = (keeps-all volume staged c sound stays-past).nodes h.holder was
-
-  size-same : ((parts_of volume c).node h.holder).size ≡ ((parts_of volume staged).node h.holder).size
-  size-same = ap (λ (i : Inode). i.size) node-same
-
-  abbrev zone-at : Image → ℕ → ℕ
-  zone-at image index = zone_number volume.layout (parts_of volume image) h.holder (index / 2)
-
-  -- a zone that is there stays
-  zone-same : (index : ℕ) → zone-at staged index ≢ 0 → zone-at c index ≡ zone-at staged index
-  unfolding zone_number
-  zone-same index some =
-      (tree.keeps.stays h.holder (block_pointer volume.layout.kind (index / 2)) (zone-at staged index)
-      (refers-block volume staged h.holder was h.regular index (zone-at staged index) refl some) is-named).is
-
-  abbrev count : ℕ
-  count = sectors_for ((parts_of volume staged).node h.holder).size
-
-  abbrev held-at : Image → ℕ → Option DiskSector
-  held-at image index = sector_in_zone volume.span (zone-at image index) index
-
-  solid-list : map (held-at staged) (range_with_len 0 count) ≡ map Some places
-  unfolding inode_places
-  solid-list = h.solid
-
-  count-is : length places ≡ count
-  count-is = sym (length-some places) ∙ ap length (sym solid-list) ∙ length-map-range_with_len (held-at staged) 0 count
-
-  list-at : (index : ℕ) → index < count → get_or (map Some places) index None ≡ held-at staged index
-  list-at index below = ap (λ held. get_or held index None) (sym solid-list) ∙ get_or-map-range_with_len (held-at staged) 0 count index index None below (omega arith)
-
-  -- so each block's is
-  some-zone : (index : ℕ) → index < count → zone-at staged index ≢ 0
-  some-zone index below none =
-      let found = some-at places index (omega (arith, below, count-is)) in
-      let hole : held-at staged index ≡ None = ap (λ zone. sector_in_zone volume.span zone index) none in
-      let both : None ≡ Some found.0 = sym hole ∙ sym (list-at index below) ∙ found.1 in
-      grind (arith, both)
-
-  solid-still : inode_places volume (parts_of volume c) h.holder ≡ map Some places
-  unfolding inode_places
-  solid-still =
-      ap (λ size. map (held-at c) (range_with_len 0 (sectors_for size))) size-same
-      ∙ sym (fill_by_all (held-at c) (map Some places) count None (length-some places ∙ count-is)
-      (λ index below. list-at index below ∙ ap (λ zone. sector_in_zone volume.span zone index) (sym (zone-same index (some-zone index below)))))
-
-  odd-still : map_size plan machine % 2 ≡ 1 → bytes_at c (tail_place volume c h.holder (map_size plan machine)) ≡ replicate 512 0
-  odd-still odd =
-      let sectors = map_size plan machine in
-      let size = h.size_is in
-      let many : sectors ≤ count = omega (arith, size) in
-      let index = 2 * (sectors / 2) in
-      let below : index < count = omega (arith, odd, many) in
-      let back : index / 2 ≡ sectors / 2 = omega arith in
-      let some = some-zone index below in
-      let zone = zone-at staged index in
-      let there : zone_number volume.layout (parts_of volume c) h.holder (sectors / 2) ≡ zone = ap (zone_number volume.layout (parts_of volume c) h.holder) (sym back) ∙ zone-same index some in
-      let here : zone ≡ zone_number volume.layout (parts_of volume staged) h.holder (sectors / 2) = ap (zone_number volume.layout (parts_of volume staged) h.holder) back in
-      let range = (opened volume staged sound).parts.zone_range h.holder (block_pointer volume.layout.kind (index / 2)) zone (refers-block volume staged h.holder was h.regular index zone refl some) in
-      let sector = zone_sector zone + 1 in
-      let from = from-two volume staged sound zone sector (inr refl) range.0 in
-      let below-all = below-zones zone sector volume.layout.zones (inr refl) range.1 in
-      ap (λ zone. bytes_at c (place_of volume (zone_sector zone + 1))) there
-      ∙ stays-past sector from below-all
-      ∙ ap (λ zone. bytes_at staged (place_of volume (zone_sector zone + 1))) here ∙ h.odd odd
-
-  pub holds-still : HoldsMap c machine volume plan path places
-  holds-still = record {
-    holder = h.holder;
-    leads = leads-still h.leads;
-    regular = ap (λ (i : Inode). is_file i) node-same ∙ h.regular;
-    solid = solid-still;
-    size_is = size-same ∙ h.size_is;
-    odd = odd-still;
-  }
-
 pub commit_holds_law : CommitHoldsLaw
-commit_holds_law volume staged span bytes machine plan path places sound apart long h = holds-still volume staged span bytes machine plan path places sound apart long h
+commit_holds_law volume staged span bytes machine plan path places sound apart long h =
+    holds_map_stays_law volume staged (past.with_sector staged span.disk span.start bytes) machine plan path places sound seen.sound tree.keeps h (leads-still h.leads)
+  where
+    seen : SeenAsIn volume staged (past.with_sector staged span.disk span.start bytes)
+    seen = commit_seen_law volume staged span bytes sound apart long
+
+    tree : TreeAs volume.layout (parts_of volume staged) (parts_of volume (past.with_sector staged span.disk span.start bytes))
+    tree = sees_tree_law volume.layout (parts_of volume staged) (parts_of volume (past.with_sector staged span.disk span.start bytes)) (opened volume staged sound).parts seen.sees
+
+    leads-still : (reached volume.layout (parts_of volume staged) path ≡ Some h.holder) ⊎ (reached volume.layout (parts_of volume staged) (with_tilde path) ≡ Some h.holder)
+        → (reached volume.layout (parts_of volume (past.with_sector staged span.disk span.start bytes)) path ≡ Some h.holder)
+        ⊎ (reached volume.layout (parts_of volume (past.with_sector staged span.disk span.start bytes)) (with_tilde path) ≡ Some h.holder)
+    leads-still (inl leads) = inl (tree.leads path ∙ leads)
+    leads-still (inr leads) = inr (tree.leads (with_tilde path) ∙ leads)
 
 -- ---- what is staged
 
@@ -219,10 +118,10 @@ module _ (before staged : Image) (machine : Machine) (volume : Volume) (span : S
   abbrev new : Image
   new = past.with_sector staged span.disk span.start bytes
 
-  outside : IsApartSector volume span.disk span.start
-  outside = apart_boot_law before machine volume config device span s.sound s.apart s.found
+  pub outside : IsApartSector volume span.disk span.start
+  outside = boot-outside before machine volume config device span s.sound s.apart s.found
 
-  size-is : length bytes ≡ 512
+  pub size-is : length bytes ≡ 512
   size-is = ap length s.boot.is ∙ boot-long before machine volume config time places (before span.disk span.start) s.boot.long
 
   written : IsWritten before new machine volume span config time Empty p0 p1 p2 p3 p4 rest (before span.disk span.start) × (p0 ≢ record { disk = span.disk; sector = span.start })
@@ -231,14 +130,27 @@ module _ (before staged : Image) (machine : Machine) (volume : Volume) (span : S
   holds : HoldsMap new machine volume (planned before machine volume config time) path places
   holds = commit_holds_law volume staged span bytes machine (planned before machine volume config time) path places s.files.sound outside size-is s.holds
 
-  files : KeepsFiles volume before new
-  files = keeps_joined_law volume before staged new s.files (seen_keeps_law volume staged new s.files.sound (commit_seen_law volume staged span bytes s.files.sound outside size-is))
+  files : KeepsMapped volume config before new
+  files = mapped_joined_law volume config before staged new s.files (seen_keeps_law volume staged new s.files.sound (commit_seen_law volume staged span bytes s.files.sound outside size-is))
 
   pub lies-staged : PlannedLies before new machine volume span config time (devices_in before machine) Empty p0 p1 p2 p3 p4 rest (before span.disk span.start)
   lies-staged = accepted_lies_law before new machine volume span config time Empty p0 p1 p2 p3 p4 rest (before span.disk span.start) s.sound s.accepted written.0
 
   pub clear-staged : All (IsClearPlace volume new) (planned_places before machine volume span config time p0 p1 p2 p3 p4 rest)
   clear-staged = staged_clear_law before new machine volume span config device time p0 p1 p2 p3 p4 rest path s.sound s.apart s.found files holds
+
+  -- another image that is the same there has Lays too
+  lays-in : (c : Image) → All (λ place. bytes_at c place ≡ bytes_at new place) (planned_places before machine volume span config time p0 p1 p2 p3 p4 rest)
+      → HoldsMap c machine volume (planned before machine volume config time) path places
+      → Lays c machine volume span (planned before machine volume config time) path (before span.disk span.start)
+  lays-in c same h =
+      let names = names_in volume before in
+      let devices = devices_in before machine in
+      let here : bytes_at c p0 ≡ bytes_at new p0 = same 0 p0 (omega arith) in
+      lays_stays_law new c machine volume span (planned before machine volume config time) (menu_of config names devices) (targets_for names devices config.sections)
+      Empty Empty p0 p1 p2 p3 p4 rest (before span.disk span.start) path
+      (map-lies before new machine volume span config time devices Empty p0 p1 p2 p3 p4 rest (before span.disk span.start) s.sound lies-staged)
+      (λ index d below. same (suc index) d (omega (arith, below))) (ap line_at here ∙ lies-staged.line_is) h
 
 pub staged_lays_law : StagedLaysLaw
 staged_lays_law before staged machine volume span config device time chosen p0 p1 p2 p3 p4 rest bytes path s =
@@ -255,3 +167,13 @@ staged_tidies_law before machine volume span config device time chosen p0 p1 p2 
     (subst (λ (image : Image). All (IsClearPlace volume image) (planned_places before machine volume span config time p0 p1 p2 p3 p4 rest)) (sym is)
     (clear-staged before (now staged) machine volume span config device time chosen p0 p1 p2 p3 p4 rest bytes path s))
     writes
+
+pub tidied_lays_law : TidiedLaysLaw
+tidied_lays_law before machine volume span config device time chosen p0 p1 p2 p3 p4 rest bytes path staged committed tidied s is writes =
+    let lying = planned_places before machine volume span config time p0 p1 p2 p3 p4 rest in
+    leaves_weaker committed tidied _ _
+    (clear_stays_law volume lying committed tidied
+    (subst (λ (image : Image). All (IsClearPlace volume image) lying) (sym is)
+    (clear-staged before (now staged) machine volume span config device time chosen p0 p1 p2 p3 p4 rest bytes path s))
+    writes)
+    (λ c same. lays-in before (now staged) machine volume span config device time chosen p0 p1 p2 p3 p4 rest bytes path s c (subst (λ (image : Image). All (λ place. bytes_at c place ≡ bytes_at image place) lying) is same))

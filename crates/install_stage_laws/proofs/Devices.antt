@@ -1,11 +1,11 @@
--- The devices of a configuration that is apart.
-use Rattle.std.proofs.Common.{◌≡◌, ◌≤◌, ◌+◌, ◌*◌, ◌==◌, ◌||◌, inl, inr, ℕ, Bool, true, false, not, nat_le, nat_lt, List, [], ◌∷◌, Option, None, Some, Result, Ok, refl, sym, ◌∙◌, arith}
+-- The devices of a configuration, where they are apart.
+use Rattle.std.proofs.Common.{◌≡◌, ◌≤◌, ◌+◌, ◌*◌, ◌==◌, ◌||◌, inl, inr, ℕ, Bool, true, false, not, nat_le, nat_lt, List, [], ◌∷◌, Option, None, Some, Result, Ok, refl, sym, ◌∙◌, subst, arith}
 use Rattle.std.specs.Prelude.{IfSome, flat_map, option_to_list}
 use Rattle.std.specs.List.{AllByRecursion, list_all}
 use Rattle.std.proofs.lemmas.Bool.{and_parts}
 use Rattle.std.proofs.lemmas.Bool.Decides.{nat_tests}
 use Rattle.std.proofs.lemmas.List.Folds.{list_all-append}
-use Rattle.lilo_model.specs.Apart.{Apart, is_apart_span, is_apart_device, has_apart_backup, has_apart_files, other_devices, table_devices, kernel_paths, initrd_paths, apart_checks}
+use Rattle.lilo_model.specs.Apart.{Apart, is_apart_span, is_apart_place, is_apart_device, has_apart_backup, has_apart_files, other_devices, table_devices, kernel_paths, initrd_paths, apart_checks}
 use Rattle.lilo_model.specs.Checks.{◌>>=◌, require}
 use Rattle.lilo_model.specs.Conf.{Config, ConfSection}
 use Rattle.lilo_model.specs.ConfOptions as options
@@ -14,10 +14,12 @@ use Rattle.lilo_model.specs.Disks.{Image, Machine, Span}
 use Rattle.lilo_model.specs.MinixNames.{names_in, IsSound}
 use Rattle.lilo_model.specs.MinixParts.{Volume}
 use Rattle.lilo_model.specs.NamePlaces.{backup_option}
+use Rattle.lilo_model.specs.Partitions.{TableFault, span_of}
 use Rattle.map_laws.proofs.Accepted.{both-pass, required}
 use Rattle.minix_zones.proofs.ZoneLemmas.{zones_fit}
 use Rattle.install_laws.specs.Writes.{IsApartSector}
 use Rattle.install_begin_laws.proofs.Apart.{sound-passes}
+use Rattle.install_stage_laws.specs.Devices.{AreDevicesApart, ApartDevicesLaw}
 
 -- ---- the checks of devices
 
@@ -45,6 +47,21 @@ module _ (image : Image) (machine : Machine) (volume : Volume) (config : Config)
   past-others : (b : Unit {0}) × (require (list_all (is_apart_device image machine volume) (other_devices config)) options.OtherDevice ≡ Ok b) × (from-tables ≡ Ok tt)
   past-others = both-pass (require (list_all (is_apart_device image machine volume) (other_devices config)) options.OtherDevice) (λ b. from-tables) tt past-boot.2
 
+  pub devices-apart : AreDevicesApart image machine volume config device
+  devices-apart =
+      let both = both-pass (require (list_all (is_apart_device image machine volume) (table_devices config)) options.Table) (λ c. from-backup) tt past-others.2 in
+      record {
+        boots = required (is_apart_device image machine volume device) options.Boot past-boot.1;
+        others = required (list_all (is_apart_device image machine volume) (other_devices config)) options.OtherDevice past-others.1;
+        tables = required (list_all (is_apart_device image machine volume) (table_devices config)) options.Table both.1;
+      }
+
+pub apart_devices_law : ApartDevicesLaw
+apart_devices_law image machine volume config device apart = devices-apart image machine volume config device apart
+
+-- ---- one by one
+
+module _ (image : Image) (machine : Machine) (volume : Volume) (config : Config) (device : Device) (apart : AreDevicesApart image machine volume config device) where
   -- each device of some list is apart
   each-apart : (pick : ConfSection → Option Device) (sections : List ConfSection) → list_all (is_apart_device image machine volume) (flat_map (λ section. option_to_list (pick section)) sections) ≡ true
       → AllByRecursion (λ section. IfSome (pick section) (λ one. is_apart_device image machine volume one ≡ true)) sections
@@ -60,12 +77,10 @@ module _ (image : Image) (machine : Machine) (volume : Volume) (config : Config)
       by (Some one) is = (and_parts (is_apart_device image machine volume one) true is).0
 
   pub others-apart : AllByRecursion (λ section. IfSome section.other (λ one. is_apart_device image machine volume one ≡ true)) config.sections
-  others-apart = each-apart (λ section. section.other) config.sections (required (list_all (is_apart_device image machine volume) (other_devices config)) options.OtherDevice past-others.1)
+  others-apart = each-apart (λ section. section.other) config.sections apart.others
 
   pub tables-apart : AllByRecursion (λ section. IfSome section.table (λ one. is_apart_device image machine volume one ≡ true)) config.sections
-  tables-apart =
-      let both = both-pass (require (list_all (is_apart_device image machine volume) (table_devices config)) options.Table) (λ c. from-backup) tt past-others.2 in
-      each-apart (λ section. section.table) config.sections (required (list_all (is_apart_device image machine volume) (table_devices config)) options.Table both.1)
+  tables-apart = each-apart (λ section. section.table) config.sections apart.tables
 
 -- ---- where they lie
 
@@ -82,3 +97,9 @@ span-apart volume span fits is = by (span.disk == volume.span.disk) refl (nat_lt
 -- the first sector of a device that is apart isn't one of the volume's past its block 0
 pub device-apart : (volume : Volume) (image : Image) → IsSound volume image → (found : Span) → is_apart_span volume found ≡ true → IsApartSector volume found.disk found.start
 device-apart volume image sound found is = span-apart volume found (zones_fit volume.layout volume.span.count (sound-passes volume image sound)) is
+
+-- so it is of the device that is to boot
+pub boot-outside : (image : Image) (machine : Machine) (volume : Volume) (config : Config) (device : Device) (span : Span)
+    → IsSound volume image → AreDevicesApart image machine volume config device → span_of image machine device ≡ Ok span → IsApartSector volume span.disk span.start
+boot-outside image machine volume config device span sound apart is =
+    device-apart volume image sound span (subst (λ (found : Result Span TableFault). is_apart_place volume found ≡ true) is apart.boots)

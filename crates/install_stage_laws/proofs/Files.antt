@@ -12,6 +12,8 @@ use Rattle.lilo_model.specs.Planned.{sector_in_zone, inode_places, mapped_inode,
 use Rattle.lilo_model.specs.Section.{sectors_for}
 use Rattle.minix_laws.proofs.Inside.{is_pointer-block}
 use Rattle.map_laws.proofs.MeantFiles.{inode-named, zones-of}
+use Rattle.install_stage_laws.specs.Mapped.{OnFile}
+use Rattle.install_stage_laws.proofs.Mapped.{on-path}
 
 -- a sector of a volume, by its number there
 abbrev pub place_of : Volume → ℕ → DiskSector
@@ -66,22 +68,31 @@ module _ (volume : Volume) (image : Image) where
       unfolding mapped_inode
       file-has = places-have
 
-    -- so does a file that may be absent or empty
+    -- so does a file that may be absent or empty, where each that is there has another fact
+    module _ (sound : IsSound volume image) (Q : ℕ → Type 0)
+        (each : (number : ℕ) → Named volume.layout (parts_of volume image) number → is_file ((parts_of volume image).node number) ≡ true → Q number
+        → Each (mapped_inode volume (parts_of volume image) number).places) where
+      by-size : (number : ℕ) → Named volume.layout (parts_of volume image) number → is_file ((parts_of volume image).node number) ≡ true → Q number → (empty : Bool)
+          → EachOptional (if empty then None else Some (mapped_inode volume (parts_of volume image) number))
+      by-size number named regular has true = tt
+      by-size number named regular has false = each number named regular has
+
+      by-inode : (text : List ℕ) (inode : Option ℕ) → file_inode volume (parts_of volume image) text ≡ inode → IfSome inode Q
+          → EachOptional (option_and_then some_file (option_map (mapped_inode volume (parts_of volume image)) inode))
+      by-inode text None is on = tt
+      by-inode text (Some number) is on =
+          let named = inode-named volume image sound text number is in
+          by-size number named.0 named.1 on ((mapped_inode volume (parts_of volume image) number).size == 0)
+
+      pub optional-on : (path : Option (List ℕ)) → IfSome path (λ text. OnFile image volume text Q) → EachOptional (optional_file volume (parts_of volume image) path)
+      optional-on None on = tt
+      optional-on (Some text) on = by-inode text (file_inode volume (parts_of volume image) text) refl on
+
+    -- and where no other fact is asked
     module _ (sound : IsSound volume image)
         (each : (number : ℕ) → Named volume.layout (parts_of volume image) number → is_file ((parts_of volume image).node number) ≡ true
         → Each (mapped_inode volume (parts_of volume image) number).places) where
-      by-size : (number : ℕ) → Named volume.layout (parts_of volume image) number → is_file ((parts_of volume image).node number) ≡ true → (empty : Bool)
-          → EachOptional (if empty then None else Some (mapped_inode volume (parts_of volume image) number))
-      by-size number named regular true = tt
-      by-size number named regular false = each number named regular
-
-      by-inode : (text : List ℕ) (inode : Option ℕ) → file_inode volume (parts_of volume image) text ≡ inode
-          → EachOptional (option_and_then some_file (option_map (mapped_inode volume (parts_of volume image)) inode))
-      by-inode text None is = tt
-      by-inode text (Some number) is =
-          let named = inode-named volume image sound text number is in
-          by-size number named.0 named.1 ((mapped_inode volume (parts_of volume image) number).size == 0)
-
       pub optional-has : (path : Option (List ℕ)) → EachOptional (optional_file volume (parts_of volume image) path)
-      optional-has None = tt
-      optional-has (Some text) = by-inode text (file_inode volume (parts_of volume image) text) refl
+      optional-has path =
+          optional-on sound (λ number. Unit {0}) (λ number named regular any. each number named regular) path
+          (on-path image volume sound (λ number. Unit {0}) (λ number named regular. tt) path)

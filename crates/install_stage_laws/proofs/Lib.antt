@@ -1,8 +1,10 @@
+pub mod Mapped
 pub mod BootBytes
 pub mod Clear
 pub mod Committed
 pub mod Devices
 pub mod Files
 pub mod Held
+pub mod HoldsMap
 pub mod Sectors
 pub mod Staged

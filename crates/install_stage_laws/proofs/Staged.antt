@@ -26,13 +26,12 @@ use Rattle.map_laws.specs.Accepted.{IsOptionalLeft, IsTableKept, IsSystemLeft, I
 use Rattle.map_laws.specs.Files.{IsKept}
 use Rattle.map_laws.proofs.Accepted.{both-pass, required, all-pass}
 use Rattle.map_laws.proofs.MeantFiles.{inode-named}
-use Rattle.install_begin_laws.proofs.Apart.{apart_boot_law}
 use Rattle.install_laws.specs.Writes.{IsWritable, IsApartSector}
 use Rattle.install_laws.proofs.Planned.{accepted_means_law}
 use Rattle.install_stage_laws.specs.Staged.{KeepsRest, AreFree, IsChosenPlace}
 use Rattle.install_stage_laws.specs.Laws.{StagedWrittenLaw, StagedMeansLaw}
 use Rattle.install_stage_laws.proofs.BootBytes.{boot-long, table-kept}
-use Rattle.install_stage_laws.proofs.Devices.{others-apart, tables-apart, device-apart}
+use Rattle.install_stage_laws.proofs.Devices.{others-apart, tables-apart, device-apart, boot-outside}
 use Rattle.install_stage_laws.proofs.Files.{first-of, Each, EachOptional}
 use Rattle.install_stage_laws.proofs.Sectors.{Stays, chosen-writable, apart-not, file-stays, optional-stays}
 
@@ -239,7 +238,7 @@ pub staged_written_law : StagedWrittenLaw
 unfolding planned plan_sectors
 staged_written_law before staged machine volume span config device time chosen p0 p1 p2 p3 p4 rest bytes sound apart is a s new =
     let places = p0 ∷ (p1 ∷ (p2 ∷ (p3 ∷ (p4 ∷ rest)))) in
-    let outside : IsApartSector volume span.disk span.start = apart_boot_law before machine volume config device span sound apart is in
+    let outside : IsApartSector volume span.disk span.start = boot-outside before machine volume config device span sound apart is in
     let long : length bytes ≡ 512 = ap length new.is ∙ boot-long before machine volume config time places (before span.disk span.start) new.long in
     let table : part_of bytes 446 64 ≡ part_of (before span.disk span.start) 446 64 =
     ap (λ sector. part_of sector 446 64) new.is ∙ table-kept before machine volume config time places (before span.disk span.start) new.long in

@@ -1,20 +1,11 @@
--- What a new map lies in, and what it was planned from, is Clear in an image where the files that were named before are there
--- still (rules of this project's own).
-use Rattle.std.specs.Prelude.{◌≡◌, ℕ, List, ◌∷◌, All, Option, None, Ok}
-use Rattle.lilo_model.specs.Apart.{Apart}
-use Rattle.lilo_model.specs.Clear.{IsClearPlace}
-use Rattle.lilo_model.specs.Conf.{Config}
-use Rattle.lilo_model.specs.Devices.{Device}
-use Rattle.lilo_model.specs.Disks.{Image, Machine, Span, DiskSector}
+-- The files that were named in one image are there still in another (rules of this project's own).
+use Rattle.std.specs.Prelude.{◌≡◌, ◌≢◌, ℕ, List, Option, Some, None}
+use Rattle.lilo_model.specs.Disks.{Image}
 use Rattle.lilo_model.specs.MinixNames.{Thing, reached, IsSound}
 use Rattle.lilo_model.specs.MinixParts.{Volume, parts_of}
-use Rattle.lilo_model.specs.Partitions.{span_of}
-use Rattle.lilo_model.specs.Planned.{planned}
 use Rattle.minix_beside_laws.specs.Beside.{NamedIn}
 use Rattle.minix_sees_laws.specs.Sees.{SeenAsIn}
 use Rattle.minix_sees_laws.specs.Tree.{KeepsNamed, HasTreeWith}
-use Rattle.map_laws.specs.MapLays.{HoldsMap}
-use Rattle.install_stays_laws.specs.Laws.{planned_places}
 
 -- in an image the volume is sound, and each inode that was named in another one is so still, and stays
 pub record KeepsFiles (volume : Volume) (before c : Image) : Type 0 where
@@ -39,13 +30,23 @@ KeepsJoinedLaw =
     (volume : Volume) (before middle c : Image)
     → KeepsFiles volume before middle → KeepsFiles volume middle c → KeepsFiles volume before c
 
--- There all the sectors that a planned map lies in are Clear, and those that it was planned from, where its own are those of a
--- file of its own: what install_stays_laws' `TidyLaw` asks of tidying.
-abbrev pub StagedClearLaw : Type 0
-StagedClearLaw =
-    (before c : Image) (machine : Machine) (volume : Volume) (span : Span) (config : Config) (device : Device) (time : ℕ)
-    (p0 p1 p2 p3 p4 : DiskSector) (rest : List DiskSector) (path : List (List ℕ))
-    → IsSound volume before → Apart before machine volume config device → span_of before machine device ≡ Ok span
-    → KeepsFiles volume before c
-    → HoldsMap c machine volume (planned before machine volume config time) path (p0 ∷ (p1 ∷ (p2 ∷ (p3 ∷ (p4 ∷ rest)))))
-    → All (IsClearPlace volume c) (planned_places before machine volume span config time p0 p1 p2 p3 p4 rest)
+-- The same of what paths but one led to: what that one alone named may be gone, as where another file takes its place.
+pub record KeepsFilesBut (volume : Volume) (but : List (List ℕ)) (before c : Image) : Type 0 where
+  pub sound : IsSound volume c
+  pub named : (name : List (List ℕ)) (number : ℕ) → name ≢ but → reached volume.layout (parts_of volume before) name ≡ Some number
+      → NamedIn volume c number
+  pub keeps : KeepsNamed volume.layout (parts_of volume before) (parts_of volume c)
+
+-- where that path led nowhere, each stays; and so they do over a later change that keeps them, in which no inode that was gone has
+-- a name again
+abbrev pub KeepsAllLaw : Type 0
+KeepsAllLaw =
+    (volume : Volume) (but : List (List ℕ)) (before c : Image)
+    → KeepsFilesBut volume but before c → reached volume.layout (parts_of volume before) but ≡ None → KeepsFiles volume before c
+
+abbrev pub KeepsButJoinedLaw : Type 0
+KeepsButJoinedLaw =
+    (volume : Volume) (but : List (List ℕ)) (before middle c : Image)
+    → KeepsFilesBut volume but before middle → KeepsFiles volume middle c
+    → ((number : ℕ) → NamedIn volume before number → NamedIn volume c number → NamedIn volume middle number)
+    → KeepsFilesBut volume but before c

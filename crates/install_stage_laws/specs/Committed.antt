@@ -1,24 +1,26 @@
 -- What was staged, once its boot sector is written (rules of this project's own).
-use Rattle.std.specs.Prelude.{◌≡◌, ◌<◌, ◌≤◌, ℕ, ◌*◌, Bool, false, List, ◌∷◌, length, Option, Ok}
+use Rattle.std.specs.Prelude.{◌≡◌, ◌⊎◌, ◌<◌, ◌≤◌, ℕ, ◌*◌, Bool, false, List, ◌∷◌, length, Option, Some, Ok}
 use Rattle.disk_trait.specs.Past.{Past, with_sector}
 use Rattle.disk_trait.specs.Moments.{now, LeavesOnly}
-use Rattle.lilo_model.specs.Apart.{Apart}
 use Rattle.lilo_model.specs.Conf.{Config}
 use Rattle.lilo_model.specs.Devices.{Device}
 use Rattle.lilo_model.specs.Disks.{Image, Machine, Span, DiskSector}
 use Rattle.lilo_model.specs.Lays.{Lays}
 use Rattle.lilo_model.specs.Meant.{meant}
-use Rattle.lilo_model.specs.MinixNames.{names_in, IsSound}
-use Rattle.lilo_model.specs.MinixParts.{Volume, sector_of}
+use Rattle.lilo_model.specs.MinixNames.{names_in, reached, IsSound}
+use Rattle.lilo_model.specs.MinixParts.{Volume, parts_of, sector_of}
+use Rattle.lilo_model.specs.NamePlaces.{with_tilde}
 use Rattle.lilo_model.specs.Partitions.{span_of}
 use Rattle.lilo_model.specs.Plan.{Plan}
 use Rattle.lilo_model.specs.Planned.{devices_in, planned}
 use Rattle.minix_sees_laws.specs.Sees.{SeenAsIn}
+use Rattle.minix_sees_laws.specs.Tree.{KeepsNamed}
 use Rattle.map_laws.specs.Accepted.{IsAccepted}
 use Rattle.map_laws.specs.MapLays.{HoldsMap}
 use Rattle.install_laws.specs.Headline.{Means}
 use Rattle.install_laws.specs.Writes.{IsApartSector, WritesOnly}
-use Rattle.install_stage_laws.specs.ClearMap.{KeepsFiles}
+use Rattle.install_stage_laws.specs.Mapped.{KeepsMapped}
+use Rattle.install_stage_laws.specs.Devices.{AreDevicesApart}
 use Rattle.install_stage_laws.specs.Staged.{IsStagedMap, IsNewBoot}
 
 -- where the sectors of a volume past its block 0 are as they were, and all are whole, what has a name is seen as before
@@ -36,7 +38,16 @@ CommitSeenLaw =
     → IsSound volume staged → IsApartSector volume span.disk span.start → length bytes ≡ 512
     → SeenAsIn volume staged (with_sector staged span.disk span.start bytes)
 
--- and a map's places are still those of its file
+-- a map's places are those of its file still where named files stay, by whichever of the two names leads there
+abbrev pub HoldsMapStaysLaw : Type 0
+HoldsMapStaysLaw =
+    (volume : Volume) (old c : Image) (machine : Machine) (plan : Plan) (path : List (List ℕ)) (places : List DiskSector)
+    → IsSound volume old → IsSound volume c → KeepsNamed volume.layout (parts_of volume old) (parts_of volume c)
+    → (h : HoldsMap old machine volume plan path places)
+    → (reached volume.layout (parts_of volume c) path ≡ Some h.holder) ⊎ (reached volume.layout (parts_of volume c) (with_tilde path) ≡ Some h.holder)
+    → HoldsMap c machine volume plan path places
+
+-- so they are once that boot sector is written
 abbrev pub CommitHoldsLaw : Type 0
 CommitHoldsLaw =
     (volume : Volume) (staged : Image) (span : Span) (bytes : List ℕ) (machine : Machine) (plan : Plan) (path : List (List ℕ))
@@ -45,18 +56,18 @@ CommitHoldsLaw =
     → HoldsMap staged machine volume plan path places
     → HoldsMap (with_sector staged span.disk span.start bytes) machine volume plan path places
 
--- A new map is staged for what a plan's checks accepted: its files' sectors lie, the files that were named before are there
--- still, and its places are those of a file of its own.
+-- A new map is staged for what a plan's checks accepted: its files' sectors lie, the files that are mapped are there still, and
+-- its places are those of a file of its own.
 pub record IsStaged (before staged : Image) (machine : Machine) (volume : Volume) (span : Span) (config : Config) (device : Device)
     (time : ℕ) (chosen : ℕ → Bool) (p0 p1 p2 p3 p4 : DiskSector) (rest : List DiskSector) (bytes : List ℕ)
     (path : List (List ℕ)) : Type 0 where
   pub sound : IsSound volume before
-  pub apart : Apart before machine volume config device
+  pub apart : AreDevicesApart before machine volume config device
   pub found : span_of before machine device ≡ Ok span
   pub accepted : IsAccepted before machine volume span config time (p0 ∷ (p1 ∷ (p2 ∷ (p3 ∷ (p4 ∷ rest)))))
   pub map : IsStagedMap before staged machine volume config time chosen p0 p1 p2 p3 p4 rest
   pub boot : IsNewBoot before machine volume span config time (p0 ∷ (p1 ∷ (p2 ∷ (p3 ∷ (p4 ∷ rest))))) bytes
-  pub files : KeepsFiles volume before staged
+  pub files : KeepsMapped volume config before staged
   pub holds : HoldsMap staged machine volume (planned before machine volume config time) path (p0 ∷ (p1 ∷ (p2 ∷ (p3 ∷ (p4 ∷ rest)))))
 
 -- then the image has Lays once the boot sector is written
@@ -79,3 +90,16 @@ StagedTidiesLaw =
     → now committed ≡ with_sector (now staged) span.disk span.start bytes
     → WritesOnly volume (λ zone. false) committed tidied
     → LeavesOnly committed tidied (Means machine span p0 (meant config (names_in volume before) (devices_in before machine)))
+
+-- each image that such a run leaves has Lays, where the map's places are still those of its file
+abbrev pub TidiedLaysLaw : Type 0
+TidiedLaysLaw =
+    (before : Image) (machine : Machine) (volume : Volume) (span : Span) (config : Config) (device : Device) (time : ℕ)
+    (chosen : ℕ → Bool) (p0 p1 p2 p3 p4 : DiskSector) (rest : List DiskSector) (bytes : List ℕ) (path : List (List ℕ))
+    (staged committed tidied : Option Past)
+    → IsStaged before (now staged) machine volume span config device time chosen p0 p1 p2 p3 p4 rest bytes path
+    → now committed ≡ with_sector (now staged) span.disk span.start bytes
+    → WritesOnly volume (λ zone. false) committed tidied
+    → LeavesOnly committed tidied (λ c.
+    HoldsMap c machine volume (planned before machine volume config time) path (p0 ∷ (p1 ∷ (p2 ∷ (p3 ∷ (p4 ∷ rest)))))
+    → Lays c machine volume span (planned before machine volume config time) path (before span.disk span.start))

@@ -3,7 +3,6 @@
 use Rattle.std.specs.Prelude.{◌≡◌, ◌≢◌, ◌⊎◌, ℕ, Bool, true, List, ◌∷◌, Option, None, Ok}
 use Rattle.disk_trait.specs.Past.{Past, with_sector}
 use Rattle.disk_trait.specs.Moments.{IsTold, now, MayLeave, LeavesOnly}
-use Rattle.lilo_model.specs.Apart.{Apart}
 use Rattle.lilo_model.specs.Clear.{Clear}
 use Rattle.lilo_model.specs.Conf.{Config}
 use Rattle.lilo_model.specs.DefaultLine.{Empty}
@@ -24,6 +23,7 @@ use Rattle.map_laws.specs.Accepted.{IsAccepted, IsWritten}
 use Rattle.install_laws.specs.Boots.{SparesMapped, HasBootOf}
 use Rattle.install_laws.specs.Headline.{Means}
 use Rattle.install_laws.specs.Writes.{IsWritable, IsApartSector, WritesOnly, AreAvoided}
+use Rattle.install_stage_laws.specs.Devices.{AreDevicesApart}
 use Rattle.install_stage_laws.specs.Staged.{KeepsRest, AreFree, IsStagedMap, IsNewBoot}
 
 -- ---- what is written
@@ -65,7 +65,7 @@ abbrev pub StagedWrittenLaw : Type 0
 StagedWrittenLaw =
     (before staged : Image) (machine : Machine) (volume : Volume) (span : Span) (config : Config) (device : Device) (time : ℕ)
     (chosen : ℕ → Bool) (p0 p1 p2 p3 p4 : DiskSector) (rest : List DiskSector) (bytes : List ℕ)
-    → IsSound volume before → Apart before machine volume config device → span_of before machine device ≡ Ok span
+    → IsSound volume before → AreDevicesApart before machine volume config device → span_of before machine device ≡ Ok span
     → IsAccepted before machine volume span config time (p0 ∷ (p1 ∷ (p2 ∷ (p3 ∷ (p4 ∷ rest)))))
     → IsStagedMap before staged machine volume config time chosen p0 p1 p2 p3 p4 rest
     → IsNewBoot before machine volume span config time (p0 ∷ (p1 ∷ (p2 ∷ (p3 ∷ (p4 ∷ rest))))) bytes
@@ -78,7 +78,7 @@ abbrev pub StagedMeansLaw : Type 0
 StagedMeansLaw =
     (before staged : Image) (machine : Machine) (volume : Volume) (span : Span) (config : Config) (device : Device) (time : ℕ)
     (chosen : ℕ → Bool) (p0 p1 p2 p3 p4 : DiskSector) (rest : List DiskSector) (bytes : List ℕ)
-    → IsSound volume before → Apart before machine volume config device → span_of before machine device ≡ Ok span
+    → IsSound volume before → AreDevicesApart before machine volume config device → span_of before machine device ≡ Ok span
     → IsAccepted before machine volume span config time (p0 ∷ (p1 ∷ (p2 ∷ (p3 ∷ (p4 ∷ rest)))))
     → IsStagedMap before staged machine volume config time chosen p0 p1 p2 p3 p4 rest
     → IsNewBoot before machine volume span config time (p0 ∷ (p1 ∷ (p2 ∷ (p3 ∷ (p4 ∷ rest))))) bytes

@@ -1,4 +1,6 @@
 pub mod ClearMap
+pub mod Mapped
 pub mod Committed
+pub mod Devices
 pub mod Laws
 pub mod Staged

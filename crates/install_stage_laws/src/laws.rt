@@ -1,12 +1,22 @@
 // What is staged of an installation.
-ghost use Rattle.install_stage_laws.specs.ClearMap.{AddedKeepsLaw, KeepsJoinedLaw, SeenKeepsLaw, StagedClearLaw};
+ghost use Rattle.install_stage_laws.specs.ClearMap.{
+  AddedKeepsLaw,
+  KeepsAllLaw,
+  KeepsButJoinedLaw,
+  KeepsJoinedLaw,
+  SeenKeepsLaw,
+};
 ghost use Rattle.install_stage_laws.specs.Committed.{
   CommitHoldsLaw,
   CommitSeenLaw,
+  HoldsMapStaysLaw,
   SectorsSeenLaw,
   StagedLaysLaw,
   StagedTidiesLaw,
+  TidiedLaysLaw,
 };
+ghost use Rattle.install_stage_laws.specs.Devices.{ApartDevicesLaw};
+ghost use Rattle.install_stage_laws.specs.Mapped.{FilesKeepMappedLaw, MappedJoinedLaw, StagedClearLaw};
 ghost use Rattle.install_stage_laws.specs.Laws.{
   ApartKeptLaw,
   HolderStaysLaw,
@@ -34,6 +44,11 @@ pub fn unwritten_rest_is_kept()
 /// So such a run into free zones that the present map avoids promises what the headline asks of staging.
 pub fn staging_promises_what_the_headline_asks()
     ensures { StagesLaw }
+{}
+
+/// Where a configuration is apart, the devices that it names are.
+pub fn apart_configuration_has_apart_devices()
+    ensures { ApartDevicesLaw }
 {}
 
 /// Once the boot sector is written over what was staged, what a plan's checks accepted is written, with an empty default
@@ -82,6 +97,26 @@ pub fn files_are_kept_in_a_row()
     ensures { KeepsJoinedLaw }
 {}
 
+/// Where all stay but what one path alone named, and it led nowhere, all do.
+pub fn files_but_none_are_kept()
+    ensures { KeepsAllLaw }
+{}
+
+/// So they do over a later change that keeps them.
+pub fn files_but_one_are_kept_in_a_row()
+    ensures { KeepsButJoinedLaw }
+{}
+
+/// Then the files that a configuration maps are kept.
+pub fn mapped_files_are_kept()
+    ensures { FilesKeepMappedLaw }
+{}
+
+/// So they are over a later change that keeps files.
+pub fn mapped_files_are_kept_in_a_row()
+    ensures { MappedJoinedLaw }
+{}
+
 /// There the sectors that a planned map lies in, and those that it was planned from, are Clear, where its own are those of
 /// a file of its own.
 pub fn staged_map_is_clear()
@@ -98,7 +133,12 @@ pub fn committed_volume_is_seen_as_before()
     ensures { CommitSeenLaw }
 {}
 
-/// And a map's places are still those of its file.
+/// A map's places are those of its file still where named files stay, by whichever of its two names leads there.
+pub fn map_stays_in_its_file()
+    ensures { HoldsMapStaysLaw }
+{}
+
+/// So they are once that boot sector is written.
 pub fn committed_map_is_held()
     ensures { CommitHoldsLaw }
 {}
@@ -112,4 +152,9 @@ pub fn staged_map_has_lays()
 /// configuration.
 pub fn tidying_of_a_staged_map_leaves_what_is_meant()
     ensures { StagedTidiesLaw }
+{}
+
+/// Each image that such a run leaves has Lays, where the map's places are still those of its file.
+pub fn tidied_map_has_lays()
+    ensures { TidiedLaysLaw }
 {}

@@ -1,5 +1,7 @@
 -- The map, then the rest.
-use Rattle.std.proofs.Common.{◌≡◌, Err, rules, sym, subst}
+use Rattle.std.proofs.Common.{◌≡◌, ◌∙◌, Err, rules, sym, ap, subst}
+use Rattle.std.proofs.lemmas.Result.{IfOk-weaker}
+use Rattle.disk_trait.specs.declared.disks.Span.{Span}
 use Rattle.disk_trait.specs.Past.{Image}
 use Rattle.disk_trait.proofs.ToldLemmas.{told_map, told_both}
 use Rattle.lilo_conf.specs.View.{config_view}
@@ -43,3 +45,7 @@ returns-clause-found g c =
 pub returns-clause-cause : goal.returns-clause-cause
 returns-clause-cause g c =
     cause_later c.choose_for.result (faults_of c.args.volume.now) (faults_of c.plan_map.new.volume) (faults_of c.choose_for.new.volume) c.in_ok-plan.ensures.later c.choose_for.ensures.cause
+
+pub returns-clause-volume_disk : goal.returns-clause-volume_disk
+returns-clause-volume_disk g c =
+    IfOk-weaker c.choose_for.result _ _ (λ choices is. is ∙ ap (λ (span : Span). span.disk) c.in_ok-plan.ensures.same.same_span) c.choose_for.ensures.volume_disk

@@ -44,3 +44,6 @@ returns-in-Err-clause-places g c =
 
 pub returns-in-Err-clause-cause : goal.returns-in-Err-clause-cause
 returns-in-Err-clause-cause g c = c.in-Err.ensures.cause (faults_of c.args.volume.now) (faults_of c.find_wished.new.volume)
+
+pub returns-in-Ok-clause-own : goal.returns-in-Ok-clause-own
+returns-in-Ok-clause-own g c = c.in-Ok.ensures.decided (machine_for c.args.volume.now) c.requires.geometries

@@ -1,0 +1,9 @@
+pub mod Entry
+pub mod Mapped
+pub mod Names
+pub mod Paths
+pub mod Stays
+pub mod Surveyed
+pub mod Tables
+pub mod Tests
+pub mod Walks

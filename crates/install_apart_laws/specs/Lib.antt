@@ -1,0 +1,4 @@
+pub mod Laws
+pub mod Mapped
+pub mod Surveyed
+pub mod Tables

@@ -1,0 +1,32 @@
+// What is apart once settling is done, and what is mapped.
+ghost use Rattle.install_apart_laws.specs.Laws.{SettledApartLaw};
+ghost use Rattle.install_apart_laws.specs.Mapped.{MappedApartLaw};
+ghost use Rattle.install_apart_laws.specs.Surveyed.{SurveyedApartLaw};
+ghost use Rattle.install_apart_laws.specs.Tables.{OutsideTablesLaw, TablesLaw};
+
+/// A configuration that was apart is apart still once the names that an installation replaces are settled, where the devices
+/// that it names lie where they lay.
+pub fn settled_configuration_is_apart()
+    ensures { SettledApartLaw }
+{}
+
+/// So is that of what was surveyed, on the disks as they were examined and once they are settled.
+pub fn surveyed_configuration_is_apart()
+    ensures { SurveyedApartLaw }
+{}
+
+/// A device lies where it lay where the tables of its disk are as they were.
+pub fn device_lies_where_its_tables_stay()
+    ensures { TablesLaw }
+{}
+
+/// So it does where all but a volume's sectors past its block 0 is as it was, and none of these has a table.
+pub fn device_lies_where_its_tables_are_outside()
+    ensures { OutsideTablesLaw }
+{}
+
+/// Where a configuration is apart, no file that its plan maps is at a name that an installation replaces, nor at a forced
+/// backup's.
+pub fn mapped_files_are_not_replaced()
+    ensures { MappedApartLaw }
+{}

@@ -1,0 +1,2 @@
+pub mod TidiedLemmas
+pub mod TidyLemmas

@@ -11,7 +11,7 @@ use std::alloc::{AllocError, Global};
 use std::test::Fail;
 use stream_trait::{MemSink, MemSource, Words};
 
-fn words_of(alloc: Global, line: &[&str]) -> Result<Words, AllocError> {
+pub(crate) fn words_of(alloc: Global, line: &[&str]) -> Result<Words, AllocError> {
     let mut words = Words::new(alloc);
     for word in line {
         words.push(alloc, word)?;
@@ -266,7 +266,7 @@ fn words_that_ask_for_nothing(rt: HostRuntime) -> Result<(), Fail> {
 const RM: &[&str] = &["rm", "x.img", "/dev/hda", "/a"];
 
 // The disk with the volume, sound: both inodes and both zones are marked, and the file has a link.
-fn sound_disk(alloc: Global, failing: &[Failing]) -> Result<MemDisks, AllocError> {
+pub(crate) fn sound_disk(alloc: Global, failing: &[Failing]) -> Result<MemDisks, AllocError> {
     let Ok(geometry) = Geometry::new(16, 63) else {
         return Err(AllocError);
     };
@@ -333,7 +333,7 @@ const MKDIR: &[&str] = &["mkdir", "x.img", "/dev/hda", "/d"];
 const LN: &[&str] = &["ln", "x.img", "/dev/hda", "/l", "/d/../a"];
 
 // The status and text of arguments over a disk.
-fn told_on(alloc: Global, line: &[&str], disks: &mut MemDisks) -> Result<(u8, String), Fail> {
+pub(crate) fn told_on(alloc: Global, line: &[&str], disks: &mut MemDisks) -> Result<(u8, String), Fail> {
     let words = words_of(alloc, line)?;
     let mut source = MemSource::new(alloc, b"", &[])?;
     let mut sink = MemSink::new(alloc, 4096, &[])?;

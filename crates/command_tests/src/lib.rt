@@ -4,4 +4,6 @@
 #[cfg(test)]
 mod ldisk;
 #[cfg(test)]
+mod stored;
+#[cfg(test)]
 mod words;

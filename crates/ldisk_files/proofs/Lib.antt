@@ -12,3 +12,6 @@ pub mod MadeLemmas
 pub mod MakeLemmas
 pub mod NamedLemmas
 pub mod InodeLemmas
+pub mod ContentLemmas
+pub mod StoredLemmas
+pub mod StoringLemmas

@@ -242,7 +242,7 @@ laid-at size_of image span volume is whole on_disk super =
     }
 
 -- the checks are those of the volume that is there
-check-is : {A : Type 0} (check : model.Volume → Image → Result A FileRefusal) (image : Image) (span : Span) (volume : model.Volume) → volume_at image span ≡ Ok volume
+pub check-is : {A : Type 0} (check : model.Volume → Image → Result A FileRefusal) (image : Image) (span : Span) (volume : model.Volume) → volume_at image span ≡ Ok volume
     → volume_check check image span ≡ sound_check check volume image
 unfolding volume_check
 check-is check image span volume is = rw is refl

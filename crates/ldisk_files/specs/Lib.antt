@@ -2,3 +2,4 @@ pub mod Answer
 pub mod Left
 pub mod Made
 pub mod Inode
+pub mod Stored

@@ -33,7 +33,7 @@ pub(crate) struct Ready {
 }
 
 /// What is chosen for a wish, where nothing was promised before.
-fn choose_wish<D: Disks>(
+pub(crate) fn choose_wish<D: Disks>(
     alloc: Global,
     volume: &mut Volume<'_, D>,
     wish: &Wish<'_>,

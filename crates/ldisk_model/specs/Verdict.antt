@@ -14,7 +14,7 @@ use Rattle.lilo_model.specs.LdiskVerdict as reads_verdict
 use Rattle.ldisk_model.specs.Arguments.{PartWish, Command, Make, Mkfs, Put, Get, Ls, Rm, Mkdir, Ln, Asked, asked_at}
 use Rattle.ldisk_model.specs.DiskTable.{are_placed, table_sector}
 use Rattle.ldisk_model.specs.MinixFormat.{format_layout, format_at}
-use Rattle.ldisk_model.specs.FileVerdict.{NameChange, NewDirectory, NewLink, removal, addition, checked_status, device_check, gone_check, made_check}
+use Rattle.ldisk_model.specs.FileVerdict.{NameChange, NewDirectory, NewLink, NewFile, removal, addition, checked_status, device_check, gone_check, new_check, made_check}
 
 -- why a table or a volume isn't made
 pub data Refusal : Type 0 where
@@ -67,34 +67,34 @@ mkfs_check now machine device kind inodes = do
 
 -- ---- the whole
 
--- a command on an image with so many sectors where it is new; those that aren't built yet are as arguments that ask for
--- nothing
-unfoldable pub command_verdict : Image → Machine → ℕ → Command → Verdict
-command_verdict now machine sectors (Make parts) = silent (status_of (make_check machine sectors parts))
-command_verdict now machine sectors (Mkfs device kind inodes) =
+-- a command on an image with so many sectors where it is new, where a source gives these bytes up to its end
+unfoldable pub command_verdict : Image → Machine → List ℕ → ℕ → Command → Verdict
+command_verdict now machine given sectors (Make parts) = silent (status_of (make_check machine sectors parts))
+command_verdict now machine given sectors (Mkfs device kind inodes) =
     silent (status_of (mkfs_check now machine device kind inodes))
-command_verdict now machine sectors (Get device path) =
+command_verdict now machine given sectors (Get device path) =
     reads_verdict.command_verdict now machine (reads.Get device path)
-command_verdict now machine sectors (Ls device path) =
+command_verdict now machine given sectors (Ls device path) =
     reads_verdict.command_verdict now machine (reads.Ls device path)
-command_verdict now machine sectors (Put device path) = silent 1
-command_verdict now machine sectors (Rm device path) =
+command_verdict now machine given sectors (Put device path) =
+    silent (checked_status (device_check (made_check (NewFile given) path) now machine device))
+command_verdict now machine given sectors (Rm device path) =
     silent (checked_status (device_check (gone_check path) now machine device))
-command_verdict now machine sectors (Mkdir device path) =
+command_verdict now machine given sectors (Mkdir device path) =
     silent (checked_status (device_check (made_check NewDirectory path) now machine device))
-command_verdict now machine sectors (Ln device path target) =
+command_verdict now machine given sectors (Ln device path target) =
     silent (checked_status (device_check (made_check (NewLink target) path) now machine device))
 
 -- whether a command may be carried out, whatever the disks hold
 unfoldable pub is_carried_out : ℕ → Command → Bool
 is_carried_out sectors (Make parts) = are_placed sectors parts
 is_carried_out sectors (Mkfs device kind inodes) = true
+is_carried_out sectors (Put device path) = true
 is_carried_out sectors (Get device path) = true
 is_carried_out sectors (Ls device path) = true
 is_carried_out sectors (Rm device path) = true
 is_carried_out sectors (Mkdir device path) = true
 is_carried_out sectors (Ln device path target) = true
-is_carried_out sectors (Put device path) = false
 
 -- arguments that ask for something that may be carried out
 abbrev pub are_carried_out : Option Asked → Bool
@@ -102,13 +102,35 @@ are_carried_out (Some asked) = is_carried_out asked.sectors asked.command
 are_carried_out None = false
 
 -- arguments that ask for something, or are of no grammar
-abbrev pub asked_verdict : Image → Machine → Option Asked → Verdict
-asked_verdict now machine (Some asked) = command_verdict now machine asked.sectors asked.command
-asked_verdict now machine None = silent 1
+abbrev pub asked_verdict : Image → Machine → List ℕ → Option Asked → Verdict
+asked_verdict now machine given (Some asked) = command_verdict now machine given asked.sectors asked.command
+asked_verdict now machine given None = silent 1
 
--- what `ldisk` answers and prints for arguments, over disks that hold this image
-unfoldable pub ldisk_verdict : Image → Machine → List (List ℕ) → Verdict
-ldisk_verdict now machine words = asked_verdict now machine (asked_at words)
+-- what `ldisk` answers and prints for arguments, over disks that hold this image and a source that gives these bytes
+unfoldable pub ldisk_verdict : Image → Machine → List ℕ → List (List ℕ) → Verdict
+ldisk_verdict now machine given words = asked_verdict now machine given (asked_at words)
+
+-- ---- when the source is asked
+
+-- whether a command stores what a source gives
+abbrev pub stores : Command → Bool
+stores (Put device path) = true
+stores command = false
+
+-- the same of arguments
+abbrev pub asked_stores : Option Asked → Bool
+asked_stores (Some asked) = stores asked.command
+asked_stores None = false
+
+-- whether it comes to ask the source: only once all checks up to that of its name have passed
+abbrev pub asks_source : Image → Machine → Command → Bool
+asks_source now machine (Put device path) = checked_status (device_check (new_check path) now machine device) == 0
+asks_source now machine command = false
+
+-- the same of arguments
+abbrev pub asked_asks_source : Image → Machine → Option Asked → Bool
+asked_asks_source now machine (Some asked) = asks_source now machine asked.command
+asked_asks_source now machine None = false
 
 -- ---- what the disks hold
 
@@ -117,17 +139,18 @@ abbrev pub formatted_on : Result Span TableFault → Kind → ℕ → ℕ → Im
 formatted_on (Ok span) kind inodes time now = format_at span kind inodes time now
 formatted_on (Err fault) kind inodes time now = None
 
--- the name that a command changes, if it changes one
-abbrev pub name_change : Command → Option NameChange
-name_change (Rm device path) = Some (removal device path)
-name_change (Mkdir device path) = Some (addition device path NewDirectory)
-name_change (Ln device path target) = Some (addition device path (NewLink target))
-name_change command = None
+-- the name that a command changes, if it changes one, where a source gives these bytes
+abbrev pub name_change : List ℕ → Command → Option NameChange
+name_change given (Put device path) = Some (addition device path (NewFile given))
+name_change given (Rm device path) = Some (removal device path)
+name_change given (Mkdir device path) = Some (addition device path NewDirectory)
+name_change given (Ln device path target) = Some (addition device path (NewLink target))
+name_change given command = None
 
 -- the same of arguments
-abbrev pub asked_change : Option Asked → Option NameChange
-asked_change (Some asked) = name_change asked.command
-asked_change None = None
+abbrev pub asked_change : List ℕ → Option Asked → Option NameChange
+asked_change given (Some asked) = name_change given asked.command
+asked_change given None = None
 
 -- what the disks hold after a command that answered 0 at a time, and that changes no name
 unfoldable pub image_after : Image → Machine → ℕ → Command → Option Image
@@ -149,11 +172,12 @@ abbrev pub is_in_found : Result Span TableFault → ℕ → ℕ → Bool
 is_in_found (Ok span) disk sector = is_in span disk sector
 is_in_found (Err fault) disk sector = false
 
--- whether a command may write a sector: `make` that of the table, `mkfs`, `rm`, `mkdir` and `ln` those of the device, and
--- others none
+-- whether a command may write a sector: `make` that of the table, `mkfs`, `put`, `rm`, `mkdir` and `ln` those of the device,
+-- and others none
 unfoldable pub may_write : Image → Machine → Command → ℕ → ℕ → Bool
 may_write now machine (Make parts) disk sector = disk == 0 && sector == 0
 may_write now machine (Mkfs device kind inodes) disk sector = is_in_found (span_of now machine device) disk sector
+may_write now machine (Put device path) disk sector = is_in_found (span_of now machine device) disk sector
 may_write now machine (Rm device path) disk sector = is_in_found (span_of now machine device) disk sector
 may_write now machine (Mkdir device path) disk sector = is_in_found (span_of now machine device) disk sector
 may_write now machine (Ln device path target) disk sector = is_in_found (span_of now machine device) disk sector
@@ -168,6 +192,7 @@ asked_may_write now machine None disk sector = false
 unfoldable pub only_reads : Command → Bool
 only_reads (Make parts) = false
 only_reads (Mkfs device kind inodes) = false
+only_reads (Put device path) = false
 only_reads (Rm device path) = false
 only_reads (Mkdir device path) = false
 only_reads (Ln device path target) = false

@@ -1,7 +1,7 @@
 -- A command on a device, and the whole call.
-use Rattle.std.proofs.Common.{◌≡◌, ◌≤◌, ◌==◌, ◌∙◌, ◌⊎◌, ℕ, inl, inr, Bool, false, List, [], ◌++◌, Option, Ok, Err, refl, sym, ap, subst, arith}
+use Rattle.std.proofs.Common.{◌≡◌, ◌≤◌, ◌==◌, ◌&&◌, ◌∙◌, ◌⊎◌, if◌then◌else◌, ℕ, inl, inr, Bool, true, false, List, [], ◌++◌, Option, Ok, Err, refl, sym, ap, subst, arith}
 use Rattle.lilo_model.specs.Faults.{Rose}
-use Rattle.stream_trait.specs.Sink.{TakesFront}
+use Rattle.stream_trait.specs.Sink.{Takes, TakesFront}
 use Rattle.stream_trait.specs.Shows.{SinkState, Shows, Prints, answer_of}
 use Rattle.stream_trait.proofs.SinkLemmas.{TakesFront-whole, TakesFront-before}
 use Rattle.stream_trait.proofs.ShowsLemmas.{shows_join, shows_same, prints_of, answered}
@@ -74,7 +74,8 @@ front_by old new before now front rest text is (inr (rose, some)) =
 
 failure_stays : (status : ℕ) (failed : Bool) → IsFailure status → IsFailure (answer_of status failed)
 failure_stays status failed (inl is) = rw is (inl refl)
-failure_stays status failed (inr is) = rw is (inr refl)
+failure_stays status failed (inr (inl is)) = rw is (inr (inl refl))
+failure_stays status failed (inr (inr is)) = rw is (inr (inr refl))
 
 pub answers : (v : Verdict) (status : ℕ) (failed : Bool) (a b : Held) → DoesAs v status a b → Answers v (answer_of status failed)
 answers v status failed a b (inl (is, added)) = by (answered (status == 0) failed status v.status refl is)
@@ -95,3 +96,25 @@ tells v status failed a b c (inr (failure, (front, behind, is, added))) none fin
       front_by a.sink.taken c.taken a.sink.faults c.faults front behind v.text is
           (prints_of a.sink c front (shows_all a b c front none added rest) fine),
     )
+
+-- it is 0 only where that is the status and the sink didn't fail
+plain : (status : ℕ) (failed : Bool) → answer_of status failed ≡ 0 → (failed ≡ false) × (status ≡ 0)
+plain status failed is = by (status == 0) failed refl is
+  where
+    by : (test f : Bool) → (status == 0) ≡ test → (if test && f then 12 else status) ≡ 0 → (f ≡ false) × (status ≡ 0)
+    by true true one is = absurd (let no : 12 ≡ 0 = is in cc)
+    by true false one is = (refl, is)
+    by false true one is = absurd (let no : (0 == 0) ≡ false = subst (λ (s : ℕ). (s == 0) ≡ false) is one in cc)
+    by false false one is = (refl, is)
+
+-- then the sink took all of it
+pub takes_whole :
+    (v : Verdict) (status : ℕ) (failed : Bool) (a b : Held) (c : SinkState) → DoesAs v status a b → a.text ≡ [] → Shows b.sink b.text c → c.failed ≡ failed
+    → answer_of status failed ≡ 0 → Takes a.sink.taken v.text c.taken
+takes_whole v status failed a b c does none rest last ends = let both = plain status failed ends in by status both.1 does (last ∙ both.0)
+  where
+    by : (s : ℕ) → s ≡ 0 → DoesAs v s a b → c.failed ≡ false → Takes a.sink.taken v.text c.taken
+    by s is (inl (is_verdict, added)) same = (shows_all a b c v.text none added rest).whole same
+    by s is (inr (inl eight, front)) same = absurd (let no : 8 ≡ 0 = sym eight ∙ is in cc)
+    by s is (inr (inr (inl thirteen), front)) same = absurd (let no : 13 ≡ 0 = sym thirteen ∙ is in cc)
+    by s is (inr (inr (inr eleven), front)) same = absurd (let no : 11 ≡ 0 = sym eleven ∙ is in cc)

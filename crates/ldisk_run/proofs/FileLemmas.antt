@@ -20,8 +20,8 @@ use Rattle.lilo_model.specs.LdiskVerdict.{Refusal, room_of, silent}
 use Rattle.lilo_model.specs.Partitions.{TableFault, span_of}
 use Rattle.mbr_table.specs.View.{span_view}
 use Rattle.sector_address.specs.Machine.{machine_of}
-use Rattle.ldisk_model.specs.Arguments.{Command, Rm, Mkdir, Ln}
-use Rattle.ldisk_model.specs.FileVerdict.{FileRefusal, NoRoom, NameChange, NewDirectory, NewLink, volume_check, device_check, gone_check, made_check, removal, addition, checked_status}
+use Rattle.ldisk_model.specs.Arguments.{Command, Put, Rm, Mkdir, Ln}
+use Rattle.ldisk_model.specs.FileVerdict.{FileRefusal, NoRoom, NameChange, NewDirectory, NewLink, NewFile, volume_check, device_check, gone_check, made_check, removal, addition, checked_status}
 use Rattle.ldisk_model.specs.Verdict.{command_verdict, image_after, is_in, is_in_found, may_write, name_change, only_reads}
 use Rattle.lilo_model.specs.MinixParts.{Volume}
 use Rattle.lilo_model.specs.Verdict.{Verdict}
@@ -61,17 +61,17 @@ no-room (Err refusal) next refused = refl
 
 -- ---- commands
 
--- a command changes one name, once a check of the volume passed
-pub record IsFileCommand (command : Command) (change : NameChange) (check : Volume → Image → Result (List (List ℕ)) FileRefusal) : Type 0 where
-  pub verdict : (image : Image) (machine : Machine) (sectors : ℕ) → command_verdict image machine sectors command ≡ silent (checked_status (device_check check image machine change.device))
-  pub names : name_change command ≡ Some change
+-- a command changes one name, once a check of the volume passed, where a source gives these bytes
+pub record IsFileCommand (given : List ℕ) (command : Command) (change : NameChange) (check : Volume → Image → Result (List (List ℕ)) FileRefusal) : Type 0 where
+  pub verdict : (image : Image) (machine : Machine) (sectors : ℕ) → command_verdict image machine given sectors command ≡ silent (checked_status (device_check check image machine change.device))
+  pub names : name_change given command ≡ Some change
   pub writes : only_reads command ≡ false
   pub may : (image : Image) (machine : Machine) (d s : ℕ) → may_write image machine command d s ≡ is_in_found (span_of image machine change.device) d s
   pub no_volume : (old image : Image) (machine : Machine) → HasVolumeOf old machine command image
 
-pub removes : (device : devices.Device) (path : List ℕ) → IsFileCommand (Rm device path) (removal device path) (gone_check path)
+pub removes : (given : List ℕ) (device : devices.Device) (path : List ℕ) → IsFileCommand given (Rm device path) (removal device path) (gone_check path)
 unfolding command_verdict only_reads may_write
-removes device path = record {
+removes given device path = record {
   verdict = λ image machine sectors. refl;
   names = refl;
   writes = refl;
@@ -79,9 +79,9 @@ removes device path = record {
   no_volume = λ old image machine. tt;
 }
 
-pub makes_directory : (device : devices.Device) (path : List ℕ) → IsFileCommand (Mkdir device path) (addition device path NewDirectory) (made_check NewDirectory path)
+pub makes_directory : (given : List ℕ) (device : devices.Device) (path : List ℕ) → IsFileCommand given (Mkdir device path) (addition device path NewDirectory) (made_check NewDirectory path)
 unfolding command_verdict only_reads may_write
-makes_directory device path = record {
+makes_directory given device path = record {
   verdict = λ image machine sectors. refl;
   names = refl;
   writes = refl;
@@ -89,9 +89,19 @@ makes_directory device path = record {
   no_volume = λ old image machine. tt;
 }
 
-pub makes_link : (device : devices.Device) (path target : List ℕ) → IsFileCommand (Ln device path target) (addition device path (NewLink target)) (made_check (NewLink target) path)
+pub makes_link : (given : List ℕ) (device : devices.Device) (path target : List ℕ) → IsFileCommand given (Ln device path target) (addition device path (NewLink target)) (made_check (NewLink target) path)
 unfolding command_verdict only_reads may_write
-makes_link device path target = record {
+makes_link given device path target = record {
+  verdict = λ image machine sectors. refl;
+  names = refl;
+  writes = refl;
+  may = λ image machine d s. refl;
+  no_volume = λ old image machine. tt;
+}
+
+pub makes_file : (given : List ℕ) (device : devices.Device) (path : List ℕ) → IsFileCommand given (Put device path) (addition device path (NewFile given)) (made_check (NewFile given) path)
+unfolding command_verdict only_reads may_write
+makes_file given device path = record {
   verdict = λ image machine sectors. refl;
   names = refl;
   writes = refl;
@@ -107,7 +117,7 @@ module _ (image : Image) (machine : Machine) (device : devices.Device) where
     halted-check Device halts = inr (inl refl)
 
   module _ (span : Span) (room : room_of image machine device ≡ Ok span) where
-    by-room : (check : Volume → Image → Result (List (List ℕ)) FileRefusal) → device_check check image machine device ≡ volume_check check image span
+    pub by-room : (check : Volume → Image → Result (List (List ℕ)) FileRefusal) → device_check check image machine device ≡ volume_check check image span
     unfolding device_check
     by-room check = rw room refl
 
@@ -118,7 +128,7 @@ module _ (image : Image) (machine : Machine) (device : devices.Device) where
     checked-answer check (Err faults.BadLength) is = inl (sym (ap checked_status (by-room check) ∙ is))
     checked-answer check (Err faults.NoSpace) is = inl (sym (ap checked_status (by-room check) ∙ is))
     checked-answer check (Err faults.Device) is = inr (inl refl)
-    checked-answer check (Err faults.Memory) is = inr (inr refl)
+    checked-answer check (Err faults.Memory) is = inr (inr (inl refl))
 
     -- the room is the device's sectors
     pub span-is : span_of image machine device ≡ Ok span
@@ -135,13 +145,13 @@ module _ (image : Image) (machine : Machine) (device : devices.Device) where
             last true wide = let e = rw (size, says, wide) at is in let same : other ≡ span = cc in says ∙ ap Ok same
             last false wide = absurd (let no = rw (size, says, wide) at is in cc)
 
-module _ (command : Command) (change : NameChange) (check : Volume → Image → Result (List (List ℕ)) FileRefusal) (is : IsFileCommand command change check)
+module _ (given : List ℕ) (command : Command) (change : NameChange) (check : Volume → Image → Result (List (List ℕ)) FileRefusal) (is : IsFileCommand given command change check)
     (image : Image) (machine : Machine) (sectors : ℕ) where
-  pub halted_answer : (halt : Halt) → Halts halt (room_of image machine change.device) → AnswersAs (command_verdict image machine sectors command) (status_of (Err halt))
+  pub halted_answer : (halt : Halt) → Halts halt (room_of image machine change.device) → AnswersAs (command_verdict image machine given sectors command) (status_of (Err halt))
   halted_answer halt halts = subst (λ (v : Verdict). AnswersAs v (status_of (Err halt))) (sym (is.verdict image machine sectors)) (halted-check image machine change.device check halt halts)
 
   pub file_answer : (span : Span) → room_of image machine change.device ≡ Ok span → (result : Result (Unit {0}) FileFault) → Answers (volume_check check image span) result
-      → AnswersAs (command_verdict image machine sectors command) (file_status result)
+      → AnswersAs (command_verdict image machine given sectors command) (file_status result)
   file_answer span room result answers = subst (λ (v : Verdict). AnswersAs v (file_status result)) (sym (is.verdict image machine sectors))
       (checked-answer image machine change.device span room check result answers)
 
@@ -158,18 +168,18 @@ is-outside span d s out = by (span.disk == d) (nat_le span.start s) (nat_lt s (s
 
 -- ---- nothing was done
 
-module _ (command : Command) (change : NameChange) (check : Volume → Image → Result (List (List ℕ)) FileRefusal) (is-one : IsFileCommand command change check) where
+module _ (given : List ℕ) (command : Command) (change : NameChange) (check : Volume → Image → Result (List (List ℕ)) FileRefusal) (is-one : IsFileCommand given command change check) where
   module _ {D : Type 0} (disks : Ghosts D) (old new : D) where
     -- what is said of its change is said of the command
     changes-as : (image : Image) (machine : Machine) → (HasSoundOn image machine change.device → LeavesOnly (disks.past old) (disks.past new) (IsChanging image machine change))
-        → LeavesChanging disks old new image machine (name_change command)
+        → LeavesChanging disks old new image machine (name_change given command)
     changes-as image machine leaves = subst (λ (c : Option NameChange). LeavesChanging disks old new image machine c) (sym is-one.names) leaves
 
-    after-as : (image left : Image) (machine : Machine) (time : ℕ) → IsChanged image machine change left → IsAfter image machine time command left
+    after-as : (image left : Image) (machine : Machine) (time : ℕ) → IsChanged image machine change left → IsAfter image machine time given command left
     after-as image left machine time changed = subst (λ (c : Option NameChange). IsAfterChange image machine c (image_after image machine time command) left) (sym is-one.names) changed
 
   module _ {D : Type 0} (disks : Ghosts D) (old new : D) (same : SameOf disks old new) (later : disks.faults old ≤ disks.faults new) (status : ℕ) (some : status ≢ 0) where
-    nothing_done : (time : ℕ) → (status ≡ 8 → Rose (disks.faults old) (disks.faults new)) → LeavesBy disks old new time command status
+    nothing_done : (time : ℕ) → (status ≡ 8 → Rose (disks.faults old) (disks.faults new)) → LeavesBy disks old new time given command status
     nothing_done time rose = record {
       done = told_all (disks.past old) _ (λ image is. absurd (some is));
       empty = told_all (disks.past old) _ (λ image is whole. absurd (some is));
@@ -191,7 +201,7 @@ module _ (command : Command) (change : NameChange) (check : Volume → Image →
     }
 
   pub halted_leaves : {D : Type 0} (disks : Ghosts D) (old new : D) → SameOf disks old new → disks.faults old ≤ disks.faults new
-      → (halt : Halt) → HasCause (disks.faults old) (disks.faults new) halt → (time : ℕ) → LeavesBy disks old new time command (status_of (Err halt))
+      → (halt : Halt) → HasCause (disks.faults old) (disks.faults new) halt → (time : ℕ) → LeavesBy disks old new time given command (status_of (Err halt))
   halted_leaves disks old new same later Refused cause time = nothing_done disks old new same later 3 (omega arith) time (λ is. absurd cc)
   halted_leaves disks old new same later Device cause time = nothing_done disks old new same later 8 (omega arith) time (λ is. cause)
 
@@ -231,7 +241,7 @@ module _ (result : Result (Unit {0}) FileFault) where
       by (Err faults.Device) cause is = λ below. let rose = cause below in omega (arith, later, rose)
       by (Err faults.Memory) cause is = absurd cc
 
-module _ (command : Command) (change : NameChange) (check : Volume → Image → Result (List (List ℕ)) FileRefusal) (is-one : IsFileCommand command change check)
+module _ (given : List ℕ) (command : Command) (change : NameChange) (check : Volume → Image → Result (List (List ℕ)) FileRefusal) (is-one : IsFileCommand given command change check)
     {D : Type 0} (disks : Ghosts D) (old mid new : D) (same : SameOf disks old mid) (later : disks.faults old ≤ disks.faults mid)
     (span : declared.Span) (result : Result (Unit {0}) FileFault)
     (room : Told (disks.past old) (λ now. room_of now (machine_of disks old) change.device ≡ Ok (span_view span)))
@@ -278,11 +288,11 @@ module _ (command : Command) (change : NameChange) (check : Volume → Image →
   goes-on-mid : GoesOn disks old mid
   goes-on-mid = goes_on_same disks old mid same.same_past record { later = later; size = same.same_size; count = same.same_count; geometry = same.same_geometry }
 
-  pub file_leaves : (time : ℕ) → LeavesBy disks old new time command (file_status result)
+  pub file_leaves : (time : ℕ) → LeavesBy disks old new time given command (file_status result)
   file_leaves time = record {
-    done = told_from (disks.past old) _ (λ told is. after-as command change check is-one disks old new I (now (disks.past new)) M time (named told is));
+    done = told_from (disks.past old) _ (λ told is. after-as given command change check is-one disks old new I (now (disks.past new)) M time (named told is));
     empty = told_all (disks.past old) _ (λ image is whole. is-one.no_volume image (now (disks.past new)) M);
-    any_moment = λ quiet. told_from (disks.past old) _ (λ told. changes-as command change check is-one disks old new I M (moment told quiet));
+    any_moment = λ quiet. told_from (disks.past old) _ (λ told. changes-as given command change check is-one disks old new I M (moment told quiet));
     quiet = λ is writes. zero-of result leaves.quiet is;
     refused = λ is. refused-of result leaves.refused is ∙ same.same_past;
     outside = told_from (disks.past old) _ (λ told d s out. apart d s (outside-span I M d s (span-is I M change.device (span_view span) (room-now told)) (sym (is-one.may I M d s) ∙ out)));

@@ -9,3 +9,4 @@ pub mod MadeLemmas
 pub mod StepLemmas
 pub mod FileLemmas
 pub mod WordLemmas
+pub mod PutLemmas

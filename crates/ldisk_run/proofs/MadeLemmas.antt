@@ -1,5 +1,5 @@
 -- `make` and `mkfs`: their statuses, and what they leave.
-use Rattle.std.proofs.Common.{◌≡◌, ◌⊎◌, ◌↔◌, ◌==◌, ◌∙◌, inl, inr, ℕ, Bool, true, false, List, [], Option, None, Some, Result, Ok, Err, refl, sym, ap, subst, arith}
+use Rattle.std.proofs.Common.{◌≡◌, ◌≢◌, ◌||◌, ◌⊎◌, ◌↔◌, ◌==◌, ◌∙◌, inl, inr, ℕ, Bool, true, false, List, [], Option, None, Some, Result, Ok, Err, refl, sym, ap, subst, arith}
 use Rattle.std.specs.Prelude.{◌&&◌, ◌≤◌, IsTrue, OnOk, IfErr}
 use Rattle.disk_trait.specs.declared.disks.Disks.{Ghosts}
 use Rattle.disk_trait.specs.Calls.{SameOf, GoesOn}
@@ -19,7 +19,7 @@ use Rattle.lilo_model.specs.Faults.{Rose}
 use Rattle.sector_address.specs.Machine.{OnDisks, machine_of}
 use Rattle.ldisk_model.specs.Arguments.{PartWish, Command, Make, Mkfs, Put, Get, Ls, Rm, Mkdir, Ln, Asked}
 use Rattle.ldisk_model.specs.DiskTable.{table_sector}
-use Rattle.ldisk_model.specs.Verdict.{Refusal, name_change, asked_change, status_of, command_verdict, formatted_on, is_in_found, image_after, may_write, asked_may_write, only_reads, asked_only_read, is_carried_out}
+use Rattle.ldisk_model.specs.Verdict.{Refusal, name_change, asked_change, status_of, formatted_on, is_in_found, image_after, may_write, asked_may_write, only_reads, asked_only_read}
 use Rattle.lilo_model.specs.LdiskVerdict.{silent}
 use Rattle.ldisk_make.specs.Answer.{Answers, HasEmptyVolume, HasMakeCause, is_refusal as is_make_refusal}
 use Rattle.ldisk_make.specs.declared.fault.MakeFault.{MakeFault}
@@ -27,14 +27,9 @@ use Rattle.ldisk_make.specs.declared.fault.MakeFault.TheVariants as faults
 use Rattle.lilo_model.specs.Verdict.{Verdict}
 use Rattle.stream_trait.specs.Shows.{answer_of}
 use Rattle.stream_trait.proofs.ShowsLemmas.{answered as answered_sink}
-use Rattle.std.specs.Borrow.{Bor}
-use Rattle.mbr_table.specs.declared.device.Device.{Device}
-use Rattle.ldisk_words.specs.View.{command_view}
-use Rattle.ldisk_words.specs.declared.asked.Command as words
-use Rattle.ldisk_words.specs.declared.asked.Command.TheVariants as others
 use Rattle.ldisk_run.specs.Left.{IsAfter, LeavesChanging, IsDone, is_refusal, AnswersAs, HasVolumeOf, LeavesBy, LeavesAsked, IsAskedDone, HasAskedVolume, held_now}
 use Rattle.ldisk_run.specs.Pieces.{Held}
-use Rattle.ldisk_run.specs.Run.{DoesAs, is_command_status}
+use Rattle.ldisk_run.specs.Run.{DoesAs, is_command_status, is_any_status, is_status}
 use Rattle.ldisk_run.proofs.AddsLemmas.{adds_nothing, adds_same}
 use Rattle.ldisk_run.specs.Made.{made_status}
 
@@ -112,12 +107,12 @@ module _ {D : Type 0} (disks : Ghosts D) (old new : D) (result : Result (Unit {0
     (quiet : OnOk result (IsQuiet (disks.past new)))
     (cause : IfErr result (HasMakeCause (disks.faults old) (disks.faults new)))
     (goes_on : GoesOn disks old new) where
-  pub make_leaves : (time : ℕ) (parts : List PartWish)
+  pub make_leaves : (time : ℕ) (given : List ℕ) (parts : List PartWish)
       → (IsTold (disks.past old) → OnOk result (now (disks.past new) ≡ past.with_sector (now (disks.past old)) 0 0 (table_sector parts)))
       → WritesNoOther 0 0 (disks.past old) (disks.past new)
-      → LeavesBy disks old new time (Make parts) (made_status result)
+      → LeavesBy disks old new time given (Make parts) (made_status result)
   unfolding image_after may_write only_reads
-  make_leaves time parts made others = record {
+  make_leaves time given parts made others = record {
     done = told_from (disks.past old) _ (λ told is. ap Some (sym (done_by result (made told) is)));
     empty = told_all (disks.past old) _ (λ image is whole. tt);
     any_moment = λ quiet. told_all (disks.past old) _ (λ image. tt);
@@ -129,14 +124,14 @@ module _ {D : Type 0} (disks : Ghosts D) (old new : D) (result : Result (Unit {0
     device = device_by (disks.faults old) (disks.faults new) result cause;
   }
 
-  pub mkfs_leaves : (time : ℕ) (device : devices.Device) (kind : Kind) (inodes : ℕ)
+  pub mkfs_leaves : (time : ℕ) (given : List ℕ) (device : devices.Device) (kind : Kind) (inodes : ℕ)
       → OnOk result (OnDisks disks old (λ image machine. formatted_on (span_of image machine device) kind inodes time image ≡ Some (now (disks.past new))))
       → OnOk result (OnDisks disks old (λ image machine. IsWholeImage (disks.size_of old) image
       → HasEmptyVolume (span_of image machine device) kind inodes (now (disks.past new))))
       → OnDisks disks old (λ image machine. (d s : ℕ) → is_in_found (span_of image machine device) d s ≡ false → NotWritten (disks.past old) (disks.past new) d s)
-      → LeavesBy disks old new time (Mkfs device kind inodes) (made_status result)
+      → LeavesBy disks old new time given (Mkfs device kind inodes) (made_status result)
   unfolding image_after may_write only_reads
-  mkfs_leaves time device kind inodes made empty outside = record {
+  mkfs_leaves time given device kind inodes made empty outside = record {
     done = by_status (disks.past old) _ (λ is. done_by result made is);
     empty = by_status (disks.past old) _ (λ is. done_by result empty is);
     any_moment = λ quiet. told_all (disks.past old) _ (λ image. tt);
@@ -158,45 +153,45 @@ module _ {D : Type 0} (disks : Ghosts D) (old new : D) (same : SameOf disks old 
   goes_on = goes_on_same disks old new same.same_past
       record { later = later; size = same.same_size; count = same.same_count; geometry = same.same_geometry }
 
-  kept : (image left : Image) (machine : Machine) (time : ℕ) (command : Command) → only_reads command ≡ true → image ≡ left
-      → IsAfter image machine time command left
+  kept : (image left : Image) (machine : Machine) (time : ℕ) (given : List ℕ) (command : Command) → only_reads command ≡ true → image ≡ left
+      → IsAfter image machine time given command left
   unfolding image_after only_reads
-  kept image left machine time (Make parts) is same = absurd cc
-  kept image left machine time (Mkfs device kind inodes) is same = absurd cc
-  kept image left machine time (Put device path) is same = ap Some same
-  kept image left machine time (Get device path) is same = ap Some same
-  kept image left machine time (Ls device path) is same = ap Some same
-  kept image left machine time (Rm device path) is same = absurd cc
-  kept image left machine time (Mkdir device path) is same = absurd cc
-  kept image left machine time (Ln device path target) is same = absurd cc
+  kept image left machine time given (Make parts) is same = absurd cc
+  kept image left machine time given (Mkfs device kind inodes) is same = absurd cc
+  kept image left machine time given (Put device path) is same = absurd cc
+  kept image left machine time given (Get device path) is same = ap Some same
+  kept image left machine time given (Ls device path) is same = ap Some same
+  kept image left machine time given (Rm device path) is same = absurd cc
+  kept image left machine time given (Mkdir device path) is same = absurd cc
+  kept image left machine time given (Ln device path target) is same = absurd cc
 
   no_volume : (image left : Image) (machine : Machine) (command : Command) → only_reads command ≡ true → HasVolumeOf image machine command left
   unfolding only_reads
   no_volume image left machine (Make parts) is = absurd cc
   no_volume image left machine (Mkfs device kind inodes) is = absurd cc
-  no_volume image left machine (Put device path) is = tt
+  no_volume image left machine (Put device path) is = absurd cc
   no_volume image left machine (Get device path) is = tt
   no_volume image left machine (Ls device path) is = tt
   no_volume image left machine (Rm device path) is = absurd cc
   no_volume image left machine (Mkdir device path) is = absurd cc
   no_volume image left machine (Ln device path target) is = absurd cc
 
-  no_change : (image : Image) (machine : Machine) (command : Command) → only_reads command ≡ true → LeavesChanging disks old new image machine (name_change command)
+  no_change : (image : Image) (machine : Machine) (given : List ℕ) (command : Command) → only_reads command ≡ true → LeavesChanging disks old new image machine (name_change given command)
   unfolding only_reads
-  no_change image machine (Make parts) is = absurd cc
-  no_change image machine (Mkfs device kind inodes) is = absurd cc
-  no_change image machine (Put device path) is = tt
-  no_change image machine (Get device path) is = tt
-  no_change image machine (Ls device path) is = tt
-  no_change image machine (Rm device path) is = absurd cc
-  no_change image machine (Mkdir device path) is = absurd cc
-  no_change image machine (Ln device path target) is = absurd cc
+  no_change image machine given (Make parts) is = absurd cc
+  no_change image machine given (Mkfs device kind inodes) is = absurd cc
+  no_change image machine given (Put device path) is = absurd cc
+  no_change image machine given (Get device path) is = tt
+  no_change image machine given (Ls device path) is = tt
+  no_change image machine given (Rm device path) is = absurd cc
+  no_change image machine given (Mkdir device path) is = absurd cc
+  no_change image machine given (Ln device path target) is = absurd cc
 
-  pub reading_leaves : (time : ℕ) (command : Command) (status : ℕ) → only_reads command ≡ true
-      → (status ≡ 8 → Rose (disks.faults old) (disks.faults new)) → LeavesBy disks old new time command status
-  reading_leaves time command status reads rose = record {
-    done = told_from (disks.past old) _ (λ told is. kept (now (disks.past old)) (now (disks.past new)) (machine_of disks old) time command reads now_same);
-    any_moment = λ quiet. told_all (disks.past old) _ (λ image. no_change image (machine_of disks old) command reads);
+  pub reading_leaves : (time : ℕ) (given : List ℕ) (command : Command) (status : ℕ) → only_reads command ≡ true
+      → (status ≡ 8 → Rose (disks.faults old) (disks.faults new)) → LeavesBy disks old new time given command status
+  reading_leaves time given command status reads rose = record {
+    done = told_from (disks.past old) _ (λ told is. kept (now (disks.past old)) (now (disks.past new)) (machine_of disks old) time given command reads now_same);
+    any_moment = λ quiet. told_all (disks.past old) _ (λ image. no_change image (machine_of disks old) given command reads);
     empty = told_all (disks.past old) _ (λ image is whole. no_volume image (now (disks.past new)) (machine_of disks old) command reads);
     quiet = λ is writes. absurd (let no = rw reads at writes in cc);
     refused = λ is. same.same_past;
@@ -205,22 +200,6 @@ module _ {D : Type 0} (disks : Ghosts D) (old new : D) (same : SameOf disks old 
     goes_on = goes_on;
     device = rose;
   }
-
--- ---- commands that aren't built
-
--- a command answers as arguments that ask for nothing
-pub record IsUnbuilt (command : Command) : Type 0 where
-  pub carried : (sectors : ℕ) → is_carried_out sectors command ≡ false
-  pub reads : only_reads command ≡ true
-  pub verdict : (now : Image) (machine : Machine) (sectors : ℕ) → command_verdict now machine sectors command ≡ silent 1
-
-module _ (command : words.Command) where
-  abbrev pub IsOther : Type 0
-  IsOther = (device : Device) × (path : Bor (List ℕ)) × (command ≡ others.Put device path)
-
-  pub unbuilt : IsOther → IsUnbuilt (command_view command)
-  unfolding is_carried_out only_reads command_verdict
-  unbuilt (device, path, is) = rw is record { carried = λ sectors. refl; reads = refl; verdict = λ now machine sectors. refl }
 
 -- ---- a command without a text
 
@@ -243,14 +222,14 @@ module _ (status : ℕ) (failed : Bool) where
   cases : (answer_of status failed ≡ status) ⊎ ((answer_of status failed ≡ 12) × (status ≡ 0))
   cases = answered_sink (status == 0) failed status status refl refl
 
-  pub done_status : IsTrue (is_command_status status) → IsDone (answer_of status failed) → status ≡ 0
+  pub done_status : IsTrue (is_any_status status) → IsDone (answer_of status failed) → status ≡ 0
   done_status known done = by cases done
     where
       by : (answer_of status failed ≡ status) ⊎ ((answer_of status failed ≡ 12) × (status ≡ 0)) → IsDone (answer_of status failed) → status ≡ 0
       by (inr (twelve, none)) done = none
       by (inl same) (inl none) = sym same ∙ none
       by (inl same) (inr twelve) =
-          let unknown : IsTrue (is_command_status 12) = subst (λ s. IsTrue (is_command_status s)) (sym same ∙ twelve) known in absurd cc
+          let unknown : IsTrue (is_any_status 12) = subst (λ s. IsTrue (is_any_status s)) (sym same ∙ twelve) known in absurd cc
 
   pub refusal_status : is_refusal (answer_of status failed) ≡ true → is_refusal status ≡ true
   refusal_status refused = by cases
@@ -266,59 +245,107 @@ module _ (status : ℕ) (failed : Bool) where
       by (inl same) = sym same ∙ eight
       by (inr (twelve, none)) = absurd (let no : 12 ≡ 8 = sym twelve ∙ eight in cc)
 
-module _ {D : Type 0} (disks : Ghosts D) (old new : D) (time : ℕ) (status : ℕ) (failed : Bool) (known : IsTrue (is_command_status status)) where
+  pub source_status : answer_of status failed ≡ 11 → status ≡ 11
+  source_status eleven = by cases
+    where
+      by : (answer_of status failed ≡ status) ⊎ ((answer_of status failed ≡ 12) × (status ≡ 0)) → status ≡ 11
+      by (inl same) = sym same ∙ eleven
+      by (inr (twelve, none)) = absurd (let no : 12 ≡ 11 = sym twelve ∙ eleven in cc)
+
+module _ {D : Type 0} (disks : Ghosts D) (old new : D) (time : ℕ) (given : List ℕ) (status : ℕ) (failed : Bool) (known : IsTrue (is_any_status status)) where
   zero_of : IsDone (answer_of status failed) → status ≡ 0
   zero_of = done_status status failed known
 
-  pub asked_done : (asked : Option Asked) → LeavesAsked disks old new time asked status
-      → OnDisks disks old (λ image machine. IsDone (answer_of status failed) → IsAskedDone image machine time asked (held_now disks new))
+  pub asked_done : (asked : Option Asked) → LeavesAsked disks old new time given asked status
+      → OnDisks disks old (λ image machine. IsDone (answer_of status failed) → IsAskedDone image machine time given asked (held_now disks new))
   asked_done None left = told_from (disks.past old) _ (λ told done. absurd (let none = zero_of done in let no : 1 ≡ 0 = sym left.1.1 ∙ none in cc))
   asked_done (Some asked) left = told_map (disks.past old) _ _ (λ image is done. is (zero_of done)) left.done
 
-  pub asked_volume : (asked : Option Asked) → LeavesAsked disks old new time asked status
+  pub asked_volume : (asked : Option Asked) → LeavesAsked disks old new time given asked status
       → OnDisks disks old (λ image machine. IsDone (answer_of status failed) → IsWholeImage (disks.size_of old) image
       → HasAskedVolume image machine asked (held_now disks new))
   asked_volume None left = told_all (disks.past old) _ (λ image done whole. tt)
   asked_volume (Some asked) left = told_map (disks.past old) _ _ (λ image is done. is (zero_of done)) left.empty
 
-  pub asked_moment : (asked : Option Asked) → LeavesAsked disks old new time asked status → IsQuiet (disks.past old)
-      → OnDisks disks old (λ image machine. LeavesChanging disks old new image machine (asked_change asked))
+  pub asked_moment : (asked : Option Asked) → LeavesAsked disks old new time given asked status → IsQuiet (disks.past old)
+      → OnDisks disks old (λ image machine. LeavesChanging disks old new image machine (asked_change given asked))
   asked_moment None left quiet = told_all (disks.past old) _ (λ image. tt)
   asked_moment (Some asked) left quiet = left.any_moment quiet
 
-  pub asked_quiet : (asked : Option Asked) → LeavesAsked disks old new time asked status
+  pub asked_quiet : (asked : Option Asked) → LeavesAsked disks old new time given asked status
       → IsDone (answer_of status failed) → asked_only_read asked ≡ false → IsQuiet (disks.past new)
   asked_quiet None left done writes = absurd cc
   asked_quiet (Some asked) left done writes = left.quiet (zero_of done) writes
 
-  pub asked_refused : (asked : Option Asked) → LeavesAsked disks old new time asked status
+  pub asked_refused : (asked : Option Asked) → LeavesAsked disks old new time given asked status
       → is_refusal (answer_of status failed) ≡ true → disks.past new ≡ disks.past old
   asked_refused None left refused = left.0.same_past
   asked_refused (Some asked) left refused = left.refused (refusal_status status failed refused)
 
-  pub asked_outside : (asked : Option Asked) → LeavesAsked disks old new time asked status
+  pub asked_outside : (asked : Option Asked) → LeavesAsked disks old new time given asked status
       → OnDisks disks old (λ image machine. (d s : ℕ) → asked_may_write image machine asked d s ≡ false → NotWritten (disks.past old) (disks.past new) d s)
   asked_outside None left =
       told_all (disks.past old) _ (λ image d s out. not_written_flushed (disks.past old) (disks.past new) (inr left.0.same_past) d s)
   asked_outside (Some asked) left = left.outside
 
-  pub asked_same : (asked : Option Asked) → LeavesAsked disks old new time asked status → asked_only_read asked ≡ true → SameOf disks old new
+  pub asked_same : (asked : Option Asked) → LeavesAsked disks old new time given asked status → asked_only_read asked ≡ true → SameOf disks old new
   asked_same None left reads = left.0
   asked_same (Some asked) left reads = left.same reads
 
-  pub asked_goes_on : (asked : Option Asked) → LeavesAsked disks old new time asked status → GoesOn disks old new
+  pub asked_goes_on : (asked : Option Asked) → LeavesAsked disks old new time given asked status → GoesOn disks old new
   asked_goes_on None left = left.1.0
   asked_goes_on (Some asked) left = left.goes_on
 
-  pub asked_device : (asked : Option Asked) → LeavesAsked disks old new time asked status → answer_of status failed ≡ 8
+  pub asked_device : (asked : Option Asked) → LeavesAsked disks old new time given asked status → answer_of status failed ≡ 8
       → Rose (disks.faults old) (disks.faults new)
   asked_device None left eight = absurd (let is = device_status status failed eight in let no : 1 ≡ 8 = sym left.1.1 ∙ is in cc)
   asked_device (Some asked) left eight = left.device (device_status status failed eight)
 
 -- arguments that ask for nothing
-pub nothing_left : {D : Type 0} (disks : Ghosts D) (old : D) (time : ℕ) (asked : Option Asked) → asked ≡ None → LeavesAsked disks old old time asked 1
-nothing_left disks old time asked is =
+pub nothing_left : {D : Type 0} (disks : Ghosts D) (old : D) (time : ℕ) (given : List ℕ) (asked : Option Asked) → asked ≡ None → LeavesAsked disks old old time given asked 1
+nothing_left disks old time given asked is =
     rw is (
       record { same_past = refl; same_size = refl; same_count = refl; same_geometry = refl },
       (goes_on_same disks old old refl record { later = omega arith; size = refl; count = refl; geometry = refl }, refl),
     )
+
+-- a command that stores nothing ends with one of the statuses, which isn't that of a source
+pub known_any : (status : ℕ) → IsTrue (is_command_status status) → IsTrue (is_any_status status)
+known_any status known = by (0 == status) (1 == status) (3 == status) (4 == status) (5 == status) (8 == status) (11 == status) (13 == status) known
+  where
+    by : (a b c d e f g h : Bool) → IsTrue (a || (b || (c || (d || (e || (f || (h || false))))))) → IsTrue (a || (b || (c || (d || (e || (f || (g || (h || false))))))))
+    by true b c d e f g h is = refl
+    by false true c d e f g h is = refl
+    by false false true d e f g h is = refl
+    by false false false true e f g h is = refl
+    by false false false false true f g h is = refl
+    by false false false false false true g h is = refl
+    by false false false false false false true h is = refl
+    by false false false false false false false true is = refl
+    by false false false false false false false false is = absurd cc
+
+pub not_source : (status : ℕ) → IsTrue (is_command_status status) → status ≢ 11
+not_source status known is = let no : IsTrue (is_command_status 11) = subst (λ s. IsTrue (is_command_status s)) is known in cc
+
+-- with 12 in the place of 0 it is one of a call
+any_status : (status : ℕ) → IsTrue (is_any_status status) → IsTrue (is_status status)
+any_status status known = by (0 == status) (1 == status) (3 == status) (4 == status) (5 == status) (8 == status) (11 == status) (12 == status) (13 == status) known
+  where
+    by : (a b c d e f g h i : Bool) → IsTrue (a || (b || (c || (d || (e || (f || (g || (i || false)))))))) → IsTrue (a || (b || (c || (d || (e || (f || (g || (h || (i || false)))))))))
+    by true b c d e f g h i is = refl
+    by false true c d e f g h i is = refl
+    by false false true d e f g h i is = refl
+    by false false false true e f g h i is = refl
+    by false false false false true f g h i is = refl
+    by false false false false false true g h i is = refl
+    by false false false false false false true h i is = refl
+    by false false false false false false false true i is = refl
+    by false false false false false false false false true is = refl
+    by false false false false false false false false false is = absurd cc
+
+pub known_status : (status : ℕ) (failed : Bool) → IsTrue (is_any_status status) → IsTrue (is_status (answer_of status failed))
+known_status status failed known = by (cases status failed)
+  where
+    by : (answer_of status failed ≡ status) ⊎ ((answer_of status failed ≡ 12) × (status ≡ 0)) → IsTrue (is_status (answer_of status failed))
+    by (inl same) = subst (λ s. IsTrue (is_status s)) (sym same) (any_status status known)
+    by (inr (twelve, none)) = subst (λ s. IsTrue (is_status s)) (sym twelve) refl

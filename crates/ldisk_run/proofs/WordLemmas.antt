@@ -30,7 +30,7 @@ path-plain path is = by (is_path path) (list_any (λ byte. byte == 0) path) refl
     by false other says some = absurd (let no = rw says at is in cc)
 
 by-word : (word : List ℕ) (command : Device → List ℕ → Command) → IsPathWord word command → (device : Device) (path : List ℕ) → HasNoZero path → HasPlainPath (command device path)
-by-word word command model.put device path none = tt
+by-word word command model.put device path none = none
 by-word word command model.get device path none = tt
 by-word word command model.ls device path none = tt
 by-word word command model.rm device path none = tt

@@ -1,5 +1,5 @@
 -- What a command leaves on the disks, by the status that it answers.
-use Rattle.std.specs.Prelude.{◌≡◌, ◌⊎◌, ◌==◌, ℕ, Bool, true, false, [], ◌∷◌, Option, Some, None, Ok}
+use Rattle.std.specs.Prelude.{◌≡◌, ◌⊎◌, ◌==◌, ℕ, Bool, true, false, List, [], ◌∷◌, Option, Some, None, Ok}
 use Rattle.std.specs.List.{list_any}
 use Rattle.disk_trait.specs.declared.disks.Disks.{Ghosts}
 use Rattle.disk_trait.specs.Calls.{SameOf, GoesOn}
@@ -23,9 +23,9 @@ use Rattle.ldisk_run.specs.Run.{IsFailure}
 abbrev pub IsDone : ℕ → Type 0
 IsDone status = (status ≡ 0) ⊎ (status ≡ 12)
 
--- whether a status says that a check refused, or that memory ended
+-- whether a status says that a check refused, that the source failed, or that memory ended
 abbrev pub is_refusal : ℕ → Bool
-is_refusal status = list_any (λ known. known == status) (1 ∷ 3 ∷ 4 ∷ 5 ∷ 13 ∷ [])
+is_refusal status = list_any (λ known. known == status) (1 ∷ 3 ∷ 4 ∷ 5 ∷ 11 ∷ 13 ∷ [])
 
 -- the status is that of a verdict, or of a failure
 abbrev pub AnswersAs : Verdict → ℕ → Type 0
@@ -68,14 +68,14 @@ abbrev pub IsAfterChange : Image → Machine → Option NameChange → Option Im
 IsAfterChange old machine (Some change) defined image = IsChanged old machine change image
 IsAfterChange old machine None defined image = defined ≡ Some image
 
--- an image is what the disks hold after a command that was carried out at a time
-abbrev pub IsAfter : Image → Machine → ℕ → Command → Image → Type 0
-IsAfter old machine time command image = IsAfterChange old machine (name_change command) (image_after old machine time command) image
+-- an image is what the disks hold after a command that was carried out at a time, where a source gives these bytes
+abbrev pub IsAfter : Image → Machine → ℕ → List ℕ → Command → Image → Type 0
+IsAfter old machine time given command image = IsAfterChange old machine (name_change given command) (image_after old machine time command) image
 
 -- the same of arguments
-abbrev pub IsAskedDone : Image → Machine → ℕ → Option Asked → Image → Type 0
-IsAskedDone old machine time (Some asked) image = IsAfter old machine time asked.command image
-IsAskedDone old machine time None image = old ≡ image
+abbrev pub IsAskedDone : Image → Machine → ℕ → List ℕ → Option Asked → Image → Type 0
+IsAskedDone old machine time given (Some asked) image = IsAfter old machine time given asked.command image
+IsAskedDone old machine time given None image = old ≡ image
 
 -- a stop at any moment leaves the Names before a change, or those after it, where the volume was sound
 abbrev pub LeavesChanging : {D : Type 0} → Ghosts D → D → D → Image → Machine → Option NameChange → Type 0
@@ -83,11 +83,11 @@ LeavesChanging disks old new image machine (Some change) =
     HasSoundOn image machine change.device → LeavesOnly (disks.past old) (disks.past new) (IsChanging image machine change)
 LeavesChanging disks old new image machine None = Unit {0}
 
--- What the disks hold after a command at a time.
-pub record LeavesBy {D : Type 0} (disks : Ghosts D) (old new : D) (time : ℕ) (command : Command) (status : ℕ) : Type 0 where
-  pub done : OnDisks disks old (λ image machine. status ≡ 0 → IsAfter image machine time command (now (disks.past new)))
+-- What the disks hold after a command at a time, where a source gives these bytes.
+pub record LeavesBy {D : Type 0} (disks : Ghosts D) (old new : D) (time : ℕ) (given : List ℕ) (command : Command) (status : ℕ) : Type 0 where
+  pub done : OnDisks disks old (λ image machine. status ≡ 0 → IsAfter image machine time given command (now (disks.past new)))
   pub empty : OnDisks disks old (λ image machine. status ≡ 0 → IsWholeImage (disks.size_of old) image → HasVolumeOf image machine command (now (disks.past new)))
-  pub any_moment : IsQuiet (disks.past old) → OnDisks disks old (λ image machine. LeavesChanging disks old new image machine (name_change command))
+  pub any_moment : IsQuiet (disks.past old) → OnDisks disks old (λ image machine. LeavesChanging disks old new image machine (name_change given command))
   pub quiet : status ≡ 0 → only_reads command ≡ false → IsQuiet (disks.past new)
   pub refused : is_refusal status ≡ true → disks.past new ≡ disks.past old
   pub outside : OnDisks disks old (λ image machine. (d s : ℕ) → may_write image machine command d s ≡ false → NotWritten (disks.past old) (disks.past new) d s)
@@ -97,6 +97,6 @@ pub record LeavesBy {D : Type 0} (disks : Ghosts D) (old new : D) (time : ℕ) (
   pub device : status ≡ 8 → Rose (disks.faults old) (disks.faults new)
 
 -- The same after arguments; those that ask for nothing leave all as it was.
-abbrev pub LeavesAsked : {D : Type 0} → Ghosts D → D → D → ℕ → Option Asked → ℕ → Type 0
-LeavesAsked disks old new time (Some asked) status = LeavesBy disks old new time asked.command status
-LeavesAsked disks old new time None status = SameOf disks old new × (GoesOn disks old new × (status ≡ 1))
+abbrev pub LeavesAsked : {D : Type 0} → Ghosts D → D → D → ℕ → List ℕ → Option Asked → ℕ → Type 0
+LeavesAsked disks old new time given (Some asked) status = LeavesBy disks old new time given asked.command status
+LeavesAsked disks old new time given None status = SameOf disks old new × (GoesOn disks old new × (status ≡ 1))

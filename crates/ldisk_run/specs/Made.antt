@@ -1,7 +1,9 @@
 -- How what makes an image reports what it did.
 use Rattle.std.specs.Prelude.{ℕ, Result, Ok, Err}
 use Rattle.ldisk_files.specs.Answer as files
+use Rattle.ldisk_files.specs.Stored as stored
 use Rattle.ldisk_files.specs.declared.fault.FileFault.{FileFault}
+use Rattle.ldisk_files.specs.declared.put_fault.PutFault.{PutFault}
 use Rattle.ldisk_make.specs.Answer.{fault_status}
 use Rattle.ldisk_make.specs.declared.fault.MakeFault.{MakeFault}
 
@@ -14,3 +16,8 @@ made_status (Err fault) = fault_status fault
 abbrev pub file_status : Result (Unit {0}) FileFault → ℕ
 file_status (Ok done) = 0
 file_status (Err fault) = files.fault_status fault
+
+-- that of `put`
+abbrev pub put_status : Result (Unit {0}) PutFault → ℕ
+put_status (Ok done) = 0
+put_status (Err fault) = stored.put_status fault

@@ -5,7 +5,7 @@ use Rattle.lilo_model.specs.Faults.{Rose}
 use Rattle.stream_trait.specs.Sink.{TakesFront}
 use Rattle.stream_trait.specs.Shows.{Prints}
 use Rattle.lilo_model.specs.Verdict.{Verdict}
-use Rattle.ldisk_model.specs.Arguments.{Command, Rm, Mkdir, Ln, Asked}
+use Rattle.ldisk_model.specs.Arguments.{Command, Put, Rm, Mkdir, Ln, Asked}
 use Rattle.minix_names.specs.Component.{HasNoZero}
 use Rattle.mbr_table.specs.declared.table_fault.TableFault.{TableFault}
 use Rattle.mbr_table.specs.declared.table_fault.TableFault.TheVariants as tables
@@ -63,9 +63,9 @@ status_of (Ok done) = 0
 status_of (Err Refused) = 3
 status_of (Err Device) = 8
 
--- the status says that a disk failed, or that memory ended
+-- the status says that a disk failed, that memory ended, or that the source failed
 abbrev pub IsFailure : ℕ → Type 0
-IsFailure status = (status ≡ 8) ⊎ (status ≡ 13)
+IsFailure status = (status ≡ 8) ⊎ ((status ≡ 13) ⊎ (status ≡ 11))
 
 -- the same by the status
 abbrev pub DoesAs : Verdict → ℕ → Held → Held → Type 0
@@ -74,6 +74,7 @@ DoesAs verdict status old new =
 
 -- whether a command takes memory
 abbrev pub takes_memory : Command → Bool
+takes_memory (Put device path) = true
 takes_memory (Rm device path) = true
 takes_memory (Mkdir device path) = true
 takes_memory (Ln device path target) = true
@@ -86,6 +87,7 @@ asked_takes_memory None = false
 
 -- the path of what a command makes has no zero byte
 abbrev pub HasPlainPath : Command → Type 0
+HasPlainPath (Put device path) = HasNoZero path
 HasPlainPath (Mkdir device path) = HasNoZero path
 HasPlainPath (Ln device path target) = HasNoZero path
 HasPlainPath command = Unit {0}
@@ -102,10 +104,14 @@ Tells verdict status old new before now =
     (((status ≡ verdict.status) ⊎ ((status ≡ 12) × (verdict.status ≡ 0))) × Prints old verdict.text new before now)
     ⊎ (IsFailure status × TakesFront old verdict.text new)
 
--- whether a command may end with this status, but for the sink
+-- whether a command that stores nothing may end with this status, but for the sink
 abbrev pub is_command_status : ℕ → Bool
 is_command_status status = list_any (λ known. known == status) (0 ∷ 1 ∷ 3 ∷ 4 ∷ 5 ∷ 8 ∷ 13 ∷ [])
 
+-- whether any command may end with this status, but for the sink
+abbrev pub is_any_status : ℕ → Bool
+is_any_status status = list_any (λ known. known == status) (0 ∷ 1 ∷ 3 ∷ 4 ∷ 5 ∷ 8 ∷ 11 ∷ 13 ∷ [])
+
 -- whether a call may end with this status
 abbrev pub is_status : ℕ → Bool
-is_status status = list_any (λ known. known == status) (0 ∷ 1 ∷ 3 ∷ 4 ∷ 5 ∷ 8 ∷ 12 ∷ 13 ∷ [])
+is_status status = list_any (λ known. known == status) (0 ∷ 1 ∷ 3 ∷ 4 ∷ 5 ∷ 8 ∷ 11 ∷ 12 ∷ 13 ∷ [])

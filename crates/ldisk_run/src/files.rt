@@ -1,5 +1,5 @@
 // `rm`, `mkdir` and `ln`: names of a volume change.
-ghost use Rattle.std.specs.Prelude.{◌≡◌, ◌≢◌, ◌≤◌, ◌+◌, ℕ, IsTrue};
+ghost use Rattle.std.specs.Prelude.{◌≡◌, ◌≢◌, ◌≤◌, ◌+◌, ℕ, List, IsTrue};
 ghost use Rattle.disk_trait.specs.Moments.{IsWhole};
 ghost use Rattle.disk_trait.specs.Past.{Told};
 ghost use Rattle.sector_address.specs.Machine.{OnDisks};
@@ -21,12 +21,13 @@ use std::alloc::Global;
 /// Removes the file or the link at a path of a device, and answers the status.
 pub(crate) fn rm<D: Disks>(alloc: Global, disks: &mut D, device: Device, path: &[u8]) -> u8
     requires whole { IsWhole (D.size_of disks.old) (D.past disks.old) }
-    ensures answers { (sectors : ℕ) → OnDisks D.Disks disks.old (λ now machine.
-        AnswersAs (command_verdict now machine sectors (Rm (device_view device) path.now)) result) }
+    ensures answers { (given : List ℕ) (sectors : ℕ) → OnDisks D.Disks disks.old (λ now machine.
+        AnswersAs (command_verdict now machine given sectors (Rm (device_view device) path.now)) result) }
     ensures known { IsTrue (is_command_status result) }
     ensures usage { result ≢ 1 }
     ensures no_disk { D.size_of disks.old 0 ≡ 0 → result ≡ 3 }
-    ensures leaves { (time : ℕ) → LeavesBy D.Disks disks.old disks.new time (Rm (device_view device) path.now) result }
+    ensures leaves { (given : List ℕ) (time : ℕ)
+        → LeavesBy D.Disks disks.old disks.new time given (Rm (device_view device) path.now) result }
 {
     match find_room(disks, device) {
         Ok(span) => file_status(ldisk_files::rm(alloc, disks, span, path)),
@@ -44,12 +45,13 @@ pub(crate) fn mkdir<D: Disks>(
 ) -> u8
     requires whole { IsWhole (D.size_of disks.old) (D.past disks.old) }
     requires path { HasNoZero path.now }
-    ensures answers { (sectors : ℕ) → OnDisks D.Disks disks.old (λ now machine.
-        AnswersAs (command_verdict now machine sectors (Mkdir (device_view device) path.now)) result) }
+    ensures answers { (given : List ℕ) (sectors : ℕ) → OnDisks D.Disks disks.old (λ now machine.
+        AnswersAs (command_verdict now machine given sectors (Mkdir (device_view device) path.now)) result) }
     ensures known { IsTrue (is_command_status result) }
     ensures usage { result ≢ 1 }
     ensures no_disk { D.size_of disks.old 0 ≡ 0 → result ≡ 3 }
-    ensures leaves { LeavesBy D.Disks disks.old disks.new time (Mkdir (device_view device) path.now) result }
+    ensures leaves { (given : List ℕ)
+        → LeavesBy D.Disks disks.old disks.new time given (Mkdir (device_view device) path.now) result }
 {
     match find_room(disks, device) {
         Ok(span) => file_status(ldisk_files::mkdir(alloc, disks, span, path, time)),
@@ -68,12 +70,13 @@ pub(crate) fn ln<D: Disks>(
 ) -> u8
     requires whole { IsWhole (D.size_of disks.old) (D.past disks.old) }
     requires path { HasNoZero path.now }
-    ensures answers { (sectors : ℕ) → OnDisks D.Disks disks.old (λ now machine.
-        AnswersAs (command_verdict now machine sectors (Ln (device_view device) path.now target.now)) result) }
+    ensures answers { (given : List ℕ) (sectors : ℕ) → OnDisks D.Disks disks.old (λ now machine.
+        AnswersAs (command_verdict now machine given sectors (Ln (device_view device) path.now target.now)) result) }
     ensures known { IsTrue (is_command_status result) }
     ensures usage { result ≢ 1 }
     ensures no_disk { D.size_of disks.old 0 ≡ 0 → result ≡ 3 }
-    ensures leaves { LeavesBy D.Disks disks.old disks.new time (Ln (device_view device) path.now target.now) result }
+    ensures leaves { (given : List ℕ)
+        → LeavesBy D.Disks disks.old disks.new time given (Ln (device_view device) path.now target.now) result }
 {
     match find_room(disks, device) {
         Ok(span) => file_status(ldisk_files::ln(alloc, disks, span, path, target, time)),

@@ -1,5 +1,5 @@
 //! What the program `ldisk` does with its arguments, over disks and a sink of text that the caller gives: it makes a
-//! partition table and empty Minix volumes, lists directories, prints and removes files, and makes directories
+//! partition table and empty Minix volumes, lists directories, stores, prints and removes files, and makes directories
 //! and symbolic links.
 //!
 //! [`ldisk`] is the top call; ldisk_words says what arguments ask for.
@@ -13,6 +13,7 @@ mod laws;
 mod ls;
 mod made;
 mod pieces;
+mod put;
 mod reading;
 mod room;
 mod run;

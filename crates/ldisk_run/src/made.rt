@@ -1,5 +1,5 @@
 // `make` and `mkfs`: a partition table and an empty volume are written.
-ghost use Rattle.std.specs.Prelude.{◌≡◌, ◌≢◌, ◌↔◌, ℕ, ◌≤◌, IsTrue, length, map, true, false};
+ghost use Rattle.std.specs.Prelude.{◌≡◌, ◌≢◌, ◌↔◌, ℕ, ◌≤◌, List, IsTrue, length, map, true, false};
 ghost use Rattle.sector_address.specs.Machine.{OnDisks};
 ghost use Rattle.ldisk_model.specs.Arguments.{Make, Mkfs};
 ghost use Rattle.ldisk_model.specs.DiskTable.{are_placed};
@@ -21,13 +21,14 @@ use minix_layout::FsKind;
 #[tactic(auto, unfolding(ldisk_model::specs::Verdict::command_verdict))]
 pub(crate) fn make<D: Disks>(disks: &mut D, sectors: u32, parts: &[PartWish]) -> u8
     requires { length parts.now ≤ 4 }
-    ensures answers { OnDisks D.Disks disks.old (λ now machine.
-        AnswersAs (command_verdict now machine sectors (Make (map part_view parts.now))) result) }
+    ensures answers { (given : List ℕ) → OnDisks D.Disks disks.old (λ now machine.
+        AnswersAs (command_verdict now machine given sectors (Make (map part_view parts.now))) result) }
     ensures known { IsTrue (is_command_status result) }
     ensures memory { result ≢ 13 }
     ensures usage { (result ≡ 1) ↔ (are_placed sectors (map part_view parts.now) ≡ false) }
     ensures no_disk { D.size_of disks.old 0 ≡ 0 → are_placed sectors (map part_view parts.now) ≡ true → result ≡ 3 }
-    ensures leaves { (time : ℕ) → LeavesBy D.Disks disks.old disks.new time (Make (map part_view parts.now)) result }
+    ensures leaves { (time : ℕ) (given : List ℕ)
+        → LeavesBy D.Disks disks.old disks.new time given (Make (map part_view parts.now)) result }
 {
     status_of(ldisk_make::make(disks, sectors, parts))
 }
@@ -41,13 +42,14 @@ pub(crate) fn mkfs<D: Disks>(
     inodes: u16,
     time: u32,
 ) -> u8
-    ensures answers { (sectors : ℕ) → OnDisks D.Disks disks.old (λ now machine. AnswersAs
-        (command_verdict now machine sectors (Mkfs (device_view device) (kind_view kind) inodes)) result) }
+    ensures answers { (given : List ℕ) (sectors : ℕ) → OnDisks D.Disks disks.old (λ now machine. AnswersAs
+        (command_verdict now machine given sectors (Mkfs (device_view device) (kind_view kind) inodes)) result) }
     ensures known { IsTrue (is_command_status result) }
     ensures memory { result ≢ 13 }
     ensures usage { result ≢ 1 }
     ensures no_disk { D.size_of disks.old 0 ≡ 0 → result ≡ 3 }
-    ensures leaves { LeavesBy D.Disks disks.old disks.new time (Mkfs (device_view device) (kind_view kind) inodes) result }
+    ensures leaves { (given : List ℕ)
+        → LeavesBy D.Disks disks.old disks.new time given (Mkfs (device_view device) (kind_view kind) inodes) result }
 {
     status_of(ldisk_make::mkfs(disks, device, kind, inodes, time))
 }

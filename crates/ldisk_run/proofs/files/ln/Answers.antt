@@ -22,25 +22,25 @@ returns-in-Ok-clause-answers g c =
     let span = span_view c.in-Ok.span in
     let result = c.ln.result in
     rw c.file_status.ensures
-    (λ sectors. told_both past (λ now. room_of now machine device ≡ Ok span) (λ now. Answers (volume_check (made_check (NewLink c.args.target.now) c.args.path.now) now span) result)
-    (λ now. AnswersAs (command_verdict now machine sectors (Ln (device_view c.args.device) c.args.path.now c.args.target.now)) (file_status result))
-    (λ now room answers. file_answer (Ln (device_view c.args.device) c.args.path.now c.args.target.now) (addition (device_view c.args.device) c.args.path.now (NewLink c.args.target.now)) (made_check (NewLink c.args.target.now) c.args.path.now) (makes_link (device_view c.args.device) c.args.path.now c.args.target.now) now machine sectors span room result answers) c.in-Ok.ensures.room
+    (λ given sectors. told_both past (λ now. room_of now machine device ≡ Ok span) (λ now. Answers (volume_check (made_check (NewLink c.args.target.now) c.args.path.now) now span) result)
+    (λ now. AnswersAs (command_verdict now machine given sectors (Ln (device_view c.args.device) c.args.path.now c.args.target.now)) (file_status result))
+    (λ now room answers. file_answer given (Ln (device_view c.args.device) c.args.path.now c.args.target.now) (addition (device_view c.args.device) c.args.path.now (NewLink c.args.target.now)) (made_check (NewLink c.args.target.now) c.args.path.now) (makes_link given (device_view c.args.device) c.args.path.now c.args.target.now) now machine sectors span room result answers) c.in-Ok.ensures.room
     (told_before past (g.D.Disks.past c.find_room.new.disks) (λ now. Answers (volume_check (made_check (NewLink c.args.target.now) c.args.path.now) now span) result) c.in-Ok.ensures.same.same_past c.ln.ensures.answers))
 
 pub returns-in-Ok-clause-leaves : goal.returns-in-Ok-clause-leaves
 returns-in-Ok-clause-leaves g c =
     rw c.file_status.ensures
-    (file_leaves (Ln (device_view c.args.device) c.args.path.now c.args.target.now) (addition (device_view c.args.device) c.args.path.now (NewLink c.args.target.now)) (made_check (NewLink c.args.target.now) c.args.path.now) (makes_link (device_view c.args.device) c.args.path.now c.args.target.now) g.D.Disks c.args.disks.now c.find_room.new.disks c.ln.new.disks c.in-Ok.ensures.same c.in-Ok.ensures.later
+    (λ given. file_leaves given (Ln (device_view c.args.device) c.args.path.now c.args.target.now) (addition (device_view c.args.device) c.args.path.now (NewLink c.args.target.now)) (made_check (NewLink c.args.target.now) c.args.path.now) (makes_link given (device_view c.args.device) c.args.path.now c.args.target.now) g.D.Disks c.args.disks.now c.find_room.new.disks c.ln.new.disks c.in-Ok.ensures.same c.in-Ok.ensures.later
     c.in-Ok.span c.ln.result c.in-Ok.ensures.room c.ln.ensures.leaves c.args.time)
 
 pub returns-in-Err-clause-answers : goal.returns-in-Err-clause-answers
 returns-in-Err-clause-answers g c =
     let machine = machine_of g.D.Disks c.args.disks.now in
     rw c.status_of.ensures
-    (λ sectors. told_map (g.D.Disks.past c.args.disks.now) _ _
-    (λ now halts. halted_answer (Ln (device_view c.args.device) c.args.path.now c.args.target.now) (addition (device_view c.args.device) c.args.path.now (NewLink c.args.target.now)) (made_check (NewLink c.args.target.now) c.args.path.now) (makes_link (device_view c.args.device) c.args.path.now c.args.target.now) now machine sectors c.in-Err.halt halts) c.in-Err.ensures.room)
+    (λ given sectors. told_map (g.D.Disks.past c.args.disks.now) _ _
+    (λ now halts. halted_answer given (Ln (device_view c.args.device) c.args.path.now c.args.target.now) (addition (device_view c.args.device) c.args.path.now (NewLink c.args.target.now)) (made_check (NewLink c.args.target.now) c.args.path.now) (makes_link given (device_view c.args.device) c.args.path.now c.args.target.now) now machine sectors c.in-Err.halt halts) c.in-Err.ensures.room)
 
 pub returns-in-Err-clause-leaves : goal.returns-in-Err-clause-leaves
 returns-in-Err-clause-leaves g c =
     rw c.status_of.ensures
-    (halted_leaves (Ln (device_view c.args.device) c.args.path.now c.args.target.now) (addition (device_view c.args.device) c.args.path.now (NewLink c.args.target.now)) (made_check (NewLink c.args.target.now) c.args.path.now) (makes_link (device_view c.args.device) c.args.path.now c.args.target.now) g.D.Disks c.args.disks.now c.find_room.new.disks c.in-Err.ensures.same c.in-Err.ensures.later c.in-Err.halt c.in-Err.ensures.cause c.args.time)
+    (λ given. halted_leaves given (Ln (device_view c.args.device) c.args.path.now c.args.target.now) (addition (device_view c.args.device) c.args.path.now (NewLink c.args.target.now)) (made_check (NewLink c.args.target.now) c.args.path.now) (makes_link given (device_view c.args.device) c.args.path.now c.args.target.now) g.D.Disks c.args.disks.now c.find_room.new.disks c.in-Err.ensures.same c.in-Err.ensures.later c.in-Err.halt c.in-Err.ensures.cause c.args.time)

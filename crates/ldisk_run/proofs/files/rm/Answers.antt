@@ -22,25 +22,25 @@ returns-in-Ok-clause-answers g c =
     let span = span_view c.in-Ok.span in
     let result = c.rm.result in
     rw c.file_status.ensures
-    (λ sectors. told_both past (λ now. room_of now machine device ≡ Ok span) (λ now. Answers (volume_check (gone_check c.args.path.now) now span) result)
-    (λ now. AnswersAs (command_verdict now machine sectors (Rm (device_view c.args.device) c.args.path.now)) (file_status result))
-    (λ now room answers. file_answer (Rm (device_view c.args.device) c.args.path.now) (removal (device_view c.args.device) c.args.path.now) (gone_check c.args.path.now) (removes (device_view c.args.device) c.args.path.now) now machine sectors span room result answers) c.in-Ok.ensures.room
+    (λ given sectors. told_both past (λ now. room_of now machine device ≡ Ok span) (λ now. Answers (volume_check (gone_check c.args.path.now) now span) result)
+    (λ now. AnswersAs (command_verdict now machine given sectors (Rm (device_view c.args.device) c.args.path.now)) (file_status result))
+    (λ now room answers. file_answer given (Rm (device_view c.args.device) c.args.path.now) (removal (device_view c.args.device) c.args.path.now) (gone_check c.args.path.now) (removes given (device_view c.args.device) c.args.path.now) now machine sectors span room result answers) c.in-Ok.ensures.room
     (told_before past (g.D.Disks.past c.find_room.new.disks) (λ now. Answers (volume_check (gone_check c.args.path.now) now span) result) c.in-Ok.ensures.same.same_past c.rm.ensures.answers))
 
 pub returns-in-Ok-clause-leaves : goal.returns-in-Ok-clause-leaves
 returns-in-Ok-clause-leaves g c =
     rw c.file_status.ensures
-    (file_leaves (Rm (device_view c.args.device) c.args.path.now) (removal (device_view c.args.device) c.args.path.now) (gone_check c.args.path.now) (removes (device_view c.args.device) c.args.path.now) g.D.Disks c.args.disks.now c.find_room.new.disks c.rm.new.disks c.in-Ok.ensures.same c.in-Ok.ensures.later
+    (λ given. file_leaves given (Rm (device_view c.args.device) c.args.path.now) (removal (device_view c.args.device) c.args.path.now) (gone_check c.args.path.now) (removes given (device_view c.args.device) c.args.path.now) g.D.Disks c.args.disks.now c.find_room.new.disks c.rm.new.disks c.in-Ok.ensures.same c.in-Ok.ensures.later
     c.in-Ok.span c.rm.result c.in-Ok.ensures.room c.rm.ensures.leaves)
 
 pub returns-in-Err-clause-answers : goal.returns-in-Err-clause-answers
 returns-in-Err-clause-answers g c =
     let machine = machine_of g.D.Disks c.args.disks.now in
     rw c.status_of.ensures
-    (λ sectors. told_map (g.D.Disks.past c.args.disks.now) _ _
-    (λ now halts. halted_answer (Rm (device_view c.args.device) c.args.path.now) (removal (device_view c.args.device) c.args.path.now) (gone_check c.args.path.now) (removes (device_view c.args.device) c.args.path.now) now machine sectors c.in-Err.halt halts) c.in-Err.ensures.room)
+    (λ given sectors. told_map (g.D.Disks.past c.args.disks.now) _ _
+    (λ now halts. halted_answer given (Rm (device_view c.args.device) c.args.path.now) (removal (device_view c.args.device) c.args.path.now) (gone_check c.args.path.now) (removes given (device_view c.args.device) c.args.path.now) now machine sectors c.in-Err.halt halts) c.in-Err.ensures.room)
 
 pub returns-in-Err-clause-leaves : goal.returns-in-Err-clause-leaves
 returns-in-Err-clause-leaves g c =
     rw c.status_of.ensures
-    (halted_leaves (Rm (device_view c.args.device) c.args.path.now) (removal (device_view c.args.device) c.args.path.now) (gone_check c.args.path.now) (removes (device_view c.args.device) c.args.path.now) g.D.Disks c.args.disks.now c.find_room.new.disks c.in-Err.ensures.same c.in-Err.ensures.later c.in-Err.halt c.in-Err.ensures.cause)
+    (λ given. halted_leaves given (Rm (device_view c.args.device) c.args.path.now) (removal (device_view c.args.device) c.args.path.now) (gone_check c.args.path.now) (removes given (device_view c.args.device) c.args.path.now) g.D.Disks c.args.disks.now c.find_room.new.disks c.in-Err.ensures.same c.in-Err.ensures.later c.in-Err.halt c.in-Err.ensures.cause)

@@ -17,7 +17,7 @@ returns-clause-answers g c =
     let machine = machine_of g.D.Disks c.args.disks.now in
     let parts = map part_view c.args.parts.now in
     rw c.status_of.ensures
-    (told_all (g.D.Disks.past c.args.disks.now) (λ now. AnswersAs (command_verdict now machine c.args.sectors (Make parts)) (made_status c.make.result))
+    (λ given. told_all (g.D.Disks.past c.args.disks.now) (λ now. AnswersAs (command_verdict now machine given c.args.sectors (Make parts)) (made_status c.make.result))
     (λ now. answered (make_check machine c.args.sectors parts) c.make.result c.make.ensures.status))
 
 pub returns-clause-known : goal.returns-clause-known
@@ -31,5 +31,5 @@ returns-clause-usage g c =
 pub returns-clause-leaves : goal.returns-clause-leaves
 returns-clause-leaves g c =
     rw c.status_of.ensures
-    (λ time. make_leaves g.D.Disks c.args.disks.now c.make.new.disks c.make.result c.make.ensures.refused c.make.ensures.quiet
-    c.make.ensures.cause c.make.ensures.goes_on time (map part_view c.args.parts.now) c.make.ensures.made c.make.ensures.others)
+    (λ time given. make_leaves g.D.Disks c.args.disks.now c.make.new.disks c.make.result c.make.ensures.refused c.make.ensures.quiet
+    c.make.ensures.cause c.make.ensures.goes_on time given (map part_view c.args.parts.now) c.make.ensures.made c.make.ensures.others)

@@ -18,8 +18,8 @@ returns-clause-answers g c =
     let device = device_view c.args.device in
     let kind = kind_view c.args.kind in
     rw c.status_of.ensures
-    (λ sectors. told_map (g.D.Disks.past c.args.disks.now) (λ now. Answers (mkfs_check now machine device kind c.args.inodes) c.mkfs.result)
-    (λ now. AnswersAs (command_verdict now machine sectors (Mkfs device kind c.args.inodes)) (made_status c.mkfs.result))
+    (λ given sectors. told_map (g.D.Disks.past c.args.disks.now) (λ now. Answers (mkfs_check now machine device kind c.args.inodes) c.mkfs.result)
+    (λ now. AnswersAs (command_verdict now machine given sectors (Mkfs device kind c.args.inodes)) (made_status c.mkfs.result))
     (λ now. answered (mkfs_check now machine device kind c.args.inodes) c.mkfs.result) c.mkfs.ensures.status)
 
 pub returns-clause-known : goal.returns-clause-known
@@ -31,6 +31,6 @@ returns-clause-usage g c = rw c.status_of.ensures (λ one. c.mkfs.ensures.never 
 pub returns-clause-leaves : goal.returns-clause-leaves
 returns-clause-leaves g c =
     rw c.status_of.ensures
-    (mkfs_leaves g.D.Disks c.args.disks.now c.mkfs.new.disks c.mkfs.result c.mkfs.ensures.refused c.mkfs.ensures.quiet
-    c.mkfs.ensures.cause c.mkfs.ensures.goes_on c.args.time (device_view c.args.device) (kind_view c.args.kind) c.args.inodes
+    (λ given. mkfs_leaves g.D.Disks c.args.disks.now c.mkfs.new.disks c.mkfs.result c.mkfs.ensures.refused c.mkfs.ensures.quiet
+    c.mkfs.ensures.cause c.mkfs.ensures.goes_on c.args.time given (device_view c.args.device) (kind_view c.args.kind) c.args.inodes
     c.mkfs.ensures.made c.mkfs.ensures.empty c.mkfs.ensures.outside)

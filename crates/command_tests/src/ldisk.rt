@@ -333,7 +333,11 @@ const MKDIR: &[&str] = &["mkdir", "x.img", "/dev/hda", "/d"];
 const LN: &[&str] = &["ln", "x.img", "/dev/hda", "/l", "/d/../a"];
 
 // The status and text of arguments over a disk.
-pub(crate) fn told_on(alloc: Global, line: &[&str], disks: &mut MemDisks) -> Result<(u8, String), Fail> {
+pub(crate) fn told_on(
+    alloc: Global,
+    line: &[&str],
+    disks: &mut MemDisks,
+) -> Result<(u8, String), Fail> {
     let words = words_of(alloc, line)?;
     let mut source = MemSource::new(alloc, b"", &[])?;
     let mut sink = MemSink::new(alloc, 4096, &[])?;

@@ -11,7 +11,6 @@ pub use laws::{
     map_stays_in_its_file, mapped_files_are_kept, mapped_files_are_kept_in_a_row,
     staged_image_is_held, staged_map_has_lays, staged_map_is_clear, staged_map_is_written,
     staged_map_means_its_configuration, staging_promises_what_the_headline_asks,
-    tidied_map_has_lays,
-    tidying_of_a_staged_map_leaves_what_is_meant, unwritten_rest_is_kept,
+    tidied_map_has_lays, tidying_of_a_staged_map_leaves_what_is_meant, unwritten_rest_is_kept,
     volume_past_block_0_is_seen,
 };

@@ -149,7 +149,15 @@ fn run_words<D: Disks, I: Source, O: Sink>(
     ensures same_reference { out.new.out.out.ghost_name ≡ out.old.out.out.ghost_name }
 {
     match ask(words) {
-        Some(asked) => run_command(alloc, asked.sectors, asked.command, disks, source, out, time),
+        Some(asked) => run_command(
+            alloc,
+            asked.sectors,
+            asked.command,
+            disks,
+            source,
+            out,
+            time,
+        ),
         None => 1,
     }
 }

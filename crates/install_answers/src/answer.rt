@@ -33,8 +33,9 @@ fn device_line(phase: Phase) -> &'static [u8]
     }
 }
 
-/// The exit status of an installation that is refused in a phase of it: 3 for the volume and its paths, 4 for what can't be
-/// mapped or isn't apart, 5 for space, 13 for memory; 8, 9 and 10 where a disk failed before the commit, in it and after it.
+/// The exit status of an installation that is refused in a phase of it: 3 for the volume and its paths, 4 for what
+/// can't be mapped or isn't apart, 5 for space, 13 for memory; 8, 9 and 10 where a disk failed before the commit, in it
+/// and after it.
 pub fn fault_status(fault: &InstallFault, phase: Phase) -> u8
     ensures { result ≡ fault_status fault.now phase }
 {
@@ -71,7 +72,8 @@ fn show_fault<O: Sink>(fault: &InstallFault, phase: Phase, out: &mut Shown<'_, O
 /// Shows the line that reports why an installation is refused, and gives the exit status.
 pub fn say_fault<O: Sink>(fault: &InstallFault, phase: Phase, out: &mut Shown<'_, O>) -> u8
     ensures status { result ≡ fault_status fault.now phase }
-    ensures shown { Shows (sink_of O.Sink out.old) (codes "lilo: " ++ fault_text fault.now phase) (sink_of O.Sink out.new) }
+    ensures shown { Shows (sink_of O.Sink out.old) (codes "lilo: " ++ fault_text fault.now phase)
+        (sink_of O.Sink out.new) }
     ensures same_reference { out.new.out.ghost_name ≡ out.old.out.ghost_name }
 {
     out.put(b"lilo: ");

@@ -1,4 +1,5 @@
-//! What is answered of an installation that is refused: the exit status and the line that is printed. Neither takes memory.
+//! What is answered of an installation that is refused: the exit status and the line that is printed. Neither takes
+//! memory.
 #![tactic(auto)]
 
 mod answer;

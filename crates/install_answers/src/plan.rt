@@ -73,7 +73,8 @@ fn show_option<O: Sink>(
 // Shows why a device isn't found.
 fn show_table<O: Sink>(fault: TableFault, out: &mut Shown<'_, O>)
     ensures shown { Shows (sink_of O.Sink out.old)
-        (codes "volume: " ++ device_text (device_fault (table_fault_view fault)) ++ codes "\n") (sink_of O.Sink out.new) }
+        (codes "volume: " ++ device_text (device_fault (table_fault_view fault)) ++ codes "\n")
+        (sink_of O.Sink out.new) }
     ensures same_reference { out.new.out.ghost_name ≡ out.old.out.ghost_name }
 {
     match fault {

@@ -10,8 +10,8 @@ use crate::text::show_line;
 use map_plan::NameList;
 use stream_trait::{Shown, Sink};
 
-/// What is reported of an installation that is planned: the sections that are omitted, whether the present map is Clear,
-/// where it is of this format, the map's names, and the place of the default among them.
+/// What is reported of an installation that is planned: the sections that are omitted, whether the present map is
+/// Clear, where it is of this format, the map's names, and the place of the default among them.
 #[derive(Clone, Copy)]
 pub struct Report<'a> {
     pub skipped: &'a NameList,
@@ -83,8 +83,8 @@ impl Report<'_> {
     ghost use Rattle.install_laws.specs.InstallVerdict.{answer_text, test_text};
     ghost use Rattle.install_answers.specs.Reports.{answer_in};
 
-    /// Shows what is planned: `Skipping` and the path of each section that is omitted, a warning where the present map isn't
-    /// Clear, and `Added` and each name, with ` *` after the default's.
+    /// Shows what is planned: `Skipping` and the path of each section that is omitted, a warning where the present map
+    /// isn't Clear, and `Added` and each name, with ` *` after the default's.
     #[tactic(auto, unfolding(install_laws::specs::InstallVerdict::answer_text))]
     pub fn show<O: Sink>(&self, out: &mut Shown<'_, O>)
         ensures shown { Shows (sink_of O.Sink out.old) (answer_text (answer_in self.now)) (sink_of O.Sink out.new) }

@@ -10,7 +10,8 @@ use stream_trait::{Shown, Sink};
 // Shows how many zones are needed, and how many are free.
 fn show_space<O: Sink>(need: u32, found: u32, out: &mut Shown<'_, O>)
     ensures shown { Shows (sink_of O.Sink out.old)
-        (codes "space: need " ++ decimal need ++ codes ", found " ++ decimal found ++ codes "\n") (sink_of O.Sink out.new) }
+        (codes "space: need " ++ decimal need ++ codes ", found " ++ decimal found ++ codes "\n")
+        (sink_of O.Sink out.new) }
     ensures same_reference { out.new.out.ghost_name ≡ out.old.out.ghost_name }
 {
     show_numbered(b"space: need ", u64::from(need), b", found ", out);

@@ -32,9 +32,9 @@ fn backup_option(config: &Config) -> Opt
     }
 }
 
-/// Whether what a configuration names may be installed and mapped without one thing being another, for the device that is
-/// to boot: no device lies in the volume past its block 0, no file that is read or mapped is the map or a forced backup, at
-/// its name or that with `~`, and the backup is not the map. Each path is walked once.
+/// Whether what a configuration names may be installed and mapped without one thing being another, for the device that
+/// is to boot: no device lies in the volume past its block 0, no file that is read or mapped is the map or a forced
+/// backup, at its name or that with `~`, and the backup is not the map. Each path is walked once.
 ///
 /// # Errors
 ///
@@ -48,7 +48,8 @@ pub fn check_apart<D: Disks>(
 ) -> Result<(), ApartFault>
     // What is answered.
     ensures apart { Told (past_of volume.old) (λ now. IsSound (volume_view volume.old) now → GivesApart result
-        (apart_checks now (machine_by volume.old) (volume_view volume.old) (config_view config.now) (device_view boot))) }
+        (apart_checks now (machine_by volume.old) (volume_view volume.old) (config_view config.now)
+        (device_view boot))) }
 
     // When it is refused.
     ensures cause { IfErr result (HasApartCause (faults_of volume.old) (faults_of volume.new)) }

@@ -9,7 +9,16 @@ ghost use Rattle.conf_settings.specs.View.{opt_view};
 ghost use Rattle.lilo_conf.specs.View.{config_view, section_view, sections_view};
 ghost use Rattle.mbr_table.specs.View.{device_view, span_view};
 ghost use Rattle.minix_zones.specs.Volume.{volume_view, past_of, faults_of, SameVolume};
-ghost use Rattle.install_apart.specs.Apart.{GivesApart, HasApartCause, machine_by, unless_failed, part_device, device_option, device_check, device_checks};
+ghost use Rattle.install_apart.specs.Apart.{
+  GivesApart,
+  HasApartCause,
+  machine_by,
+  unless_failed,
+  part_device,
+  device_option,
+  device_check,
+  device_checks,
+};
 
 use crate::fault::{ApartFault, judged};
 use conf_settings::Opt;
@@ -55,7 +64,8 @@ fn check_device<D: Disks>(
     option: Opt,
 ) -> Result<(), ApartFault>
     ensures apart { Told (past_of volume.old) (λ now. GivesApart result
-        (require (is_apart_device now (machine_by volume.old) (volume_view volume.old) (device_view device)) (opt_view option))) }
+        (require (is_apart_device now (machine_by volume.old) (volume_view volume.old) (device_view device))
+        (opt_view option))) }
     ensures cause { IfErr result (HasApartCause (faults_of volume.old) (faults_of volume.new)) }
     ensures later { faults_of volume.old ≤ faults_of volume.new }
     ensures same { SameVolume volume.old volume.new }
@@ -111,7 +121,8 @@ fn check_parts<D: Disks>(
     part: DevicePart,
 ) -> Result<(), ApartFault>
     ensures apart { Told (past_of volume.old) (λ now. GivesApart result
-        (each_passes (device_check now (machine_by volume.old) (volume_view volume.old) part) (sections_view sections.now))) }
+        (each_passes (device_check now (machine_by volume.old) (volume_view volume.old) part)
+        (sections_view sections.now))) }
     ensures cause { IfErr result (HasApartCause (faults_of volume.old) (faults_of volume.new)) }
     ensures later { faults_of volume.old ≤ faults_of volume.new }
     ensures same { SameVolume volume.old volume.new }
@@ -129,7 +140,8 @@ pub(crate) fn check_devices<D: Disks>(
     boot: Device,
 ) -> Result<(), ApartFault>
     ensures apart { Told (past_of volume.old) (λ now. GivesApart result
-        (device_checks now (machine_by volume.old) (volume_view volume.old) (config_view config.now) (device_view boot))) }
+        (device_checks now (machine_by volume.old) (volume_view volume.old) (config_view config.now)
+        (device_view boot))) }
     ensures cause { IfErr result (HasApartCause (faults_of volume.old) (faults_of volume.new)) }
     ensures later { faults_of volume.old ≤ faults_of volume.new }
     ensures same { SameVolume volume.old volume.new }

@@ -11,7 +11,17 @@ ghost use Rattle.minix_layout.specs.View.{super_view};
 ghost use Rattle.minix_zones.specs.Volume.{volume_view, past_of, faults_of, SameVolume};
 ghost use Rattle.minix_names.specs.View.{end_view, HasName};
 ghost use Rattle.install_apart.specs.Apart.{HasApartCause};
-ghost use Rattle.install_apart.specs.Guarded.{GivesFound, GivesBoth, are_apart_owns, are_apart_pairs, are_apart_found, is_end_at_own, ends_at_found, ends_at_guarded, guarded_of};
+ghost use Rattle.install_apart.specs.Guarded.{
+  GivesFound,
+  GivesBoth,
+  are_apart_owns,
+  are_apart_pairs,
+  are_apart_found,
+  is_end_at_own,
+  ends_at_found,
+  ends_at_guarded,
+  guarded_of,
+};
 
 use crate::backup::backup_path;
 use crate::fault::{ApartFault, unless_stopped};
@@ -69,7 +79,8 @@ pub(crate) fn find_both<D: Disks>(
     ensures both { Told (past_of volume.old) (λ now. IsSound (volume_view volume.old) now
         → GivesBoth (super_view volume.old.layout) (parts_of (volume_view volume.old) now)
         (names_pair (names_in (volume_view volume.old) now) (config_view config.now).map)
-        (names_pair (names_in (volume_view volume.old) now) (backup_path (config_view config.now) (device_view boot))) result) }
+        (names_pair (names_in (volume_view volume.old) now)
+        (backup_path (config_view config.now) (device_view boot))) result) }
     ensures cause { IfErr result (HasApartCause (faults_of volume.old) (faults_of volume.new)) }
     ensures later { faults_of volume.old ≤ faults_of volume.new }
     ensures same { SameVolume volume.old volume.new }

@@ -23,8 +23,8 @@ fn hex_digit(digit: u8) -> u8
     }
 }
 
-// The path of the backup of a device's boot sector where the configuration names none: its number ends the name, in four
-// hexadecimal digits.
+// The path of the backup of a device's boot sector where the configuration names none: its number ends the name, in
+// four hexadecimal digits.
 #[tactic(auto, unfolding(lilo_model::specs::NamePlaces::default_backup))]
 fn default_backup(alloc: Global, device: Device) -> Result<Text, AllocError>
     ensures { IfOk result (λ path. path ≡ default_backup (device_view device)) }

@@ -13,8 +13,8 @@ use std::alloc::Global;
 /// Why names may not be replaced.
 #[derive(Drop)]
 pub enum NameFault {
-    /// The path of the map, as it is configured, or the place of the backup is refused: it can't be followed, or what is
-    /// there is no regular file.
+    /// The path of the map, as it is configured, or the place of the backup is refused: it can't be followed, or what
+    /// is there is no regular file.
     Path(Text, TreeFault),
     /// The disk failed.
     Device,

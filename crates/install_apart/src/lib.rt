@@ -1,5 +1,5 @@
-//! The names that an installation replaces, found before anything is written: where they are, and what is there, by this
-//! project's own rules.
+//! The names that an installation replaces, found before anything is written: where they are, and what is there, by
+//! this project's own rules.
 #![tactic(auto)]
 
 mod apart;

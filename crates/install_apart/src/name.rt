@@ -9,7 +9,16 @@ ghost use Rattle.minix_zones.specs.Volume.{volume_view, past_of, faults_of, Same
 ghost use Rattle.minix_tree.specs.View.{HasFileCause, HasTreeCause, IsStat, IsNode};
 ghost use Rattle.minix_names.specs.Component.{HasNoZero, IsFileName};
 ghost use Rattle.minix_names.specs.Places.{LeadsToDirectory, IsPlace};
-ghost use Rattle.install_apart.specs.Names.{GivesOwnName, GivesNamePair, GivesPair, IsInside, ArePairsInside, AreTwins, is_replaceable, is_pair_replaceable};
+ghost use Rattle.install_apart.specs.Names.{
+  GivesOwnName,
+  GivesNamePair,
+  GivesPair,
+  IsInside,
+  ArePairsInside,
+  AreTwins,
+  is_replaceable,
+  is_pair_replaceable,
+};
 
 use conf_text::Text;
 use disk_trait::Disks;
@@ -71,7 +80,8 @@ fn own_name<D: Disks>(
     requires fits { IsStat volume.old.layout directory.now }
     requires node { IsNode volume.old directory.now }
     ensures own { Told (past_of volume.old) (λ now. IsSound (volume_view volume.old) now → (above : List (List ℕ))
-        → LeadsToDirectory (super_view volume.old.layout) (parts_of (volume_view volume.old) now) above directory.now.inode
+        → LeadsToDirectory (super_view volume.old.layout)
+        (parts_of (volume_view volume.old) now) above directory.now.inode
         → GivesOwnName (super_view volume.old.layout) (parts_of (volume_view volume.old) now) (name ∷ above) result) }
     ensures inside { IfOk result (IsInside volume.old.layout) }
     ensures called { IfOk result (λ own. (own.directory ≡ directory.now.inode) × (own.name ≡ name)) }
@@ -99,7 +109,8 @@ fn pair_at<D: Disks>(
     requires fits { IsStat volume.old.layout directory.now }
     requires node { IsNode volume.old directory.now }
     ensures pair { Told (past_of volume.old) (λ now. IsSound (volume_view volume.old) now → (path : List (List ℕ))
-        → IsPlace (super_view volume.old.layout) (parts_of (volume_view volume.old) now) path directory.now.inode name.now
+        → IsPlace (super_view volume.old.layout)
+        (parts_of (volume_view volume.old) now) path directory.now.inode name.now
         → GivesNamePair (super_view volume.old.layout) (parts_of (volume_view volume.old) now) path result) }
     ensures inside { IfOk result (ArePairsInside volume.old.layout) }
     ensures twins { IfOk result AreTwins }

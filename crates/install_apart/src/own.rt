@@ -12,7 +12,19 @@ ghost use Rattle.minix_tree.specs.View.{HasFileCause};
 ghost use Rattle.minix_names.specs.Component.{HasNoZero, IsFileName};
 ghost use Rattle.install_apart.specs.Faults.{HasNameCause};
 ghost use Rattle.install_apart.specs.Names.{GivesPair, ArePairsInside, AreTwins};
-ghost use Rattle.install_apart.specs.Own.{AreOwnTwins, IsBackupNamed, IsBackupTwins, GivesNames, GivesReplaceable, GivesBackup, IsReplaceable, IsBackupReplaceable, AreReplaceable, IsBackupInside, AreInside};
+ghost use Rattle.install_apart.specs.Own.{
+  AreOwnTwins,
+  IsBackupNamed,
+  IsBackupTwins,
+  GivesNames,
+  GivesReplaceable,
+  GivesBackup,
+  IsReplaceable,
+  IsBackupReplaceable,
+  AreReplaceable,
+  IsBackupInside,
+  AreInside,
+};
 
 use crate::backup::backup_path;
 use crate::fault::{NameFault, refused_path};
@@ -121,8 +133,8 @@ fn backup_names<D: Disks>(
 ///
 /// # Errors
 ///
-/// `Path` for the first name that can't be replaced: the map's, that with `~`, the backup's, and that with `~` where it is
-/// forced. `Device` and `Memory`.
+/// `Path` for the first name that can't be replaced: the map's, that with `~`, the backup's, and that with `~` where it
+/// is forced. `Device` and `Memory`.
 pub fn own_names<D: Disks>(
     alloc: Global,
     volume: &mut Volume<'_, D>,

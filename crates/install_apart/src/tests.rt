@@ -58,7 +58,8 @@ fn table() -> Sector {
     sector
 }
 
-// 1 is the root, 2 /boot, 3 /kernel, 4 /boot/map, which is /hard too, 5 the link /link, 6 the link /far, 7 /boot/boot.b.
+// 1 is the root, 2 /boot, 3 /kernel, 4 /boot/map, which is /hard too, 5 the link /link, 6 the link /far, 7
+// /boot/boot.b.
 fn inodes() -> Sector {
     let mut sector: Sector = [0; 512];
     put_inode(&mut sector, 0, 0o040755, 3, 112, 13);

@@ -1,5 +1,5 @@
-//! What an installation and `lilo -t` begin with: where the volume of a part lies, its configuration with the boot device,
-//! and where that lies.
+//! What an installation and `lilo -t` begin with: where the volume of a part lies, its configuration with the boot
+//! device, and where that lies.
 //!
 //! No disk is written.
 #![tactic(auto)]

@@ -32,14 +32,14 @@ pub struct Begun {
     pub boot: Span,
 }
 
-/// Reads what an installation begins with: the volume of a part, which is that of the device `root`, where one is given,
-/// else the first that is found; the configuration in the file of a path on it; and where its boot device lies, which is
-/// the volume's where it names none. The superblock is judged as the file is read.
+/// Reads what an installation begins with: the volume of a part, which is that of the device `root`, where one is
+/// given, else the first that is found; the configuration in the file of a path on it; and where its boot device lies,
+/// which is the volume's where it names none. The superblock is judged as the file is read.
 ///
 /// # Errors
 ///
-/// In this order: there is no volume, its superblock is refused, the path is, the text is, the boot device isn't found. A
-/// disk that failed is reported where it failed, and out of memory where the file or the text is read.
+/// In this order: there is no volume, its superblock is refused, the path is, the text is, the boot device isn't found.
+/// A disk that failed is reported where it failed, and out of memory where the file or the text is read.
 pub fn begin<D: Disks>(
     alloc: Global,
     disks: &mut D,
@@ -173,8 +173,8 @@ fn named_text(alloc: Global, text: &[u8], device: Device) -> Result<(Config, Dev
     }
 }
 
-// A configuration, with the volume's device in it where it names none to boot. Each device that is named or searched has
-// a name; one without would be reported as memory that didn't suffice.
+// A configuration, with the volume's device in it where it names none to boot. Each device that is named or searched
+// has a name; one without would be reported as memory that didn't suffice.
 fn named_by(config: Config, device: Device) -> Result<(Config, Device), BeginFault>
     requires { IsLawful (config_view config) }
     ensures named { IfOk result (λ named. named_view named.0 named.1

@@ -27,8 +27,8 @@ const GEOMETRY: Geometry = Geometry {
 };
 
 // A volume of version 1 with names of 30 bytes, from sector 20 on, of 128 zones with 16 inodes: zone z has the sectors
-// 20 + 2 z and 21 + 2 z. Inode 1 is the root, in zone 5; 2 is a file in the zones 37 and 38; 3, 4 and 5 are files in the zones
-// 50, 51 and 52.
+// 20 + 2 z and 21 + 2 z. Inode 1 is the root, in zone 5; 2 is a file in the zones 37 and 38; 3, 4 and 5 are files in
+// the zones 50, 51 and 52.
 const FILES: &[Edit] = &[
     (22, 0, b"\x10\0\x80\0\x01\0\x01\0\x05"),
     (22, 13, b"\x1c\x08\x10\x8f\x13\x01"),
@@ -50,9 +50,9 @@ const FILES: &[Edit] = &[
     (30, 96, b"\x04\0kernel"),
 ];
 
-// A map whose boot sector is sector 0, and which has one name: the line in 94, the table in 95 to 97, and so in inode 2; the
-// options in 99, the kernel's section in 100 and its three sectors 82 to 84. The slots are of numbers that are read as they
-// are.
+// A map whose boot sector is sector 0, and which has one name: the line in 94, the table in 95 to 97, and so in inode
+// 2; the options in 99, the kernel's section in 100 and its three sectors 82 to 84. The slots are of numbers that are
+// read as they are.
 const MAP: &[Edit] = &[
     (0, 0, b"\xEB\x7ELILO\x01\0"),
     (0, 0x10, b"\xFF\xFF\x01\0"),

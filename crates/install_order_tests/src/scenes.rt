@@ -15,9 +15,9 @@ const KEPT: &[u8] = b"boot=/dev/hda\nmap=/map\nbackup=/old\nimage=/kernel\nlabel
 
 const FORCED: &[u8] = b"boot=/dev/hda\nmap=/map\nforce-backup=/old\nimage=/kernel\nlabel=linux\n";
 
-// A beginning: what was done to the disk by hand, the answer of `clear`, how many events it takes, what the names `map`,
-// `map~`, `kernel`, `old` and `old~` lead to at first, and after each of its turns, by the event that brings it about, counted
-// from 1.
+// A beginning: what was done to the disk by hand, the answer of `clear`, how many events it takes, what the names
+// `map`, `map~`, `kernel`, `old` and `old~` lead to at first, and after each of its turns, by the event that brings it
+// about, counted from 1.
 struct Scene {
     edits: &'static [Edit],
     text: &'static [u8],
@@ -39,7 +39,8 @@ const SCENES: [Scene; 7] = [
         before: [2, 0, 4, 0, 0],
         turns: &[],
     },
-    // Stopped before the commit: a flush, the entry two events; the inode of zeros two, a bit of each bitmap and a flush.
+    // Stopped before the commit: a flush, the entry two events; the inode of zeros two, a bit of each bitmap and a
+    // flush.
     Scene {
         edits: &[(30, 128, b"\x03\0map~")],
         text: CONF,

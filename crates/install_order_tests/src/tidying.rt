@@ -166,8 +166,8 @@ fn each_stop_leaves_a_map(rt: HostRuntime) -> Result<(), Fail> {
     Ok(())
 }
 
-// A call of the device fails, made or not: what the disks are then is as at that moment of the whole. Says whether there
-// was such a call.
+// A call of the device fails, made or not: what the disks are then is as at that moment of the whole. Says whether
+// there was such a call.
 fn fail(rt: &impl Abort, alloc: Global, scene: &Scene, failing: Failing) -> Result<bool, Fail> {
     let start = made(alloc, scene.edits)?;
     let mut disks = Untold {

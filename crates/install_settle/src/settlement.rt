@@ -58,11 +58,13 @@ fn finish_rename<'d, D: Disks>(
     requires quiet { IsQuiet (past_of volume) }
     requires found { IsTold (past_of volume) → IsSomePair volume pair.now }
     ensures finished { IfOk result (λ new. (path : List (List ℕ))
-        → (IsTold (past_of volume.entry) → IsPair (super_view volume.entry.layout) (parts_now volume.entry) path pair.now)
+        → (IsTold (past_of volume.entry)
+        → IsPair (super_view volume.entry.layout) (parts_now volume.entry) path pair.now)
         → DoesMap volume.entry new path LeftMap.Finish (Ok tt)) }
     ensures quiet { IfOk result (λ new. IsQuiet (past_of new)) }
     ensures halted { IfErr result (λ halt. (path : List (List ℕ))
-        → (IsTold (past_of volume.entry) → IsPair (super_view volume.entry.layout) (parts_now volume.entry) path pair.now)
+        → (IsTold (past_of volume.entry)
+        → IsPair (super_view volume.entry.layout) (parts_now volume.entry) path pair.now)
         → DoesMap volume.entry halt.volume path LeftMap.Finish (Err halt.fault)) }
     ensures cause { IfErr result (λ halt.
         HasWriteCause (faults_of volume.entry) (faults_of halt.volume) halt.fault) }
@@ -85,11 +87,13 @@ fn settle_map<'d, D: Disks>(
     requires quiet { IsQuiet (past_of volume) }
     requires found { IsTold (past_of volume) → IsSomePair volume pair.now }
     ensures settled { IfOk result (λ new. (path : List (List ℕ))
-        → (IsTold (past_of volume.entry) → IsPair (super_view volume.entry.layout) (parts_now volume.entry) path pair.now)
+        → (IsTold (past_of volume.entry)
+        → IsPair (super_view volume.entry.layout) (parts_now volume.entry) path pair.now)
         → DoesMap volume.entry new path left (Ok tt)) }
     ensures quiet { IfOk result (λ new. IsQuiet (past_of new)) }
     ensures halted { IfErr result (λ halt. (path : List (List ℕ))
-        → (IsTold (past_of volume.entry) → IsPair (super_view volume.entry.layout) (parts_now volume.entry) path pair.now)
+        → (IsTold (past_of volume.entry)
+        → IsPair (super_view volume.entry.layout) (parts_now volume.entry) path pair.now)
         → DoesMap volume.entry halt.volume path left (Err halt.fault)) }
     ensures cause { IfErr result (λ halt.
         HasWriteCause (faults_of volume.entry) (faults_of halt.volume) halt.fault) }
@@ -132,10 +136,10 @@ fn settle_quiet<'d, D: Disks>(
     }
 }
 
-/// Settles what was left behind, on a sound volume, by the names that an installation replaces and what was found there: all that
-/// was written before is made durable; the rename is finished, or `map~` is removed; then a stale copy of a forced backup
-/// is removed. Everything is made durable in this order. Where there is nothing to settle, nothing is done. No memory is
-/// taken.
+/// Settles what was left behind, on a sound volume, by the names that an installation replaces and what was found
+/// there: all that was written before is made durable; the rename is finished, or `map~` is removed; then a stale copy
+/// of a forced backup is removed. Everything is made durable in this order. Where there is nothing to settle, nothing
+/// is done. No memory is taken.
 ///
 /// # Errors
 ///

@@ -11,7 +11,17 @@ ghost use Rattle.minix_zones.specs.Volume.{volume_view, sizes_of, faults_of, Sam
 ghost use Rattle.sector_address.specs.Machine.{OnDisks};
 ghost use Rattle.install_apart.specs.Names.{IsPair, is_replaceable};
 ghost use Rattle.install_laws.specs.InstallVerdict.{is_to_finish, may_settle};
-ghost use Rattle.install_settle.specs.Found.{AreFound, IsToSettle, HasSettleCause, IsLeft, RefusesLinks, is_there, has_copy, has_link_left, left_map};
+ghost use Rattle.install_settle.specs.Found.{
+  AreFound,
+  IsToSettle,
+  HasSettleCause,
+  IsLeft,
+  RefusesLinks,
+  is_there,
+  has_copy,
+  has_link_left,
+  left_map,
+};
 
 use disk_trait::{Disks, Span};
 use install_apart::{NamePair, OwnName, OwnNames};

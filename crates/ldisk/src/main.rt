@@ -1,9 +1,11 @@
 //! `ldisk COMMAND IMAGE ..`: Minix volumes in a disk image.
 //!
-//! `make IMAGE SECTORS [START:COUNT:TYPE ..]` makes an image with a partition table, and `mkfs IMAGE DEVICE KIND INODES` an
-//! empty volume in it. `ls IMAGE DEVICE PATH` lists a directory, `get IMAGE DEVICE PATH` prints a file, `put IMAGE DEVICE
-//! PATH` stores standard input as one, `rm IMAGE DEVICE PATH` removes one, `mkdir IMAGE DEVICE PATH` makes a directory, and `ln IMAGE DEVICE PATH TARGET` a symbolic link. The image is the disk hda. All text goes to standard output, and the exit status is that of the
-//! arguments, 14 for an image that can't be used, or 13 where memory doesn't suffice.
+//! `make IMAGE SECTORS [START:COUNT:TYPE ..]` makes an image with a partition table, and `mkfs IMAGE DEVICE KIND
+//! INODES` an empty volume in it. `ls IMAGE DEVICE PATH` lists a directory, `get IMAGE DEVICE PATH` prints a file, `put
+//! IMAGE DEVICE PATH` stores standard input as one, `rm IMAGE DEVICE PATH` removes one, `mkdir IMAGE DEVICE PATH` makes
+//! a directory, and `ln IMAGE DEVICE PATH TARGET` a symbolic link. The image is the disk hda. All text goes to standard
+//! output, and the exit status is that of the arguments, 14 for an image that can't be used, or 13 where memory doesn't
+//! suffice.
 #![tactic(auto)]
 
 use disk_trait::{FileDisk, FileDisks, Geometry, untold};

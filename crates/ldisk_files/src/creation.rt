@@ -4,7 +4,14 @@ ghost use Rattle.disk_trait.specs.Past.{Told};
 ghost use Rattle.disk_trait.specs.Moments.{IsTold, IsQuiet, IsWhole};
 ghost use Rattle.lilo_model.specs.MinixNames.{Directory, Link};
 ghost use Rattle.ldisk_model.specs.FileVerdict as model;
-ghost use Rattle.ldisk_model.specs.FileVerdict.{NewDirectory, NewLink, volume_check, sound_check, made_check, thing_made};
+ghost use Rattle.ldisk_model.specs.FileVerdict.{
+  NewDirectory,
+  NewLink,
+  volume_check,
+  sound_check,
+  made_check,
+  thing_made,
+};
 ghost use Rattle.minix_names.specs.Component.{HasNoZero};
 ghost use Rattle.minix_zones.specs.View.{span_view};
 ghost use Rattle.minix_zones.specs.Volume.{volume_view, past_of, faults_of};
@@ -68,7 +75,8 @@ fn make_path<'d, D: Disks>(
     requires path { HasNoZero path.now }
     ensures answers { Told (past_of volume.entry) (λ now. Answers
         (sound_check (made_check (making_view making.now) path.now) (volume_view volume.entry) now) result.result) }
-    ensures leaves { LeavesOn volume.entry result.volume path.now (Some (thing_made (making_view making.now))) result.result }
+    ensures leaves { LeavesOn volume.entry result.volume path.now
+        (Some (thing_made (making_view making.now))) result.result }
     ensures inode { MakesInodeAt volume.entry result.volume path.now (making_view making.now) result.result }
     ensures same_reference { result.volume.disks.ghost_name ≡ volume.entry.disks.ghost_name }
 {
@@ -107,11 +115,11 @@ fn make<D: Disks>(
     }
 }
 
-/// Makes a directory at a path of the volume that lies in a span, at a time in seconds since 1970. Links are followed but
-/// for one at the last component. All checks come before anything is written: the volume, a survey of it, the path, that
-/// nothing is there, how deep it is nested, and whether inodes, zones and the length of names suffice. Then what was
-/// written before is made durable, and the directory is made: it is there with `.` and `..` or not at all, at whatever
-/// moment the power fails, and all of it is durable at the end.
+/// Makes a directory at a path of the volume that lies in a span, at a time in seconds since 1970. Links are followed
+/// but for one at the last component. All checks come before anything is written: the volume, a survey of it, the path,
+/// that nothing is there, how deep it is nested, and whether inodes, zones and the length of names suffice. Then what
+/// was written before is made durable, and the directory is made: it is there with `.` and `..` or not at all, at
+/// whatever moment the power fails, and all of it is durable at the end.
 ///
 /// # Errors
 ///

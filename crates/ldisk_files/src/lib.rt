@@ -1,7 +1,7 @@
 //! What `ldisk` does with the names of a Minix volume: `rm`, `mkdir`, `ln` and `put`.
 //!
-//! [`rm`] surveys the volume, looks for the name, and only then writes; [`mkdir`], [`ln`] and [`put`] choose room for what
-//! is made before they write. Pull the plug at any write, and the volume is sound, with the names before or after.
+//! [`rm`] surveys the volume, looks for the name, and only then writes; [`mkdir`], [`ln`] and [`put`] choose room for
+//! what is made before they write. Pull the plug at any write, and the volume is sound, with the names before or after.
 #![tactic(auto)]
 
 mod check;

@@ -24,7 +24,8 @@ fn remove_name<'d, D: Disks>(volume: Volume<'d, D>, place: &NamePlace<'_>) -> En
     requires may { IsTold (past_of volume)
         → IsSomeRemovable (volume_view volume) (now (past_of volume)) place.now.directory.inode place.now.name.now }
     ensures changes { (path : List (List ℕ)) → (IsTold (past_of volume.entry)
-        → IsRemovable (volume_view volume.entry) (now (past_of volume.entry)) path place.now.directory.inode place.now.name.now)
+        → IsRemovable (volume_view volume.entry)
+        (now (past_of volume.entry)) path place.now.directory.inode place.now.name.now)
         → ChangesName volume.entry result.volume path None result.result }
     ensures quiet { OnOk result.result (IsQuiet (past_of result.volume)) }
     ensures cause { IfErr result.result (HasFileCause (faults_of volume.entry) (faults_of result.volume)) }
@@ -67,9 +68,9 @@ fn remove_path<'d, D: Disks>(alloc: Global, volume: Volume<'d, D>, path: &[u8]) 
     }
 }
 
-/// Removes the regular file or the symbolic link at a path of the volume that lies in a span. Links are followed but for
-/// one at the last component. All checks come before anything is written: the volume, a survey of it, the path, and what
-/// is there. Then what was written before is made durable, and the name goes, and all of it is durable at the end.
+/// Removes the regular file or the symbolic link at a path of the volume that lies in a span. Links are followed but
+/// for one at the last component. All checks come before anything is written: the volume, a survey of it, the path, and
+/// what is there. Then what was written before is made durable, and the name goes, and all of it is durable at the end.
 ///
 /// # Errors
 ///

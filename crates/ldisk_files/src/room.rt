@@ -12,7 +12,17 @@ ghost use Rattle.minix_names.specs.Component.{HasNoZero, IsFileName};
 ghost use Rattle.minix_tree.specs.View.{IsStat, IsNode};
 ghost use Rattle.minix_zones.specs.Volume.{volume_view, past_of, faults_of, SameVolume};
 ghost use Rattle.ldisk_files.specs.Answer.{Answers, IsLaid, HasFileCause};
-ghost use Rattle.ldisk_files.specs.Made.{Fits, GivesChoice, IsNewPlace, IsWishFor, IsReady, IsSoundNow, MayMakeNamed, MayMakeAt, making_view};
+ghost use Rattle.ldisk_files.specs.Made.{
+  Fits,
+  GivesChoice,
+  IsNewPlace,
+  IsWishFor,
+  IsReady,
+  IsSoundNow,
+  MayMakeNamed,
+  MayMakeAt,
+  making_view,
+};
 
 use crate::check::check_sound;
 use crate::fault::{FileFault, write_fault};
@@ -80,7 +90,8 @@ fn choose_ready<D: Disks>(
         → MayMakeNamed volume.old outer place.now.name.now (making_view making.now) ready.chosen (ready.block ∷ [])) }
     ensures answers { Told (past_of volume.old) (λ now. IsSound (volume_view volume.old) now → (outer : List (List ℕ))
         → IsNewPlace (volume_view volume.old) now outer place.now → Fits (making_view making.now) outer place.now
-        → Answers (room_check (making_view making.now) (volume_view volume.old) now (place.now.name.now ∷ outer)) result) }
+        → Answers (room_check (making_view making.now) (volume_view volume.old) now
+        (place.now.name.now ∷ outer)) result) }
     ensures suits { IfOk result (IsReady volume.old.layout volume.old.span) }
     ensures cause { IfErr result (HasFileCause (faults_of volume.old) (faults_of volume.new)) }
     ensures later { faults_of volume.old ≤ faults_of volume.new }
@@ -108,7 +119,8 @@ fn choose_named<D: Disks>(
         → MayMakeNamed volume.old outer place.now.name.now (making_view making.now) ready.chosen (ready.block ∷ [])) }
     ensures answers { Told (past_of volume.old) (λ now. IsSound (volume_view volume.old) now → (outer : List (List ℕ))
         → IsNewPlace (volume_view volume.old) now outer place.now
-        → Answers (room_check (making_view making.now) (volume_view volume.old) now (place.now.name.now ∷ outer)) result) }
+        → Answers (room_check (making_view making.now) (volume_view volume.old) now
+        (place.now.name.now ∷ outer)) result) }
     ensures suits { IfOk result (IsReady volume.old.layout volume.old.span) }
     ensures cause { IfErr result (HasFileCause (faults_of volume.old) (faults_of volume.new)) }
     ensures later { faults_of volume.old ≤ faults_of volume.new }

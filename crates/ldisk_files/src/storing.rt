@@ -161,15 +161,15 @@ fn ended_put<D: Disks>(ended: Ended<'_, D>) -> PutEnded<'_, D>
 
 /// Stores the bytes that a source gives up to its end at a path of the volume that lies in a span, at a time in seconds
 /// since 1970. Links are followed but for one at the last component. A block of 1024 zero bytes becomes a hole. All
-/// checks come before anything is written: the volume, a survey of it, the path, and that nothing is there; only then is
-/// the source read, to its end or one byte past 67,108,864, and inodes, zones and the length of names have to suffice.
-/// Then what was written before is made durable, and the file is made: it is there whole or not at all, at whatever
-/// moment the power fails, and all of it is durable at the end.
+/// checks come before anything is written: the volume, a survey of it, the path, and that nothing is there; only then
+/// is the source read, to its end or one byte past 67,108,864, and inodes, zones and the length of names have to
+/// suffice. Then what was written before is made durable, and the file is made: it is there whole or not at all, at
+/// whatever moment the power fails, and all of it is durable at the end.
 ///
 /// # Errors
 ///
-/// `Source`, and in `File` `Refused`, then `BadLength` where there are more than 67,108,864 bytes, `NoSpace` and `Memory`:
-/// then nothing was done. `Device`: then the file is there or isn't.
+/// `Source`, and in `File` `Refused`, then `BadLength` where there are more than 67,108,864 bytes, `NoSpace` and
+/// `Memory`: then nothing was done. `Device`: then the file is there or isn't.
 pub fn put<D: Disks, I: Source>(
     alloc: Global,
     disks: &mut D,

@@ -8,7 +8,15 @@ ghost use Rattle.lilo_model.specs.Partitions.{span_of};
 ghost use Rattle.ldisk_model.specs.Verdict.{place_check, mkfs_check, formatted_on, is_in_found};
 ghost use Rattle.mbr_table.specs.View.{device_view};
 ghost use Rattle.minix_layout.specs.View.{kind_view};
-ghost use Rattle.ldisk_make.specs.Answer.{Answers, Finds, IsPlaceFault, IsFormatted, is_refusal, HasMakeCause, HasEmptyVolume};
+ghost use Rattle.ldisk_make.specs.Answer.{
+  Answers,
+  Finds,
+  IsPlaceFault,
+  IsFormatted,
+  is_refusal,
+  HasMakeCause,
+  HasEmptyVolume,
+};
 ghost use Rattle.disk_trait.specs.Range.{IsOutside};
 ghost use Rattle.ldisk_model.specs.MinixFormat.{format_layout, format_at};
 ghost use Rattle.minix_format.specs.Laws.{IsEmptyVolume};
@@ -20,8 +28,8 @@ use mbr_table::{Device, TableFault, place_of};
 use minix_format::{FormatFault, format};
 use minix_layout::FsKind;
 
-/// Makes an empty volume on a device, with so many inodes, at a time, and makes it durable. What a stop before that leaves
-/// isn't said.
+/// Makes an empty volume on a device, with so many inodes, at a time, and makes it durable. What a stop before that
+/// leaves isn't said.
 ///
 /// # Errors
 ///
@@ -88,7 +96,8 @@ fn format_in<D: Disks>(
 
 /// The sectors of a device, where disk 0 is there.
 fn find_place<D: Disks>(disks: &mut D, device: Device) -> Result<Span, MakeFault>
-    ensures place { OnDisks D.Disks disks.old (λ now machine. Finds result (place_check now machine (device_view device))
+    ensures place { OnDisks D.Disks disks.old
+        (λ now machine. Finds result (place_check now machine (device_view device))
         (span_of now machine (device_view device))) }
     ensures never { result ≢ Err MakeFault.Misplaced }
     ensures no_disk { D.size_of disks.old 0 ≡ 0 → result ≡ Err MakeFault.NoPlace }

@@ -9,12 +9,43 @@ ghost use Rattle.stream_trait.specs.Sink.{Takes};
 ghost use Rattle.stream_trait.specs.Shows.{HasFailed};
 ghost use Rattle.ldisk_model.specs.Arguments.{asked_at};
 ghost use Rattle.ldisk_files.specs.Stored.{OnGiven};
-ghost use Rattle.ldisk_model.specs.Verdict.{command_verdict, ldisk_verdict, is_carried_out, are_carried_out, stores, asked_stores, asks_source, asked_asks_source, asked_change, asked_may_write, asked_only_read};
+ghost use Rattle.ldisk_model.specs.Verdict.{
+  command_verdict,
+  ldisk_verdict,
+  is_carried_out,
+  are_carried_out,
+  stores,
+  asked_stores,
+  asks_source,
+  asked_asks_source,
+  asked_change,
+  asked_may_write,
+  asked_only_read,
+};
 ghost use Rattle.lilo_model.specs.LdiskVerdict as reads;
 ghost use Rattle.ldisk_words.specs.View.{command_view};
-ghost use Rattle.ldisk_run.specs.Left.{IsDone, is_refusal, LeavesBy, LeavesAsked, LeavesChanging, IsAskedDone, HasAskedVolume, held_now};
+ghost use Rattle.ldisk_run.specs.Left.{
+  IsDone,
+  is_refusal,
+  LeavesBy,
+  LeavesAsked,
+  LeavesChanging,
+  IsAskedDone,
+  HasAskedVolume,
+  held_now,
+};
 ghost use Rattle.ldisk_run.specs.Pieces.{sink_of, held_by};
-ghost use Rattle.ldisk_run.specs.Run.{DoesAs, Answers, Tells, asked_takes_memory, takes_memory, is_status, is_command_status, is_any_status, HasPlainPath};
+ghost use Rattle.ldisk_run.specs.Run.{
+  DoesAs,
+  Answers,
+  Tells,
+  asked_takes_memory,
+  takes_memory,
+  is_status,
+  is_command_status,
+  is_any_status,
+  HasPlainPath,
+};
 ghost use Rattle.ldisk_run.specs.View.{reading_view};
 
 use crate::command::carry_out;
@@ -31,14 +62,15 @@ use stream_trait::{Shown, Sink, Source, Words, answer};
 
 /// Carries out what arguments ask for over disk 0 at a time, in seconds since 1970, and answers the exit status.
 ///
-/// `make IMAGE SECTORS [START:COUNT:TYPE ..]` writes a partition table into the first sector of a new image, which has so
-/// many sectors; the image is the caller's matter. `mkfs IMAGE DEVICE KIND INODES` makes an empty Minix volume. `ls IMAGE
-/// DEVICE PATH` lists a directory: a line for each entry in the directory's order, but for `.` and `..`, with `f`, `d`,
-/// `l` or `o`, the size and the name. `get IMAGE DEVICE PATH` prints a file. Both follow a link in the last component.
-/// `put IMAGE DEVICE PATH` stores what the source gives up to its end, with a hole for each block of 1024 zero bytes.
-/// `rm IMAGE DEVICE PATH` removes a regular file or a symbolic link: all checks come before anything is written, a survey
-/// of the volume among them; and whatever a stop leaves is sound, with the names before or after. So it is of `put`, of
-/// `mkdir IMAGE DEVICE PATH`, which makes a directory, and of `ln IMAGE DEVICE PATH TARGET`, which makes a symbolic link.
+/// `make IMAGE SECTORS [START:COUNT:TYPE ..]` writes a partition table into the first sector of a new image, which has
+/// so many sectors; the image is the caller's matter. `mkfs IMAGE DEVICE KIND INODES` makes an empty Minix volume. `ls
+/// IMAGE DEVICE PATH` lists a directory: a line for each entry in the directory's order, but for `.` and `..`, with
+/// `f`, `d`, `l` or `o`, the size and the name. `get IMAGE DEVICE PATH` prints a file. Both follow a link in the last
+/// component. `put IMAGE DEVICE PATH` stores what the source gives up to its end, with a hole for each block of 1024
+/// zero bytes. `rm IMAGE DEVICE PATH` removes a regular file or a symbolic link: all checks come before anything is
+/// written, a survey of the volume among them; and whatever a stop leaves is sound, with the names before or after. So
+/// it is of `put`, of `mkdir IMAGE DEVICE PATH`, which makes a directory, and of `ln IMAGE DEVICE PATH TARGET`, which
+/// makes a symbolic link.
 ///
 /// | status | comes |
 /// |---|---|
@@ -54,9 +86,9 @@ use stream_trait::{Shown, Sink, Source, Words, answer};
 ///
 /// No text is put for a fault. What was printed before a refusal stays printed: the blocks of a file or the lines of
 /// entries before it. Once the sink failed nothing more is put, and the command goes on. `make` and `mkfs` write only
-/// once all their checks passed; what a stop leaves of them isn't said. The source is asked by `put` alone, once a survey
-/// and the checks of its path have passed: to its end, or one byte past the most. `put`, `rm`, `mkdir` and `ln` alone take
-/// memory, for the survey, for what is chosen and for the source's bytes.
+/// once all their checks passed; what a stop leaves of them isn't said. The source is asked by `put` alone, once a
+/// survey and the checks of its path have passed: to its end, or one byte past the most. `put`, `rm`, `mkdir` and `ln`
+/// alone take memory, for the survey, for what is chosen and for the source's bytes.
 #[tactic(auto, unfolding(ldisk_model::specs::Verdict::ldisk_verdict))]
 pub fn ldisk<D: Disks, I: Source, O: Sink>(
     alloc: Global,

@@ -3,7 +3,17 @@ ghost use Rattle.std.specs.Prelude.{◌≡◌, ◌≤◌, length, drop, map, Som
 ghost use Rattle.std.specs.Option.{option_and_then};
 ghost use Rattle.lilo_model.specs.Devices.{device_at};
 ghost use Rattle.lilo_model.specs.LdiskWords.{is_volume_path};
-ghost use Rattle.ldisk_model.specs.Arguments.{asked_of, asked_at, make_at, new_with, command_at, path_command, on_path_at, pair_command, kind_at};
+ghost use Rattle.ldisk_model.specs.Arguments.{
+  asked_of,
+  asked_at,
+  make_at,
+  new_with,
+  command_at,
+  path_command,
+  on_path_at,
+  pair_command,
+  kind_at,
+};
 ghost use Rattle.mbr_table.specs.View.{device_view};
 ghost use Rattle.minix_layout.specs.View.{kind_view};
 ghost use Rattle.ldisk_words.specs.View.{part_view, command_view, asked_view};

@@ -4,7 +4,14 @@ ghost use Rattle.std.specs.Option.{option_map};
 ghost use Rattle.lilo_model.specs.Conf as model;
 ghost use Rattle.lilo_model.specs.Disks.{Machine};
 ghost use Rattle.lilo_model.specs.MinixParts.{blocks_for};
-ghost use Rattle.lilo_model.specs.PlanRefusal.{each_passes, if_there, place_check, mapped_file_check, system_places_check, mapped_address_check};
+ghost use Rattle.lilo_model.specs.PlanRefusal.{
+  each_passes,
+  if_there,
+  place_check,
+  mapped_file_check,
+  system_places_check,
+  mapped_address_check,
+};
 ghost use Rattle.conf_settings.specs.View.{opt_view};
 ghost use Rattle.sector_address.specs.View.{geometry_view, mode_view};
 ghost use Rattle.minix_zones.specs.Volume.{sizes_of};
@@ -45,8 +52,10 @@ pub fn check_addresses<D: Disks>(
     sections: &[PlannedSection],
 ) -> Result<(), PlanFault>
     requires { All (FitsSection (sizes_of volume.now)) sections.now }
-    ensures decided { (config : model.Config) → NamesAs naming config → All (λ planned. SectionLiesOnDisk volume.now.span.disk (planned_view planned)) sections.now
-        → Decides result (each_passes (mapped_address_check config (machine_for volume.now)) (planned_views sections.now)) }
+    ensures decided { (config : model.Config) → NamesAs naming config
+        → All (λ planned. SectionLiesOnDisk volume.now.span.disk (planned_view planned)) sections.now
+        → Decides result (each_passes (mapped_address_check config (machine_for volume.now))
+        (planned_views sections.now)) }
     ensures cause { (before now : ℕ) → IfErr result (HasPlanCause before now) }
 {
     for planned in sections {
@@ -62,7 +71,8 @@ fn check_section_addresses<D: Disks>(
     planned: &PlannedSection,
 ) -> Result<(), PlanFault>
     requires { FitsSection (sizes_of volume.now) planned.now }
-    ensures decided { (config : model.Config) → NamesAs naming config → SectionLiesOnDisk volume.now.span.disk (planned_view planned.now)
+    ensures decided { (config : model.Config) → NamesAs naming config
+        → SectionLiesOnDisk volume.now.span.disk (planned_view planned.now)
         → Decides result (mapped_address_check config (machine_for volume.now) (planned_view planned.now)) }
     ensures cause { (before now : ℕ) → IfErr result (HasPlanCause before now) }
 {
@@ -84,8 +94,10 @@ pub fn check_optional_addresses<D: Disks>(
 ) -> Result<(), PlanFault>
     requires few { IfSome file.now HasFewPlaces }
     requires runs { IfSome file.now HasRuns }
-    ensures decided { (config : model.Config) → NamesAs naming config → IfSome (option_map file_view file.now) (LiesOnDisk volume.now.span.disk)
-        → Decides result (if_there (mapped_file_check config (machine_for volume.now) (opt_view option)) (option_map file_view file.now)) }
+    ensures decided { (config : model.Config) → NamesAs naming config
+        → IfSome (option_map file_view file.now) (LiesOnDisk volume.now.span.disk)
+        → Decides result (if_there (mapped_file_check config (machine_for volume.now) (opt_view option))
+        (option_map file_view file.now)) }
     ensures cause { (before now : ℕ) → IfErr result (HasPlanCause before now) }
 {
     match file {
@@ -103,7 +115,8 @@ fn check_file_addresses<D: Disks>(
 ) -> Result<(), PlanFault>
     requires few { HasFewPlaces file.now }
     requires runs { HasRuns file.now }
-    ensures decided { (config : model.Config) → NamesAs naming config → LiesOnDisk volume.now.span.disk (file_view file.now)
+    ensures decided { (config : model.Config) → NamesAs naming config
+        → LiesOnDisk volume.now.span.disk (file_view file.now)
         → Decides result (mapped_file_check config (machine_for volume.now) (opt_view option) (file_view file.now)) }
     ensures cause { (before now : ℕ) → IfErr result (HasPlanCause before now) }
 {

@@ -4,7 +4,15 @@ ghost use Rattle.std.specs.Option.{option_map};
 ghost use Rattle.mbr_table.specs.View.{device_view};
 ghost use Rattle.minix_zones.specs.Volume.{sizes_of, faults_of, SameVolume};
 ghost use Rattle.slot_lists.specs.Made.{place_view};
-ghost use Rattle.map_plan.specs.Devices.{device_planned, table_planned, system_planned, sectors_view, IsThereIn, HasDisks, IsOnFour};
+ghost use Rattle.map_plan.specs.Devices.{
+  device_planned,
+  table_planned,
+  system_planned,
+  sectors_view,
+  IsThereIn,
+  HasDisks,
+  IsOnFour,
+};
 ghost use Rattle.map_plan.specs.Sound.{OnVolume};
 ghost use Rattle.map_plan.specs.View.{Gives, HasPlanCause};
 

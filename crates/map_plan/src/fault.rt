@@ -51,8 +51,10 @@ pub enum PlanFault {
 
 // How a path's refusal is reported.
 pub(crate) fn path_fault(alloc: Global, path: &[u8], fault: TreeFault) -> PlanFault
-    ensures fault { (found : Result MappedFile model.TreeFault) → trees.Refuses fault found → Refuses result (with_fault (path_fault path.now) found) }
-    ensures start { (found : Result FileStart model.TreeFault) → trees.Refuses fault found → Refuses result (with_fault (path_fault path.now) found) }
+    ensures fault { (found : Result MappedFile model.TreeFault) → trees.Refuses fault found
+        → Refuses result (with_fault (path_fault path.now) found) }
+    ensures start { (found : Result FileStart model.TreeFault) → trees.Refuses fault found
+        → Refuses result (with_fault (path_fault path.now) found) }
     ensures cause { (before now : ℕ) → HasFileCause before now fault → HasPlanCause before now result }
 {
     match fault {

@@ -8,7 +8,16 @@ ghost use Rattle.lilo_model.specs.Plan.{MappedFile};
 ghost use Rattle.lilo_conf.specs.View.{section_view};
 ghost use Rattle.minix_zones.specs.Volume.{volume_view, past_of, faults_of, SameVolume};
 ghost use Rattle.file_runs.specs.Mapped.{file_view};
-ghost use Rattle.map_plan.specs.Files.{AllFiles, HasFewPlaces, HasRuns, file_planned, kernel_by, kernel_planned, kernel_view, optional_planned};
+ghost use Rattle.map_plan.specs.Files.{
+  AllFiles,
+  HasFewPlaces,
+  HasRuns,
+  file_planned,
+  kernel_by,
+  kernel_planned,
+  kernel_view,
+  optional_planned,
+};
 ghost use Rattle.map_plan.specs.View.{Gives, HasPlanCause, Refuses};
 
 use crate::fault::{PlanFault, path_fault};
@@ -55,7 +64,8 @@ pub struct KernelFiles {
     pub initrd: Option<FileRuns>,
 }
 
-/// The files of a kernel's section: on a sound volume what the plan maps, or refuses; `None` where the section is optional and its kernel isn't there.
+/// The files of a kernel's section: on a sound volume what the plan maps, or refuses; `None` where the section is
+/// optional and its kernel isn't there.
 ///
 /// # Errors
 ///
@@ -66,7 +76,8 @@ pub fn map_kernel<D: Disks>(
     section: &Section,
 ) -> Result<Option<KernelFiles>, PlanFault>
     // What is answered.
-    ensures files { Told (past_of volume.old) (λ now. IsSound (volume_view volume.old) now → Gives (kernel_view section.now) result
+    ensures files { Told (past_of volume.old)
+        (λ now. IsSound (volume_view volume.old) now → Gives (kernel_view section.now) result
         (kernel_planned (volume_view volume.old) (parts_of (volume_view volume.old) now) (section_view section.now))) }
     ensures few { IfOk result (λ found. IfSome found (λ files. AllFiles HasFewPlaces files)) }
     ensures runs { volume.old.span.disk ≤ 3 → IfOk result (λ found. IfSome found (λ files. AllFiles HasRuns files)) }
@@ -87,7 +98,8 @@ pub fn map_kernel<D: Disks>(
 // What comes of a section whose kernel was refused.
 fn without_kernel(section: &Section, fault: PlanFault) -> Result<Option<KernelFiles>, PlanFault>
     ensures files { (main : Result MappedFile _) (initrd : Result (Option MappedFile) _) → Refuses fault main
-        → Gives (kernel_view section.now) result (kernel_by (section_view section.now) section.now.optional main initrd) }
+        → Gives (kernel_view section.now) result
+        (kernel_by (section_view section.now) section.now.optional main initrd) }
     ensures none { IfOk result (λ found. found ≡ None) }
     ensures cause { (before now : ℕ) → HasPlanCause before now fault → IfErr result (HasPlanCause before now) }
 {
@@ -103,7 +115,8 @@ pub(crate) fn map_optional<D: Disks>(
     volume: &mut Volume<'_, D>,
     path: &Option<Text>,
 ) -> Result<Option<FileRuns>, PlanFault>
-    ensures file { Told (past_of volume.old) (λ now. IsSound (volume_view volume.old) now → Gives (option_map file_view) result
+    ensures file { Told (past_of volume.old)
+        (λ now. IsSound (volume_view volume.old) now → Gives (option_map file_view) result
         (optional_planned (volume_view volume.old) (parts_of (volume_view volume.old) now) path.now)) }
     ensures few { IfOk result (λ found. IfSome found HasFewPlaces) }
     ensures runs { volume.old.span.disk ≤ 3 → IfOk result (λ found. IfSome found HasRuns) }

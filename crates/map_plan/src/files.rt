@@ -64,7 +64,8 @@ pub fn find_files<D: Disks>(
     requires lawful { IsLawful (config_view config.now) }
 
     // What is answered.
-    ensures files { (time : ℕ) → OnSound volume.old (λ now machine. Gives (files_view (config_view config.now) time) result
+    ensures files { (time : ℕ) → OnSound volume.old
+        (λ now machine. Gives (files_view (config_view config.now) time) result
         (files_planned now machine (volume_view volume.old) (config_view config.now) time)) }
     ensures names { IfOk result (λ files. files.names ≡ names_of (planned_views files.sections.items)) }
     ensures fits { IfOk result (FitsFiles (sizes_of volume.old)) }

@@ -146,7 +146,8 @@ pub fn check_kernel<D: Disks>(
     requires middle { middle.now ≡ middle_text (section_view section.now) }
     requires short { length middle.now < 2 ^ 18 }
     ensures kernel { OnSound volume.old (λ now machine.
-        kernel_planned (volume_view volume.old) (parts_of (volume_view volume.old) now) (section_view section.now) ≡ Ok (kernel_view section.now (Some files.now))
+        kernel_planned (volume_view volume.old) (parts_of (volume_view volume.old) now) (section_view section.now)
+        ≡ Ok (kernel_view section.now (Some files.now))
         → Gives (λ done. tt) result (kernel_check (names_in (volume_view volume.old) now) (section_view section.now))) }
     ensures cause { IfErr result (HasPlanCause (faults_of volume.old) (faults_of volume.new)) }
     ensures later { faults_of volume.old ≤ faults_of volume.new }
@@ -190,7 +191,8 @@ fn check_names(
     requires lawful { IsLawfulSection (section_view section.now) }
     requires short { length middle.now < 2 ^ 18 }
     ensures { seen (λ (done : Unit {0}). done) setup_fault_view result
-        ≡ names_fit (start_view start.now) (option_map (λ file. file.size) initrd.now) (length middle.now) (names_of_section (section_view section.now)) }
+        ≡ names_fit (start_view start.now) (option_map (λ file. file.size) initrd.now) (length middle.now)
+        (names_of_section (section_view section.now)) }
 {
     let initrd = size_of(initrd);
     let middle = middle.bytes().len() as u32;
@@ -245,7 +247,8 @@ pub fn check_sections<D: Disks>(
     requires { All (FitsSection (sizes_of volume.old)) sections.now }
     ensures sections { OnSound volume.old (λ now machine.
         All (λ planned. IsPlannedIn now machine (volume_view volume.old) (planned_view planned)) sections.now
-        → Gives (λ done. tt) result (each_passes (mapped_check now (volume_view volume.old) (span_view boot)) (planned_views sections.now))) }
+        → Gives (λ done. tt) result (each_passes (mapped_check now (volume_view volume.old) (span_view boot))
+        (planned_views sections.now))) }
     ensures cause { IfErr result (HasPlanCause (faults_of volume.old) (faults_of volume.new)) }
     ensures later { faults_of volume.old ≤ faults_of volume.new }
     ensures same { SameVolume volume.old volume.new }
@@ -266,7 +269,8 @@ fn check_section<D: Disks>(
     requires { FitsSection (sizes_of volume.old) planned.now }
     ensures section { OnSound volume.old (λ now machine.
         IsPlannedIn now machine (volume_view volume.old) (planned_view planned.now)
-        → Gives (λ done. tt) result (mapped_check now (volume_view volume.old) (span_view boot) (planned_view planned.now))) }
+        → Gives (λ done. tt) result (mapped_check now (volume_view volume.old) (span_view boot)
+        (planned_view planned.now))) }
     ensures cause { IfErr result (HasPlanCause (faults_of volume.old) (faults_of volume.new)) }
     ensures later { faults_of volume.old ≤ faults_of volume.new }
     ensures same { SameVolume volume.old volume.new }

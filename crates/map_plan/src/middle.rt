@@ -66,7 +66,8 @@ fn add_number(bytes: &mut Vec<u8>, number: u16) -> Result<(), AllocError>
 
 // A number in hexadecimal, without leading zeros.
 fn add_hex(bytes: &mut Vec<u8>, number: u16) -> Result<(), AllocError>
-    ensures { (more : ℕ) → number < 16 * 16 ^ more → OnOk result (bytes.new.items ≡ bytes.old.items ++ hex_digits (suc more) number) }
+    ensures { (more : ℕ) → number < 16 * 16 ^ more
+        → OnOk result (bytes.new.items ≡ bytes.old.items ++ hex_digits (suc more) number) }
 {
     if number < 16 {
         bytes.push(hex_digit(number))?;

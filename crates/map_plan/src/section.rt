@@ -5,7 +5,16 @@ ghost use Rattle.lilo_model.specs.Plan.{kept_middle};
 ghost use Rattle.lilo_model.specs.Planned.{mapped_section};
 ghost use Rattle.lilo_conf.specs.View.{section_view, sections_view};
 ghost use Rattle.minix_zones.specs.Volume.{volume_view, sizes_of, faults_of, SameVolume};
-ghost use Rattle.map_plan.specs.Sections.{section_planned, sections_planned, found_view, files_view, planned_views, with_section, FitsKind, FitsSection};
+ghost use Rattle.map_plan.specs.Sections.{
+  section_planned,
+  sections_planned,
+  found_view,
+  files_view,
+  planned_views,
+  with_section,
+  FitsKind,
+  FitsSection,
+};
 ghost use Rattle.map_plan.specs.Skipped.{skipped_path, skipped_paths};
 ghost use Rattle.map_plan.specs.Sound.{OnSound};
 ghost use Rattle.map_plan.specs.View.{Gives, HasPlanCause};
@@ -98,7 +107,8 @@ fn add_section<D: Disks>(
         → OnOk result (All (FitsSection (sizes_of volume.old)) found.new.planned.items) }
     ensures few { OnOk result (length found.new.planned.items ≤ length found.old.planned.items + 1) }
     ensures skipped { OnOk result (OnSound volume.old (λ now machine. found.new.skipped.items ≡ found.old.skipped.items
-        ++ skipped_path (section_view section.now) (mapped_section now machine (volume_view volume.old) (section_view section.now)))) }
+        ++ skipped_path (section_view section.now)
+        (mapped_section now machine (volume_view volume.old) (section_view section.now)))) }
     ensures cause { IfErr result (HasPlanCause (faults_of volume.old) (faults_of volume.new)) }
     ensures later { faults_of volume.old ≤ faults_of volume.new }
     ensures same { SameVolume volume.old volume.new }

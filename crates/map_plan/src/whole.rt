@@ -86,8 +86,10 @@ fn check_held<D: Disks>(
     requires lawful { IsLawful (config_view config.now) }
     requires fits { FitsFiles (sizes_of volume.old) files.now }
     ensures held { (time : ℕ) → OnSound volume.old (λ now machine.
-        files_planned now machine (volume_view volume.old) (config_view config.now) time ≡ Ok (files_view (config_view config.now) time files.now)
-        → Gives (λ done. tt) result (held_checks now machine (volume_view volume.old) (span_view boot) (files_view (config_view config.now) time files.now))) }
+        files_planned now machine (volume_view volume.old) (config_view config.now) time
+        ≡ Ok (files_view (config_view config.now) time files.now)
+        → Gives (λ done. tt) result (held_checks now machine (volume_view volume.old) (span_view boot)
+        (files_view (config_view config.now) time files.now))) }
     ensures cause { IfErr result (HasPlanCause (faults_of volume.old) (faults_of volume.new)) }
     ensures later { faults_of volume.old ≤ faults_of volume.new }
     ensures same { SameVolume volume.old volume.new }
@@ -117,7 +119,8 @@ fn check_places<D: Disks>(
     ensures decided { (time : ℕ)
         → IfSome (files_view (config_view config.now) time files.now).message (LiesOnDisk volume.now.span.disk)
         → All (λ planned. SectionLiesOnDisk volume.now.span.disk (planned_view planned)) files.now.sections.items
-        → Decides result (address_checks (machine_for volume.now) (files_view (config_view config.now) time files.now)) }
+        → Decides result (address_checks (machine_for volume.now)
+        (files_view (config_view config.now) time files.now)) }
     ensures cause { (before now : ℕ) → IfErr result (HasPlanCause before now) }
 {
     let naming = MapNaming {

@@ -34,8 +34,8 @@ impl MapPlan {
     ghost use Rattle.map_sectors.specs.Map.{plan_view, HasGeometries};
     ghost use Rattle.map_sectors.specs.Places.{LieOnFour};
 
-    /// Writes the boot sector of the map whose sectors lie at places: its fields, the code that is planned, and bytes 440
-    /// to 509, with the partition table, of the sector that is there.
+    /// Writes the boot sector of the map whose sectors lie at places: its fields, the code that is planned, and bytes
+    /// 440 to 509, with the partition table, of the sector that is there.
     #[tactic(auto, unfolding(lilo_model::specs::Plan::plan_boot_sector))]
     pub fn boot_sector(&self, places: &[DiskSector], present: &Sector, into: &mut Sector)
         requires { All (λ place. place.disk ≡ self.now.disk) places.now }
@@ -81,9 +81,11 @@ impl MapPlan {
 
     // The slot of the message's first section sector, if there is a message.
     fn message_slot(&self, places: &[DiskSector]) -> Option<Slot>
-        ensures value { (machine : Machine) → HasGeometries machine self.now.geometries → LieOnFour (map place_view places.now)
+        ensures value { (machine : Machine) → HasGeometries machine self.now.geometries
+            → LieOnFour (map place_view places.now)
             → option_map slot_view result ≡ option_map (λ file. slot_to (config_view self.now.config).mode machine
-            (place_of_sector (model.message_places (map place_view places.now)) 0)) (option_map file_view self.now.files.message) }
+            (place_of_sector (model.message_places (map place_view places.now)) 0))
+            (option_map file_view self.now.files.message) }
         ensures whole { IfSome result IsWritable }
     {
         match &self.files.message {
@@ -94,7 +96,8 @@ impl MapPlan {
 
     // The slots of the table's sectors.
     fn table_slots(&self, places: &[DiskSector]) -> ArrayVec<Slot, 6>
-        ensures value { (machine : Machine) → HasGeometries machine self.now.geometries → LieOnFour (map place_view places.now)
+        ensures value { (machine : Machine) → HasGeometries machine self.now.geometries
+            → LieOnFour (map place_view places.now)
             → map slot_view result.items ≡ map (λ index. slot_to (config_view self.now.config).mode machine
             (place_of_sector (map place_view places.now) index)) (range_with_len 1 3) }
         ensures three { length result.items ≡ 3 }

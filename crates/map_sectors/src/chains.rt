@@ -48,7 +48,8 @@ impl MapPlan {
     fn sections_size(&self, sections: &[PlannedSection]) -> u32
         requires kept { AllByRecursion IsKept sections.now }
         requires few { length sections.now ≤ 19 }
-        ensures size { (machine : Machine) → HasGeometries machine self.now.geometries → AllByRecursion (IsAccepted machine self.now) sections.now
+        ensures size { (machine : Machine) → HasGeometries machine self.now.geometries
+            → AllByRecursion (IsAccepted machine self.now) sections.now
             → result ≡ sum (map (section_size (config_view self.now.config) machine) (planned_views sections.now)) }
         ensures room { result ≤ 131072 * length sections.now }
     {
@@ -62,7 +63,8 @@ impl MapPlan {
     // How many sectors a section takes.
     pub(crate) fn section_size(&self, planned: &PlannedSection) -> u32
         requires { IsKept planned.now }
-        ensures size { (machine : Machine) → HasGeometries machine self.now.geometries → IsAccepted machine self.now planned.now
+        ensures size { (machine : Machine) → HasGeometries machine self.now.geometries
+            → IsAccepted machine self.now planned.now
             → result ≡ section_size (config_view self.now.config) machine (planned_view planned.now) }
         ensures room { result ≤ 131072 }
     {
@@ -99,7 +101,8 @@ impl MapPlan {
     pub(crate) fn optional_chain(&self, file: &Option<FileRuns>) -> u16
         requires few { IfSome file.now HasFewPlaces }
         requires runs { IfSome file.now HasRuns }
-        ensures { (machine : Machine) → HasGeometries machine self.now.geometries → IfSome (option_map file_view file.now) (IsNamed machine self.now)
+        ensures { (machine : Machine) → HasGeometries machine self.now.geometries
+            → IfSome (option_map file_view file.now) (IsNamed machine self.now)
             → result ≡ optional_chain (config_view self.now.config) machine (option_map file_view file.now) }
     {
         match file {
@@ -112,7 +115,8 @@ impl MapPlan {
     pub(crate) fn file_chain(&self, file: &FileRuns) -> u16
         requires few { HasFewPlaces file.now }
         requires runs { HasRuns file.now }
-        ensures { (machine : Machine) → HasGeometries machine self.now.geometries → IsNamed machine self.now (file_view file.now)
+        ensures { (machine : Machine) → HasGeometries machine self.now.geometries
+            → IsNamed machine self.now (file_view file.now)
             → result ≡ chain_for (config_view self.now.config) machine (file_view file.now) }
     {
         capped(section_sectors(self.slots_of(file.size, &file.runs)))
@@ -124,7 +128,8 @@ impl MapPlan {
         requires room { length (places_in runs.now) < 2 ^ 32 }
         ensures { (machine : Machine) → HasGeometries machine self.now.geometries
             → IsNamed machine self.now (record { size = size; places = places_in runs.now })
-            → result ≡ slots_for (config_view self.now.config) machine (record { size = size; places = places_in runs.now }) }
+            → result ≡ slots_for (config_view self.now.config) machine
+            (record { size = size; places = places_in runs.now }) }
     {
         if !self.config.compact {
             return sectors_of(runs.items());

@@ -40,9 +40,11 @@ impl MapPlan {
         name: &[u8],
     ) -> Descriptor
         requires { IsKept planned.now }
-        ensures value { (machine : Machine) → HasGeometries machine self.now.geometries → IsAccepted machine self.now planned.now
+        ensures value { (machine : Machine) → HasGeometries machine self.now.geometries
+            → IsAccepted machine self.now planned.now
             → LieOnFour (map place_view places.now) → length name.now ≤ 15 → descriptor_view result
-            ≡ descriptor_for (config_view self.now.config) machine (planned_view planned.now) (map place_view places.now) name.now }
+            ≡ descriptor_for (config_view self.now.config) machine (planned_view planned.now)
+            (map place_view places.now) name.now }
         ensures slots { HasEntrySlots result }
     {
         Descriptor {
@@ -63,10 +65,12 @@ impl MapPlan {
     // The slot of the initial ramdisk's first section sector.
     fn initrd_slot(&self, planned: &PlannedSection, places: &[DiskSector]) -> Option<Slot>
         requires { IsKept planned.now }
-        ensures value { (machine : Machine) → HasGeometries machine self.now.geometries → IsAccepted machine self.now planned.now
+        ensures value { (machine : Machine) → HasGeometries machine self.now.geometries
+            → IsAccepted machine self.now planned.now
             → LieOnFour (map place_view places.now) → option_map slot_view result
             ≡ option_map (λ file. slot_to (config_view self.now.config).mode machine
-            (place_of_sector (model.initrd_places (config_view self.now.config) machine (planned_view planned.now) (map place_view places.now)) 0)) (initrd_view planned.now.files) }
+            (place_of_sector (model.initrd_places (config_view self.now.config) machine (planned_view planned.now)
+            (map place_view places.now)) 0)) (initrd_view planned.now.files) }
         ensures whole { IfSome result IsWritable }
     {
         if has_initrd(&planned.files) {
@@ -78,9 +82,11 @@ impl MapPlan {
 
     // The slot of the extra sector.
     fn extra_slot(&self, section: &Section, places: &[DiskSector]) -> Option<Slot>
-        ensures value { (machine : Machine) → HasGeometries machine self.now.geometries → LieOnFour (map place_view places.now)
+        ensures value { (machine : Machine) → HasGeometries machine self.now.geometries
+            → LieOnFour (map place_view places.now)
             → option_map slot_view result ≡ (if needs_extra (section_view section.now)
-            then Some (slot_to (config_view self.now.config).mode machine (place_of_sector (map place_view places.now) 1)) else None) }
+            then Some (slot_to (config_view self.now.config).mode machine
+            (place_of_sector (map place_view places.now) 1)) else None) }
         ensures whole { IfSome result IsWritable }
     {
         if section.password.is_some() || section.fallback.is_some() {

@@ -29,8 +29,10 @@ impl MapPlan {
 
     // The slot of a place among some.
     pub(crate) fn slot_at(&self, places: &[DiskSector], index: usize) -> Slot
-        ensures value { (machine : Machine) → HasGeometries machine self.now.geometries → LieOnFour (map place_view places.now)
-            → slot_view result ≡ slot_to (config_view self.now.config).mode machine (place_of_sector (map place_view places.now) index) }
+        ensures value { (machine : Machine) → HasGeometries machine self.now.geometries
+            → LieOnFour (map place_view places.now)
+            → slot_view result ≡ slot_to (config_view self.now.config).mode machine
+            (place_of_sector (map place_view places.now) index) }
         ensures whole { IsWritable result }
     {
         self.slot(place_at(places, index))
@@ -65,8 +67,10 @@ impl MapPlan {
         places: &'a [DiskSector],
     ) -> &'a [DiskSector]
         requires { IsKept planned.now }
-        ensures { (machine : Machine) → HasGeometries machine self.now.geometries → IsAccepted machine self.now planned.now
-            → map place_view result.now ≡ model.initrd_places (config_view self.now.config) machine (planned_view planned.now) (map place_view places.now) }
+        ensures { (machine : Machine) → HasGeometries machine self.now.geometries
+            → IsAccepted machine self.now planned.now
+            → map place_view result.now ≡ model.initrd_places (config_view self.now.config) machine
+            (planned_view planned.now) (map place_view places.now) }
     {
         let main = main_places(&planned.section, places);
         after(main, usize::from(self.main_chain(&planned.files)))
@@ -79,8 +83,10 @@ impl MapPlan {
         places: &'a [DiskSector],
     ) -> &'a [DiskSector]
         requires { IsKept planned.now }
-        ensures { (machine : Machine) → HasGeometries machine self.now.geometries → IsAccepted machine self.now planned.now
-            → map place_view result.now ≡ model.places_after (config_view self.now.config) machine (planned_view planned.now) (map place_view places.now) }
+        ensures { (machine : Machine) → HasGeometries machine self.now.geometries
+            → IsAccepted machine self.now planned.now
+            → map place_view result.now ≡ model.places_after (config_view self.now.config) machine
+            (planned_view planned.now) (map place_view places.now) }
     {
         let initrd = self.initrd_places(planned, places);
         after(initrd, usize::from(self.initrd_chain(&planned.files)))
@@ -89,7 +95,8 @@ impl MapPlan {
     // The places of the sections.
     pub(crate) fn sections_places<'a>(&self, places: &'a [DiskSector]) -> &'a [DiskSector]
         ensures { (machine : Machine) → IsFor machine self.now
-            → map place_view result.now ≡ model.sections_places (plan_view self.now) machine (map place_view places.now) }
+            → map place_view result.now ≡ model.sections_places (plan_view self.now) machine
+            (map place_view places.now) }
     {
         let message = after(places, 5);
         after(

@@ -30,7 +30,8 @@ impl MapPlan {
     // Writes one of the three sectors of the table; another index leaves the sector as it is.
     pub(crate) fn write_table(&self, index: u32, places: &[DiskSector], into: &mut Sector)
         ensures { (machine : Machine) → IsFor machine self.now → LieOnFour (map place_view places.now)
-            → into.new ≡ slice_index_or (sectors_of_table (plan_entries (plan_view self.now) machine (map place_view places.now))) index into.old }
+            → into.new ≡ slice_index_or (sectors_of_table
+            (plan_entries (plan_view self.now) machine (map place_view places.now))) index into.old }
     {
         write_sector(&self.table(places), index, into);
     }
@@ -39,7 +40,8 @@ impl MapPlan {
     #[tactic(auto, unfolding(lilo_model::specs::Plan::plan_entries))]
     fn table(&self, places: &[DiskSector]) -> Table
         ensures entries { (machine : Machine) → IsFor machine self.now → LieOnFour (map place_view places.now)
-            → map descriptor_view result.entries.items ≡ plan_entries (plan_view self.now) machine (map place_view places.now) }
+            → map descriptor_view result.entries.items
+            ≡ plan_entries (plan_view self.now) machine (map place_view places.now) }
         ensures slots { All HasEntrySlots result.entries.items }
     {
         let mut entries = ArrayVec::new();
@@ -58,9 +60,12 @@ impl MapPlan {
         requires kept { AllByRecursion IsKept sections.now }
         requires room { length entries.old.items + 2 * length sections.now ≤ 48 }
         requires slots { All HasEntrySlots entries.old.items }
-        ensures entries { (machine : Machine) → HasGeometries machine self.now.geometries → AllByRecursion (IsAccepted machine self.now) sections.now
-            → LieOnFour (map place_view places.now) → map descriptor_view entries.new.items ≡ map descriptor_view entries.old.items
-            ++ sections_entries (config_view self.now.config) machine (planned_views sections.now) (map place_view places.now) }
+        ensures entries { (machine : Machine) → HasGeometries machine self.now.geometries
+            → AllByRecursion (IsAccepted machine self.now) sections.now
+            → LieOnFour (map place_view places.now) → map descriptor_view entries.new.items
+            ≡ map descriptor_view entries.old.items
+            ++ sections_entries (config_view self.now.config) machine (planned_views sections.now)
+            (map place_view places.now) }
         ensures slots { All HasEntrySlots entries.new.items }
     {
         if sections.is_empty() {
@@ -82,9 +87,12 @@ impl MapPlan {
         requires kept { IsKept planned.now }
         requires room { length entries.old.items + 2 ≤ 48 }
         requires slots { All HasEntrySlots entries.old.items }
-        ensures entries { (machine : Machine) → HasGeometries machine self.now.geometries → IsAccepted machine self.now planned.now
-            → LieOnFour (map place_view places.now) → map descriptor_view entries.new.items ≡ map descriptor_view entries.old.items
-            ++ map (descriptor_for (config_view self.now.config) machine (planned_view planned.now) (map place_view places.now)) (names_of_section (section_view planned.now.section)) }
+        ensures entries { (machine : Machine) → HasGeometries machine self.now.geometries
+            → IsAccepted machine self.now planned.now
+            → LieOnFour (map place_view places.now) → map descriptor_view entries.new.items
+            ≡ map descriptor_view entries.old.items
+            ++ map (descriptor_for (config_view self.now.config) machine (planned_view planned.now)
+            (map place_view places.now)) (names_of_section (section_view planned.now.section)) }
         ensures slots { All HasEntrySlots entries.new.items }
         ensures few { length entries.new.items ≤ length entries.old.items + 2 }
     {
@@ -114,7 +122,8 @@ fn add(entries: &mut ArrayVec<Descriptor, 48>, entry: Descriptor)
 #[tactic(auto, unfolding(lilo_model::specs::Plan::sectors_of_table))]
 fn write_sector(table: &Table, index: u32, into: &mut Sector)
     requires { All HasEntrySlots table.now.entries.items }
-    ensures { length table.now.entries.items ≤ 24 → into.new ≡ slice_index_or (sectors_of_table (table_view table.now)) index into.old }
+    ensures { length table.now.entries.items ≤ 24 → into.new
+        ≡ slice_index_or (sectors_of_table (table_view table.now)) index into.old }
 {
     if index > 2 {
         return;

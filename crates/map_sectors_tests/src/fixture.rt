@@ -20,8 +20,8 @@ const GEOMETRY: Geometry = Geometry {
 // Where the first sector of a map lies, in hexadecimal 0x1A4.
 pub const MAP_START: u32 = 420;
 
-// A volume of version 2 with names of 14 bytes, in 400 sectors after 9 others: 16 inodes in block 4, 200 zones, the first
-// data zone 6. Zone n lies in the disk's sectors 9 + 2n and 10 + 2n.
+// A volume of version 2 with names of 14 bytes, in 400 sectors after 9 others: 16 inodes in block 4, 200 zones, the
+// first data zone 6. Zone n lies in the disk's sectors 9 + 2n and 10 + 2n.
 fn superblock() -> Sector {
     let mut sector: Sector = [0; 512];
     put_u16(&mut sector, 0, 16);

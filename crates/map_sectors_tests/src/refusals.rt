@@ -127,9 +127,9 @@ fn comes_before(
     Ok(all)
 }
 
-// Files in the order of the configuration; a default that is omitted; what files hold; addresses. What has two faults in one
-// place: the long message is too far, and so are the short kernels and the partition without a signature; the first disk's
-// first sector, the boot sector, has none either.
+// Files in the order of the configuration; a default that is omitted; what files hold; addresses. What has two faults
+// in one place: the long message is too far, and so are the short kernels and the partition without a signature; the
+// first disk's first sector, the boot sector, has none either.
 #[test]
 fn of_two_faults_the_first_is_reported(rt: HostRuntime) -> Result<(), Fail> {
     let faults = [

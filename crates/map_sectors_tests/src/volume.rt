@@ -1,4 +1,5 @@
-// A volume with files that no map can have, byte by byte, on a disk of one head and one sector per track; and plans on it.
+// A volume with files that no map can have, byte by byte, on a disk of one head and one sector per track; and plans on
+// it.
 ghost use Rattle.std.specs.Prelude.{◌≡◌, IfOk};
 ghost use Rattle.lilo_model.specs.ConfLawful.{IsLawful};
 ghost use Rattle.lilo_conf.specs.View.{config_view};
@@ -19,8 +20,8 @@ const GEOMETRY: Geometry = Geometry {
     sectors: 1,
 };
 
-// A volume of version 2 with names of 14 bytes, in 1600 sectors after 8 others: 16 inodes in block 4, 800 zones, the first
-// data zone 6. Zone n lies in the disk's sectors 8 + 2n and 9 + 2n.
+// A volume of version 2 with names of 14 bytes, in 1600 sectors after 8 others: 16 inodes in block 4, 800 zones, the
+// first data zone 6. Zone n lies in the disk's sectors 8 + 2n and 9 + 2n.
 fn superblock() -> Sector {
     let mut sector: Sector = [0; 512];
     put_u16(&mut sector, 0, 16);
@@ -32,8 +33,8 @@ fn superblock() -> Sector {
     sector
 }
 
-// The root in zone 13. Of the files 3 and 4 are too short for kernels, and 8 is too long for a message. The sectors of 3 to
-// 8 are too far.
+// The root in zone 13. Of the files 3 and 4 are too short for kernels, and 8 is too long for a message. The sectors of
+// 3 to 8 are too far.
 fn inodes() -> Sector {
     let mut sector: Sector = [0; 512];
     put_inode(&mut sector, 0, 0o040755, 192, &[13]);
@@ -47,8 +48,8 @@ fn inodes() -> Sector {
     sector
 }
 
-// Two kernels that say 0 setup sectors, the first of them with a byte less than the real-mode part of 5 sectors; and 4,128,706
-// sectors of a hole.
+// Two kernels that say 0 setup sectors, the first of them with a byte less than the real-mode part of 5 sectors; and
+// 4,128,706 sectors of a hole.
 fn later_inodes() -> Sector {
     let mut sector: Sector = [0; 512];
     put_inode(&mut sector, 0, 0o100644, 2559, &[40, 41, 42]);
@@ -90,7 +91,8 @@ fn table() -> Sector {
     sector
 }
 
-/// Two disks of 2048 sectors: the first with the volume, the second with partitions, of which the first has a boot sector.
+/// Two disks of 2048 sectors: the first with the volume, the second with partitions, of which the first has a boot
+/// sector.
 pub fn disks(alloc: Global) -> Result<MemDisks, AllocError> {
     let disk = MemDisk {
         sectors: 2048,

@@ -13,13 +13,13 @@ use disk_trait::Disks;
 use minix_write::WriteHalt;
 use minix_zones::Volume;
 
-/// Makes a file of what was chosen, or a directory with nothing in it but `.` and `..`. Its blocks are given, also those of
-/// holes, which aren't written.
+/// Makes a file of what was chosen, or a directory with nothing in it but `.` and `..`. Its blocks are given, also
+/// those of holes, which aren't written.
 ///
 /// # Errors
 ///
-/// `Device` where the disk failed, and then the file isn't there, or the whole of it is; where the disks report their past
-/// no other comes. Where they don't, those of [`grow_directory`](crate::grow_directory) too.
+/// `Device` where the disk failed, and then the file isn't there, or the whole of it is; where the disks report their
+/// past no other comes. Where they don't, those of [`grow_directory`](crate::grow_directory) too.
 pub fn create<'d, D: Disks>(
     volume: Volume<'d, D>,
     chosen: Chosen,

@@ -23,8 +23,8 @@ impl<'d, D: Disks> Filled<'d, D> {
     ///
     /// # Errors
     ///
-    /// `Device` where the disk failed, and then the name is there or not; where the disks report their past no other comes.
-    /// Where they don't, those of [`grow_directory`](crate::grow_directory) too.
+    /// `Device` where the disk failed, and then the name is there or not; where the disks report their past no other
+    /// comes. Where they don't, those of [`grow_directory`](crate::grow_directory) too.
     pub fn link(self) -> Result<(Volume<'d, D>, Linked), WriteHalt<'d, D>>
         requires { IsInPlace self }
         ensures linked { IfOk result (Links self.entry) }

@@ -45,8 +45,8 @@ fn are_data(layout: &Super, zones: &[u32]) -> bool
     true
 }
 
-/// Whether a directory can have the place of what is chosen, all before it lie below its size, and the zones of growth are
-/// data zones. So it is on disks that report their past.
+/// Whether a directory can have the place of what is chosen, all before it lie below its size, and the zones of growth
+/// are data zones. So it is on disks that report their past.
 fn has_room(layout: &Super, chosen: &Chosen, node: &Inode) -> bool
     ensures { result ≡ true ↔ HasRoom layout.now chosen.now node.now }
 {
@@ -57,8 +57,8 @@ fn has_room(layout: &Super, chosen: &Chosen, node: &Inode) -> bool
         && are_data(layout, chosen.choice.growth())
 }
 
-/// Brings the place of what is chosen below the directory's size, where all before it lie there, with the zones that are
-/// missing on the way to it.
+/// Brings the place of what is chosen below the directory's size, where all before it lie there, with the zones that
+/// are missing on the way to it.
 fn grow_last<D: Disks>(
     volume: &mut Volume<'_, D>,
     chosen: &Chosen,
@@ -88,8 +88,8 @@ fn grow_last<D: Disks>(
     }
 }
 
-/// Brings a place of the directory below its size, with all before it, where so many lie there. So many are more than one
-/// where files whose names were to be made there weren't made.
+/// Brings a place of the directory below its size, with all before it, where so many lie there. So many are more than
+/// one where files whose names were to be made there weren't made.
 fn grow_to<D: Disks>(
     volume: &mut Volume<'_, D>,
     chosen: &Chosen,
@@ -130,13 +130,13 @@ pub(crate) fn grow_chosen<D: Disks>(
     grow_to(volume, chosen, have)
 }
 
-/// Brings the place of what is chosen below its directory's size, in a zone that the directory has: with the places before
-/// it, and with the zones that were chosen for growth where they are missing. No name sees it at any moment.
+/// Brings the place of what is chosen below its directory's size, in a zone that the directory has: with the places
+/// before it, and with the zones that were chosen for growth where they are missing. No name sees it at any moment.
 ///
 /// # Errors
 ///
-/// `Device` where the disk failed, and where the disks report their past no other. Where they don't, `NoSpace` or `Tree`
-/// too: the directory can't be read, isn't as chosen, or has a zone outside.
+/// `Device` where the disk failed, and where the disks report their past no other. Where they don't, `NoSpace` or
+/// `Tree` too: the directory can't be read, isn't as chosen, or has a zone outside.
 pub fn grow_directory<'d, D: Disks>(
     volume: Volume<'d, D>,
     chosen: &Chosen,

@@ -71,7 +71,20 @@ impl Chosen {
 }
 
 impl<'d, D: Disks> Reserved<'d, D> {
-    ghost use Rattle.std.specs.Prelude.{◌≡◌, ◌≤◌, ◌<◌, if◌then◌else◌, nat_lt, Some, None, length, IfOk, IfErr, OnOk, OnErr};
+    ghost use Rattle.std.specs.Prelude.{
+      ◌≡◌,
+      ◌≤◌,
+      ◌<◌,
+      if◌then◌else◌,
+      nat_lt,
+      Some,
+      None,
+      length,
+      IfOk,
+      IfErr,
+      OnOk,
+      OnErr,
+    };
     ghost use Rattle.minix_create.specs.States.{IsInHand, WritesBlock, Fills, GoesWrong, Halts};
 
     /// The next block to be written: the first that is no hole after those that were.

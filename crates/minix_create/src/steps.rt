@@ -97,8 +97,8 @@ pub(crate) fn link_chosen<D: Disks>(
     enter_chosen(volume, chosen, at.zone)
 }
 
-/// Writes the entry of what is filled, and makes it durable. Before the name of a directory the links of the one above are
-/// raised.
+/// Writes the entry of what is filled, and makes it durable. Before the name of a directory the links of the one above
+/// are raised.
 fn enter_chosen<D: Disks>(
     volume: &mut Volume<'_, D>,
     chosen: &Chosen,

@@ -4,7 +4,13 @@ ghost use Rattle.disk_trait.specs.Moments.{IsTold, now, IsQuiet};
 ghost use Rattle.lilo_model.specs.MinixEntries.{entries_per_block, places};
 ghost use Rattle.lilo_model.specs.MinixLayout.{FitsInode, is_size};
 ghost use Rattle.lilo_model.specs.MinixNames.{IsSound};
-ghost use Rattle.minix_grow.specs.Below.{MayHookBelowNow, HasFreeBlockNow, HooksBelowUnseen, HooksFreeBlock, WritesBelowAlone};
+ghost use Rattle.minix_grow.specs.Below.{
+  MayHookBelowNow,
+  HasFreeBlockNow,
+  HooksBelowUnseen,
+  HooksFreeBlock,
+  WritesBelowAlone,
+};
 ghost use Rattle.minix_grow.specs.Hook.{WritesInodeAlone};
 ghost use Rattle.minix_grow.specs.Others.{HookKeepsOthers, KeepsOthersNow};
 ghost use Rattle.minix_grow.specs.Places.{IsFreePlaceNow, size_to};

@@ -165,13 +165,13 @@ fn grow_from<D: Disks>(
 }
 
 /// Brings a place below a directory's size, so that it is free and lies in a zone of the directory, in whichever way is
-/// needed: the zone with its block is there, or new zones are hooked in the inode or in an indirect zone. No name sees it at
-/// any moment. Growth that was made before, also by half, isn't made again.
+/// needed: the zone with its block is there, or new zones are hooked in the inode or in an indirect zone. No name sees
+/// it at any moment. Growth that was made before, also by half, isn't made again.
 ///
 /// # Errors
 ///
-/// `Device`, and on disks that report no past `ZoneOutside`: of a number on the way that is no zone's, or of 0 where more
-/// zones are missing than are given.
+/// `Device`, and on disks that report no past `ZoneOutside`: of a number on the way that is no zone's, or of 0 where
+/// more zones are missing than are given.
 pub fn grow_directory<D: Disks>(
     volume: &mut Volume<'_, D>,
     directory: u32,

@@ -57,7 +57,8 @@ fn is_all(bytes: &[u8], byte: u8) -> bool {
     bytes.iter().all(|other| *other == byte)
 }
 
-// The inode that a name leads to, 0 where it isn't there, and a number of none for what isn't one of the three as it was.
+// The inode that a name leads to, 0 where it isn't there, and a number of none for what isn't one of the three as it
+// was.
 fn inode_of(alloc: Global, volume: &mut Volume<'_, MemDisks>, path: &[u8]) -> u32 {
     let number = match lookup_name(volume, path) {
         Ok(stat) => stat.inode,

@@ -21,8 +21,8 @@ const SPAN: Span = Span {
     count: 1300,
 };
 
-// 600 blocks, of which 597 have zones. Version 1 has 512 numbers in an indirect zone: one, and one below another. Version 2
-// has 256: one, and two below another.
+// 600 blocks, of which 597 have zones. Version 1 has 512 numbers in an indirect zone: one, and one below another.
+// Version 2 has 256: one, and two below another.
 const FILE: Wish<'static> = Wish {
     mode: 0o100644,
     length: 614_400,
@@ -150,7 +150,8 @@ fn is_there(alloc: Global, image: &mut MemDisks) -> Option<bool> {
     }
 }
 
-// Each image that a stop after so many events leaves has the file whole or not at all: the first event clears its entry.
+// Each image that a stop after so many events leaves has the file whole or not at all: the first event clears its
+// entry.
 fn look(rt: &impl Abort, alloc: Global, disks: &MemDisks, prefix: u32) -> Result<(), Fail> {
     assert!(rt; prefix <= disks.events());
     for choice in 0..choices(disks, prefix) {
@@ -184,8 +185,8 @@ fn remove_seen(
     Ok(bits_of(rt, &mut disks))
 }
 
-// The bitmaps are those from before the file was made. The removal takes an event for each zone's bit, one for that of the
-// inode, and a flush, after two for the entry and two for the inode.
+// The bitmaps are those from before the file was made. The removal takes an event for each zone's bit, one for that of
+// the inode, and a flush, after two for the entry and two for the inode.
 #[test]
 fn bitmaps_are_those_from_before(rt: HostRuntime) -> Result<(), Fail> {
     let alloc = rt.alloc();

@@ -23,8 +23,8 @@ const BEFORE: [u32; 5] = [2, 3, 2, 4, 0];
 // The first byte of each bitmap at first: inodes 1 to 5, and the zones of the root and of the four others.
 const ALL: u8 = 0b0011_1111;
 
-// A call with the events that it takes, the names after each of its turns, by the event that brings them about, counted from
-// 1, and what the first byte of each bitmap is then.
+// A call with the events that it takes, the names after each of its turns, by the event that brings them about, counted
+// from 1, and what the first byte of each bitmap is then.
 #[derive(Clone, Copy, Debug)]
 struct Scene {
     call: Call,
@@ -147,8 +147,8 @@ fn each_stop_has_the_names_before_or_after_or_both(rt: HostRuntime) -> Result<()
     Ok(())
 }
 
-// A call of the device fails, made or not: what the disks are then is as at that moment of the whole. Says whether there was
-// such a call.
+// A call of the device fails, made or not: what the disks are then is as at that moment of the whole. Says whether
+// there was such a call.
 fn fail(
     rt: &impl Abort,
     alloc: Global,

@@ -126,8 +126,8 @@ fn is_there(alloc: Global, image: &mut MemDisks) -> Option<bool> {
     }
 }
 
-// The place takes four events, the marks three, two blocks with the inode and a flush six, the entry two: the name comes
-// with the fourteenth.
+// The place takes four events, the marks three, two blocks with the inode and a flush six, the entry two: the name
+// comes with the fourteenth.
 #[test]
 fn each_stop_has_the_file_whole_or_not_at_all(rt: HostRuntime) -> Result<(), Fail> {
     let alloc = rt.alloc();
@@ -244,8 +244,8 @@ fn links_in(alloc: Global, image: &mut MemDisks) -> Option<Links> {
     })
 }
 
-// What a stop after so many events leaves, with these of the unflushed writes made. Each directory takes 15 events: the marks
-// three, its block two, its inode two, its place four, the links of the one above two, and its entry two.
+// What a stop after so many events leaves, with these of the unflushed writes made. Each directory takes 15 events: the
+// marks three, its block two, its inode two, its place four, the links of the one above two, and its entry two.
 fn links_then(prefix: u32, choice: u32) -> Links {
     Links {
         root: if is_made(12, prefix, choice) { 3 } else { 2 },

@@ -129,8 +129,8 @@ pub(crate) fn make_new(
     Ok(())
 }
 
-// Each image that a stop after so many events leaves has the file whole or not at all: its name comes with the last event but
-// one.
+// Each image that a stop after so many events leaves has the file whole or not at all: its name comes with the last
+// event but one.
 fn look(
     rt: &impl Abort,
     alloc: Global,
@@ -172,8 +172,8 @@ fn make_seen(
     Ok((after.saturating_sub(before), disks.events()))
 }
 
-// The root takes a zone more. It takes three events to mark both, two for the block, two for the inode; two to mark the zone
-// of the root again, three for its zeros, two for its pointer with the size; and two for the entry.
+// The root takes a zone more. It takes three events to mark both, two for the block, two for the inode; two to mark the
+// zone of the root again, three for its zeros, two for its pointer with the size; and two for the entry.
 #[test]
 fn a_full_root_gets_a_zone(rt: HostRuntime) -> Result<(), Fail> {
     let alloc = rt.alloc();

@@ -82,8 +82,8 @@ fn make_on(
     Ok(())
 }
 
-// Each image that a stop after so many events leaves has the file whole or not at all: its name comes with the last event but
-// one.
+// Each image that a stop after so many events leaves has the file whole or not at all: its name comes with the last
+// event but one.
 fn look(
     rt: &impl Abort,
     alloc: Global,
@@ -119,9 +119,9 @@ fn start(rt: &impl Abort, alloc: Global) -> Result<MemDisks, AllocError> {
     Ok(disks)
 }
 
-// What was done to make a file: an event for the inode's bit, one for all bits of its zones, and a flush; two for each zone; one
-// for the inode, and a flush; four for its place in the root, and two for its entry. So each zone is written once, each
-// sector of a bitmap once, and there are five flushes, whatever the file's length.
+// What was done to make a file: an event for the inode's bit, one for all bits of its zones, and a flush; two for each
+// zone; one for the inode, and a flush; four for its place in the root, and two for its entry. So each zone is written
+// once, each sector of a bitmap once, and there are five flushes, whatever the file's length.
 fn is_done_once(
     rt: &impl Abort,
     alloc: Global,
@@ -184,9 +184,9 @@ fn calls_of(rt: &impl Abort, alloc: Global, start: &MemDisks, file: File) -> Res
     Ok(high)
 }
 
-// What isn't a write or a flush is a read, of which there are as many whatever the file's length: 15. The superblock is read
-// once, and each bitmap's sector twice, to choose and to set its bits. The two sectors of the root are read to look for the
-// name, and one of them for its place and for its entry; that with the inodes six times.
+// What isn't a write or a flush is a read, of which there are as many whatever the file's length: 15. The superblock is
+// read once, and each bitmap's sector twice, to choose and to set its bits. The two sectors of the root are read to
+// look for the name, and one of them for its place and for its entry; that with the inodes six times.
 #[test]
 fn reads_dont_grow_with_the_file(rt: HostRuntime) -> Result<(), Fail> {
     let alloc = rt.alloc();

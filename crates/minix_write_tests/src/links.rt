@@ -14,7 +14,8 @@ use std::process::Abort;
 use std::test::Fail;
 use test_disks::{Untold, choices, image_left, made_again};
 
-// 300 inodes are in ten blocks. A directory takes a zone; the root takes nine for 257 entries of 32 bytes, and an indirect one.
+// 300 inodes are in ten blocks. A directory takes a zone; the root takes nine for 257 entries of 32 bytes, and an
+// indirect one.
 const ZONES: u16 = 300;
 
 // Three digits of a number.
@@ -50,7 +51,8 @@ fn make_directory(
     Ok(())
 }
 
-// The links of the root, and whether a directory is there, with its right `.` and `..`, where the survey refuses nothing.
+// The links of the root, and whether a directory is there, with its right `.` and `..`, where the survey refuses
+// nothing.
 fn links_in(alloc: Global, image: &mut MemDisks, number: u8) -> Option<(u16, bool)> {
     let span = span_of(ZONES);
     if image.size(0) < span.start + span.count {
@@ -113,8 +115,8 @@ fn look(
     Ok(())
 }
 
-// Whether each stop is looked at: of the first directory, of those for which the root grows by a zone in its inode and by the
-// first one below an indirect zone, and of the last ones.
+// Whether each stop is looked at: of the first directory, of those for which the root grows by a zone in its inode and
+// by the first one below an indirect zone, and of the last ones.
 fn is_seen(number: u8) -> bool {
     number == 0 || number == 30 || number == 222 || number > 251
 }

@@ -125,9 +125,9 @@ fn look(rt: &impl Abort, alloc: Global, disks: &MemDisks, prefix: u32) -> Result
     Ok(())
 }
 
-// The next block of the root is found through two indirect zones: with the file's the root takes four zones. It takes three
-// events to set all bits, two for the block, two for the inode; four to set those of the root again, seven for its three
-// zones, two for its pointer with the size; and two for the entry.
+// The next block of the root is found through two indirect zones: with the file's the root takes four zones. It takes
+// three events to set all bits, two for the block, two for the inode; four to set those of the root again, seven for
+// its three zones, two for its pointer with the size; and two for the entry.
 #[test]
 fn indirect_zones_grow_too(rt: HostRuntime) -> Result<(), Fail> {
     let alloc = rt.alloc();

@@ -35,8 +35,8 @@ fn start(rt: &impl Abort, alloc: Global, kind: FsKind) -> Result<MemDisks, Fail>
     Ok(disks)
 }
 
-// The first flush comes after the bits: the file isn't listed, and no zone has an owner but the root's, but an inode and three
-// zones have their bits.
+// The first flush comes after the bits: the file isn't listed, and no zone has an owner but the root's, but an inode
+// and three zones have their bits.
 #[test]
 fn a_stop_after_the_first_flush_leaves_bits_alone(rt: HostRuntime) -> Result<(), Fail> {
     let alloc = rt.alloc();

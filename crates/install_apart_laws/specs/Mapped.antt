@@ -1,40 +1,16 @@
 -- The files that a configuration's plan maps are none of those at the names that an installation replaces (rules of this
 -- project's own).
-use Rattle.std.specs.Prelude.{◌≡◌, ◌≢◌, ℕ, Bool, IfSome, List, is_some, Option, None, Some, Ok}
-use Rattle.std.specs.List.{AllByRecursion}
+use Rattle.std.specs.Prelude.{◌≡◌, ◌≢◌, ℕ, Bool, IfSome, is_some, Some, Ok}
 use Rattle.lilo_model.specs.Apart.{Apart}
-use Rattle.lilo_model.specs.Conf.{Config, ConfSection}
+use Rattle.lilo_model.specs.Conf.{Config}
 use Rattle.lilo_model.specs.Devices.{Device}
 use Rattle.lilo_model.specs.Disks.{Image, Machine}
 use Rattle.lilo_model.specs.MinixNames.{names_in, reached}
 use Rattle.lilo_model.specs.MinixParts.{Volume, parts_of}
 use Rattle.lilo_model.specs.NamePlaces.{with_tilde}
-use Rattle.lilo_model.specs.Planned.{file_inode}
 use Rattle.lilo_model.specs.Settled.{OwnNames, own_names}
 use Rattle.install_settle.specs.Settles.{stale_of}
-
--- ---- files that are mapped
-
--- a fact on the inode of the file that a path leads to, if there is one
-abbrev pub OnFile : Image → Volume → List ℕ → (ℕ → Type 0) → Type 0
-OnFile image volume path P = IfSome (file_inode volume (parts_of volume image) path) P
-
--- on that of a section's kernel, unless it boots another system
-abbrev pub OnKernel : Image → Volume → List ℕ → Option Device → (ℕ → Type 0) → Type 0
-OnKernel image volume path None P = OnFile image volume path P
-OnKernel image volume path (Some device) P = Unit {0}
-
--- on those of a section
-pub record OnSection (image : Image) (volume : Volume) (P : ℕ → Type 0) (section : ConfSection) : Type 0 where
-  pub kernel : OnKernel image volume section.path section.other P
-  pub initrd : IfSome section.initrd (λ path. OnFile image volume path P)
-
--- on each that a configuration's plan maps
-pub record OnMapped (image : Image) (volume : Volume) (config : Config) (P : ℕ → Type 0) : Type 0 where
-  pub message : IfSome config.message (λ path. OnFile image volume path P)
-  pub sections : AllByRecursion (OnSection image volume P) config.sections
-
--- ---- the law
+use Rattle.install_stage_laws.specs.Mapped.{OnMapped}
 
 -- an inode is at neither of the map's names, nor at a forced backup's, with `~` or without
 pub record IsNotReplaced (image : Image) (volume : Volume) (names : OwnNames) (forced : Bool) (number : ℕ) : Type 0 where

@@ -41,7 +41,7 @@ pub record IsForFile {D : Type 0} {disks : Ghosts D} (volume : Volume D disks) (
   pub suits : Suits volume.layout volume.span chosen
   pub mode : chosen.mode ≡ file_mode
   pub size : chosen.length ≡ 512
-  pub whole : HasNoHole chosen
+  pub whole : IsTold (past_of volume) → HasNoHole chosen
   pub long : length present ≡ 512
 
 absent-at : (volume : model.Volume) (image : Image) (outer : List (List ℕ)) (name : List ℕ) (directory : ℕ) → reached volume.layout (parts_of volume image) outer ≡ Some directory
@@ -95,7 +95,7 @@ module _ {D : Type 0} {disks : Ghosts D} (start mid : Volume D disks) (chosen : 
       leads-at =
           let L : List (List ℕ) → Thing → Type 0 = λ p what. LeadsPath start mid p (Some chosen.choice.inode) (Some what) result in
           subst (λ (p : List (List ℕ)). L p (File present)) make.ends
-          (subst (L (chosen.name ∷ path_above At)) (file-is chosen is.mode is.size is.whole present is.long) creates.leads)
+          (subst (L (chosen.name ∷ path_above At)) (file-is chosen is.mode is.size (is.whole told) present is.long) creates.leads)
 
       any-told : LeavesOnly (past_of start) (past_of mid) (IsStaging View Was forced path present)
       any-told =

@@ -29,7 +29,8 @@ pub sized-by : (own : Option OwnName) (time : ℕ) (chosen : Chosen) → IsForBa
 sized-by None time chosen is = absurd is
 sized-by (Some own) time chosen is = (is.mode, is.size)
 
-pub for-file : {D : Type 0} {disks : Ghosts D} (volume : Volume D disks) (chosen : Chosen) (present : List ℕ) → Suits volume.layout volume.span chosen → HasNoHole chosen
+pub for-file : {D : Type 0} {disks : Ghosts D} (volume : Volume D disks) (chosen : Chosen) (present : List ℕ) → Suits volume.layout volume.span chosen
+    → (IsTold (past_of volume) → HasNoHole chosen)
     → (chosen.mode ≡ file_mode) × (chosen.length ≡ 512) → length present ≡ 512 → IsForFile volume chosen present
 for-file volume chosen present suits whole sized long = record { suits = suits; mode = sized.0; size = sized.1; whole = whole; long = long }
 

@@ -34,7 +34,7 @@ fn replace_backup<'d, D: Disks>(
     present: &Sector,
 ) -> Result<Volume<'d, D>, WriteHalt<'d, D>>
     requires suits { Suits volume.layout volume.span chosen }
-    requires holes { HasNoHole chosen }
+    requires holes { IsTold (past_of volume) → HasNoHole chosen }
     requires wished { (time : ℕ) × IsForName pair.now.tilde 512 time chosen }
     requires inside { ArePairsInside volume.layout pair.now }
     requires twins { AreTwins pair.now }
@@ -73,7 +73,7 @@ pub fn stage_backup<'d, D: Disks>(
 ) -> Result<Volume<'d, D>, WriteHalt<'d, D>>
     // What was chosen.
     requires suits { IfSome backup (Suits volume.layout volume.span) }
-    requires holes { IfSome backup HasNoHole }
+    requires holes { IsTold (past_of volume) → IfSome backup HasNoHole }
     requires wished { IsForSome forced pair.now backup }
     requires inside { IsBackupInside volume.layout pair.now }
     requires twins { IsBackupTwins pair.now }

@@ -9,3 +9,6 @@ pub mod DeviceLemmas
 pub mod WishedLemmas
 pub mod StageLemmas
 pub mod ReadyLemmas
+pub mod StagingLemmas
+pub mod StagedLemmas
+pub mod CommittedLemmas

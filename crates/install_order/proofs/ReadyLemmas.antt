@@ -10,8 +10,9 @@ use Rattle.disk_trait.proofs.MomentLemmas.{told_now}
 use Rattle.lilo_model.specs.ConfLawful.{IsLawful}
 use Rattle.lilo_model.specs.Disks.{Image, Machine, DiskSector}
 use Rattle.lilo_model.specs.Mapped.{mapped_sectors}
+use Rattle.lilo_model.specs.MinixEntries.{is_dots}
 use Rattle.lilo_model.specs.MinixNames.{IsSound}
-use Rattle.lilo_model.specs.MinixParts.{Volume, parts_of, is_directory}
+use Rattle.lilo_model.specs.MinixParts.{Parts, Volume, parts_of, is_directory}
 use Rattle.lilo_model.specs.NamePlaces.{with_tilde}
 use Rattle.lilo_model.specs.PlanRefusal.{plan_at}
 use Rattle.lilo_model.specs.Planned.{planned}
@@ -22,34 +23,42 @@ use Rattle.map_laws.specs.Accepted.{HasVolume, IsAccepted, IsInside}
 use Rattle.map_sectors.specs.Map.{plan_view}
 use Rattle.minix_bits.proofs.BitmapLemmas.{fits}
 use Rattle.minix_create.specs.Chosen.{Suits, new_inode}
+use Rattle.minix_create.specs.Several.{IsHeldIn}
 use Rattle.minix_create.specs.declared.chosen.Chosen.{Chosen}
 use Rattle.minix_layout.specs.View.{super_view}
+use Rattle.minix_names.specs.Component.{IsFileName}
 use Rattle.minix_steps.specs.Written.{parts_now}
 use Rattle.minix_zones.specs.View.{span_view}
 use Rattle.minix_zones.specs.Volume.{volume_view, past_of, SameVolume}
 use Rattle.minix_zones.proofs.SameLemmas.{same_view}
 use Rattle.sector_address.specs.Machine.{machine_of}
+use Rattle.install_apart.specs.Own.{AreInside, AreOwnTwins, IsBackupNamed}
 use Rattle.install_apart.specs.declared.own.OwnNames.{OwnNames}
+use Rattle.install_apart.specs.declared.name.NamePair.{NamePair}
+use Rattle.install_backup.specs.Stages.{HasOtherName, MayReplace}
 use Rattle.install_begin_laws.specs.Laws.{IsNoneOfMap}
-use Rattle.install_laws.specs.InstallVerdict.{made_backup}
-use Rattle.install_made_laws.specs.Within.{AreDataZones, is_chosen}
-use Rattle.install_made_laws.proofs.Within.{zones_data}
+use Rattle.install_laws.specs.InstallVerdict.{last_name, made_backup, sectors_of_blocks}
+use Rattle.install_made_laws.specs.Within.{AreDataZones, AreFreeZones, IsFreeFile, is_chosen}
+use Rattle.install_made_laws.proofs.Within.{free_promised, zones_data}
 use Rattle.install_room.specs.Making.{LieNow, MayMakeBackup, MayMakeRoom}
 use Rattle.install_room.specs.Names.{AreNamesOf, backup_of}
-use Rattle.install_room.specs.Room.{IsRoomFor, KeepsOut, SuitRoom, places_view}
+use Rattle.install_room.specs.Room.{AreTaken, IsRoomFor, KeepsOut, SuitRoom, places_view}
 use Rattle.install_room.specs.declared.room.RoomWish.{RoomWish}
 use Rattle.install_room.proofs.FreeLemmas.{moved, told_stays}
 use Rattle.install_room.proofs.MakingLemmas.{may_make_room}
+use Rattle.install_stage.specs.MapFile.{IsMapRoom}
+use Rattle.install_stage.specs.Stages.{MayStageRoom}
+use Rattle.install_stage_laws.specs.Staged.{AreFree}
 use Rattle.install_order.specs.Answers.{IsKnown, begun_in}
-use Rattle.install_order.specs.Plans.{ArePlaced, AreSurveyed, IsPlanned, IsPlannedFor}
-use Rattle.install_order.specs.Stageable.{AreWhole, HasFiles, HasSizes, IsReady, IsWishedRoom, LieWhereSound, MayStage, MayStageNow, wish_for}
+use Rattle.install_order.specs.Plans.{ArePlaced, AreSurveyed, IsBackupPlaced, IsPlanned, IsPlannedFor}
+use Rattle.install_order.specs.Stageable.{AreWhole, HasFiles, HasSizes, IsReady, IsWishedRoom, LieWhereSound, MayStage, MayStageNow, MayTakeMap, path_made, room_zones, wish_for}
 use Rattle.install_order.specs.declared.planned.Planned.{Planned}
 use Rattle.install_order.specs.declared.surveyed.Surveyed.{Surveyed}
 use Rattle.install_order.proofs.BeginLemmas.{backup-apart, value-is}
 use Rattle.install_order.proofs.DeviceLemmas.{device_inside}
-use Rattle.install_order.proofs.NamedLemmas.{known_surveyed, surveyed_found, surveyed_placed}
+use Rattle.install_order.proofs.NamedLemmas.{AreHere, known_surveyed, none_of_map, surveyed_found, surveyed_here, surveyed_placed}
 use Rattle.install_order.proofs.PlanLemmas.{sound_now}
-use Rattle.install_order.proofs.StageLemmas.{regular, whole-file, backup_file, backup_whole, backup_directory, no-directory, zone_below, all_inside, places_of_file, room_avoids, made_apart, plan_is, plan_again}
+use Rattle.install_order.proofs.StageLemmas.{regular, whole-file, backup_file, backup_whole, backup_directory, each-backup, no-directory, zone_below, all_inside, places_of_file, room_avoids, room_zones_free, made_apart, other_names, staged_backup, plan_is, plan_again}
 
 -- ---- the files
 
@@ -63,15 +72,21 @@ module _ {D : Type 0} {disks : Ghosts D} (s : Surveyed D disks) (planned' : Plan
   same-wish : Asked ≡ wish_for (is_some planned'.plan.config.force_backup) (not planned'.settled) planned'.time planned'.room
   same-wish = rw (held.config_is, held.settled_is, held.time_is) refl
 
-  pub has_files : HasFiles planned'
-  has_files = record {
-    made = subst₂ (λ (own : OwnNames) (wish : RoomWish). IsRoomFor own wish planned'.room) (sym held.own_is) same-wish wished.made;
-    suits = suits;
-    map = regular planned'.volume.layout planned'.volume.span s.found.own.map.tilde (512 * length planned'.room.places.items) s.time planned'.room.map suits.map wished.made.map;
-    backup = backup_file planned'.volume.layout planned'.volume.span s.time (backup_of (is_some s.config.force_backup) s.found.own.backup) planned'.room.backup suits.backup wished.made.backup;
-    disk = on;
-    lies = wished.lies ∙ places_of_file (span_view planned'.volume.span) planned'.room.map (length planned'.room.places.items) suits.map.begins;
-  }
+  module _ (known : IsKnown s) (same : SameVolume s.volume planned'.volume) where
+    pub has_files : HasFiles planned'
+    has_files = record {
+      made = subst₂ (λ (own : OwnNames) (wish : RoomWish). IsRoomFor own wish planned'.room) (sym held.own_is) same-wish wished.made;
+      suits = suits;
+      map = regular planned'.volume.layout planned'.volume.span s.found.own.map.tilde (512 * length planned'.room.places.items) s.time planned'.room.map suits.map wished.made.map;
+      backup = backup_file planned'.volume.layout planned'.volume.span s.time (backup_of (is_some s.config.force_backup) s.found.own.backup) planned'.room.backup suits.backup wished.made.backup;
+      disk = on;
+      lies = wished.lies ∙ places_of_file (span_view planned'.volume.span) planned'.room.map (length planned'.room.places.items) suits.map.begins;
+      holes = wished.whole;
+      inside = subst₂ AreInside (sym same.same_layout) (sym held.own_is) known.fits.inside;
+      twins = subst AreOwnTwins (sym held.own_is) known.fits.twins;
+      called = subst (λ (own : OwnNames). IsFileName own.map.plain.name) (sym held.own_is) known.fits.called;
+      backup_called = subst (λ (own : OwnNames). IsBackupNamed own.backup) (sym held.own_is) known.fits.backup_called;
+    }
 
   -- ---- where it is told
 
@@ -122,27 +137,69 @@ module _ {D : Type 0} {disks : Ghosts D} (s : Surveyed D disks) (planned' : Plan
     makes settled =
         may_make_room planned'.volume planned'.room names s.found.own Asked View places wished.made (wished.beside places kept).free (ap not settled) lie-now
 
-    -- its zones are data zones
-    map-data : s.settled ≡ true → AreDataZones View.layout (is_chosen planned'.room.map)
-    map-data settled =
-        zones_data planned'.volume planned'.room.map
-        (record {
-          suits = suits.map;
-          free = (makes settled).map.free;
-          file = no-directory planned'.volume.layout planned'.volume.span s.found.own.map.tilde (512 * length planned'.room.places.items) s.time planned'.room.map suits.map wished.made.map;
-        })
+    -- what is chosen for each file is free
+    map-free : s.settled ≡ true → IsFreeFile planned'.volume planned'.room.map
+    map-free settled = record {
+      suits = suits.map;
+      free = (makes settled).map.free;
+      file = no-directory planned'.volume.layout planned'.volume.span s.found.own.map.tilde (512 * length planned'.room.places.items) s.time planned'.room.map suits.map wished.made.map;
+    }
 
-    backup-data : s.settled ≡ true → IfSome planned'.room.backup (λ chosen. AreDataZones View.layout (is_chosen chosen))
-    backup-data settled =
+    backup-free : s.settled ≡ true → IfSome planned'.room.backup (IsFreeFile planned'.volume)
+    backup-free settled =
         by (made_backup (super_view planned'.volume.layout) (parts_now planned'.volume) (is_some s.config.force_backup) names.backup) planned'.room.backup
         suits.backup (makes settled).backup
         (backup_directory planned'.volume.layout planned'.volume.span s.time (backup_of (is_some s.config.force_backup) s.found.own.backup) planned'.room.backup suits.backup wished.made.backup)
       where
         by : (path : Option (List (List ℕ))) (backup : Option Chosen) → IfSome backup (Suits planned'.volume.layout planned'.volume.span) → MayMakeBackup planned'.volume path backup
-            → IfSome backup (λ chosen. is_directory (new_inode chosen) ≡ false) → IfSome backup (λ chosen. AreDataZones View.layout (is_chosen chosen))
+            → IfSome backup (λ chosen. is_directory (new_inode chosen) ≡ false) → IfSome backup (IsFreeFile planned'.volume)
         by path None suit may file = tt
         by None (Some chosen) suit may file = absurd may
-        by (Some path) (Some chosen) suit may file = zones_data planned'.volume chosen (record { suits = suit; free = may.free; file = file })
+        by (Some path) (Some chosen) suit may file = record { suits = suit; free = may.free; file = file }
+
+    -- its zones are data zones, and none is marked
+    backup-data : s.settled ≡ true → IfSome planned'.room.backup (λ chosen. AreDataZones View.layout (is_chosen chosen))
+    backup-data settled = each-backup (IsFreeFile planned'.volume) (λ chosen. AreDataZones View.layout (is_chosen chosen)) (zones_data planned'.volume) planned'.room.backup (backup-free settled)
+
+    zones-free : s.settled ≡ true → AreFree View Is (room_zones planned'.room)
+    zones-free settled =
+        let taken = (wished.beside places kept).free.taken told-still in
+        let past-is : parts_now planned'.volume ≡ parts_of View Is = ap (λ (past : Option Past). parts_of View (now past)) same.same_disks.same_past in
+        subst (λ (p : Parts). AreFreeZones View.layout p (room_zones planned'.room)) past-is
+        (room_zones_free View.layout (parts_now planned'.volume) planned'.room
+        (free_promised planned'.volume planned'.room.map (map-free settled) taken.last taken.promised taken.map_held)
+        (by taken planned'.room.backup (backup-free settled) taken.backup_held))
+      where
+        by : (taken : AreTaken planned'.volume planned'.room.backup planned'.room.map) (backup : Option Chosen) → IfSome backup (IsFreeFile planned'.volume) → IfSome backup (IsHeldIn taken.last)
+            → IfSome backup (λ chosen. AreFreeZones View.layout (parts_now planned'.volume) (is_chosen chosen))
+        by taken None free held = tt
+        by taken (Some chosen) free held = free_promised planned'.volume chosen free taken.last taken.promised held
+
+    here : AreHere (super_view planned'.volume.layout) (parts_now planned'.volume) names s.found.own
+    here = moved s.volume planned'.volume same (λ view image. AreHere view.layout (parts_of view image) names s.found.own) (surveyed_here Is On s known names places are)
+
+    -- what is at the backup's path may be replaced
+    over : IfSome names.backup (MayReplace planned'.volume)
+    over = by names.backup s.found.own.backup refl refl here.placed.backup
+      where
+        by : (path : Option (List (List ℕ))) (pair : Option NamePair) → names.backup ≡ path → s.found.own.backup ≡ pair
+            → IsBackupPlaced (super_view planned'.volume.layout) (parts_now planned'.volume) path pair → IfSome path (MayReplace planned'.volume)
+        by None pair one two placed = tt
+        by (Some path) None one two placed = absurd placed
+        by (Some path) (Some pair) one two placed = let is = here.file path pair one two in record { plain = is.plain; file = is.file }
+
+    -- and so may the map
+    takes : MayTakeMap (super_view planned'.volume.layout) (parts_now planned'.volume) names.map planned'.own.map.plain
+    takes =
+        let place = here.placed.map.plain in
+        subst (λ (own : OwnNames). MayTakeMap (super_view planned'.volume.layout) (parts_now planned'.volume) names.map own.map.plain) (sym held.own_is)
+        (record { place = place; named = subst (λ (name : List ℕ). is_dots name ≡ false) (ap last_name place.is) here.map.plain; former = here.map.file })
+
+    -- the map has neither of the backup's names
+    others : s.settled ≡ true → IfSome names.backup (λ path. IfSome planned'.room.backup (λ chosen. HasOtherName path chosen planned'.room.map))
+    others settled =
+        other_names planned'.volume lie-now.told lie-now.sound names.map s.found.own.map.tilde lie-now.map planned'.room.map (512 * length planned'.room.places.items) s.time wished.made.map
+        (is_some s.config.force_backup) names.backup s.found.own.backup planned'.room.backup known.fits.twins.1 lie-now.backup names-apart wished.made.backup (makes settled).names_differ
 
     -- its files are whole
     whole : AreWhole planned'.room
@@ -213,9 +270,41 @@ module _ {D : Type 0} {disks : Ghosts D} (s : Surveyed D disks) (planned' : Plan
       plan_is = planned-is;
       lies = record { plan_is = is.chosen.map.accepted; places_are = is.chosen.own };
       accepted = accepted;
-      avoids = room_avoids View places planned'.room ((wished.beside places kept).avoids told-still) (map-data settled) (backup-data settled);
+      free = zones-free settled;
+      avoids = room_avoids View places planned'.room ((wished.beside places kept).avoids told-still) (zones_data planned'.volume planned'.room.map (map-free settled)) (backup-data settled);
+      over = over;
+      apart = none_of_map names.map names.backup names-apart;
+      others = others settled;
+      takes = takes;
       present = subst (λ (boot : spans.Span). planned'.present ≡ Is boot.disk boot.start) (sym held.boot_is) is.chosen.present;
     }
+
+-- ---- as a call asks for it
+
+module _ {D : Type 0} {disks : Ghosts D} (image : Image) (machine : Machine) (names : model.OwnNames) (places : List DiskSector) (planned' : Planned D disks) (files : HasFiles planned')
+    (may : MayStage image machine names places planned') where
+  map-room : IsMapRoom planned'.volume machine names.map planned'.room.map planned'.plan planned'.room.places.items
+  map-room =
+      let v = planned'.volume in
+      let count = may.lies.places_are.count in
+      record {
+        may = may.makes.map;
+        solid = may.whole.map.each;
+        size = may.whole.map.size ∙ ap (λ (n : ℕ). 512 * n) count;
+        lies = may.lies;
+        are = files.lies
+            ∙ (sym (places_of_file (span_view v.span) planned'.room.map (length planned'.room.places.items) files.suits.map.begins)
+            ∙ ap (sectors_of_blocks (span_view v.span) planned'.room.map.choice.blocks) count);
+      }
+
+  -- its files may be made one after the other
+  pub stageable : MayStageRoom planned'.volume machine (path_made planned'.room.backup names.backup) names.map (is_some planned'.plan.config.force_backup) planned'.plan planned'.room
+  stageable = record {
+    backup_may =
+        staged_backup planned'.volume (is_some planned'.plan.config.force_backup) names.map names.backup planned'.room.backup planned'.room.map
+        may.makes.backup may.over may.makes.apart may.others may.apart;
+    map_may = map-room;
+  }
 
 -- ---- for some names and places
 
@@ -231,10 +320,12 @@ module _ {D : Type 0} {disks : Ghosts D} (s : Surveyed D disks) (planned' : Plan
       let here = told_now (past_of s.volume) (λ image. (names : model.OwnNames) (places : List DiskSector) → AreSurveyed image (machine_of disks s.volume.disks.now) s names places
       → s.settled ≡ true → MayStage image (machine_of disks s.volume.disks.now) names places planned') may was names places surveyed (sym held.settled_is ∙ settled) in
       let machine-is : machine_of disks planned'.volume.disks.now ≡ machine_of disks s.volume.disks.now = rw (same.same_disks.same_size, same.same_disks.same_geometry) refl in
+      let may-now = subst₂ (λ (past : Option Past) (machine : Machine). MayStage (now past) machine names places planned') (sym same.same_disks.same_past) (sym machine-is) here in
       record {
         names = names;
         places = places;
-        may = subst₂ (λ (past : Option Past) (machine : Machine). MayStage (now past) machine names places planned') (sym same.same_disks.same_past) (sym machine-is) here;
+        may = may-now;
+        room = stageable (now (past_of planned'.volume)) (machine_of disks planned'.volume.disks.now) names places planned' files may-now;
       }
 
   pub is_ready : IsReady planned'

@@ -5,13 +5,15 @@ use Rattle.std.specs.List.{AllByRecursion, range_with_len}
 use Rattle.std.proofs.lemmas.Bool.{or_cases, or_parts}
 use Rattle.std.proofs.lemmas.Bool.Decides.{nat_tests}
 use Rattle.std.proofs.lemmas.List.Elements.{All-contains, All-from_get_or, All-from_recursion}
+use Rattle.disk_trait.specs.declared.disks.Disks.{Ghosts}
 use Rattle.disk_trait.specs.declared.disks.Span as spans
+use Rattle.disk_trait.specs.Moments.{IsTold, now}
 use Rattle.lilo_model.specs.Checks.{◌>>=◌}
 use Rattle.lilo_model.specs.Clear.{IsOfZone}
 use Rattle.lilo_model.specs.Conf.{Config}
 use Rattle.lilo_model.specs.Disks.{Image, Machine, Span, DiskSector}
 use Rattle.lilo_model.specs.MinixLayout as layouts
-use Rattle.lilo_model.specs.MinixNames.{reached}
+use Rattle.lilo_model.specs.MinixNames.{reached, IsSound}
 use Rattle.lilo_model.specs.MinixParts.{Parts, Volume, blocks_for, is_directory, is_file}
 use Rattle.lilo_model.specs.NamePlaces.{with_tilde}
 use Rattle.lilo_model.specs.Plan as plans
@@ -22,20 +24,35 @@ use Rattle.map_laws.proofs.Accepted.{both-pass}
 use Rattle.minix_bits.specs.Numbers.{has_number}
 use Rattle.minix_bits.proofs.SetLemmas.{contains_from}
 use Rattle.minix_create.specs.Chosen.{Suits, new_inode, sector_of}
+use Rattle.minix_create.specs.Several.{AreApartOn}
 use Rattle.minix_create.specs.declared.chosen.Chosen.{Chosen}
 use Rattle.minix_fill.specs.Fill.{IsOfFile}
 use Rattle.minix_fill_laws.proofs.Given.{past_end, given_at, given_hole, given_length}
+use Rattle.minix_layout.specs.View.{super_view}
 use Rattle.minix_layout.specs.declared.superblock.Super.{Super}
+use Rattle.minix_steps.specs.Written.{parts_now}
+use Rattle.minix_tree.specs.declared.stat.Stat.{Stat}
+use Rattle.minix_zones.specs.Volume.{volume_view, past_of}
+use Rattle.minix_zones.specs.declared.volume.Volume as volumes
 use Rattle.write_model.specs.FileZones.{count_made, given}
+use Rattle.install_apart.specs.Names.{AreTwins}
+use Rattle.install_apart.specs.Own.{IsBackupTwins}
+use Rattle.install_apart.specs.declared.name.NamePair.{NamePair}
 use Rattle.install_apart.specs.declared.name.OwnName.{OwnName}
+use Rattle.install_backup.specs.Staged.{made_at}
+use Rattle.install_backup.specs.Stages.{HasOtherName, MayReplace}
 use Rattle.install_begin_laws.specs.Laws.{IsNoneOfMap}
-use Rattle.install_laws.specs.InstallVerdict.{is_of_places, is_of_volume, made_backup, sectors_of_blocks}
+use Rattle.install_laws.specs.InstallVerdict.{is_of_places, is_of_volume, last_name, made_backup, sectors_of_blocks}
 use Rattle.install_laws.specs.Writes.{AreAvoided}
 use Rattle.install_made_laws.specs.Sectors.{IsWholeFile, file_places}
-use Rattle.install_made_laws.specs.Within.{AreDataZones, is_chosen}
+use Rattle.install_made_laws.specs.Within.{AreDataZones, AreFreeZones, is_chosen}
+use Rattle.install_room.specs.Making.{LiesBackup, LiesIn, MayMake, MayMakeBackup}
+use Rattle.install_room.specs.Names.{backup_at, backup_of}
 use Rattle.install_room.specs.Room.{AvoidPlaces, AvoidsPlaces, HasNoHole, IsForBackup, IsForName}
 use Rattle.install_room.specs.declared.room.Room.{Room}
-use Rattle.install_order.specs.Stageable.{IsBackupFile, IsRegular, backup_zones, room_zones}
+use Rattle.install_room.proofs.MakingLemmas.{differ}
+use Rattle.install_stage.specs.Stages.{MayStageBackup}
+use Rattle.install_order.specs.Stageable.{IsBackupFile, IsRegular, backup_zones, path_made, room_zones}
 use Rattle.install_order.proofs.BeginLemmas.{value-is}
 
 -- ---- files
@@ -86,6 +103,11 @@ module _ (layout : Super) (span : spans.Span) (time : ℕ) where
   backup_directory None (Some chosen) suits made = absurd made
   backup_directory (Some own) None suits made = tt
   backup_directory (Some own) (Some chosen) suits made = no-directory layout span own 512 time chosen suits made
+
+-- what follows of each choice follows of that of a backup
+pub each-backup : (P Q : Chosen → Type 0) → ((chosen : Chosen) → P chosen → Q chosen) → (backup : Option Chosen) → IfSome backup P → IfSome backup Q
+each-backup P Q follows None is = tt
+each-backup P Q follows (Some chosen) is = follows chosen is
 
 -- ---- places
 
@@ -195,6 +217,16 @@ module _ (volume : Volume) (places : List DiskSector) where
       avoided volume (room_zones room) places
       (λ zone picked. ⊎_elim (chosen-out room.map avoids.map map-zones zone) (backup-out room.backup avoids.backup backup-data zone) (or_cases (is_chosen room.map zone) (backup_zones room.backup zone) picked))
 
+-- where those of each are free, those of a room are
+module _ (super : layouts.Super) (parts : Parts) where
+  backup-free : (backup : Option Chosen) → IfSome backup (λ chosen. AreFreeZones super parts (is_chosen chosen)) → AreFreeZones super parts (backup_zones backup)
+  backup-free None free zone picked = absurd (let both : false ≡ true = picked in cc)
+  backup-free (Some chosen) free zone picked = free zone picked
+
+  pub room_zones_free : (room : Room) → AreFreeZones super parts (is_chosen room.map) → IfSome room.backup (λ chosen. AreFreeZones super parts (is_chosen chosen)) → AreFreeZones super parts (room_zones room)
+  room_zones_free room map backup zone picked =
+      ⊎_elim (map zone) (backup-free room.backup backup zone) (or_cases (is_chosen room.map zone) (backup_zones room.backup zone) picked)
+
 -- ---- names
 
 -- no backup is made under the map's name
@@ -213,6 +245,59 @@ made_apart super parts map false (Some path) apart is = by (is_some (reached sup
     by : (there : Bool) → (if there then None else Some path) ≡ Some (with_tilde map) → ⊥
     by true is = absurd (let both : None ≡ Some (with_tilde map) = is in cc)
     by false is = apart.0.0 (same path (with_tilde map) is)
+
+-- the directory of a backup is that of its own name, where the other is beside it
+made-beside : (forced : Bool) (pair : NamePair) (time : ℕ) (chosen : Chosen) → AreTwins pair → IsForBackup (backup_at forced pair) time (Some chosen) → chosen.directory ≡ pair.plain.directory
+made-beside true pair time chosen twins made = made.directory ∙ twins.directory
+made-beside false pair time chosen twins made = by pair.plain.there made
+  where
+    by : (there : Option Stat) → IsForBackup (if is_some there then None else Some pair.plain) time (Some chosen) → chosen.directory ≡ pair.plain.directory
+    by None made = made.directory
+    by (Some stat) made = absurd made
+
+-- a map has neither of the names of a backup
+module _ {D : Type 0} {disks : Ghosts D} (volume : volumes.Volume D disks) (told : IsTold (past_of volume)) (sound : IsSound (volume_view volume) (now (past_of volume)))
+    (map : List (List ℕ)) (own : OwnName) (lies : LiesIn (super_view volume.layout) (parts_now volume) (with_tilde map) own) (chosen : Chosen) (long time : ℕ) (made : IsForName own long time chosen) where
+  pub other_names : (forced : Bool) (path : Option (List (List ℕ))) (pair : Option NamePair) (backup : Option Chosen) → IsBackupTwins pair → LiesBackup (super_view volume.layout) (parts_now volume) path pair
+      → IfSome path (λ path. IsNoneOfMap map path × IsNoneOfMap map (with_tilde path)) → IsForBackup (backup_of forced pair) time backup
+      → IfSome backup (λ one. chosen.directory ≡ one.directory → chosen.name ≢ one.name) → IfSome path (λ path. IfSome backup (λ one. HasOtherName path one chosen))
+  other_names forced None pair backup twins lie apart is differs = tt
+  other_names forced (Some path) pair None twins lie apart is differs = tt
+  other_names forced (Some path) None (Some one) twins lie apart is differs = absurd lie
+  other_names forced (Some path) (Some pair) (Some one) twins lie apart is differs = record {
+    made = differs;
+    plain = λ here named.
+        differ volume told sound path (with_tilde map) pair.plain own lie.plain lies apart.0.0
+        (sym made.directory ∙ (here ∙ made-beside forced pair time one twins is))
+        (sym made.name ∙ (named ∙ ap last_name lie.plain.ends.is));
+  }
+
+-- what may be made of a backup may be staged, by its path
+module _ {D : Type 0} {disks : Ghosts D} (volume : volumes.Volume D disks) (forced : Bool) where
+  abbrev Makes : Option (List (List ℕ)) → Option Chosen → Type 0
+  Makes path backup = MayMakeBackup volume (made_backup (super_view volume.layout) (parts_now volume) forced path) backup
+
+  made-by-path : (path : List (List ℕ)) (chosen : Chosen) → Makes (Some path) (Some chosen) → MayMake volume (made_at forced path) chosen
+  made-by-path path chosen = by forced (is_some (reached (super_view volume.layout) (parts_now volume) path)) refl
+    where
+      by : (forced there : Bool) → is_some (reached (super_view volume.layout) (parts_now volume) path) ≡ there
+          → MayMakeBackup volume (made_backup (super_view volume.layout) (parts_now volume) forced (Some path)) (Some chosen) → MayMake volume (made_at forced path) chosen
+      by true there is makes = makes
+      by false true is makes = absurd (let none = rw is at makes in none)
+      by false false is makes = rw is at makes
+
+  pub staged_backup : (map : List (List ℕ)) (path : Option (List (List ℕ))) (backup : Option Chosen) (other : Chosen) → Makes path backup → IfSome path (MayReplace volume)
+      → IfSome backup (λ chosen. AreApartOn volume chosen other) → IfSome path (λ path. IfSome backup (λ chosen. HasOtherName path chosen other)) → IfSome path (IsNoneOfMap map)
+      → MayStageBackup volume (path_made backup path) map forced backup other
+  staged_backup map path None other makes over apart names none = tt
+  staged_backup map None (Some chosen) other makes over apart names none = absurd makes
+  staged_backup map (Some path) (Some chosen) other makes over apart names none = record {
+    may = record { make = made-by-path path chosen makes; over = λ on. over };
+    apart = apart;
+    names = names;
+    plain = none.1;
+    tilde = none.0;
+  }
 
 -- ---- the plan
 

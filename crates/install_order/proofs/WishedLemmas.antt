@@ -55,6 +55,9 @@ module _ {D : Type 0} {disks : Ghosts D} (old new : Volume D disks) (same : Same
     apart = λ told.
         let A : Super → Type 0 = λ layout. IfSome room.backup (λ chosen. AreApart (kind_view layout.kind) chosen.directory chosen.choice room.map.directory room.map.choice) in
         subst A (sym same.same_layout) (free.apart (told_was old new same told));
+    taken = λ told.
+        let was = free.taken (told_was old new same told) in
+        record { last = was.last; promised = promises_stay old new same was.last was.promised; map_held = was.map_held; backup_held = was.backup_held };
   }
     where
       by : (backup : Option Chosen) → IfSome backup (λ chosen. IsFreeWhereSound old first chosen × LinksWhereSound old first chosen)

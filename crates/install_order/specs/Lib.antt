@@ -5,3 +5,4 @@ pub mod Begins
 pub mod Answers
 pub mod Plans
 pub mod Stageable
+pub mod States

@@ -4,9 +4,10 @@ use Rattle.std.specs.Prelude.{◌≡◌, ◌≤◌, ◌<◌, ◌*◌, ◌^◌, �
 use Rattle.disk_trait.specs.declared.disks.Disks.{Ghosts}
 use Rattle.disk_trait.specs.Moments.{IsTold, now}
 use Rattle.lilo_model.specs.Disks.{Image, Machine, DiskSector}
+use Rattle.lilo_model.specs.MinixEntries.{is_dots}
 use Rattle.lilo_model.specs.MinixLayout.{Super, is_size}
-use Rattle.lilo_model.specs.MinixNames.{IsSound}
-use Rattle.lilo_model.specs.MinixParts.{Parts, Volume, parts_of}
+use Rattle.lilo_model.specs.MinixNames.{reached, IsSound}
+use Rattle.lilo_model.specs.MinixParts.{Parts, Volume, parts_of, is_file}
 use Rattle.lilo_model.specs.Planned.{planned}
 use Rattle.lilo_model.specs.Settled as model
 use Rattle.lilo_conf.specs.View.{config_view}
@@ -16,22 +17,30 @@ use Rattle.minix_create.specs.Chosen.{new_inode}
 use Rattle.minix_create.specs.declared.chosen.Chosen.{Chosen}
 use Rattle.minix_fill.specs.Fill.{IsOfFile}
 use Rattle.minix_layout.specs.View.{super_view}
+use Rattle.minix_names.specs.Component.{IsFileName}
+use Rattle.minix_names.specs.Places.{IsPlace}
 use Rattle.minix_steps.specs.Written.{parts_now}
 use Rattle.minix_zones.specs.View.{span_view}
 use Rattle.minix_zones.specs.Volume.{volume_view, past_of}
 use Rattle.minix_zones.specs.declared.volume.Volume as volumes
 use Rattle.sector_address.specs.Machine.{machine_of}
+use Rattle.install_apart.specs.Own.{AreInside, AreOwnTwins, IsBackupNamed}
 use Rattle.install_apart.specs.declared.name.NamePair.{NamePair}
+use Rattle.install_apart.specs.declared.name.OwnName.{OwnName}
 use Rattle.install_apart.specs.declared.own.OwnNames.{OwnNames}
+use Rattle.install_backup.specs.Stages.{HasOtherName, MayReplace}
+use Rattle.install_begin_laws.specs.Laws.{IsNoneOfMap}
 use Rattle.install_laws.specs.InstallVerdict.{sectors_of_blocks}
 use Rattle.install_laws.specs.Writes.{AreAvoided}
 use Rattle.install_made_laws.specs.Sectors.{IsWholeFile, file_places}
-use Rattle.install_made_laws.specs.Within.{and_zones, is_chosen}
 use Rattle.install_room.specs.Making.{LiePaired, LiesBackup, MayMakeRoom}
 use Rattle.install_room.specs.Room.{AvoidPlaces, HasNoHoles, IsRoomFor, IsRoomFree, KeepsOut, SuitRoom, first_of, places_view}
 use Rattle.install_room.specs.declared.room.Room.{Room}
 use Rattle.install_room.specs.declared.room.RoomWish.{RoomWish}
 use Rattle.install_stage.specs.Blocks.{MayLieAt}
+pub use Rattle.install_stage.specs.Stages.{backup_zones, room_zones}
+use Rattle.install_stage.specs.Stages.{MayStageRoom}
+use Rattle.install_stage_laws.specs.Staged.{AreFree}
 use Rattle.install_order.specs.Plans.{ArePlaced, IsBackupPlaced, IsPairPlaced}
 use Rattle.install_order.specs.declared.examination.Examined.{Examined}
 use Rattle.install_order.specs.declared.halt.Halt.{Halt}
@@ -85,7 +94,8 @@ pub record IsBeside {D : Type 0} {disks : Ghosts D} (volume : volumes.Volume D d
 
 -- it is the room that is wished by the names that were found, each of its blocks gets a zone, the places are those of the map's
 -- blocks, and it is beside each places that were kept out
-pub record IsWishedRoom {D : Type 0} {disks : Ghosts D} (volume : volumes.Volume D disks) (found : Examined) (wish : RoomWish) (room : Room) : Type 0 where
+pub record IsWishedRoom {D : Type 0} {disks : Ghosts D} (volume : volumes.Volume D disks) (found : Examined) (wish : RoomWish)
+    (room : Room) : Type 0 where
   pub made : IsRoomFor found.own wish room
   pub whole : IsTold (past_of volume) → HasNoHoles room
   pub lies : places_view room ≡ sectors_of_blocks (span_view volume.span) room.map.choice.blocks wish.sectors
@@ -104,7 +114,8 @@ pub record IsBackupFile (chosen : Chosen) : Type 0 where
   pub one : length chosen.choice.blocks ≤ 1
 
 -- The room is the one that is wished for the configuration, by the names that are held: regular files, and the map's places are
--- on the disk of its plan, those of its file's blocks, sector by sector.
+-- on the disk of its plan, those of its file's blocks, sector by sector. The names are in directories of the volume, those with `~`
+-- beside their own, and files may have them.
 pub record HasFiles {D : Type 0} {disks : Ghosts D} (planned : Planned D disks) : Type 0 where
   pub made : IsRoomFor planned.own (wish_for (is_some planned.plan.config.force_backup) (not planned.settled) planned.time planned.room) planned.room
   pub suits : SuitRoom planned.volume.layout planned.volume.span planned.room
@@ -112,6 +123,12 @@ pub record HasFiles {D : Type 0} {disks : Ghosts D} (planned : Planned D disks) 
   pub backup : IfSome planned.room.backup IsBackupFile
   pub disk : All (λ place. place.disk ≡ planned.plan.disk) planned.room.places.items
   pub lies : places_view planned.room ≡ file_places planned.room.map planned.volume.span.disk (length planned.room.places.items)
+  pub holes : IsTold (past_of planned.volume) → HasNoHoles planned.room
+  -- the names
+  pub inside : AreInside planned.volume.layout planned.own
+  pub twins : AreOwnTwins planned.own
+  pub called : IsFileName planned.own.map.plain.name
+  pub backup_called : IsBackupNamed planned.own.backup
 
 -- ---- what may be staged
 
@@ -120,13 +137,11 @@ pub record AreWhole (room : Room) : Type 0 where
   pub map : IsWholeFile room.map (length room.places.items)
   pub backup : IfSome room.backup (λ chosen. IsWholeFile chosen 1)
 
--- whether a zone was chosen for a file of a room, or for the growth of its directory
-abbrev pub backup_zones : Option Chosen → ℕ → Bool
-backup_zones None zone = false
-backup_zones (Some chosen) zone = is_chosen chosen zone
-
-abbrev pub room_zones : Room → ℕ → Bool
-room_zones room = and_zones (backup_zones room.backup) (is_chosen room.map)
+-- A map may take a name: a path ends with it, in its directory; it is neither `.` nor `..`; and a regular file is there, or nothing.
+pub record MayTakeMap (super : Super) (parts : Parts) (path : List (List ℕ)) (own : OwnName) : Type 0 where
+  pub place : IsPlace super parts path own.directory own.name
+  pub named : is_dots own.name ≡ false
+  pub former : IfSome (reached super parts path) (λ former. is_file (parts.node former) ≡ true)
 
 -- the size of each inode has 32 bits, as it has where each byte is one
 abbrev pub HasSizes : Volume → Image → Type 0
@@ -143,8 +158,15 @@ pub record MayStage {D : Type 0} {disks : Ghosts D} (image : Image) (machine : M
   pub lies : MayLieAt machine plan.plan plan.room.places.items
   pub accepted : HasSizes (volume_view plan.volume) image
       → IsAccepted image machine (volume_view plan.volume) (span_view plan.boot) (config_view plan.plan.config) plan.time (places_view plan.room)
-  -- no chosen zone has one of the places
+  -- each chosen zone is a data zone that isn't marked, and has none of the places
+  pub free : AreFree (volume_view plan.volume) image (room_zones plan.room)
   pub avoids : AreAvoided (volume_view plan.volume) (room_zones plan.room) places
+  -- what is at the backup's path may be replaced; that path is neither of the map's, and the map's file has neither of its names
+  pub over : IfSome names.backup (MayReplace plan.volume)
+  pub apart : IfSome names.backup (IsNoneOfMap names.map)
+  pub others : IfSome names.backup (λ path. IfSome plan.room.backup (λ chosen. HasOtherName path chosen plan.room.map))
+  -- the map may take its name
+  pub takes : MayTakeMap (super_view plan.volume.layout) (parts_now plan.volume) names.map plan.own.map.plain
   pub present : plan.present ≡ image plan.boot.disk plan.boot.start
 
 -- so it is where names are settled
@@ -153,11 +175,18 @@ abbrev pub GivesStage : {D : Type 0} {disks : Ghosts D} → Image → Machine �
 GivesStage image machine surveyed names places (Ok planned) = surveyed.settled ≡ true → MayStage image machine names places planned
 GivesStage image machine surveyed names places (Err halt) = Unit {0}
 
--- so it is now, for some names and places
+-- the path of a backup, where one is made
+abbrev pub path_made : Option Chosen → Option (List (List ℕ)) → Option (List (List ℕ))
+path_made None path = None
+path_made (Some chosen) path = path
+
+-- so it is now, for some names and places, and both files may be staged by them
 pub record MayStageNow {D : Type 0} {disks : Ghosts D} (planned : Planned D disks) : Type 0 where
   pub names : model.OwnNames
   pub places : List DiskSector
   pub may : MayStage (now (past_of planned.volume)) (machine_of disks planned.volume.disks.now) names places planned
+  pub room : MayStageRoom planned.volume (machine_of disks planned.volume.disks.now) (path_made planned.room.backup names.backup) names.map
+      (is_some planned.plan.config.force_backup) planned.plan planned.room
 
 -- what is planned is ready to be staged, where names are settled
 pub record IsReady {D : Type 0} {disks : Ghosts D} (planned : Planned D disks) : Type 0 where

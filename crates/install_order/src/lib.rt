@@ -4,16 +4,23 @@
 #![tactic(auto)]
 
 mod begin;
+mod committed;
 mod directories;
 mod examination;
 mod fault;
 mod halt;
 mod planned;
 mod planning;
+mod staged;
+mod staging;
 mod surveyed;
+mod tidied;
 
+pub use committed::Committed;
 pub use examination::{Examined, examine};
 pub use fault::InstallFault;
 pub use halt::Halt;
 pub use planned::Planned;
+pub use staged::Staged;
 pub use surveyed::Surveyed;
+pub use tidied::Tidied;

@@ -1,10 +1,12 @@
-//! Tests of how an installation begins, by what the crates of this room offer to others.
+//! Tests of installations, by what the crates of this room offer to others.
 #![tactic(auto)]
 
 #[cfg(test)]
 mod answers;
 #[cfg(test)]
 mod call;
+#[cfg(test)]
+mod installing;
 #[cfg(test)]
 mod made;
 #[cfg(test)]

@@ -118,6 +118,9 @@ module _ {D : Type 0} {disks : Ghosts D} (old new : Volume D disks) (same : Same
     map_name = subst (λ (t : Taken). LinksWhereSound new t map) mid-is free-map.name;
     promised = λ told. none_promised (super_view new.layout) (parts_now new) first none;
     apart = λ told. tt;
+    taken = λ told.
+        let more = promises-map told (subst (λ (t : Taken). ArePromised (super_view new.layout) (parts_now new) t) (sym mid-is) (none_promised (super_view new.layout) (parts_now new) first none)) in
+        record { last = taken_view after; promised = more.promised; map_held = more.held; backup_held = tt };
   }
   by (Some chosen) mid mid-is free promises free-map promises-map = record {
     backup_free = (
@@ -128,6 +131,9 @@ module _ {D : Type 0} {disks : Ghosts D} (old new : Volume D disks) (same : Same
     map_name = subst (λ (t : Taken). LinksWhereSound new t map) mid-is free-map.name;
     promised = λ told. subst (λ (t : Taken). ArePromised (super_view new.layout) (parts_now new) t) mid-is (promised-new told);
     apart = λ told. (promises-map told (promised-new told)).apart chosen (more told).held;
+    taken = λ told.
+        let both = promises-map told (promised-new told) in
+        record { last = taken_view after; promised = both.promised; map_held = both.held; backup_held = both.stays chosen (more told).held };
   }
     where
       more : IsTold (past_of new) → PromisesMore old (taken_view taken) (taken_view mid) chosen

@@ -111,17 +111,16 @@ module _ {D : Type 0} {disks : Ghosts D} (volume : Volume D disks) (told : IsTol
         record { free = free (path_above path) told needs; name = links (path_above path) told needs; ends = ends }
 
   -- two paths that differ don't end with one name in one directory
-  differ : (path other : List (List ℕ)) (own own' : OwnName) → LiesIn On Is path own → LiesIn On Is other own' → (n m time : ℕ) (chosen chosen' : Chosen)
-      → IsForName own n time chosen → IsForName own' m time chosen' → path ≢ other → chosen'.directory ≡ chosen.directory → chosen'.name ≢ chosen.name
-  differ path other own own' lies lies' n m time chosen chosen' made made' apart here named =
-      let one = there path own lies n time chosen made in
-      let two = there other own' lies' m time chosen' made' in
-      let above : path_above path ≡ path_above other =
-      holds.one_name chosen.directory (path_above path) (path_above other) one.1 one.0 (subst (λ (d : ℕ). reached On Is (path_above other) ≡ Some d) here two.0) in
+  pub differ : (path other : List (List ℕ)) (own own' : OwnName) → LiesIn On Is path own → LiesIn On Is other own' → path ≢ other → own'.directory ≡ own.directory → own'.name ≢ own.name
+  differ path other own own' lies lies' apart here named =
+      let one = lies.ends in
+      let two = lies'.ends in
+      let above : one.above ≡ two.above =
+      holds.one_name own.directory one.above two.above one.there.is one.there.leads (subst (λ (d : ℕ). reached On Is two.above ≡ Some d) here two.there.leads) in
       apart
-      (sym (ends path own lies n time chosen made)
-      ∙ (ap (λ (name : List ℕ). name ∷ path_above path) (sym named)
-      ∙ (ap (λ (rest : List (List ℕ)). chosen'.name ∷ rest) above ∙ ends other own' lies' m time chosen' made')))
+      (one.is
+      ∙ (ap (λ (name : List ℕ). name ∷ one.above) (sym named)
+      ∙ (ap (λ (rest : List (List ℕ)). own'.name ∷ rest) above ∙ sym two.is)))
 
   backup-may : (taken : Taken) → taken.overlooked ≡ [] → taken.promises ≡ [] → (time : ℕ) (path : Option (List (List ℕ))) (own : Option OwnName) (backup : Option Chosen)
       → LiesAs On Is path own → IsForBackup own time backup → IfSome backup (λ chosen. IsFreeWhereSound volume taken chosen × LinksWhereSound volume taken chosen) → MayMakeBackup volume path backup
@@ -137,8 +136,9 @@ module _ {D : Type 0} {disks : Ghosts D} (volume : Volume D disks) (told : IsTol
       → (path : Option (List (List ℕ))) (own : Option OwnName) (backup : Option Chosen) → LiesAs On Is path own → IsForBackup own time backup → path ≢ Some other
       → IfSome backup (λ chosen. map.directory ≡ chosen.directory → map.name ≢ chosen.name)
   names-differ other own' lies' m time map made' path own None lies made apart = tt
-  names-differ other own' lies' m time map made' (Some path) (Some own) (Some chosen) lies made apart =
-      differ path other own own' lies lies' 512 m time chosen map made made' (λ same. apart (ap (λ (p : List (List ℕ)). Some p) same))
+  names-differ other own' lies' m time map made' (Some path) (Some own) (Some chosen) lies made apart = λ here named.
+      differ path other own own' lies lies' (λ same. apart (ap (λ (p : List (List ℕ)). Some p) same))
+      (sym made'.directory ∙ (here ∙ made.directory)) (sym made'.name ∙ (named ∙ made.name))
   names-differ other own' lies' m time map made' None None (Some chosen) lies made apart = elim made [ ]
   names-differ other own' lies' m time map made' None (Some own) (Some chosen) lies made apart = elim lies [ ]
   names-differ other own' lies' m time map made' (Some path) None (Some chosen) lies made apart = elim lies [ ]

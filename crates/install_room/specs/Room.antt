@@ -10,7 +10,7 @@ use Rattle.lilo_model.specs.Settled as model
 use Rattle.minix_bits.specs.Numbers.{has_number}
 use Rattle.minix_choice_laws.specs.Growth.{ArePromised}
 use Rattle.minix_create.specs.Chosen.{Suits, IsFreeWhereSound, LinksWhereSound}
-use Rattle.minix_create.specs.Several.{AreApartOn}
+use Rattle.minix_create.specs.Several.{AreApartOn, IsHeldIn}
 use Rattle.minix_create.specs.declared.chosen.Chosen.{Chosen}
 use Rattle.minix_layout.specs.View.{super_view}
 use Rattle.minix_layout.specs.declared.superblock.Super.{Super}
@@ -136,14 +136,22 @@ taken_beside taken (Some chosen) = taken_with taken chosen.directory chosen.choi
 abbrev pub first_of : Volume → List DiskSector → Bool → Bool → OwnNames → rooms.Taken
 first_of volume places unsettled forced own = taken_first volume places (if unsettled then stale_of forced own else [])
 
+-- once both are taken, all that was promised is free, and both are held
+pub record AreTaken {D : Type 0} {disks : Ghosts D} (volume : volumes.Volume D disks) (backup : Option Chosen) (map : Chosen) : Type 0 where
+  pub last : rooms.Taken
+  pub promised : ArePromised (super_view volume.layout) (parts_now volume) last
+  pub map_held : IsHeldIn last map
+  pub backup_held : IfSome backup (IsHeldIn last)
+
 -- What is chosen is free beside what was kept out at first, the map's beside the backup's too, and they have nothing in
--- common. What is promised to the backup is free.
+-- common. What is promised to the backup is free, and so is what is promised to both.
 pub record AreFree {D : Type 0} {disks : Ghosts D} (volume : volumes.Volume D disks) (first : rooms.Taken) (backup : Option Chosen) (map : Chosen) : Type 0 where
   pub backup_free : IfSome backup (λ chosen. IsFreeWhereSound volume first chosen × LinksWhereSound volume first chosen)
   pub map_free : IsFreeWhereSound volume (taken_beside first backup) map
   pub map_name : LinksWhereSound volume (taken_beside first backup) map
   pub promised : IsTold (past_of volume) → ArePromised (super_view volume.layout) (parts_now volume) (taken_beside first backup)
   pub apart : IsTold (past_of volume) → IfSome backup (λ chosen. AreApartOn volume chosen map)
+  pub taken : IsTold (past_of volume) → AreTaken volume backup map
 
 abbrev pub IsRoomFree : {D : Type 0} {disks : Ghosts D} → volumes.Volume D disks → rooms.Taken → Room → Type 0
 IsRoomFree volume first room = AreFree volume first room.backup room.map

@@ -6,3 +6,6 @@ pub mod RoomLemmas
 pub mod MadeLemmas
 pub mod StagedLemmas
 pub mod WriteLemmas
+pub mod ImageLemmas
+pub mod StageLemmas
+pub mod RoomStagedLemmas

@@ -1,11 +1,10 @@
 -- A map's file that was made, or refused, leaves what an installation's states need.
-use Rattle.std.proofs.Common.{◌≡◌, ◌<◌, ◌+◌, ◌*◌, ◌/◌, ◌%◌, ◌||◌, ℕ, true, List, ◌∷◌, map, replicate, Option, Some, None, Result, Ok, Err, sym, ap, ◌∙◌, subst, inl, inr, ⊎_elim, arith}
+use Rattle.std.proofs.Common.{◌≡◌, ◌<◌, ◌+◌, ◌*◌, ◌/◌, ◌%◌, ◌||◌, ℕ, true, List, ◌∷◌, map, replicate, Some, None, Result, Ok, Err, refl, sym, ap, ◌∙◌, subst, inl, inr, ⊎_elim, arith}
 use Rattle.std.specs.Prelude.{OnOk, IfOk, IfErr, slice_index}
 use Rattle.std.proofs.lemmas.Bool.{or_left, or_right}
 use Rattle.std.proofs.lemmas.List.{get_or_past}
 use Rattle.disk_trait.specs.declared.disks.Disks.{Ghosts}
-use Rattle.disk_trait.specs.Moments.{IsTold, IsQuiet, now, moment, LeftSince, LeavesOnly}
-use Rattle.disk_trait.specs.Past.{Past}
+use Rattle.disk_trait.specs.Moments.{IsTold, IsQuiet, now, LeavesOnly}
 use Rattle.disk_trait.proofs.LawLemmas.{end_of_run_law}
 use Rattle.disk_trait.proofs.MomentLemmas.{at_now, told_or_not, leaves_weaker}
 use Rattle.install_begin_laws.proofs.Spared.{leaves_both, outside_stays_law}
@@ -16,6 +15,7 @@ use Rattle.install_made_laws.specs.Within.{WritesWithin}
 use Rattle.install_made_laws.proofs.Named.{names_law}
 use Rattle.install_made_laws.proofs.Sectors.{lie_where_chosen, lie_in_order}
 use Rattle.install_made_laws.proofs.Within.{writes_within}
+use Rattle.install_settle.proofs.RenameLemmas.{leaves-untold}
 use Rattle.install_stage_laws.proofs.Clear.{added_keeps_law, seen_keeps_law}
 use Rattle.install_stage_laws.proofs.Held.{staged_held_law, seen_held_law}
 use Rattle.lilo_model.specs.Disks.{Image, Machine, bytes_at}
@@ -176,10 +176,12 @@ module _ {D : Type 0} {disks : Ghosts D} (start : Volume D disks) (machine : Mac
       }
 
       has_map : HasMap start new machine path chosen plan places
+      unfolding holds
       has_map = record {
         tree = tree;
         names = names_law View Old New (with_tilde path) (Some chosen.choice.inode) (Some (File Bytes)) tree;
         holds = holds;
+        holder = refl;
         lies = lies;
       }
 
@@ -211,13 +213,6 @@ module _ {D : Type 0} {disks : Ghosts D} (start : Volume D disks) (machine : Mac
       done = by-result result creates
 
 -- ---- the whole
-
--- of disks that report no past nothing is left
-leaves-untold : (old new : Option Past) (P : Image → Type 0) → (IsTold old → ⊥) → (IsTold new → ⊥) → LeavesOnly old new P
-unfolding IsTold moment LeftSince
-leaves-untold None None P before after = record { later = omega arith; each = λ c left. absurd left; before = λ t c le left. inl left }
-leaves-untold None (Some past) P before after = absurd (after tt)
-leaves-untold (Some past) new P before after = absurd (before tt)
 
 module _ {D : Type 0} {disks : Ghosts D} (start new : Volume D disks) (machine : Machine) (path : List (List ℕ)) (chosen : Chosen) (plan : MapPlan) (places : List DiskSector)
     (suits : Suits start.layout start.span chosen) (mode : chosen.mode ≡ file_mode) (quiet : IsQuiet (past_of start)) (room : IsTold (past_of start) → IsMapRoom start machine path chosen plan places)

@@ -44,7 +44,7 @@ module _ (volume : volumes.Volume) (before c : Image) (zones : ℕ → Bool) (ke
       ∙ ap (λ (s : ℕ). length (c volume.span.disk s)) (sym sector)
       ∙ (opened volume c sound).whole (place.sector - volume.span.start) (omega (arith, from, below))
 
-  still-whole : length (bytes_at c place) ≡ 512
+  pub still-whole : length (bytes_at c place) ≡ 512
   still-whole = ⊎_elim on-disk (λ other. kept (λ w. other (ap (λ (p : model.DiskSector). p.disk) w.is))) (cases_eq place.disk volume.span.disk)
     where
       at : (w : IsWritable volume before zones place) → place.sector ≡ volume.span.start + w.sector
@@ -61,7 +61,7 @@ module _ (volume : volumes.Volume) (before c : Image) (zones : ℕ → Bool) (ke
 
 -- ---- places of chosen zones
 
-more-chosen : (volume : volumes.Volume) (one zones : ℕ → Bool) → ((zone : ℕ) → one zone ≡ true → zones zone ≡ true) → (places : List model.DiskSector)
+pub more-chosen : (volume : volumes.Volume) (one zones : ℕ → Bool) → ((zone : ℕ) → one zone ≡ true → zones zone ≡ true) → (places : List model.DiskSector)
     → AllByRecursion (IsChosenPlace volume one) places → AllByRecursion (IsChosenPlace volume zones) places
 more-chosen volume one zones more [] own = tt
 more-chosen volume one zones more (place ∷ places) own =
@@ -95,26 +95,26 @@ module _ {D : Type 0} {disks : Ghosts D} (start new : Volume D disks) (chosen : 
   staged-map : IsStagedMap Before Staged machine View config time zones p0 p1 p2 p3 p4 rest
   staged-map = record {
     keeps = keeps;
-    free = was.free;
-    whole = λ place inside. still-whole View Before Staged zones keeps (makes.held was.told).files.sound place (was.whole place inside);
+    free = was.planned.free;
+    whole = λ place inside. still-whole View Before Staged zones keeps (makes.held was.told).files.sound place (was.planned.whole place inside);
     own = more-chosen View (is_chosen chosen) zones was.own Lie (subst (λ (l : List model.DiskSector). AllByRecursion (IsChosenPlace View (is_chosen chosen)) l) are (makes.room was.told).own);
     apart = subst IsFirstApart are (makes.room was.told).first;
     lies =
-        subst (λ (p : Plan). AreAt Staged Lie (plan_sectors p machine Lie)) was.plan_is
+        subst (λ (p : Plan). AreAt Staged Lie (plan_sectors p machine Lie)) was.planned.plan_is
         (subst (λ (l : List model.DiskSector). AreAt Staged l (plan_sectors (plan_view plan) machine l)) are (makes.done was.told).lies);
   }
 
   pub staged : IsStaged Before Staged machine View span config device time zones p0 p1 p2 p3 p4 rest bytes path
   staged = record {
-    sound = was.sound;
-    apart = was.apart;
-    found = was.found;
-    accepted = was.accepted;
+    sound = was.planned.sound;
+    apart = was.planned.apart;
+    found = was.planned.found;
+    accepted = was.planned.accepted;
     map = staged-map;
     boot = boot;
     files = mapped_joined_law View config Before (now (past_of start)) Staged was.files (makes.held was.told).files;
     holds =
-        subst (λ (p : Plan). HoldsMap Staged machine View p path Lie) was.plan_is
+        subst (λ (p : Plan). HoldsMap Staged machine View p path Lie) was.planned.plan_is
         (subst (λ (l : List model.DiskSector). HoldsMap Staged machine View (plan_view plan) path l) are (makes.done was.told).holds);
   }
 

@@ -1,3 +1,4 @@
 pub mod Blocks
 pub mod MapFile
 pub mod Staged
+pub mod Stages

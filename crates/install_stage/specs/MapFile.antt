@@ -62,7 +62,8 @@ IsFirstApart (place ∷ places) = IsNone place places
 
 -- Places are sectors of zones that were chosen for a file, and the first is none of the others. These zones are data zones, and
 -- free where what was promised is so.
-pub record LieInChosen {D : Type 0} {disks : Ghosts D} (volume : volumes.Volume D disks) (chosen : Chosen) (places : List model.DiskSector) : Type 0 where
+pub record LieInChosen {D : Type 0} {disks : Ghosts D} (volume : volumes.Volume D disks) (chosen : Chosen)
+    (places : List model.DiskSector) : Type 0 where
   pub own : AllByRecursion (IsChosenPlace (volume_view volume) (is_chosen chosen)) places
   pub first : IsFirstApart places
   pub zones : AreDataZones (super_view volume.layout) (is_chosen chosen)
@@ -90,6 +91,7 @@ pub record HasMap {D : Type 0} {disks : Ghosts D} (start new : volumes.Volume D 
   pub names : HasNamesBut (volume_view start) (now (past_of start)) (now (past_of new)) (with_tilde path)
       (Some (File (map_bytes machine plan places)))
   pub holds : HoldsMap (now (past_of new)) machine (volume_view start) (plan_view plan) path (map place_view places)
+  pub holder : holds.holder ≡ chosen.choice.inode
   pub lies : AreAt (now (past_of new)) (map place_view places) (sectors_of_map machine plan places)
 
 -- ---- the whole

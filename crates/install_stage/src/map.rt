@@ -6,7 +6,8 @@ ghost use Rattle.lilo_model.specs.Disks.{Machine};
 ghost use Rattle.minix_create.specs.Chosen.{Suits, IsFreeNow, new_inode};
 ghost use Rattle.minix_create.specs.States.{CreatesOn};
 ghost use Rattle.minix_fill.specs.Fill.{IsOfFile};
-ghost use Rattle.minix_zones.specs.Volume.{past_of};
+ghost use Rattle.minix_write.specs.View.{HasWriteCause};
+ghost use Rattle.minix_zones.specs.Volume.{past_of, faults_of};
 ghost use Rattle.install_stage.specs.Blocks.{AreMapBlocks};
 ghost use Rattle.install_stage.specs.MapFile.{IsMapRoom, MakesMap};
 
@@ -36,6 +37,8 @@ fn write_map<'d, D: Disks>(
     ensures quiet { IfOk result (λ new. IsQuiet (past_of new)) }
     ensures halted { (given : ℕ → List ℕ) → (IsTold (past_of volume.entry) → AreMapBlocks plan.now places.now given)
         → IfErr result (λ halt. CreatesOn volume.entry halt.volume chosen given (Err halt.fault)) }
+    ensures cause { IfErr result (λ halt.
+        HasWriteCause (faults_of volume.entry) (faults_of halt.volume) halt.fault) }
 {
     let mut reserved = chosen.reserve(volume)?;
     while let Some(index) = reserved.next_index() {
@@ -77,6 +80,8 @@ pub fn make_map<'d, D: Disks>(
         → (IsTold (past_of volume.entry) → IsMapRoom volume.entry machine path chosen plan.now places.now)
         → IfErr result (λ halt.
         MakesMap volume.entry halt.volume machine path chosen plan.now places.now (Err halt.fault)) }
+    ensures cause { IfErr result (λ halt.
+        HasWriteCause (faults_of volume.entry) (faults_of halt.volume) halt.fault) }
 {
     write_map(volume, chosen, plan, places)
 }

@@ -1,16 +1,18 @@
 -- The files that a configuration's plan maps, in a later image.
-use Rattle.std.proofs.Common.{◌≡◌, ℕ, true, List, [], ◌∷◌, Option, None, Some, refl, ◌∙◌}
+use Rattle.std.proofs.Common.{◌≡◌, ◌≢◌, ℕ, true, List, [], ◌∷◌, Option, None, Some, refl, ◌∙◌, subst}
 use Rattle.std.specs.Prelude.{IfSome}
 use Rattle.std.specs.List.{AllByRecursion}
 use Rattle.lilo_model.specs.Conf.{Config, ConfSection}
 use Rattle.lilo_model.specs.Devices.{Device}
 use Rattle.lilo_model.specs.Disks.{Image}
-use Rattle.lilo_model.specs.MinixNames.{Named, IsSound}
+use Rattle.lilo_model.specs.MinixNames.{Named, reached, IsSound}
 use Rattle.lilo_model.specs.MinixParts.{Volume, parts_of, is_file}
 use Rattle.lilo_model.specs.Planned.{file_inode}
+use Rattle.minix_beside_laws.specs.Beside.{NamedIn}
+use Rattle.minix_sees_laws.specs.Tree.{KeepsNamed}
 use Rattle.map_laws.proofs.MeantFiles.{inode-named}
 use Rattle.install_stage_laws.specs.ClearMap.{KeepsFiles}
-use Rattle.install_stage_laws.specs.Mapped.{OnFile, OnKernel, OnSection, OnMapped, StaysThere, FilesKeepMappedLaw, MappedJoinedLaw}
+use Rattle.install_stage_laws.specs.Mapped.{OnFile, OnKernel, OnSection, OnMapped, StaysThere, FilesKeepMappedLaw, ButKeepMappedLaw, MappedJoinedLaw}
 
 -- ---- a fact of each named file is one of each that is mapped
 
@@ -42,13 +44,14 @@ module _ (image : Image) (volume : Volume) (sound : IsSound volume image) (P : �
 
 -- ---- a fact that follows
 
-module _ (image : Image) (volume : Volume) (P Q : ℕ → Type 0) (next : (number : ℕ) → P number → Q number) where
-  next-inode : (inode : Option ℕ) → IfSome inode P → IfSome inode Q
-  next-inode None on = tt
-  next-inode (Some number) on = next number on
+module _ (image : Image) (volume : Volume) (P Q : ℕ → Type 0)
+    (next : (text : List ℕ) (number : ℕ) → file_inode volume (parts_of volume image) text ≡ Some number → P number → Q number) where
+  next-inode : (text : List ℕ) (inode : Option ℕ) → file_inode volume (parts_of volume image) text ≡ inode → IfSome inode P → IfSome inode Q
+  next-inode text None is on = tt
+  next-inode text (Some number) is on = next text number is on
 
   next-file : (text : List ℕ) → OnFile image volume text P → OnFile image volume text Q
-  next-file text = next-inode (file_inode volume (parts_of volume image) text)
+  next-file text = next-inode text (file_inode volume (parts_of volume image) text) refl
 
   next-path : (path : Option (List ℕ)) → IfSome path (λ text. OnFile image volume text P) → IfSome path (λ text. OnFile image volume text Q)
   next-path None on = tt
@@ -68,10 +71,16 @@ module _ (image : Image) (volume : Volume) (P Q : ℕ → Type 0) (next : (numbe
 
 -- ---- what stays
 
-pub stays-there : (volume : Volume) (before c : Image) (number : ℕ) → KeepsFiles volume before c → Named volume.layout (parts_of volume before) number → StaysThere volume before c number
-stays-there volume before c number keeps was =
-    let now = keeps.named number was in
-    record { named = now; mode = keeps.keeps.modes number was now; to = λ at zone refers. keeps.keeps.stays number at zone refers now }
+stays-named : (volume : Volume) (before c : Image) (number : ℕ) → KeepsNamed volume.layout (parts_of volume before) (parts_of volume c)
+    → NamedIn volume before number → NamedIn volume c number → StaysThere volume before c number
+stays-named volume before c number keeps was now = record {
+  named = now;
+  mode = keeps.modes number was now;
+  to = λ at zone refers. keeps.stays number at zone refers now;
+}
+
+pub stays-there : (volume : Volume) (before c : Image) (number : ℕ) → KeepsFiles volume before c → NamedIn volume before number → StaysThere volume before c number
+stays-there volume before c number keeps was = stays-named volume before c number keeps.keeps was (keeps.named number was)
 
 pub files_keep_mapped_law : FilesKeepMappedLaw
 files_keep_mapped_law volume config before c sound keeps = record {
@@ -79,14 +88,29 @@ files_keep_mapped_law volume config before c sound keeps = record {
   mapped = on-mapped before volume sound (StaysThere volume before c) (λ number was regular. stays-there volume before c number keeps was) config;
 }
 
+pub but_keep_mapped_law : ButKeepMappedLaw
+but_keep_mapped_law volume config but before c sound keeps others = record {
+  sound = keeps.sound;
+  mapped = next-mapped before volume (λ number. reached volume.layout (parts_of volume before) but ≢ Some number) (StaysThere volume before c) next config others;
+}
+  where
+    next : (text : List ℕ) (number : ℕ) → file_inode volume (parts_of volume before) text ≡ Some number
+        → reached volume.layout (parts_of volume before) but ≢ Some number → StaysThere volume before c number
+    next text number is other =
+        let was = (inode-named volume before sound text number is).0 in
+        stays-named volume before c number keeps.keeps was
+        (keeps.named was.path number
+        (λ same. other (subst (λ (p : List (List ℕ)). reached volume.layout (parts_of volume before) p ≡ Some number) same was.leads)) was.leads)
+
 pub mapped_joined_law : MappedJoinedLaw
 mapped_joined_law volume config before middle c one two = record {
   sound = two.sound;
   mapped = next-mapped before volume (StaysThere volume before middle) (StaysThere volume before c) next config one.mapped;
 }
   where
-    next : (number : ℕ) → StaysThere volume before middle number → StaysThere volume before c number
-    next number stays =
+    next : (text : List ℕ) (number : ℕ) → file_inode volume (parts_of volume before) text ≡ Some number
+        → StaysThere volume before middle number → StaysThere volume before c number
+    next text number is stays =
         let later = stays-there volume middle c number two stays.named in
         record {
           named = later.named;

@@ -1,18 +1,18 @@
 -- The files that a configuration's plan maps, in a later image (rules of this project's own).
-use Rattle.std.specs.Prelude.{◌≡◌, ℕ, IfSome, List, ◌∷◌, All, Option, None, Some, Ok}
+use Rattle.std.specs.Prelude.{◌≡◌, ◌≢◌, ℕ, IfSome, List, ◌∷◌, All, Option, None, Some, Ok}
 use Rattle.std.specs.List.{AllByRecursion}
 use Rattle.lilo_model.specs.Clear.{IsClearPlace}
 use Rattle.lilo_model.specs.Conf.{Config, ConfSection}
 use Rattle.lilo_model.specs.Devices.{Device}
 use Rattle.lilo_model.specs.Disks.{Image, Machine, Span, DiskSector}
-use Rattle.lilo_model.specs.MinixNames.{PointsTo, Refers, IsSound}
+use Rattle.lilo_model.specs.MinixNames.{PointsTo, Refers, reached, IsSound}
 use Rattle.lilo_model.specs.MinixParts.{Volume, Pointer, parts_of}
 use Rattle.lilo_model.specs.Partitions.{span_of}
 use Rattle.lilo_model.specs.Planned.{file_inode, planned}
 use Rattle.minix_beside_laws.specs.Beside.{NamedIn}
 use Rattle.map_laws.specs.MapLays.{HoldsMap}
 use Rattle.install_stays_laws.specs.Laws.{planned_places}
-use Rattle.install_stage_laws.specs.ClearMap.{KeepsFiles}
+use Rattle.install_stage_laws.specs.ClearMap.{KeepsFiles, KeepsFilesBut}
 use Rattle.install_stage_laws.specs.Devices.{AreDevicesApart}
 
 -- ---- files that are mapped
@@ -49,12 +49,21 @@ pub record KeepsMapped (volume : Volume) (config : Config) (before c : Image) : 
   pub sound : IsSound volume c
   pub mapped : OnMapped before volume config (StaysThere volume before c)
 
--- so they are where each inode that was named is so still, and stays; also after a change that kept them
+-- so they are where each inode that was named is so still, and stays
 abbrev pub FilesKeepMappedLaw : Type 0
 FilesKeepMappedLaw =
     (volume : Volume) (config : Config) (before c : Image)
     → IsSound volume before → KeepsFiles volume before c → KeepsMapped volume config before c
 
+-- and where all stay but what one path alone named, and it leads to none of them
+abbrev pub ButKeepMappedLaw : Type 0
+ButKeepMappedLaw =
+    (volume : Volume) (config : Config) (but : List (List ℕ)) (before c : Image)
+    → IsSound volume before → KeepsFilesBut volume but before c
+    → OnMapped before volume config (λ number. reached volume.layout (parts_of volume before) but ≢ Some number)
+    → KeepsMapped volume config before c
+
+-- also after a change that kept them
 abbrev pub MappedJoinedLaw : Type 0
 MappedJoinedLaw =
     (volume : Volume) (config : Config) (before middle c : Image)

@@ -16,7 +16,12 @@ ghost use Rattle.install_stage_laws.specs.Committed.{
   TidiedLaysLaw,
 };
 ghost use Rattle.install_stage_laws.specs.Devices.{ApartDevicesLaw};
-ghost use Rattle.install_stage_laws.specs.Mapped.{FilesKeepMappedLaw, MappedJoinedLaw, StagedClearLaw};
+ghost use Rattle.install_stage_laws.specs.Mapped.{
+  ButKeepMappedLaw,
+  FilesKeepMappedLaw,
+  MappedJoinedLaw,
+  StagedClearLaw,
+};
 ghost use Rattle.install_stage_laws.specs.Laws.{
   ApartKeptLaw,
   HolderStaysLaw,
@@ -110,6 +115,11 @@ pub fn files_but_one_are_kept_in_a_row()
 /// Then the files that a configuration maps are kept.
 pub fn mapped_files_are_kept()
     ensures { FilesKeepMappedLaw }
+{}
+
+/// And where all stay but what one path alone named, which is none of them.
+pub fn mapped_files_are_kept_but_none()
+    ensures { ButKeepMappedLaw }
 {}
 
 /// So they are over a later change that keeps files.

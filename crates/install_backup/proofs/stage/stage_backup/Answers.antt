@@ -39,7 +39,7 @@ returns-in_default-clause-staged g c =
     let sized = sized-by (backup_of c.args.forced c.args.pair.now) c.requires.wished.time c.in-Some.chosen named in
     let is : IsForFile c.args.volume c.in-Some.chosen c.args.present.now = for-file c.args.volume c.in-Some.chosen c.args.present.now
     (subst (λ (b : Option Chosen). IfSome b (Suits c.args.volume.layout c.args.volume.span)) some c.requires.suits)
-    (subst (λ (b : Option Chosen). IfSome b HasNoHole) some c.requires.holes) sized c.told-present in
+    (λ told. subst (λ (b : Option Chosen). IfSome b HasNoHole) some (c.requires.holes told)) sized c.told-present in
     let not : c.args.forced ≡ false = elim c.in_default.branch [
       | in_default-via-in-Some-pair+else-forced w ↦ w.if-forced.false
       | in_default-via-in_default w ↦ not-forced c.args.forced c.args.pair.now c.requires.wished.time c.in-Some.chosen named w.in_default.is
@@ -54,6 +54,6 @@ returns-in_default-clause-halted g c =
     let sized = sized-by (backup_of c.args.forced c.args.pair.now) c.requires.wished.time c.in-Some.chosen named in
     let is : IsForFile c.args.volume c.in-Some.chosen c.args.present.now = for-file c.args.volume c.in-Some.chosen c.args.present.now
     (subst (λ (b : Option Chosen). IfSome b (Suits c.args.volume.layout c.args.volume.span)) some c.requires.suits)
-    (subst (λ (b : Option Chosen). IfSome b HasNoHole) some c.requires.holes) sized c.told-present in
+    (λ told. subst (λ (b : Option Chosen). IfSome b HasNoHole) some (c.requires.holes told)) sized c.told-present in
     if_err_map c.make_backup.result _ _ (λ halt made path may.
     stages-refused c.args.volume halt.volume c.in-Some.chosen c.args.backup c.args.forced c.args.present.now is c.requires.quiet some path may halt.fault made.creates) c.make_backup.ensures.halted

@@ -1,6 +1,6 @@
-use Rattle.std.proofs.Common.{◌≡◌, Ok, Err, sym, ap, ◌∙◌, rules, inl}
-use Rattle.minix_create.proofs.StateLemmas.{wrong_creates, next_is, since_halts, created_ok, created_err}
-use Rattle.install_stage.proofs.WriteLemmas.{since_written}
+use Rattle.std.proofs.Common.{◌≡◌, [], Ok, Err, sym, ap, ◌∙◌, rules, inl}
+use Rattle.minix_create.proofs.StateLemmas.{wrong_creates, next_is, since_halts, created_ok, created_err, created_cause}
+use Rattle.install_stage.proofs.WriteLemmas.{since_written, some_written, wrong_cause, later_cause}
 use Rattle.install_stage.proofs.map.write_map.Goals as goal
 
 pub returns-in_err-reserved-clause-halted : goal.returns-in_err-reserved-clause-halted
@@ -12,7 +12,12 @@ returns-in_err-reserved-clause-halted g c given are =
 pub loop-index-init : goal.loop-index-init
 loop-index-init g c =
     let reserves = c.in_ok-reserved.ensures.reserved in
-    record { hand = reserves.hand; same = reserves.same; since = λ given are. reserves.since given }
+    record {
+      hand = reserves.hand;
+      same = reserves.same;
+      since = λ given are. reserves.since given;
+      some = (λ index. [], reserves.since (λ index. []));
+    }
 
 pub returns-in-Err-clause-halted : goal.returns-in-Err-clause-halted
 returns-in-Err-clause-halted g c given are =
@@ -32,6 +37,7 @@ loop-index-preserved g c =
           since_written c.args.volume c.loop-index.reserved c.block.new.self _ given wrote
           (λ told. let map = are told in c.map_block-block.ensures map.machine map.lies ∙ sym (map.are c.in-Some.index) ∙ ap given next)
           (inv.since given are);
+      some = some_written c.args.volume c.loop-index.reserved c.block.new.self _ wrote inv.some;
     }
 
 pub returns-in_err-filled-clause-halted : goal.returns-in_err-filled-clause-halted
@@ -56,3 +62,28 @@ returns-clause-made g c given are =
     let made = created_ok c.args.volume given c.args.chosen c.loop-index.reserved inv.same (inv.since given are) (λ told. inl c.requires.file) c.in_ok-filled.filled c.in_ok-filled.ensures.filled
     (Ok (c.in_ok-volume.volume, c.in_ok-volume.field-0-1)) c.in_ok-volume.ensures.linked in
     made.creates
+
+pub returns-in_err-reserved-clause-cause : goal.returns-in_err-reserved-clause-cause
+returns-in_err-reserved-clause-cause g c =
+    let halt = c.in_err-reserved.field-0.0 in
+    let is : c.from_residual.result ≡ Err halt = search rules in
+    rw is (wrong_cause c.args.volume halt.volume c.args.chosen halt.fault c.in_err-reserved.ensures.halted)
+
+pub returns-in-Err-clause-cause : goal.returns-in-Err-clause-cause
+returns-in-Err-clause-cause g c =
+    rw c.leave.ensures (later_cause c.args.volume c.loop-index.reserved c.loop-index.invariant.some c.block.new.self.volume c.in-Err.fault c.in-Err.ensures.halted)
+
+pub returns-in_err-filled-clause-cause : goal.returns-in_err-filled-clause-cause
+returns-in_err-filled-clause-cause g c =
+    let halt = c.in_err-filled.field-0.0 in
+    let is : c.from_residual-in_err-filled.result ≡ Err halt = search rules in
+    rw is (later_cause c.args.volume c.loop-index.reserved c.loop-index.invariant.some halt.volume halt.fault c.in_err-filled.ensures.halted)
+
+pub returns-in_err-volume-clause-cause : goal.returns-in_err-volume-clause-cause
+returns-in_err-volume-clause-cause g c =
+    let inv = c.loop-index.invariant in
+    let halt = c.in_err-volume.field-0.0 in
+    let is : c.from_residual-in_err-volume.result ≡ Err halt = search rules in
+    rw is
+    (created_cause c.args.volume inv.some.0 c.args.chosen c.loop-index.reserved inv.same inv.some.1 (λ told. inl c.requires.file) c.in_ok-filled.filled c.in_ok-filled.ensures.filled
+    (Err halt) c.in_err-volume.ensures.cause)

@@ -12,6 +12,7 @@ invariant-loop-index g l = record {
   same : l.reserved.chosen ≡ l.fn.chosen;
   since : (given : ℕ → List ℕ) → (IsTold (past_of l.fn.volume) → AreMapBlocks l.plan l.places given)
       → IsReservedSince l.fn.volume given l.reserved;
+  some : (given : ℕ → List ℕ) × IsReservedSince l.fn.volume given l.reserved;
 }
 
 abbrev pub decreases-loop-index : goal.decreases-loop-index

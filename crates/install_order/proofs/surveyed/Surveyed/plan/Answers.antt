@@ -60,5 +60,5 @@ returns-in-Ok-clause-ready g c =
     let suits = subst₂ (λ (layout : Super) (span : Span). SuitRoom layout span c.in-Ok.choices.room) (sym same.same_layout) (sym same.same_span) c.in-Ok.ensures.suits in
     is_ready s _ c.requires.known (record { config_is = c.in-Ok.ensures.config; device_is = refl; boot_is = refl; time_is = refl; own_is = refl; settled_is = refl }) same
     (has_files s _ (record { config_is = c.in-Ok.ensures.config; device_is = refl; boot_is = refl; time_is = refl; own_is = refl; settled_is = refl })
-    c.in-Ok.ensures.wished suits c.in-Ok.ensures.disk)
+    c.in-Ok.ensures.wished suits c.in-Ok.ensures.disk c.requires.known same)
     (returns-in-Ok-clause-may g c)

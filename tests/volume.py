@@ -161,7 +161,7 @@ image=/boot/vmlinuz
 """
 
 
-def system(kernel):
+def system(kernel, text=CONFIGURATION):
     """The volume of a small system, in the order in which its files are made: names of 30 bytes, 64 inodes, 4032
     sectors."""
     volume = Volume('v1-30', 4032, 64)
@@ -169,7 +169,7 @@ def system(kernel):
     volume.file(boot, b'vmlinuz', kernel)
     volume.file(boot, b'initrd', b'\xA5' * 700)
     volume.file(boot, b'boot.b', b'\x90' * 512)
-    volume.file(etc, b'lilo.conf', CONFIGURATION)
+    volume.file(etc, b'lilo.conf', text)
     return volume
 
 

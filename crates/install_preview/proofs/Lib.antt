@@ -1,3 +1,4 @@
 pub mod PreviewLemmas
 pub mod StateLemmas
 pub mod RefusedLemmas
+pub mod TrialLemmas

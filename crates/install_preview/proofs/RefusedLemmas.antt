@@ -1,6 +1,6 @@
 -- What is reported of a refusal is the model's verdict, unless a disk failed or memory ended.
-use Rattle.std.proofs.Common.{◌≡◌, ℕ, ◌++◌, codes, Result, Ok, Err, inl, inr, ◌∙◌, subst}
-use Rattle.std.specs.Prelude.{IsSome}
+use Rattle.std.proofs.Common.{◌≡◌, refl, ℕ, ◌++◌, codes, Result, Ok, Err, inl, inr, ◌∙◌, subst}
+use Rattle.std.specs.Prelude.{IsSome, IsTrue}
 use Rattle.disk_trait.specs.declared.disks.Phase.TheVariants.{Before}
 use Rattle.map_plan.specs.View.{plan_refusal}
 use Rattle.map_plan.specs.declared.fault.PlanFault.{PlanFault}
@@ -14,7 +14,7 @@ use Rattle.install_laws.specs.InstallVerdict.{Answer, InstallRefusal}
 use Rattle.install_order.specs.Faults.{HasInstallCause, Refuses, IsStopped}
 use Rattle.install_order.specs.declared.fault.InstallFault.{InstallFault}
 use Rattle.install_order.specs.declared.fault.InstallFault.TheVariants as faults
-use Rattle.install_preview.specs.Previews.{AnswersPreview}
+use Rattle.install_preview.specs.Previews.{AnswersPreview, is_preview_status}
 
 module _ (fault : InstallFault) (refusal : IsRefusal fault) (status : ℕ) (old new : SinkState) (is : status ≡ fault_status fault Before)
     (shown : Shows old (codes "lilo: " ++ fault_text fault Before) new) (stays : IsStopped fault → ⊥) where
@@ -59,3 +59,28 @@ rose_by (faults.Plan fault) before now cause is = absurd (no-plan fault cause is
 rose_by (faults.Write fault) before now cause is = cc
 rose_by faults.Device before now cause is = cause
 rose_by faults.Memory before now cause is = cc
+
+-- each refusal has one of these
+pub status_known : (fault : InstallFault) (status : ℕ) → status ≡ fault_status fault Before → IsTrue (is_preview_status status)
+status_known (faults.Survey fault) status is = rw is refl
+status_known (faults.NotApart opt) status is = rw is refl
+status_known (faults.Path path fault) status is = rw is refl
+status_known (faults.Plan fault) status is = by fault is
+  where
+    by : (plan : PlanFault) → status ≡ plan_status plan → IsTrue (is_preview_status status)
+    by (plans.Missing text) same = rw same refl
+    by plans.NoImagesLeft same = rw same refl
+    by (plans.Header path fault) same = rw same refl
+    by (plans.Address opt fault) same = rw same refl
+    by (plans.TooManySlots opt slots) same = rw same refl
+    by (plans.GeometryDiffers opt have) same = rw same refl
+    by (plans.OtherIsBoot path) same = rw same refl
+    by (plans.NoSignature path) same = rw same refl
+    by (plans.MessageTooLong size) same = rw same refl
+    by (plans.Table fault) same = rw same refl
+    by (plans.Tree path fault) same = rw same refl
+    by plans.Device same = rw same refl
+    by plans.Memory same = rw same refl
+status_known (faults.Write fault) status is = rw is refl
+status_known faults.Device status is = rw is refl
+status_known faults.Memory status is = rw is refl

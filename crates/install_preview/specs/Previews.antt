@@ -1,14 +1,18 @@
 -- What is answered of an installation that isn't done (this project's own).
-use Rattle.std.specs.Prelude.{◌≡◌, ◌⊎◌, ℕ, Bool, codes, Option, Result, Ok, Err}
+use Rattle.std.specs.Prelude.{◌≡◌, ◌⊎◌, ◌==◌, ℕ, Bool, [], ◌∷◌, codes, Option, Result, Ok, Err}
+use Rattle.std.specs.List.{list_any}
 use Rattle.disk_trait.specs.declared.disks.Disks.{Ghosts}
 use Rattle.lilo_model.specs.Disks.{Image, Machine}
 use Rattle.lilo_model.specs.Meant.{default_place}
 use Rattle.lilo_model.specs.MinixParts.{parts_of}
 use Rattle.lilo_model.specs.MinixWalk.{visits}
 use Rattle.lilo_model.specs.Plan.{plan_names}
-use Rattle.lilo_model.specs.Verdict.{Verdict}
+use Rattle.lilo_model.specs.Refusal as refusals
+use Rattle.lilo_model.specs.Verdict.{Verdict, verdict_of}
 use Rattle.map_sectors.specs.Map.{plan_view}
 use Rattle.minix_zones.specs.declared.volume.Volume.{Volume}
+use Rattle.minix_zones.specs.declared.zone_fault.ZoneFault.{ZoneFault}
+use Rattle.minix_zones.specs.declared.zone_fault.ZoneFault.TheVariants as zones
 use Rattle.stream_trait.specs.Shows.{SinkState, Shows}
 use Rattle.install_laws.specs.InstallVerdict.{Answer, Begun, InstallRefusal, install_checks, test_room, test_text, verdict_by}
 use Rattle.install_order.specs.Faults.{Refuses}
@@ -54,3 +58,13 @@ AnswersPreview given status old new =
 -- so it is of each answer that a refusal refuses
 abbrev pub AnswersRefusal : InstallFault → ℕ → SinkState → SinkState → Type 0
 AnswersRefusal fault status old new = (given : Result Answer InstallRefusal) → Refuses fault given → AnswersPreview given status old new
+
+-- whether a preview may end with this status
+abbrev pub is_preview_status : ℕ → Bool
+is_preview_status status = list_any (λ known. known == status) (0 ∷ 3 ∷ 4 ∷ 5 ∷ 8 ∷ 13 ∷ [])
+
+-- what is answered and printed where there is no volume
+abbrev pub zone_verdict : ZoneFault → Verdict
+zone_verdict zones.Device = record { status = 8; text = codes "lilo: device\n" }
+zone_verdict (zones.Layout fault) = verdict_of (Err refusals.Layout)
+zone_verdict (zones.ZoneOutside zone) = verdict_of (Err refusals.Layout)

@@ -1,16 +1,23 @@
 // What an installation would do.
-ghost use Rattle.std.specs.Prelude.{◌≡◌, ◌<◌, ◌≤◌, ℕ, true, is_some, IfOk, IfErr, IfSome};
+ghost use Rattle.std.specs.Prelude.{◌≡◌, ◌<◌, ◌≤◌, ℕ, true, is_some, IfOk, IfErr, IfSome, IsTrue};
 ghost use Rattle.disk_trait.specs.Past.{SameDisks, Told};
 ghost use Rattle.lilo_model.specs.Faults.{Rose};
 ghost use Rattle.lilo_model.specs.ConfLawful.{IsLawful};
 ghost use Rattle.lilo_conf.specs.View.{config_view};
 ghost use Rattle.minix_zones.specs.Volume.{volume_view, past_of, sizes_of, faults_of, SameVolume};
 ghost use Rattle.sector_address.specs.Machine.{OnDisks};
-ghost use Rattle.stream_trait.specs.Shows.{sink_of};
+ghost use Rattle.stream_trait.specs.Shows.{HasFailed, sink_of};
 ghost use Rattle.install_order.specs.Checks.{IsLaid};
 ghost use Rattle.install_order.specs.Faults.{HasInstallCause};
 ghost use Rattle.install_order.specs.View.{begun_of};
-ghost use Rattle.install_preview.specs.Previews.{preview_answer, GivesPreview, AnswersPreview, AnswersRefusal, volume_left};
+ghost use Rattle.install_preview.specs.Previews.{
+  preview_answer,
+  GivesPreview,
+  AnswersPreview,
+  AnswersRefusal,
+  is_preview_status,
+  volume_left,
+};
 
 use disk_trait::{Disks, Phase, Span};
 use install_answers::{Report, say_fault};
@@ -55,6 +62,8 @@ fn refuse<'d, D: Disks, O: Sink>(halt: Halt<'d, D>, out: &mut Shown<'_, O>) -> (
         → AnswersRefusal halt.entry.fault result.0 (sink_of O.Sink out.old) (sink_of O.Sink out.new) }
     ensures cause { (before : ℕ) → HasInstallCause before (faults_of halt.entry.volume) halt.entry.fault → result.0 ≡ 8
         → Rose before (faults_of halt.entry.volume) }
+    ensures known { IsTrue (is_preview_status result.0) }
+    ensures sink { HasFailed (sink_of O.Sink out.old) (sink_of O.Sink out.new) }
     ensures disks { result.1.now ≡ halt.entry.volume.disks.now }
     ensures same_reference { result.1.ghost_name ≡ halt.entry.volume.disks.ghost_name }
     ensures same_sink { out.new.out.ghost_name ≡ out.old.out.ghost_name }
@@ -69,9 +78,9 @@ fn refuse<'d, D: Disks, O: Sink>(halt: Halt<'d, D>, out: &mut Shown<'_, O>) -> (
     (status, volume.detach())
 }
 
-/// Reports what an installation by a configuration would do, and whether the present map is Clear, or why it is refused, and
-/// gives the exit status and the disks. The boot device lies in the span, as the caller found it. The time is in seconds
-/// since 1970. Nothing is written.
+/// Reports what an installation by a configuration would do, and whether the present map is Clear, or why it is
+/// refused, and gives the exit status and the disks. The boot device lies in the span, as the caller found it. The time
+/// is in seconds since 1970. Nothing is written.
 pub fn preview<'d, D: Disks, O: Sink>(
     alloc: Global,
     volume: Volume<'d, D>,
@@ -88,8 +97,11 @@ pub fn preview<'d, D: Disks, O: Sink>(
         AnswersPreview (preview_answer image machine (begun_of volume.entry config device boot) now) result.0
         (sink_of O.Sink out.old) (sink_of O.Sink out.new))) }
     ensures cause { result.0 ≡ 8 → Rose (faults_of volume.entry) (D.faults result.1.now) }
+    ensures later { faults_of volume.entry ≤ D.faults result.1.now }
+    ensures statuses { IsTrue (is_preview_status result.0) }
     ensures same { SameDisks D.past D.size_of D.count_of D.geometry_of volume.entry.disks.now result.1.now }
     ensures same_reference { result.1.ghost_name ≡ volume.entry.disks.ghost_name }
+    ensures sink { HasFailed (sink_of O.Sink out.old) (sink_of O.Sink out.new) }
     ensures same_sink { out.new.out.ghost_name ≡ out.old.out.ghost_name }
 {
     match decide(alloc, volume, config, boot, now) {

@@ -3,5 +3,7 @@
 #![tactic(auto)]
 
 mod answer;
+mod trial;
 
 pub use answer::preview;
+pub use trial::preview_begun;

@@ -8,7 +8,7 @@
 
 mod image;
 
-use disk_trait::{Disks, FileDisks};
+use disk_trait::{Disks, FileDisks, untold};
 use host_parts::{StartFault, arguments, now_seconds};
 use image::open_image;
 use lilo_run::{Ram, boots, lilo};
@@ -45,6 +45,7 @@ fn run(rt: &HostRuntime) -> Result<u8, StartFault> {
     let memory = if boots(&words) { MEMORY } else { LEAST_MEMORY };
     let mut ram = Ram::new(alloc, memory)?;
     let now = now_seconds(rt);
+    untold();
     Ok(lilo(
         alloc, &words, &mut disks, &mut keys, &mut out, &mut ram, now,
     ))

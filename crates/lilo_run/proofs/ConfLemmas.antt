@@ -17,14 +17,15 @@ use Rattle.conf_settings.specs.View.{fault_view, reason_view, opt_view}
 use Rattle.conf_settings.specs.declared.reason.ConfFault.{ConfFault}
 use Rattle.mbr_table.specs.declared.table_fault.TableFault.{TableFault}
 use Rattle.mbr_table.specs.declared.table_fault.TableFault.TheVariants as tables
-use Rattle.lilo_run.specs.Refusal.{table_verdict, text_verdict, conf_verdict, halt_verdict, RefusesText, ConfRefuses, HasConfCause}
+use Rattle.install_begin.specs.View.{RefusesText}
+use Rattle.lilo_run.specs.Refusal.{table_verdict, text_verdict, conf_verdict, halt_verdict, ConfRefuses, HasConfCause}
 use Rattle.disk_trait.specs.declared.disks.Disks.{Ghosts}
 use Rattle.bios_model.specs.Reads.{OnlyReads}
 use Rattle.lilo_model.specs.Faults.{Rose}
 use Rattle.lilo_run.specs.Run.{State, Does, Carries, IsPlaceHalt}
 use Rattle.lilo_run.proofs.RunLemmas.{carries_kept}
 use Rattle.lilo_model.specs.Prompt.{Key}
-use Rattle.lilo_run.specs.Verdict.{plain_command, command_effect, install_effect, conf_effect, conf_query_effect, query_effect, reads_conf, has_conf}
+use Rattle.lilo_run.specs.Verdict.{plain_command, command_effect, install_effect, test_effect, conf_effect, conf_query_effect, query_effect, reads_conf, has_conf}
 use Rattle.lilo_run.specs.declared.conf.ConfHalt.{ConfHalt}
 use Rattle.lilo_run.specs.declared.conf.ConfHalt.TheVariants.{File, Text}
 use Rattle.lilo_run.specs.declared.refusal.Halt.{Halt}
@@ -33,8 +34,8 @@ use Rattle.lilo_run.specs.declared.refusal.Halt.{Halt}
 
 -- a refusal of the model's
 refused_by :
-    (f : Result Device Refusal → Verdict) → ((refusal : Refusal) → f (Err refusal) ≡ verdict_of (Err refusal))
-    → (refusal : Refusal) (given : Result Device Refusal) (status : ℕ) (memory : Memory) (old new : SinkState)
+    {A : Type 0} → (f : Result A Refusal → Verdict) → ((refusal : Refusal) → f (Err refusal) ≡ verdict_of (Err refusal))
+    → (refusal : Refusal) (given : Result A Refusal) (status : ℕ) (memory : Memory) (old new : SinkState)
     → given ≡ Err refusal → status ≡ (verdict_of (Err refusal)).status → 1 ≤ status
     → Shows old (verdict_of (Err refusal)).text new → Does (conf_effect (f given)) status memory memory old new
 refused_by f same refusal given status memory old new is answer some shown =
@@ -42,8 +43,8 @@ refused_by f same refusal given status memory old new is answer some shown =
 
 -- a device that isn't found
 table_refused :
-    (f : Result Device Refusal → Verdict) → ((refusal : Refusal) → f (Err refusal) ≡ verdict_of (Err refusal))
-    → (path : List ℕ) (fault : TableFault) (given : Result Device Refusal) (status : ℕ) (memory : Memory) (old new : SinkState)
+    {A : Type 0} → (f : Result A Refusal → Verdict) → ((refusal : Refusal) → f (Err refusal) ≡ verdict_of (Err refusal))
+    → (path : List ℕ) (fault : TableFault) (given : Result A Refusal) (status : ℕ) (memory : Memory) (old new : SinkState)
     → ConfRefuses path (File (files.Place fault)) given → status ≡ (table_verdict fault).status → 1 ≤ status
     → Shows old (table_verdict fault).text new → Does (conf_effect (f given)) status memory memory old new
 table_refused f same path tables.Device given status memory old new refuses answer some shown =
@@ -65,8 +66,8 @@ table_refused f same path (tables.NoDisk disk) given status memory old new refus
 
 -- a text that is refused
 text_refused :
-    (f : Result Device Refusal → Verdict) → ((refusal : Refusal) → f (Err refusal) ≡ verdict_of (Err refusal))
-    → (view : Option ConfRefusal) (given : Result Device Refusal) (status : ℕ) (memory : Memory) (old new : SinkState)
+    {A : Type 0} → (f : Result A Refusal → Verdict) → ((refusal : Refusal) → f (Err refusal) ≡ verdict_of (Err refusal))
+    → (view : Option ConfRefusal) (given : Result A Refusal) (status : ℕ) (memory : Memory) (old new : SinkState)
     → RefusesText view given → status ≡ (text_verdict view).status → 1 ≤ status
     → Shows old (text_verdict view).text new → Does (conf_effect (f given)) status memory memory old new
 text_refused f same None given status memory old new refuses answer some shown =
@@ -76,8 +77,8 @@ text_refused f same (Some refusal) given status memory old new refuses answer so
 
 -- a configuration that can't be used, and what is said of it
 pub conf_refused :
-    (f : Result Device Refusal → Verdict) → ((refusal : Refusal) → f (Err refusal) ≡ verdict_of (Err refusal))
-    → (path : List ℕ) (halt : ConfHalt) (given : Result Device Refusal) (status : ℕ) (memory : Memory) (old new : SinkState)
+    {A : Type 0} → (f : Result A Refusal → Verdict) → ((refusal : Refusal) → f (Err refusal) ≡ verdict_of (Err refusal))
+    → (path : List ℕ) (halt : ConfHalt) (given : Result A Refusal) (status : ℕ) (memory : Memory) (old new : SinkState)
     → ConfRefuses path halt given → status ≡ (conf_verdict path halt).status → 1 ≤ status
     → Shows old (conf_verdict path halt).text new → Does (conf_effect (f given)) status memory memory old new
 conf_refused f same path (File files.NoVolume) given status memory old new refuses answer some shown =
@@ -167,23 +168,23 @@ conf_listed now machine root path device status memory old new is (inr (inl fail
 conf_listed now machine root path device status memory old new is (inr (inr failed)) = absurd failed.shown
 
 -- an installation, and what it would do
-module _ {D : Type 0} (g : Ghosts D) (now : Image) (machine : Machine) (size : ℕ) (root : Option Device) (path : List ℕ) (status : ℕ) (keys : List Key) (old new : State D) (reads : OnlyReads g old.disks new.disks (status ≡ 8)) where
+module _ {D : Type 0} (g : Ghosts D) (now : Image) (machine : Machine) (size time : ℕ) (root : Option Device) (path : List ℕ) (status : ℕ) (keys : List Key) (old new : State D) (reads : OnlyReads g old.disks new.disks (status ≡ 8)) where
   pub installs :
       Does (install_effect now machine root path) status old.memory new.memory old.sink new.sink
-      → Carries g (command_effect now machine size root path words.Install keys) status keys old new
+      → Carries g (command_effect now machine size time root path words.Install keys) status keys old new
   unfolding command_effect
   installs does = carries_kept g (install_effect now machine root path) status keys old new reads does
 
-  pub would_install :
-      Does (install_effect now machine root path) status old.memory new.memory old.sink new.sink
-      → Carries g (command_effect now machine size root path words.Test keys) status keys old new
+  pub tests :
+      Does (test_effect now machine time root path) status old.memory new.memory old.sink new.sink
+      → Carries g (command_effect now machine size time root path words.Test keys) status keys old new
   unfolding command_effect
-  would_install does = carries_kept g (install_effect now machine root path) status keys old new reads does
+  tests does = carries_kept g (test_effect now machine time root path) status keys old new reads does
 
   -- `-q`
   pub queries :
       (device : Option Device) → Does (plain_command now machine root path (words.Query device)) status old.memory new.memory old.sink new.sink
-      → Carries g (command_effect now machine size root path (words.Query device) keys) status keys old new
+      → Carries g (command_effect now machine size time root path (words.Query device) keys) status keys old new
   unfolding command_effect
   queries device does = carries_kept g (plain_command now machine root path (words.Query device)) status keys old new reads does
 

@@ -7,3 +7,4 @@ pub mod LineLemmas
 pub mod RunLemmas
 pub mod ShotLemmas
 pub mod TellLemmas
+pub mod TestLemmas

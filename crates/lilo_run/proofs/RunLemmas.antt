@@ -22,9 +22,9 @@ use Rattle.stream_trait.proofs.ShowsLemmas.{zero_before}
 use Rattle.loader_core.specs.Start.{OnKeys}
 use Rattle.loader_core.specs.Report.{LineWrite, image_with}
 use Rattle.bios_model.specs.Reads.{OnlyReads}
-use Rattle.loader_core.specs.Leaves.{HasPut, KeepsDisks}
+use Rattle.loader_core.specs.Leaves.{HasPut}
 use Rattle.loader_core.proofs.LeavesLemmas.{same_self, same_join, leaves_after}
-use Rattle.lilo_run.specs.Run.{State, IsDone, Does, Carries, CarriedOut, LostBefore, LostAtCommit, LostAfter, Starved, Unheard, EndsAt, IsPassed, IsOver, Runs, IsLost, IsWriteLost, is_part_status}
+use Rattle.lilo_run.specs.Run.{State, IsDone, Does, Carries, CarriedOut, LostBefore, LostAtCommit, LostAfter, Starved, Unheard, EndsAt, IsPassed, IsOver, Runs, IsLost, IsWriteLost, is_plain_status, is_conf_status, is_test_status, is_part_status}
 use Rattle.lilo_run.specs.Verdict.{Effect, keeping, early_status, early_parts, parts_effects, effects_of, is_boot, has_boot, is_write, has_write}
 
 -- how many turns are left at most
@@ -182,14 +182,41 @@ pub own_lost : (own status : ℕ) (failed : Bool) → status ≡ answer_of own f
 own_lost own status failed answer (inl is) = inl (own_status own 8 failed (sym answer ∙ is) (λ same. omega (arith, same)))
 own_lost own status failed answer (inr lost) = inr (own_write_lost own status failed answer lost)
 
-pub keeps_twice : {D : Type 0} → (g : Ghosts D) (old mid new : D) → KeepsDisks g old mid → KeepsDisks g mid new → KeepsDisks g old new
-keeps_twice g old mid new first next = record {
-  told = λ is. next.told (first.told is);
-  later = let before = first.later in let after = next.later in omega (arith, before, after);
-  size = next.size ∙ first.size;
-  count = next.count ∙ first.count;
-  geometry = next.geometry ∙ first.geometry;
-}
+-- where such a part ended as a disk failed, it did before it wrote
+module _ (status : ℕ) (lost : IsLost status) where
+  pub plain_lost : IsTrue (is_plain_status status) → status ≡ 8
+  plain_lost known = by lost
+    where
+      by : IsLost status → status ≡ 8
+      by (inl eight) = eight
+      by (inr (inl nine)) = absurd (false≢true (rw nine at known))
+      by (inr (inr ten)) = absurd (false≢true (rw ten at known))
+
+  pub conf_part_lost : IsTrue (is_conf_status status) → status ≡ 8
+  conf_part_lost known = by lost
+    where
+      by : IsLost status → status ≡ 8
+      by (inl eight) = eight
+      by (inr (inl nine)) = absurd (false≢true (rw nine at known))
+      by (inr (inr ten)) = absurd (false≢true (rw ten at known))
+
+  pub test_lost : IsTrue (is_test_status status) → status ≡ 8
+  test_lost known = by lost
+    where
+      by : IsLost status → status ≡ 8
+      by (inl eight) = eight
+      by (inr (inl nine)) = absurd (false≢true (rw nine at known))
+      by (inr (inr ten)) = absurd (false≢true (rw ten at known))
+
+-- nor does such a part end as the source of keys failed
+pub plain_heard : (status : ℕ) → IsTrue (is_plain_status status) → status ≡ 11 → ⊥
+plain_heard status known is = false≢true (rw is at known)
+
+pub conf_part_heard : (status : ℕ) → IsTrue (is_conf_status status) → status ≡ 11 → ⊥
+conf_part_heard status known is = false≢true (rw is at known)
+
+pub test_heard : (status : ℕ) → IsTrue (is_test_status status) → status ≡ 11 → ⊥
+test_heard status known is = false≢true (rw is at known)
 
 -- ---- what is known whatever disks hold
 
@@ -325,12 +352,12 @@ unfolding usage_text
 usage_is words wrong is = rw is refl
 
 pub usage_runs :
-    {D : Type 0} (g : Ghosts D) (image : Image) (machine : Machine) (size : ℕ) (words : List (List ℕ)) (keys : List Key) (wrong : Option ℕ) (disks : D) (memory : Memory)
+    {D : Type 0} (g : Ghosts D) (image : Image) (machine : Machine) (size time : ℕ) (words : List (List ℕ)) (keys : List Key) (wrong : Option ℕ) (disks : D) (memory : Memory)
     (key_faults : ℕ) (old new : SinkState)
     → run_at words ≡ Err wrong → Shows old (usage_text words) new
-    → Runs g (effects_of image machine size words keys) 1 keys keys (record { disks = disks; memory = memory; sink = old; key_faults = key_faults }) (record { disks = disks; memory = memory; sink = new; key_faults = key_faults })
+    → Runs g (effects_of image machine size time words keys) 1 keys keys (record { disks = disks; memory = memory; sink = old; key_faults = key_faults }) (record { disks = disks; memory = memory; sink = new; key_faults = key_faults })
 unfolding effects_of
-usage_runs g image machine size words keys wrong disks memory key_faults old new is shown =
+usage_runs g image machine size time words keys wrong disks memory key_faults old new is shown =
     rw is (inl (record {
       own = 1;
       does = CarriedOut (record { answer = refl; shown = shown; placed = λ zero. absurd (omega (arith, zero)) }) refl (same_self g disks);

@@ -44,13 +44,13 @@ TellsBoot g i o now machine memory place dump keys left status old new =
 
 -- where no part boots, what arguments do is the same in a memory of any size
 abbrev pub NoMemoryLaw : Type 0
-NoMemoryLaw = (now : Image) (machine : Machine) (memory other : ℕ) (words : List (List ℕ)) (keys : List Key) → run_boots (run_at words) ≡ false
-    → effects_of now machine memory words keys ≡ effects_of now machine other words keys
+NoMemoryLaw = (now : Image) (machine : Machine) (memory other time : ℕ) (words : List (List ℕ)) (keys : List Key) → run_boots (run_at words) ≡ false
+    → effects_of now machine memory time words keys ≡ effects_of now machine other time words keys
 
 -- where no part boots, all keys are left
 abbrev pub NoKeysLaw : Type 0
-NoKeysLaw = (now : Image) (machine : Machine) (memory : ℕ) (words : List (List ℕ)) (keys : List Key) → run_boots (run_at words) ≡ false
-    → run_left keys (effects_of now machine memory words keys) ≡ keys
+NoKeysLaw = (now : Image) (machine : Machine) (memory time : ℕ) (words : List (List ℕ)) (keys : List Key) → run_boots (run_at words) ≡ false
+    → run_left keys (effects_of now machine memory time words keys) ≡ keys
 
 -- the verdict of a boot is the model's, and so are the keys that it leaves and what it writes of the default line
 abbrev pub BootVerdictLaw : Type 0

@@ -1,6 +1,9 @@
 -- Which of the model's refusals each reason why a command ends represents, and what is answered and printed.
 use Rattle.std.specs.Prelude.{◌≡◌, ℕ, List, ◌++◌, Option, None, Some, Result, Ok, Err, codes, decimal}
 use Rattle.conf_file.specs.View.{Refuses, HasCause}
+use Rattle.install_begin.specs.View.{RefusesText}
+use Rattle.install_begin.specs.declared.fault.BeginFault.{BeginFault}
+use Rattle.install_begin.specs.declared.fault.BeginFault.TheVariants as begins
 use Rattle.conf_file.specs.declared.file_fault.FileFault.{FileFault}
 use Rattle.conf_file.specs.declared.file_fault.FileFault.TheVariants as files
 use Rattle.conf_settings.specs.View.{fault_view}
@@ -141,10 +144,6 @@ conf_verdict path (File fault) = file_verdict path fault
 conf_verdict path (Text fault) = text_verdict (fault_view fault)
 
 -- a configuration is refused as the model refuses it, or a disk failed, or there was no memory
-abbrev pub RefusesText : {A : Type 0} → Option ConfRefusal → Result A model.Refusal → Type 0
-RefusesText None given = Unit {0}
-RefusesText (Some refusal) given = given ≡ Err (model.Config refusal)
-
 abbrev pub ConfRefuses : {A : Type 0} → List ℕ → ConfHalt → Result A model.Refusal → Type 0
 ConfRefuses path (File fault) given = Refuses path fault given
 ConfRefuses path (Text fault) given = RefusesText (fault_view fault) given
@@ -158,3 +157,8 @@ GivesDevice path (Err halt) given = ConfRefuses path halt given
 abbrev pub HasConfCause : ℕ → ℕ → ConfHalt → Type 0
 HasConfCause before now (File fault) = HasCause before now fault
 HasConfCause before now (Text fault) = Unit {0}
+
+-- what an installation begins with is refused so
+abbrev pub IsBeginHalt : BeginFault → ConfHalt → Type 0
+IsBeginHalt (begins.File fault) halt = halt ≡ File fault
+IsBeginHalt (begins.Text fault) halt = halt ≡ Text fault

@@ -198,11 +198,11 @@ Runs {D} g (part ∷ parts) status keys left old new =
 abbrev pub RunsAll : {D I O : Type 0} → Ghosts D → sources.Ghosts I → sinks.Ghosts O → List Effect → ℕ → List Key → List Key → D × I × List ℕ × Shown O → D × I × List ℕ × Shown O → Type 0
 RunsAll g i o parts status keys left old new = Runs g parts status keys left (state_of i o old) (state_of i o new)
 
--- a fact about what the parts of arguments do by keys over what disks hold, with a memory of so many bytes, where the
--- disks report their past: whichever keys the source leaves, it holds of those that it left before
-abbrev pub OnParts : {D I : Type 0} → Ghosts D → sources.Ghosts I → D → I × I → ℕ → List (List ℕ) → (List Effect → List Key → List Key → Type 0) → Type 0
-OnParts g i disks keys memory words P =
-    Told (g.past disks) (λ now. OnKeys i keys (λ all left. P (effects_of now (machine_of g disks) memory words all) all left))
+-- a fact about what the parts of arguments do by keys over what disks hold, with a memory of so many bytes and at a time,
+-- where the disks report their past: whichever keys the source leaves, it holds of those that it left before
+abbrev pub OnParts : {D I : Type 0} → Ghosts D → sources.Ghosts I → D → I × I → ℕ → ℕ → List (List ℕ) → (List Effect → List Key → List Key → Type 0) → Type 0
+OnParts g i disks keys memory time words P =
+    Told (g.past disks) (λ now. OnKeys i keys (λ all left. P (effects_of now (machine_of g disks) memory time words all) all left))
 
 -- ---- the whole
 
@@ -329,6 +329,10 @@ is_plain_status status = list_any (λ known. known == status) (0 ∷ 3 ∷ 6 ∷
 abbrev pub is_conf_status : ℕ → Bool
 is_conf_status status = list_any (λ known. known == status) (0 ∷ 2 ∷ 3 ∷ 6 ∷ 7 ∷ 8 ∷ 13 ∷ 15 ∷ [])
 
+-- whether `-t` may
+abbrev pub is_test_status : ℕ → Bool
+is_test_status status = list_any (λ known. known == status) (0 ∷ 2 ∷ 3 ∷ 4 ∷ 5 ∷ 8 ∷ 13 ∷ [])
+
 -- whether a device that isn't found may
 abbrev pub is_place_status : ℕ → Bool
 is_place_status status = list_any (λ known. known == status) (3 ∷ 8 ∷ [])
@@ -347,12 +351,12 @@ is_boot_status status = list_any (λ known. known == status) (0 ∷ 3 ∷ 6 ∷ 
 
 -- whether a part may
 abbrev pub is_part_status : ℕ → Bool
-is_part_status status = list_any (λ known. known == status) (0 ∷ 2 ∷ 3 ∷ 4 ∷ 6 ∷ 7 ∷ 8 ∷ 9 ∷ 10 ∷ 11 ∷ 13 ∷ 15 ∷ [])
+is_part_status status = list_any (λ known. known == status) (0 ∷ 2 ∷ 3 ∷ 4 ∷ 5 ∷ 6 ∷ 7 ∷ 8 ∷ 9 ∷ 10 ∷ 11 ∷ 13 ∷ 15 ∷ [])
 
 -- whether parts in order may
 abbrev pub is_run_status : ℕ → Bool
-is_run_status status = list_any (λ known. known == status) (0 ∷ 2 ∷ 3 ∷ 4 ∷ 6 ∷ 7 ∷ 8 ∷ 9 ∷ 10 ∷ 11 ∷ 12 ∷ 13 ∷ 15 ∷ [])
+is_run_status status = list_any (λ known. known == status) (0 ∷ 2 ∷ 3 ∷ 4 ∷ 5 ∷ 6 ∷ 7 ∷ 8 ∷ 9 ∷ 10 ∷ 11 ∷ 12 ∷ 13 ∷ 15 ∷ [])
 
 -- whether arguments may
 abbrev pub is_status : ℕ → Bool
-is_status status = list_any (λ known. known == status) (0 ∷ 1 ∷ 2 ∷ 3 ∷ 4 ∷ 6 ∷ 7 ∷ 8 ∷ 9 ∷ 10 ∷ 11 ∷ 12 ∷ 13 ∷ 15 ∷ [])
+is_status status = list_any (λ known. known == status) (0 ∷ 1 ∷ 2 ∷ 3 ∷ 4 ∷ 5 ∷ 6 ∷ 7 ∷ 8 ∷ 9 ∷ 10 ∷ 11 ∷ 12 ∷ 13 ∷ 15 ∷ [])

@@ -21,6 +21,7 @@ use Rattle.lilo_model.specs.Words as words
 use Rattle.lilo_model.specs.Words.{Command, Part, run_at, usage_text}
 use Rattle.loader_core.specs.Report.{LineWrite, Report, boot_report, image_with}
 use Rattle.boot_backup.specs.Restore.{boot_place, restored_in}
+use Rattle.install_laws.specs.InstallVerdict.{test_verdict}
 use Rattle.lilo_run.specs.Refusal.{not_built, device_failed, failed_at_commit, failed_after_commit, keys_failed, no_memory, reason_verdict, line_refused}
 
 -- what a command does
@@ -118,9 +119,13 @@ abbrev pub unbuilt_behind : Result Device refusals.Refusal → Verdict
 unbuilt_behind (Ok device) = not_built
 unbuilt_behind (Err refusal) = verdict_of (Err refusal)
 
--- an installation, and what it would do: so far their configuration is read, whose device and path are these
+-- an installation: so far its configuration is read, whose device and path are these
 unfoldable pub install_effect : Image → Machine → Option Device → List ℕ → Effect
 install_effect now machine root path = conf_effect (unbuilt_behind (conf_device now machine root path))
+
+-- `-t` at a time
+unfoldable pub test_effect : Image → Machine → ℕ → Option Device → List ℕ → Effect
+test_effect now machine time root path = conf_effect (test_verdict now machine root path time)
 
 -- `-q` without a device
 unfoldable pub conf_query_effect : Image → Machine → Option Device → List ℕ → Effect
@@ -186,27 +191,26 @@ restored_effect found =
 unfoldable pub restore_effect : Image → Machine → Option Device → Device → Result Span refusals.DeviceFault → Effect
 restore_effect now machine root device place = restored_effect (restored_on now machine root device place)
 
--- a command that writes no disk, whose volume lies on this device, where one is named, and has its configuration at this
+-- a command that writes no disk and is the same at any time, whose volume lies on this device, where one is named, and has its configuration at this
 -- path
 abbrev pub plain_command : Image → Machine → Option Device → List ℕ → Command → Effect
 plain_command now machine root path (words.Query (Some device)) = query_effect now machine (place_at now machine device)
 plain_command now machine root path (words.Query None) = conf_query_effect now machine root path
 plain_command now machine root path words.Install = install_effect now machine root path
-plain_command now machine root path words.Test = install_effect now machine root path
 plain_command now machine root path _ = plain_effect not_built []
 
--- a command by keys, of which only a boot takes any
-unfoldable pub command_effect : Image → Machine → ℕ → Option Device → List ℕ → Command → List Key → Effect
-command_effect now machine memory root path (words.Boot device dump) keys = boot_effect now machine memory dump (place_at now machine device) keys
-command_effect now machine memory root path words.Install keys = keeping keys (plain_command now machine root path words.Install)
-command_effect now machine memory root path words.Test keys = keeping keys (plain_command now machine root path words.Test)
-command_effect now machine memory root path (words.Query device) keys = keeping keys (plain_command now machine root path (words.Query device))
-command_effect now machine memory root path (words.SetLine line) keys = leaving keys (line_effect now machine root path (joined_words line))
-command_effect now machine memory root path (words.Restore device) keys = leaving keys (restore_effect now machine root device (place_at now machine device))
+-- a command by keys, of which only a boot takes any, with a memory of so many bytes and at a time
+unfoldable pub command_effect : Image → Machine → ℕ → ℕ → Option Device → List ℕ → Command → List Key → Effect
+command_effect now machine memory time root path (words.Boot device dump) keys = boot_effect now machine memory dump (place_at now machine device) keys
+command_effect now machine memory time root path words.Install keys = keeping keys (plain_command now machine root path words.Install)
+command_effect now machine memory time root path words.Test keys = keeping keys (test_effect now machine time root path)
+command_effect now machine memory time root path (words.Query device) keys = keeping keys (plain_command now machine root path (words.Query device))
+command_effect now machine memory time root path (words.SetLine line) keys = leaving keys (line_effect now machine root path (joined_words line))
+command_effect now machine memory time root path (words.Restore device) keys = leaving keys (restore_effect now machine root device (place_at now machine device))
 
 -- a part
-abbrev pub part_effect : Machine → ℕ → Image → Part → List Key → Effect
-part_effect machine memory now part keys = command_effect now machine memory part.root (conf_path part.config) part.command keys
+abbrev pub part_effect : Machine → ℕ → ℕ → Image → Part → List Key → Effect
+part_effect machine memory time now part keys = command_effect now machine memory time part.root (conf_path part.config) part.command keys
 
 -- ---- a run
 
@@ -221,9 +225,9 @@ abbrev pub words_effects : (Image → Part → List Key → Effect) → Image �
 words_effects effect now words keys (Ok parts) = parts_effects effect now parts keys
 words_effects effect now words keys (Err wrong) = keeping keys (plain_effect (record { status = 1; text = usage_text words }) []) ∷ []
 
--- what the parts of arguments do by keys over disks that hold this image, with a memory of so many bytes
-unfoldable pub effects_of : Image → Machine → ℕ → List (List ℕ) → List Key → List Effect
-effects_of now machine memory words keys = words_effects (part_effect machine memory) now words keys (run_at words)
+-- what the parts of arguments do by keys over disks that hold this image, with a memory of so many bytes and at a time
+unfoldable pub effects_of : Image → Machine → ℕ → ℕ → List (List ℕ) → List Key → List Effect
+effects_of now machine memory time words keys = words_effects (part_effect machine memory time) now words keys (run_at words)
 
 -- Verdict: the texts of the parts that answer 0, and after them the first other verdict
 abbrev pub run_verdict : List Effect → Verdict

@@ -92,7 +92,7 @@ fn query_conf<D: Disks, O: Sink>(
     }
 }
 
-/// Carries out an installation, or reports what it would do. So far its configuration is read.
+/// Carries out an installation. So far its configuration is read.
 #[tactic(auto, unfolding(crate::specs::Verdict::install_effect))]
 pub(crate) fn install<D: Disks, O: Sink>(
     alloc: Global,

@@ -14,6 +14,7 @@ mod place;
 mod query;
 mod refusal;
 mod run;
+mod test_part;
 
 pub use bios_model::Ram;
 pub use laws::{

@@ -88,7 +88,8 @@ fn put_line_on<D: Disks, O: Sink>(
 ) -> u8
     ensures does { (memory : Memory) → CarriesBeside D.Disks O.Sink memory result
         (disks.old, out.old) (disks.new, out.new)
-        (λ now machine. shot_effect text.now (line_on now machine text.now (place_at now machine (device_view device)))) }
+        (λ now machine. shot_effect text.now
+        (line_on now machine text.now (place_at now machine (device_view device)))) }
     ensures known { IsTrue (is_line_status result) }
     ensures only { WritesAndShows D.Disks O.Sink (disks.old, out.old) (disks.new, out.new) (IsLost result) }
 {
@@ -108,7 +109,8 @@ fn put_line_in<D: Disks, O: Sink>(
     requires { span.start < D.size_of disks.old span.disk }
     ensures does { (memory : Memory) → CarriesBeside D.Disks O.Sink memory result
         (disks.old, out.old) (disks.new, out.new)
-        (λ now machine. shot_effect text.now (with_fault line_refused (shot_place now machine (span_view span) text.now))) }
+        (λ now machine. shot_effect text.now
+        (with_fault line_refused (shot_place now machine (span_view span) text.now))) }
     ensures known { IsTrue (is_line_status result) }
     ensures only { WritesAndShows D.Disks O.Sink (disks.old, out.old) (disks.new, out.new) (IsLost result) }
 {

@@ -2,6 +2,7 @@
 ghost use Rattle.std.specs.Prelude.{◌≡◌, ℕ, List, true, false, length, IfSome, IsTrue};
 ghost use Rattle.lilo_words.specs.View.{command_view, part_view};
 ghost use Rattle.disk_trait.specs.Calls.{SameOf};
+ghost use Rattle.disk_trait.specs.Moments.{IsWhole};
 ghost use Rattle.loader_core.specs.Leaves.{WritesAndAsks};
 ghost use Rattle.lilo_run.specs.Run.{is_part_status, CarriesOn, IsLost, IsWriteLost};
 ghost use Rattle.lilo_run.specs.Verdict.{part_effect, early_status, is_boot, is_write, reads_conf};
@@ -10,6 +11,7 @@ use crate::backup::put_back;
 use crate::boot::boot_device;
 use crate::conf::{conf_path, install, query, say_memory};
 use crate::line::{joined, put_line};
+use crate::test_part::test;
 use bios_model::{Bios, Ram};
 use disk_trait::Disks;
 use lilo_words::{Command, Part};
@@ -17,7 +19,7 @@ use loader_core::Shown;
 use std::alloc::Global;
 use stream_trait::{Sink, Source, Words};
 
-/// Carries out a part of some arguments, and answers the status.
+/// Carries out a part of some arguments at a time, in seconds since 1970, and answers the status.
 #[tactic(auto, unfolding(crate::specs::Verdict::command_effect, crate::specs::Verdict::early_status))]
 pub(crate) fn carry_out<D: Disks, I: Source, O: Sink>(
     alloc: Global,
@@ -26,11 +28,13 @@ pub(crate) fn carry_out<D: Disks, I: Source, O: Sink>(
     bios: &mut Bios<'_, D, I>,
     ram: &mut Ram,
     out: &mut Shown<'_, O>,
+    time: u32,
 ) -> u8
+    requires whole { IsWhole (D.size_of bios.old.disks.now) (D.past bios.old.disks.now) }
     ensures does { CarriesOn D.Disks I.Source O.Sink result
         (bios.old.disks.now, bios.old.keys.now, ram.old, out.old)
         (bios.new.disks.now, bios.new.keys.now, ram.new, out.new)
-        (λ now machine memory. part_effect machine memory now (part_view words.now part.entry)) }
+        (λ now machine memory. part_effect machine memory time now (part_view words.now part.entry)) }
     ensures early { (words : List (List ℕ)) → IfSome (early_status (D.size_of bios.old.disks.now)
         (command_view words part.entry.command)) (λ status. result ≡ status) }
     ensures known { IsTrue (is_part_status result) }
@@ -54,7 +58,8 @@ pub(crate) fn carry_out<D: Disks, I: Source, O: Sink>(
     match part.command {
         Command::Query(device) => query(alloc, bios.disks, device, part.root, path, out),
         Command::Boot { device, dump } => boot_device(bios, device, dump, ram, out),
-        Command::Install | Command::Test => install(alloc, bios.disks, part.root, path, out),
+        Command::Install => install(alloc, bios.disks, part.root, path, out),
+        Command::Test => test(alloc, bios.disks, part.root, path, time, out),
         Command::SetLine { from, to } => match joined(alloc, words, from, to) {
             Ok(text) => put_line(alloc, bios.disks, part.root, path, text.as_slice(), out),
             Err(_) => say_memory(out),

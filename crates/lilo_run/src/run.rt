@@ -1,7 +1,8 @@
 // The top call: what the program `lilo` does with its arguments.
 ghost use Rattle.std.specs.Prelude.{◌≡◌, true, Bool, ◌↔◌, ◌++◌, codes, false, length, IfSome, IfOk, IsOk};
 ghost use Rattle.std.specs.Prelude.{IsErr, IsTrue};
-ghost use Rattle.disk_trait.specs.Calls.{SameOf};
+ghost use Rattle.disk_trait.specs.Calls.{GoesOn, SameOf};
+ghost use Rattle.disk_trait.specs.Moments.{IsWhole};
 ghost use Rattle.lilo_model.specs.Faults.{Rose};
 ghost use Rattle.stream_trait.specs.Sink.{Takes};
 ghost use Rattle.lilo_model.specs.Place.{memory_after};
@@ -11,14 +12,23 @@ ghost use Rattle.sector_address.specs.Machine.{OnDisks};
 ghost use Rattle.bios_model.specs.Memory.{memory_of};
 ghost use Rattle.lilo_words.specs.Run.{run_behind, parts_behind};
 ghost use Rattle.stream_trait.specs.Shows.{Shows, sink_of, Prints};
-ghost use Rattle.lilo_run.specs.Run.{Answers, is_run_status, is_status, IsLost, IsWriteLost, RunsAll, OnParts, TellsAll};
+ghost use Rattle.lilo_run.specs.Run.{
+  Answers,
+  is_run_status,
+  is_status,
+  IsLost,
+  IsWriteLost,
+  RunsAll,
+  OnParts,
+  TellsAll,
+};
 ghost use Rattle.lilo_run.specs.Run.{HoldsWritten, LeavesWritten, LeavesOthers};
 ghost use Rattle.loader_core.specs.Start.{OnKeys};
 ghost use Rattle.lilo_model.specs.ConfVerdict.{place_at};
 ghost use Rattle.lilo_run.specs.Verdict.{part_effect, parts_effects, run_verdict, run_left, run_written};
 ghost use Rattle.lilo_run.specs.Verdict.{early_answer, early_parts, has_boot, has_write, has_conf};
 ghost use Rattle.lilo_run.specs.Laws.{IsBootRun, TellsBoot};
-ghost use Rattle.loader_core.specs.Leaves.{KeepsDisks, WritesAndAsks};
+ghost use Rattle.loader_core.specs.Leaves.{WritesAndAsks};
 
 use crate::part::carry_out;
 use bios_model::{Bios, Ram};
@@ -37,21 +47,26 @@ use stream_trait::{Sink, Source, Words, answer};
 /// after `-C`, on the volume of the device after `--root`, or on the first that is found.
 /// `-R WORD..` makes the words, with a space between each two, the default line of that device for one boot, by
 /// [`one_shot::set_line`], and without words clears it; it prints nothing.
-/// `-u DEVICE` restores the boot sector that it had before the first installation, by [`boot_backup::restore`], from the
-/// backup on the volume of the device after `--root`, or on the first that is found; it prints nothing.
+/// `-u DEVICE` restores the boot sector that it had before the first installation, by [`boot_backup::restore`], from
+/// the backup on the volume of the device after `--root`, or on the first that is found; it prints nothing.
 /// `boot DEVICE` boots it, by [`loader_core::boot`], and with `--dump` prints what was put into memory. Where the boot
 /// makes the default line another, that line's sector is written and made durable. The options `-C`, `--root` and `-v`
-/// before `-q DEVICE` and `boot` have no effect, nor have `-C` and `-v` before `-u`. An installation and `-t` read their
-/// configuration so far; what they do then isn't built yet.
+/// before `-q DEVICE` and `boot` have no effect, nor have `-C` and `-v` before `-u`.
+/// `-t` looks at and plans what an installation by a configuration would do at a time, in seconds since 1970, by
+/// [`install_preview::preview_begun`], and prints it; it writes nothing. An installation reads its configuration so
+/// far; what it does then isn't built yet.
 ///
 /// | status | comes | text |
 /// |---|---|---|
-/// | 0 | done | the names; what the boot shows, and the memory |
+/// | 0 | done | the names; what the boot shows, and the memory; what an installation would do |
 /// | 1 | the arguments aren't in the grammar | `lilo: usage: WORD`, or `(end)` |
 /// | 2 | the configuration's text is refused | `lilo: config: OPTION: REASON at line N` |
 /// | 3 | the device isn't found | `lilo: volume: no disk`, `no partition` or `table` |
 /// | 3 | the volume or the configuration's file isn't | `lilo: volume: no volume`, `layout`, `missing PATH`, `path PATH` |
+/// | 3 | `-t` finds a volume that isn't sound, or a named path is refused | `lilo: volume: REASON` |
 /// | 4 | the words after `-R` make N bytes, which are too many | `lilo: address: line N over 255` |
+/// | 4 | for `-t` the configuration isn't apart, or can't be mapped | `lilo: address: REASON` |
+/// | 5 | for `-t` the volume has no room | `lilo: space: REASON` |
 /// | 6 | `-q`, `-R` or `-u` finds a foreign boot sector, or one of another version; `-u` no backup | `lilo: not ours` |
 /// | 7 | the boot is refused, or the map is | `lilo: boot: REASON` |
 /// | 8 | a disk failed before the part wrote | `lilo: device` |
@@ -59,12 +74,12 @@ use stream_trait::{Sink, Source, Words, answer};
 /// | 10 | a disk failed after that | `lilo: device after commit` |
 /// | 11 | the source of keys failed | `lilo: keys` |
 /// | 12 | the sink failed at a part that would answer 0 | |
-/// | 13 | there is no memory for a configuration, or for the words after `-R` | `lilo: memory` |
+/// | 13 | there is no memory for a configuration, the plan of `-t`, or the words after `-R` | `lilo: memory` |
 /// | 15 | the part isn't built yet | `lilo: not built` |
 ///
 /// After the sink failed nothing is put, and the part that runs is the last. Only boots take keys. Only boots, `-R` and
 /// `-u` write: the sector of the default line, or with `-u` the boot sector, and no other. Memory is allocated for a
-/// configuration and the words after `-R` alone.
+/// configuration, the plan of `-t` and the words after `-R` alone.
 pub fn lilo<D: Disks, I: Source, O: Sink>(
     alloc: Global,
     words: &Words,
@@ -74,8 +89,11 @@ pub fn lilo<D: Disks, I: Source, O: Sink>(
     ram: &mut Ram,
     now: u32,
 ) -> u8
+    // Each sector has 512 bytes: so it is of disks that hold whole sectors, or that don't report what they hold.
+    requires whole { IsWhole (D.size_of disks.old) (D.past disks.old) }
+
     // Where the disks report what they hold, the status is the verdict's, but for faults.
-    ensures status { OnParts D.Disks I.Source disks.old (keys.old, keys.new) (length ram.old) words.now
+    ensures status { OnParts D.Disks I.Source disks.old (keys.old, keys.new) (length ram.old) now words.now
         (λ parts _ _. Answers parts result) }
     ensures device { result ≡ 8 → Rose (D.faults disks.old) (D.faults disks.new) }
     ensures at_commit { result ≡ 9 → Rose (D.faults disks.old) (D.faults disks.new) }
@@ -86,30 +104,31 @@ pub fn lilo<D: Disks, I: Source, O: Sink>(
     ensures sink { result ≡ 12 → Rose (O.faults out.old) (O.faults out.new) }
     ensures starved { result ≡ 13 → IfOk (run_at words.now) (λ parts. has_conf parts ≡ true) }
 
-    // The text, the keys left and what the disks hold go with the status. Only a failed sink may have cut the text short,
-    // in the part at which the run ended.
-    ensures text { OnParts D.Disks I.Source disks.old (keys.old, keys.new) (length ram.old) words.now
+    // The text, the keys left and what the disks hold go with the status. Only a failed sink may have cut the text
+    // short, in the part at which the run ended.
+    ensures text { OnParts D.Disks I.Source disks.old (keys.old, keys.new) (length ram.old) now words.now
         (λ parts all left. TellsAll D.Disks I.Source O.Sink parts result all left
         (disks.old, keys.old, ram.old, out.old) (disks.new, keys.new, ram.new, out.new)) }
-    ensures whole { result ≡ 0 → OnParts D.Disks I.Source disks.old (keys.old, keys.new) (length ram.old) words.now
-        (λ parts _ _. Takes (O.taken out.old) (run_verdict parts).text (O.taken out.new)) }
-    ensures left { result ≡ 0 → OnParts D.Disks I.Source disks.old (keys.old, keys.new) (length ram.old) words.now
-        (λ parts all left. run_left all parts ≡ left) }
+    ensures whole { result ≡ 0 → OnParts D.Disks I.Source disks.old (keys.old, keys.new) (length ram.old) now
+        words.now (λ parts _ _. Takes (O.taken out.old) (run_verdict parts).text (O.taken out.new)) }
+    ensures left { result ≡ 0 → OnParts D.Disks I.Source disks.old (keys.old, keys.new) (length ram.old) now
+        words.now (λ parts all left. run_left all parts ≡ left) }
 
     // A boot by itself has the model's verdict, leaves the keys that the model's leaves, and writes the line that it
     // writes.
     ensures boot { (device : Device) (dump : Bool) → IsBootRun words.now device dump
         → OnDisks D.Disks disks.old (λ now machine. OnKeys I.Source (keys.old, keys.new) (λ all left.
-        TellsBoot D.Disks I.Source O.Sink now machine (length ram.old) (place_at now machine device) dump all left result
+        TellsBoot D.Disks I.Source O.Sink now machine (length ram.old)
+        (place_at now machine device) dump all left result
         (disks.old, keys.old, ram.old, out.old) (disks.new, keys.new, ram.new, out.new))) }
 
-    // Each part that answers 0 wrote its default line or boot sector, and a stop at any moment leaves what the disks held
-    // before one of the parts or after it: that sector has its old bytes or its new ones, and no other is written.
-    ensures lines { result ≡ 0 → OnParts D.Disks I.Source disks.old (keys.old, keys.new) (length ram.old) words.now
-        (λ parts _ _. HoldsWritten D.Disks parts disks.old disks.new) }
-    ensures moments { OnParts D.Disks I.Source disks.old (keys.old, keys.new) (length ram.old) words.now
+    // Each part that answers 0 wrote its default line or boot sector, and a stop at any moment leaves what the disks
+    // held before one of the parts or after it: that sector has its old bytes or its new ones, and no other is written.
+    ensures lines { result ≡ 0 → OnParts D.Disks I.Source disks.old (keys.old, keys.new) (length ram.old) now
+        words.now (λ parts _ _. HoldsWritten D.Disks parts disks.old disks.new) }
+    ensures moments { OnParts D.Disks I.Source disks.old (keys.old, keys.new) (length ram.old) now words.now
         (λ parts _ _. LeavesWritten D.Disks parts disks.old disks.new) }
-    ensures others { OnParts D.Disks I.Source disks.old (keys.old, keys.new) (length ram.old) words.now
+    ensures others { OnParts D.Disks I.Source disks.old (keys.old, keys.new) (length ram.old) now words.now
         (λ parts _ _. LeavesOthers D.Disks parts disks.old disks.new) }
 
     // Arguments that aren't in the grammar, whatever the disks report.
@@ -122,21 +141,22 @@ pub fn lilo<D: Disks, I: Source, O: Sink>(
     ensures early { IfSome (early_answer (D.size_of disks.old) (run_at words.now)) (λ status. result ≡ status) }
 
     // Memory has what the boots put there, and without a boot it stays, and so do the keys.
-    ensures memory { result ≡ 0 → OnParts D.Disks I.Source disks.old (keys.old, keys.new) (length ram.old) words.now
-        (λ parts _ _. memory_of ram.new ≡ memory_after (memory_of ram.old) (run_written parts)) }
+    ensures memory { result ≡ 0 → OnParts D.Disks I.Source disks.old (keys.old, keys.new) (length ram.old) now
+        words.now (λ parts _ _. memory_of ram.new ≡ memory_after (memory_of ram.old) (run_written parts)) }
     ensures no_boot { IfOk (run_at words.now) (λ parts. has_boot parts ≡ false
         → (ram.new ≡ ram.old) × (keys.new ≡ keys.old)) }
     ensures no_run { IsErr (run_at words.now) → (ram.new ≡ ram.old) × (keys.new ≡ keys.old) }
     ensures size { length ram.new ≡ length ram.old }
 
-    // Without a boot, `-R` and `-u` no disk is written, whatever the disks report; and their sizes and shapes always stay.
+    // Without a boot, `-R` and `-u` no disk is written, whatever the disks report; and their sizes and shapes always
+    // stay.
     ensures same { IfOk (run_at words.now) (λ parts. has_write parts ≡ false → SameOf D.Disks disks.old disks.new) }
     ensures same_no_run { IsErr (run_at words.now) → SameOf D.Disks disks.old disks.new }
-    ensures keeps { KeepsDisks D.Disks disks.old disks.new }
+    ensures keeps { GoesOn D.Disks disks.old disks.new }
 {
     let mut shown = Shown::new(out);
     let mut bios = Bios { disks, keys };
-    run_words(alloc, words, &mut bios, ram, &mut shown)
+    run_words(alloc, words, &mut bios, ram, &mut shown, now)
 }
 
 /// Carries out arguments, and answers the status.
@@ -147,9 +167,11 @@ fn run_words<D: Disks, I: Source, O: Sink>(
     bios: &mut Bios<'_, D, I>,
     ram: &mut Ram,
     out: &mut Shown<'_, O>,
+    time: u32,
 ) -> u8
+    requires whole { IsWhole (D.size_of bios.old.disks.now) (D.past bios.old.disks.now) }
     ensures does { OnParts D.Disks I.Source bios.old.disks.now (bios.old.keys.now, bios.new.keys.now) (length ram.old)
-        words.now (λ parts all left. RunsAll D.Disks I.Source O.Sink parts result all left
+        time words.now (λ parts all left. RunsAll D.Disks I.Source O.Sink parts result all left
         (bios.old.disks.now, bios.old.keys.now, ram.old, out.old)
         (bios.new.disks.now, bios.new.keys.now, ram.new, out.new)) }
     ensures usage { (result ≡ 1) ↔ IsErr (run_at words.now) }
@@ -173,7 +195,7 @@ fn run_words<D: Disks, I: Source, O: Sink>(
         (IsLost result) (result ≡ 11) }
 {
     match check(words) {
-        Ok(()) => run_parts(alloc, words, bios, ram, out),
+        Ok(()) => run_parts(alloc, words, bios, ram, out, time),
         Err(wrong) => {
             say_usage(out, wrong.word(words));
             1
@@ -188,11 +210,13 @@ fn run_parts<D: Disks, I: Source, O: Sink>(
     bios: &mut Bios<'_, D, I>,
     ram: &mut Ram,
     out: &mut Shown<'_, O>,
+    time: u32,
 ) -> u8
-    requires { IsOk (run_behind words.now 0) }
+    requires whole { IsWhole (D.size_of bios.old.disks.now) (D.past bios.old.disks.now) }
+    requires begins { IsOk (run_behind words.now 0) }
     ensures does { OnDisks D.Disks bios.old.disks.now (λ now machine.
         OnKeys I.Source (bios.old.keys.now, bios.new.keys.now) (λ all left. RunsAll D.Disks I.Source O.Sink
-        (parts_effects (part_effect machine (length ram.old)) now (parts_behind words.now 0) all) result all left
+        (parts_effects (part_effect machine (length ram.old) time) now (parts_behind words.now 0) all) result all left
         (bios.old.disks.now, bios.old.keys.now, ram.old, out.old)
         (bios.new.disks.now, bios.new.keys.now, ram.new, out.new))) }
     ensures early { IfSome (early_parts (D.size_of bios.old.disks.now) (parts_behind words.now 0))
@@ -213,7 +237,7 @@ fn run_parts<D: Disks, I: Source, O: Sink>(
     let mut next = Some(0);
     while let Some(from) = next {
         let read = part_at(words, from);
-        let own = carry_out(alloc, words, read.part, bios, ram, out);
+        let own = carry_out(alloc, words, read.part, bios, ram, out, time);
         match answer(own, out.failed()) {
             0 => next = read.next,
             status => return status,

@@ -1,11 +1,12 @@
 ghost use Rattle.std.specs.Prelude.{◌≡◌, ◌≤◌, [], length};
 
 use crate::fixture::{LINUX, OPTIONS, SECTION, boot_sector, first_sector, second_sector};
-use disk_trait::{Disks, Failing, Geometry, MemDisk, MemDisks};
+use disk_trait::{Disks, Failing, Geometry, MemDisk, MemDisks, untold};
 use lilo_run::{Ram, lilo};
 use sector_parts::{Sector, part, put_part, put_u16};
 use std::alloc::{AllocError, Global};
 use stream_trait::{MemSink, MemSource, Words};
+use test_disks::Untold;
 
 // A run: one byte of the disk is changed, and calls fail.
 #[derive(Clone, Copy)]
@@ -220,11 +221,14 @@ pub struct RunEnd {
 // Runs a case.
 pub fn end_of(alloc: Global, case: &Case<'_>) -> Result<RunEnd, AllocError> {
     let words = words_of(alloc, case.words)?;
-    let mut disks = installation(alloc, case)?;
+    let mut disks = Untold {
+        disks: installation(alloc, case)?,
+    };
     let mut keys = MemSource::new(alloc, case.keys, case.failing_keys)?;
     let mut out = MemSink::new(alloc, 4096, case.failing_puts)?;
     let memory = if case.is_large { 2_097_152 } else { 1_048_576 };
     let mut ram = Ram::new(alloc, memory)?;
+    untold();
     let status = lilo(alloc, &words, &mut disks, &mut keys, &mut out, &mut ram, 0);
     let mut line = [0; 512];
     let _ = disks.read(0, 94, &mut line);

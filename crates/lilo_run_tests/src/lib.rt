@@ -10,6 +10,8 @@ mod fixture;
 #[cfg(test)]
 mod lines;
 #[cfg(test)]
+mod previews;
+#[cfg(test)]
 mod runs;
 #[cfg(test)]
 mod shots;

@@ -17,7 +17,7 @@ use Rattle.disk_trait.specs.declared.disks.Phase.TheVariants.{Before, Commit, Af
 use Rattle.disk_trait.specs.Past.{Image, Past, Told, with_sector, now_of}
 use Rattle.disk_trait.specs.Moments.{IsTold, now, begun, IsQuiet, MayWrite, LeftOrWritten, LeavesOnly}
 use Rattle.disk_trait.specs.NotWritten.{WritesNoOther}
-use Rattle.disk_trait.specs.Calls.{SameOf, Writes, EndsWithFlush}
+use Rattle.disk_trait.specs.Calls.{SameOf, GoesOn, Writes, EndsWithFlush}
 use Rattle.disk_trait.proofs.CallLemmas.{goes_on_join}
 use Rattle.disk_trait.proofs.ToldLemmas.{told_map}
 use Rattle.bios_model.proofs.WriteLemmas.{writes_place, made_as, refused_as, goes_on_read, found_after}
@@ -48,6 +48,13 @@ module _ {D : Type 0} (g : Ghosts D) where
     same_count = next.same_count ∙ first.same_count;
     same_geometry = next.same_geometry ∙ first.same_geometry;
   }
+
+  pub goes_on_self : (disks : D) → GoesOn g disks disks
+  goes_on_self disks = goes_on_read g disks disks (same_self disks) (omega arith)
+
+  -- what goes on after reads
+  pub goes_on_after : (old mid new : D) → SameOf g old mid → g.faults old ≤ g.faults mid → GoesOn g mid new → GoesOn g old new
+  goes_on_after old mid new same later next = goes_on_join g old mid new (goes_on_read g old mid same later) next
 
   -- ---- a write, and reads
 
@@ -249,6 +256,16 @@ pub other_leaves :
 other_leaves g old new write (Ok started) phase none same fine = subst (λ w. HasPut g old new w) (sym none) same
 other_leaves g old new write (Err Device) phase none same fine = absurd (fine refl)
 other_leaves g old new write (Err (Refused reason)) phase none same fine = subst (λ w. HasPut g old new w) (sym none) same
+
+-- where a part that takes no key ended as a device failed
+pub lost_unasked : (end : Result Started Halt) (result : Result Started Stop) → result ≡ unasked end → IsErrOf result (stops.Halt Device) → IsErrOf end Device
+lost_unasked (Ok started) result is lost = let h : ⊥ = cc in absurd h
+lost_unasked (Err Device) result is lost = refl
+lost_unasked (Err (Refused reason)) result is lost = let h : ⊥ = cc in absurd h
+
+pub heard_unasked : (end : Result Started Halt) (result : Result Started Stop) → result ≡ unasked end → IsErrOf result stops.Keys → ⊥
+heard_unasked (Ok started) result is lost = cc
+heard_unasked (Err halt) result is lost = cc
 
 -- ---- the outcome
 

@@ -85,25 +85,17 @@ pub record WritesLine {D : Type 0} (g : Ghosts D) (old new : D) (write : Option 
   pub line : LineWritten g old new write result phase
   pub goes_on : GoesOn g old new
 
--- the disks are of the same sizes and shapes, no count of faults fell, and they report their past where they did before
-pub record KeepsDisks {D : Type 0} (g : Ghosts D) (old new : D) : Type 0 where
-  pub told : IsTold (g.past old) → IsTold (g.past new)
-  pub later : g.faults old ≤ g.faults new
-  pub size : g.size_of new ≡ g.size_of old
-  pub count : g.count_of new ≡ g.count_of old
-  pub geometry : g.geometry_of new ≡ g.geometry_of old
-
 -- A call read disks, may have written on them, and showed texts: where it answers that one failed, their count of faults
 -- rose.
 pub record WritesAndShows {D O : Type 0} (g : Ghosts D) (o : sinks.Ghosts O) (old new : D × Shown O) (Failed : Type 0) : Type 0 where
-  pub keeps : KeepsDisks g old.0 new.0
+  pub keeps : GoesOn g old.0 new.0
   pub failed : Failed → Rose (g.faults old.0) (g.faults new.0)
   pub sink : HasFailed (sink_of o old.1) (sink_of o new.1)
   pub same_reference : new.1.out.ghost_name ≡ old.1.out.ghost_name
 
 -- The same of a call that takes keys too; where no key was heard, the source's count of faults rose.
 pub record WritesAndAsks {D I O : Type 0} (g : Ghosts D) (i : sources.Ghosts I) (o : sinks.Ghosts O) (old new : Bios D I × Shown O) (Lost Unheard : Type 0) : Type 0 where
-  pub keeps : KeepsDisks g old.0.disks.now new.0.disks.now
+  pub keeps : GoesOn g old.0.disks.now new.0.disks.now
   pub lost : Lost → Rose (g.faults old.0.disks.now) (g.faults new.0.disks.now)
   pub later : i.faults old.0.keys.now ≤ i.faults new.0.keys.now
   pub keys : Unheard → Rose (i.faults old.0.keys.now) (i.faults new.0.keys.now)

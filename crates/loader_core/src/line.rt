@@ -73,8 +73,8 @@ fn filled_text(text: &[u8]) -> Option<&[u8]>
     if text.is_empty() { None } else { Some(text) }
 }
 
-/// Makes the default line a new one: where it differs, its sector is written and made durable. The phase reports how far
-/// that came.
+/// Makes the default line a new one: where it differs, its sector is written and made durable. The phase reports how
+/// far that came.
 pub(crate) fn write_line<D: Disks>(
     disks: &mut D,
     at: &LineAt,

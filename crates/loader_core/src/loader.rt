@@ -17,14 +17,30 @@ ghost use Rattle.boot_map.specs.View.{boot_view, descriptor_view, table_view, li
 ghost use Rattle.boot_map.specs.Ranges.{IsNamed, IsOneSector, HasSectors, FitsFlags};
 ghost use Rattle.prompt_core.specs.Decided.{line_behind, picked_by};
 ghost use Rattle.prompt_core.specs.Run.{chosen_in};
-ghost use Rattle.loader_core.specs.Report.{boot_report, report_by, foreign_report, line_write, chosen_line, locked_line};
+ghost use Rattle.loader_core.specs.Report.{
+  boot_report,
+  report_by,
+  foreign_report,
+  line_write,
+  chosen_line,
+  locked_line,
+};
 ghost use Rattle.loader_core.specs.Report.{map_report, sectors_report, good_report, asked_report, decided_report};
 ghost use Rattle.loader_core.specs.Report.{picked_report, texts_report, line_report, entry_report, or_device};
 ghost use Rattle.loader_core.specs.Leaves.{Leaves, WritesAndShows, WritesAndAsks};
 ghost use Rattle.loader_core.specs.Map.{StandsFor, IsTable, IsGood, ListsAs};
 ghost use Rattle.loader_core.specs.View.{picked_view};
 ghost use Rattle.stream_trait.specs.Shows.{sink_of, HasFailed};
-ghost use Rattle.loader_core.specs.Start.{LiesInside, Starts, result_of, phase_of, span_view, halt_text, stop_text, map_text};
+ghost use Rattle.loader_core.specs.Start.{
+  LiesInside,
+  Starts,
+  result_of,
+  phase_of,
+  span_view,
+  halt_text,
+  stop_text,
+  map_text,
+};
 ghost use Rattle.loader_core.specs.Start.{ReportsOn, ReportsAs, ReportsBy, WentOn, WentBy, BootsAsModel};
 ghost use Rattle.loader_core.specs.Start.{IsDiskFailure, IsLost, IsUnheard, unasked};
 
@@ -54,10 +70,10 @@ use stream_trait::{Shown, Sink, Source};
 /// where the entry says so. A boot sector that isn't of this format, and that a BIOS takes for one, is handed over
 /// itself.
 ///
-/// Each sector is read once, one at a time, but for that of a file which a slot names twice. Keys are taken by the prompt
-/// alone, as many as it needs for its choice. Where the choice makes the default line another, that line's sector is
-/// written and made durable before the first byte of a kernel is read; no other sector is written. Nothing is allocated.
-/// After a refusal or a failure nothing is said of the memory.
+/// Each sector is read once, one at a time, but for that of a file which a slot names twice. Keys are taken by the
+/// prompt alone, as many as it needs for its choice. Where the choice makes the default line another, that line's
+/// sector is written and made durable before the first byte of a kernel is read; no other sector is written. Nothing is
+/// allocated. After a refusal or a failure nothing is said of the memory.
 pub fn boot<D: Disks, I: Source, O: Sink>(
     bios: &mut Bios<'_, D, I>,
     device: Span,
@@ -348,7 +364,8 @@ fn boot_chosen<D: Disks, O: Sink>(
         (disks.old, ram.old, out.old) (disks.new, ram.new, out.new)) }
     ensures memory { length ram.new ≡ length ram.old }
     ensures inside { IfOk result (LiesInside (length ram.new)) }
-    ensures only { WritesAndShows D.Disks O.Sink (disks.old, out.old) (disks.new, out.new) (IsErrOf result Halt.Device) }
+    ensures only { WritesAndShows D.Disks O.Sink (disks.old, out.old) (disks.new, out.new)
+        (IsErrOf result Halt.Device) }
 {
     match prompt.picked() {
         Some(picked) => {
@@ -385,11 +402,13 @@ fn boot_picked<D: Disks, O: Sink>(
         (descriptor_view entry) (line_view at.now.line) pick.entry.picked.lock pick.entry.lock_line.now)
         → ReportsBy D.Disks O.Sink (picked_report now machine
         (line_write machine (slot_view at.now.slot) (line_view at.now.line) new) (length ram.old)
-        (picked_entry (table_view table.now) (Some (picked_view pick.entry.picked pick.entry.words.now)))) result phase.new
+        (picked_entry (table_view table.now)
+        (Some (picked_view pick.entry.picked pick.entry.words.now)))) result phase.new
         (disks.old, ram.old, out.old) (disks.new, ram.new, out.new)) }
     ensures memory { length ram.new ≡ length ram.old }
     ensures inside { IfOk result (LiesInside (length ram.new)) }
-    ensures only { WritesAndShows D.Disks O.Sink (disks.old, out.old) (disks.new, out.new) (IsErrOf result Halt.Device) }
+    ensures only { WritesAndShows D.Disks O.Sink (disks.old, out.old) (disks.new, out.new)
+        (IsErrOf result Halt.Device) }
 {
     match table.entries.as_slice().get(usize::from(pick.picked.entry)) {
         Some(entry) => boot_entry(disks, entry, at, pick, ram, out, phase),
@@ -417,11 +436,13 @@ fn boot_entry<D: Disks, O: Sink>(
     ensures report { OnDisks D.Disks disks.old (λ now machine. ReportsBy D.Disks O.Sink
         (texts_report now machine (descriptor_view entry.now) (picked_view pick.entry.picked pick.entry.words.now)
         (line_write machine (slot_view at.now.slot) (line_view at.now.line) (chosen_line now machine
-        (descriptor_view entry.now) (line_view at.now.line) pick.entry.picked.lock pick.entry.lock_line.now)) (length ram.old))
+        (descriptor_view entry.now) (line_view at.now.line) pick.entry.picked.lock pick.entry.lock_line.now))
+        (length ram.old))
         result phase.new (disks.old, ram.old, out.old) (disks.new, ram.new, out.new)) }
     ensures memory { length ram.new ≡ length ram.old }
     ensures inside { IfOk result (LiesInside (length ram.new)) }
-    ensures only { WritesAndShows D.Disks O.Sink (disks.old, out.old) (disks.new, out.new) (IsErrOf result Halt.Device) }
+    ensures only { WritesAndShows D.Disks O.Sink (disks.old, out.old) (disks.new, out.new)
+        (IsErrOf result Halt.Device) }
 {
     match read_texts(disks, entry) {
         Ok(texts) => boot_texts(disks, entry, at, pick, texts, ram, out, phase),
@@ -453,13 +474,16 @@ fn boot_texts<D: Disks, O: Sink>(
     requires begins { phase.old ≡ Phase.Before }
     ensures report { OnDisks D.Disks disks.old (λ now machine. ReportsBy D.Disks O.Sink
         (or_device (codes "Error 80\n") (line_report now machine (descriptor_view entry.now)
-        (picked_view pick.entry.picked pick.entry.words.now) (line_write machine (slot_view at.now.slot) (line_view at.now.line)
-        (line_after (line_view at.now.line) (locked_line (descriptor_view entry.now) pick.entry.picked.lock pick.entry.lock_line.now)
+        (picked_view pick.entry.picked pick.entry.words.now)
+        (line_write machine (slot_view at.now.slot) (line_view at.now.line)
+        (line_after (line_view at.now.line)
+        (locked_line (descriptor_view entry.now) pick.entry.picked.lock pick.entry.lock_line.now)
         (filled_text (Some texts.fallback.items)))) (length ram.old) texts.middle.items))
         result phase.new (disks.old, ram.old, out.old) (disks.new, ram.new, out.new)) }
     ensures memory { length ram.new ≡ length ram.old }
     ensures inside { IfOk result (LiesInside (length ram.new)) }
-    ensures only { WritesAndShows D.Disks O.Sink (disks.old, out.old) (disks.new, out.new) (IsErrOf result Halt.Device) }
+    ensures only { WritesAndShows D.Disks O.Sink (disks.old, out.old) (disks.new, out.new)
+        (IsErrOf result Halt.Device) }
 {
     let new = new_line(
         &at.line,
@@ -492,7 +516,8 @@ fn boot_line<D: Disks, O: Sink>(
     requires middle { length texts.now.middle.items ≤ 255 }
     ensures report { ReportsOn D.Disks O.Sink disks.old result (ram.old, out.old) (ram.new, out.new)
         (λ now machine memory. entry_report now machine (descriptor_view entry.now)
-        (picked_line (descriptor_view entry.now) (picked_view pick.entry.picked pick.entry.words.now) texts.now.middle.items)
+        (picked_line (descriptor_view entry.now)
+        (picked_view pick.entry.picked pick.entry.words.now) texts.now.middle.items)
         (video_of (descriptor_view entry.now) (picked_view pick.entry.picked pick.entry.words.now)) memory) }
     ensures memory { length ram.new ≡ length ram.old }
     ensures inside { IfOk result (LiesInside (length ram.new)) }

@@ -1,5 +1,22 @@
 // The sectors of a map, and what they say.
-ghost use Rattle.std.specs.Prelude.{◌≡◌, ◌≤◌, ◌<◌, ◌+◌, ◌++◌, codes, ℕ, List, [], if◌then◌else◌, length, map, zip, All, Option, Some};
+ghost use Rattle.std.specs.Prelude.{
+  ◌≡◌,
+  ◌≤◌,
+  ◌<◌,
+  ◌+◌,
+  ◌++◌,
+  codes,
+  ℕ,
+  List,
+  [],
+  if◌then◌else◌,
+  length,
+  map,
+  zip,
+  All,
+  Option,
+  Some,
+};
 ghost use Rattle.std.specs.Prelude.{IfOk, IfSome, IsErrOf};
 ghost use Rattle.std.specs.Option.{option_map};
 ghost use Rattle.lilo_model.specs.Checks.{seen, each};
@@ -8,7 +25,15 @@ ghost use Rattle.lilo_model.specs.Options.{extra_at};
 ghost use Rattle.lilo_model.specs.Table.{has_flag};
 ghost use Rattle.lilo_model.specs.Reason.{map_reason};
 ghost use Rattle.lilo_model.specs.Place.{command_line};
-ghost use Rattle.lilo_model.specs.Boot.{MapSectors, GoodMap, slot_bytes_at, optional_at, extra_slot, entries_of, map_sectors};
+ghost use Rattle.lilo_model.specs.Boot.{
+  MapSectors,
+  GoodMap,
+  slot_bytes_at,
+  optional_at,
+  extra_slot,
+  entries_of,
+  map_sectors,
+};
 ghost use Rattle.lilo_model.specs.Boot.{password_at, good_map, middle_of, fallback_of, settings_of, listed_entries};
 ghost use Rattle.sector_address.specs.View.{slot_view};
 ghost use Rattle.sector_address.specs.Machine.{OnDisks};
@@ -21,7 +46,15 @@ ghost use Rattle.prompt_core.specs.View.{choice_view, entries_view, settings_vie
 ghost use Rattle.prompt_loop.specs.Message.{message_rest};
 ghost use Rattle.section_loader.specs.View.{reason_view};
 ghost use Rattle.loader_core.specs.Report.{message_read};
-ghost use Rattle.loader_core.specs.Map.{ReadsThere, ReadsExtra, password_sector, prompt_entry, JudgesChoice, ReadsChoice, Adds};
+ghost use Rattle.loader_core.specs.Map.{
+  ReadsThere,
+  ReadsExtra,
+  password_sector,
+  prompt_entry,
+  JudgesChoice,
+  ReadsChoice,
+  Adds,
+};
 ghost use Rattle.loader_core.specs.Map.{ReadsChoices, StandsFor, ReadsMap, IsTable, Judges, JudgesTexts, ReadsTexts};
 
 use arrayvec::ArrayVec;

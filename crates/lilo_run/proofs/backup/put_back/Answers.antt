@@ -6,6 +6,10 @@ use Rattle.lilo_model.specs.ConfVerdict.{place_at}
 use Rattle.sector_address.specs.Machine.{machine_of}
 use Rattle.disk_trait.proofs.ToldLemmas.{told_map, told_both}
 use Rattle.lilo_run.proofs.BackupLemmas.{back_unplaced, back_placed}
+use Rattle.bios_model.proofs.WriteLemmas.{goes_on_read}
+use Rattle.loader_core.proofs.LeavesLemmas.{goes_on_after, rose_after}
+use Rattle.std.proofs.Common.{rules}
+use Rattle.lilo_run.proofs.RunLemmas.{plain_lost}
 use Rattle.lilo_run.proofs.backup.put_back.Goals as goal
 
 pub returns-in-Ok-clause-does : goal.returns-in-Ok-clause-does
@@ -26,3 +30,24 @@ returns-in-Err-clause-does g c =
     (λ is. c.in-Err.ensures.reads.failed (ap Err is))
     c.say.ensures.status c.say.ensures.some c.say.ensures.shown)
     c.in-Err.ensures.place
+
+pub returns-in-Ok-clause-only : goal.returns-in-Ok-clause-only
+returns-in-Ok-clause-only g c =
+    let reads = c.in-Ok.ensures.reads in
+    let only = c.put_back_in.ensures.only in
+    record {
+      keeps = goes_on_after g.D.Disks c.args.disks.now c.find_device.new.disks c.put_back_in.new.disks reads.same reads.later only.keeps;
+      failed = λ lost. rose_after _ _ _ reads.later (only.failed lost);
+      sink = only.sink;
+      same_reference = only.same_reference;
+    }
+
+pub returns-in-Err-clause-only : goal.returns-in-Err-clause-only
+returns-in-Err-clause-only g c =
+    let reads = c.in-Err.ensures.reads in
+    record {
+      keeps = goes_on_read g.D.Disks c.args.disks.now c.find_device.new.disks reads.same reads.later;
+      failed = λ lost. reads.failed (ap Err (c.say.ensures.device (plain_lost c.say.result lost c.say.ensures.known)));
+      sink = search rules;
+      same_reference = c.say.ensures.same_reference;
+    }

@@ -6,6 +6,10 @@ use Rattle.disk_trait.proofs.ToldLemmas.{told_map, told_both}
 use Rattle.loader_core.proofs.BootLemmas.{keys_still}
 use Rattle.lilo_run.specs.Run.{state_of}
 use Rattle.lilo_run.proofs.EffectLemmas.{place_booted, place_failed}
+use Rattle.bios_model.proofs.WriteLemmas.{goes_on_read}
+use Rattle.loader_core.proofs.LeavesLemmas.{goes_on_after, rose_after}
+use Rattle.std.proofs.Common.{arith, rules}
+use Rattle.lilo_run.proofs.RunLemmas.{plain_lost, plain_heard}
 use Rattle.lilo_run.proofs.boot.boot_device.Goals as goal
 
 pub returns-in-Ok-clause-does : goal.returns-in-Ok-clause-does
@@ -31,3 +35,32 @@ returns-in-Err-clause-does g c =
     (state_of g.I.Source g.O.Sink (c.find_device.new.disks, c.args.bios.now.keys.now, c.args.ram.now, c.say.new.out))
     c.in-Err.ensures.reads.same refl (place_at now machine (device_view c.args.device)) c.in-Err.halt halts (λ is. c.in-Err.ensures.reads.failed (ap Err is)) c.say.ensures.status c.say.ensures.some c.say.ensures.shown))
     c.in-Err.ensures.place
+
+pub returns-in-Ok-clause-asks : goal.returns-in-Ok-clause-asks
+returns-in-Ok-clause-asks g c =
+    let reads = c.in-Ok.ensures.reads in
+    let asks = c.boot_span.ensures.asks in
+    record {
+      keeps = goes_on_after g.D.Disks c.args.bios.now.disks.now c.find_device.new.disks c.boot_span.new.bios.disks.now reads.same reads.later asks.keeps;
+      lost = λ lost. rose_after _ _ _ reads.later (asks.lost lost);
+      later = asks.later;
+      keys = asks.keys;
+      sink = asks.sink;
+      same_disks_reference = search rules;
+      same_keys_reference = asks.same_keys_reference;
+      same_reference = asks.same_reference;
+    }
+
+pub returns-in-Err-clause-asks : goal.returns-in-Err-clause-asks
+returns-in-Err-clause-asks g c =
+    let reads = c.in-Err.ensures.reads in
+    record {
+      keeps = goes_on_read g.D.Disks c.args.bios.now.disks.now c.find_device.new.disks reads.same reads.later;
+      lost = λ lost. reads.failed (ap Err (c.say.ensures.device (plain_lost c.say.result lost c.say.ensures.known)));
+      later = omega arith;
+      keys = λ unheard. absurd (plain_heard c.say.result c.say.ensures.known unheard);
+      sink = search rules;
+      same_disks_reference = search rules;
+      same_keys_reference = refl;
+      same_reference = c.say.ensures.same_reference;
+    }

@@ -8,6 +8,10 @@ use Rattle.lilo_run.specs.Verdict.{line_verdict, line_by, line_effect}
 use Rattle.disk_trait.proofs.ToldLemmas.{told_map, told_both}
 use Rattle.lilo_run.proofs.ConfLemmas.{conf_refused, conf_lost}
 use Rattle.lilo_run.proofs.ShotLemmas.{shot_refused, shot_booted}
+use Rattle.bios_model.proofs.WriteLemmas.{goes_on_read}
+use Rattle.loader_core.proofs.LeavesLemmas.{goes_on_after, rose_after}
+use Rattle.std.proofs.Common.{rules}
+use Rattle.lilo_run.proofs.RunLemmas.{conf_part_lost}
 use Rattle.lilo_run.proofs.line.put_line.Goals as goal
 
 pub returns-in-Ok-clause-does : goal.returns-in-Ok-clause-does
@@ -28,3 +32,22 @@ returns-in-Err-clause-does g c =
     (conf_refused (λ given. line_verdict (line_by now machine c.args.text.now given)) (λ refusal. refl) c.args.path.now c.in-Err.halt
     (conf_device now machine (option_map device_view c.args.root) c.args.path.now) c.say_conf.result memory _ _ refuses c.say_conf.ensures.status c.say_conf.ensures.some c.say_conf.ensures.shown))
     c.in-Err.ensures.device
+
+pub returns-in-Ok-clause-only : goal.returns-in-Ok-clause-only
+returns-in-Ok-clause-only g c =
+    let only = c.put_line_on.ensures.only in
+    record {
+      keeps = goes_on_after g.D.Disks c.args.disks.now c.boot_device.new.disks c.put_line_on.new.disks c.boot_device.ensures.same c.boot_device.ensures.later only.keeps;
+      failed = λ lost. rose_after _ _ _ c.boot_device.ensures.later (only.failed lost);
+      sink = only.sink;
+      same_reference = only.same_reference;
+    }
+
+pub returns-in-Err-clause-only : goal.returns-in-Err-clause-only
+returns-in-Err-clause-only g c = record {
+  keeps = goes_on_read g.D.Disks c.args.disks.now c.boot_device.new.disks c.boot_device.ensures.same c.boot_device.ensures.later;
+  failed =
+      λ lost. conf_lost c.args.path.now c.say_conf.result _ _ (conf_part_lost c.say_conf.result lost c.say_conf.ensures.known) c.in-Err.halt c.in-Err.ensures.cause c.say_conf.ensures.status;
+  sink = search rules;
+  same_reference = c.say_conf.ensures.same_reference;
+}

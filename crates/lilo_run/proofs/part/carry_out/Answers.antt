@@ -1,5 +1,5 @@
 -- Commands that don't boot do what their definitions say, with the part's path, and take no key.
-use Rattle.std.proofs.Common.{◌∙◌, inl, inr, length, subst}
+use Rattle.std.proofs.Common.{◌∙◌, inl, length, subst}
 use Rattle.std.specs.Prelude.{option_map}
 use Rattle.lilo_model.specs.Words.{Query}
 use Rattle.mbr_table.specs.View.{device_view}
@@ -8,9 +8,13 @@ use Rattle.lilo_run.specs.Run.{Starved, DoesBeside, CarriesBeside, state_of}
 use Rattle.lilo_run.specs.Verdict.{plain_command, line_effect, command_effect}
 use Rattle.bios_model.specs.Memory.{memory_of}
 use Rattle.disk_trait.proofs.ToldLemmas.{told_map, told_all}
-use Rattle.lilo_run.proofs.ConfLemmas.{queries, installs, would_install}
+use Rattle.lilo_run.proofs.ConfLemmas.{queries, installs, tests}
 use Rattle.loader_core.proofs.BootLemmas.{keys_still}
 use Rattle.loader_core.proofs.LeavesLemmas.{same_self}
+use Rattle.bios_model.proofs.WriteLemmas.{goes_on_read}
+use Rattle.loader_core.proofs.LeavesLemmas.{goes_on_self}
+use Rattle.std.proofs.Common.{refl, arith, rules}
+use Rattle.lilo_run.proofs.RunLemmas.{conf_part_lost, conf_part_heard, test_lost, test_heard}
 use Rattle.lilo_run.proofs.part.carry_out.Goals as goal
 
 pub returns-in-Query-clause-does : goal.returns-in-Query-clause-does
@@ -26,7 +30,7 @@ returns-in-Query-clause-does g c =
     same (c.query.ensures.does (memory_of c.args.ram.now)) in
     rw c.in-Query.is
     (told_map past _ _ (λ now does. keys_still g.I.Source c.args.bios.now.keys.now _
-    (λ keys. queries g.D.Disks now machine (length c.args.ram.now) _ _ c.query.result keys old new c.query.ensures.only.reads _ does)) does)
+    (λ keys. queries g.D.Disks now machine (length c.args.ram.now) c.args.time _ _ c.query.result keys old new c.query.ensures.only.reads _ does)) does)
 
 pub returns-in-Boot-clause-does : goal.returns-in-Boot-clause-does
 unfolding command_effect
@@ -40,10 +44,17 @@ returns-in-Install-clause-does g c =
     let new = state_of g.I.Source g.O.Sink (c.install.new.disks, c.args.bios.now.keys.now, c.args.ram.now, c.install.new.out) in
     let reads = c.install.ensures.only.reads in
     let does = rw (c.as_bytes-path.ensures.value, c.conf_path.ensures) at (c.install.ensures.does (memory_of c.args.ram.now)) in
-    elim c.in-Install.is [
-      | inl is ↦ rw is (told_map past _ _ (λ now does. keys_still g.I.Source c.args.bios.now.keys.now _ (λ keys. installs g.D.Disks now machine (length c.args.ram.now) _ _ c.install.result keys old new reads does)) does)
-      | inr is ↦ rw is (told_map past _ _ (λ now does. keys_still g.I.Source c.args.bios.now.keys.now _ (λ keys. would_install g.D.Disks now machine (length c.args.ram.now) _ _ c.install.result keys old new reads does)) does)
-    ]
+    rw c.in-Install.is (told_map past _ _ (λ now does. keys_still g.I.Source c.args.bios.now.keys.now _ (λ keys. installs g.D.Disks now machine (length c.args.ram.now) c.args.time _ _ c.install.result keys old new reads does)) does)
+
+pub returns-in-Test-clause-does : goal.returns-in-Test-clause-does
+returns-in-Test-clause-does g c =
+    let past = g.D.Disks.past c.args.bios.now.disks.now in
+    let machine = machine_of g.D.Disks c.args.bios.now.disks.now in
+    let old = state_of g.I.Source g.O.Sink (c.args.bios.now.disks.now, c.args.bios.now.keys.now, c.args.ram.now, c.args.out.now) in
+    let new = state_of g.I.Source g.O.Sink (c.test.new.disks, c.args.bios.now.keys.now, c.args.ram.now, c.test.new.out) in
+    let reads = c.test.ensures.only.reads in
+    let does = rw (c.as_bytes-path.ensures.value, c.conf_path.ensures) at (c.test.ensures.does (memory_of c.args.ram.now)) in
+    rw c.in-Test.is (told_map past _ _ (λ now does. keys_still g.I.Source c.args.bios.now.keys.now _ (λ keys. tests g.D.Disks now machine (length c.args.ram.now) c.args.time _ _ c.test.result keys old new reads does)) does)
 
 pub returns-in-Ok-clause-does : goal.returns-in-Ok-clause-does
 unfolding command_effect
@@ -70,3 +81,57 @@ returns-in-Restore-clause-does g c =
     rw c.in-Restore.is
     (told_map (g.D.Disks.past c.args.bios.now.disks.now) _ _ (λ now carries. keys_still g.I.Source c.args.bios.now.keys.now _ (λ keys. carries keys (g.I.Source.faults c.args.bios.now.keys.now)))
     (c.put_back.ensures.does (memory_of c.args.ram.now)))
+
+pub returns-in-Query-clause-asks : goal.returns-in-Query-clause-asks
+returns-in-Query-clause-asks g c =
+    let only = c.query.ensures.only in
+    record {
+      keeps = goes_on_read g.D.Disks c.args.bios.now.disks.now c.query.new.disks only.reads.same only.reads.later;
+      lost = λ lost. only.reads.failed (conf_part_lost c.query.result lost c.query.ensures.known);
+      later = omega arith;
+      keys = λ unheard. absurd (conf_part_heard c.query.result c.query.ensures.known unheard);
+      sink = only.sink;
+      same_disks_reference = search rules;
+      same_keys_reference = refl;
+      same_reference = only.same_reference;
+    }
+
+pub returns-in-Install-clause-asks : goal.returns-in-Install-clause-asks
+returns-in-Install-clause-asks g c =
+    let only = c.install.ensures.only in
+    record {
+      keeps = goes_on_read g.D.Disks c.args.bios.now.disks.now c.install.new.disks only.reads.same only.reads.later;
+      lost = λ lost. only.reads.failed (conf_part_lost c.install.result lost c.install.ensures.known);
+      later = omega arith;
+      keys = λ unheard. absurd (conf_part_heard c.install.result c.install.ensures.known unheard);
+      sink = only.sink;
+      same_disks_reference = search rules;
+      same_keys_reference = refl;
+      same_reference = only.same_reference;
+    }
+
+pub returns-in-Test-clause-asks : goal.returns-in-Test-clause-asks
+returns-in-Test-clause-asks g c =
+    let only = c.test.ensures.only in
+    record {
+      keeps = goes_on_read g.D.Disks c.args.bios.now.disks.now c.test.new.disks only.reads.same only.reads.later;
+      lost = λ lost. only.reads.failed (test_lost c.test.result lost c.test.ensures.known);
+      later = omega arith;
+      keys = λ unheard. absurd (test_heard c.test.result c.test.ensures.known unheard);
+      sink = only.sink;
+      same_disks_reference = search rules;
+      same_keys_reference = refl;
+      same_reference = only.same_reference;
+    }
+
+pub returns-in-Err-clause-asks : goal.returns-in-Err-clause-asks
+returns-in-Err-clause-asks g c = let status = c.say_memory.ensures.status in record {
+  keeps = goes_on_self g.D.Disks c.args.bios.now.disks.now;
+  lost = λ lost. search rules;
+  later = omega arith;
+  keys = λ unheard. absurd (omega (arith, status, unheard));
+  sink = search rules;
+  same_disks_reference = refl;
+  same_keys_reference = refl;
+  same_reference = c.say_memory.ensures.same_reference;
+}

@@ -17,7 +17,7 @@ pub returns-clause-text : goal.returns-clause-text
 returns-clause-text g c =
     held_of_four
     (λ disks keys out out'. Told (g.D.Disks.past c.args.disks.now) (λ now. OnKeys g.I.Source (c.args.keys.now, keys) (λ all left.
-    TellsRun g.D.Disks (effects_of now (machine_of g.D.Disks c.args.disks.now) (length c.args.ram.now) c.args.words.now all)
+    TellsRun g.D.Disks (effects_of now (machine_of g.D.Disks c.args.disks.now) (length c.args.ram.now) c.args.now c.args.words.now all)
     c.run_words.result all left (scene_of g.I.Source g.O.Sink (c.args.disks.now, c.args.keys.now, c.args.ram.now, out)) (scene_of g.I.Source g.O.Sink (disks, keys, c.run_words.new.ram, out')))))
     c.run_words.new.bios.disks.now c.run_words.new.bios.keys.now c.new-shown.result.out.now c.run_words.new.out.out.now
     (told_map (g.D.Disks.past c.args.disks.now) _ _
@@ -48,7 +48,7 @@ pub returns-clause-boot : goal.returns-clause-boot
 returns-clause-boot g c =
     λ device dump run.
     told_map (g.D.Disks.past c.args.disks.now) _ _
-    (λ now tells. keys_map g.I.Source _ _ _ (λ all left told. boot_tells g.D.Disks now _ _ c.args.words.now device dump all left _ _ _ run told) tells)
+    (λ now tells. keys_map g.I.Source _ _ _ (λ all left told. boot_tells g.D.Disks now _ _ _ c.args.words.now device dump all left _ _ _ run told) tells)
     (returns-clause-text g c)
 
 pub returns-clause-lines : goal.returns-clause-lines

@@ -1,7 +1,8 @@
 -- A part answers 0 and the loop goes on, or it is the last.
-use Rattle.std.proofs.Common.{◌≡◌, [], ◌∷◌, refl, ◌∙◌, length, sym, ap, subst, arith, tests}
+use Rattle.std.proofs.Common.{◌≡◌, inl, [], ◌∷◌, refl, ◌∙◌, length, sym, ap, subst, arith, tests}
 use Rattle.std.specs.Prelude.{IfSome}
 use Rattle.disk_trait.specs.Moments.{now}
+use Rattle.disk_trait.proofs.CallLemmas.{goes_on_join}
 use Rattle.sector_address.specs.Machine.{machine_of}
 use Rattle.bios_model.specs.Memory.{memory_of}
 use Rattle.lilo_words.specs.Run.{parts_behind, parts_of_next}
@@ -14,8 +15,8 @@ use Rattle.lilo_run.specs.Verdict.{part_effect, early_status}
 use Rattle.lilo_run.proofs.ConfLemmas.{read_first, read_more}
 use Rattle.lilo_model.specs.ConfVerdict.{conf_path}
 use Rattle.lilo_run.proofs.MemoryLemmas.{boots_by}
-use Rattle.lilo_run.proofs.RunLemmas.{Begun, place_within, continues_more, continues_end, continues_last, own_status, own_lost, own_write_lost, boot_first, boot_more, write_first, write_more, begun_more, begun_last, stays_more, unwritten_more, told_here, told_from, keeps_twice}
-use Rattle.loader_core.proofs.LeavesLemmas.{rose_after}
+use Rattle.lilo_run.proofs.RunLemmas.{Begun, place_within, continues_more, continues_end, continues_last, own_status, own_lost, own_write_lost, boot_first, boot_more, write_first, write_more, begun_more, begun_last, stays_more, unwritten_more, told_here, told_from, continues_start}
+use Rattle.loader_core.proofs.LeavesLemmas.{rose_after, goes_on_self, same_self}
 use Rattle.lilo_run.proofs.run.run_parts.Goals as goal
 
 pub returns-in_default-answer-clause-does : goal.returns-in_default-answer-clause-does
@@ -35,15 +36,15 @@ returns-in_default-answer-clause-does g c =
     (λ is.
     let told = told_here g.D.Disks c.args.bios.now.disks.now c.loop-next.bios.disks.now invariant.keeps.size invariant.keeps.geometry
     (λ image machine. OnKeys g.I.Source (c.loop-next.bios.keys.now, run.new.bios.keys.now) (λ keys left.
-    Carries g.D.Disks (part_effect machine (length c.loop-next.ram) image part keys) run.result left here there))
+    Carries g.D.Disks (part_effect machine (length c.loop-next.ram) c.args.time image part keys) run.result left here there))
     run.ensures.does (invariant.keeps.told is) in
     let done = subst
     (λ size. OnKeys g.I.Source (c.loop-next.bios.keys.now, run.new.bios.keys.now) (λ keys left.
-    Carries g.D.Disks (part_effect machine size (now (g.D.Disks.past c.loop-next.bios.disks.now)) part keys) run.result left here there))
+    Carries g.D.Disks (part_effect machine size c.args.time (now (g.D.Disks.past c.loop-next.bios.disks.now)) part keys) run.result left here there))
     invariant.memory told in
-    continues_last g.D.Disks g.I.Source (part_effect machine (length c.args.ram.now)) _ _ _ part run.result c.answer.result _ _ _ start here there (invariant.does is) rest done run.ensures.known answer
+    continues_last g.D.Disks g.I.Source (part_effect machine (length c.args.ram.now) c.args.time) _ _ _ part run.result c.answer.result _ _ _ start here there (invariant.does is) rest done run.ensures.known answer
     (grind (arith, tests))
-    (λ keys none. ap memory_of (run.ensures.quiet words (sym (boots_by (now (g.D.Disks.past c.loop-next.bios.disks.now)) machine (length c.args.ram.now) part.root (conf_path part.config) part.command keys) ∙ none))))
+    (λ keys none. ap memory_of (run.ensures.quiet words (sym (boots_by (now (g.D.Disks.past c.loop-next.bios.disks.now)) machine (length c.args.ram.now) c.args.time part.root (conf_path part.config) part.command keys) ∙ none))))
 
 pub returns-in_default-answer-clause-early : goal.returns-in_default-answer-clause-early
 returns-in_default-answer-clause-early g c =
@@ -115,7 +116,7 @@ returns-in_default-answer-clause-asks g c =
     let old = sink_of g.O.Sink c.loop-next.out in
     let new = sink_of g.O.Sink run.new.out in
     record {
-      keeps = keeps_twice g.D.Disks c.args.bios.now.disks.now c.loop-next.bios.disks.now run.new.bios.disks.now invariant.keeps run.ensures.asks.keeps;
+      keeps = goes_on_join g.D.Disks c.args.bios.now.disks.now c.loop-next.bios.disks.now run.new.bios.disks.now invariant.keeps run.ensures.asks.keeps;
       lost =
           λ lost. rose_after _ _ _ invariant.keeps.later
           (run.ensures.asks.lost (own_lost run.result c.answer.result c.failed.result c.answer.ensures lost));
@@ -154,18 +155,18 @@ loop-next-preserved g c =
           λ is.
           let told = told_here g.D.Disks c.args.bios.now.disks.now c.loop-next.bios.disks.now invariant.keeps.size invariant.keeps.geometry
           (λ image machine. OnKeys g.I.Source (c.loop-next.bios.keys.now, run.new.bios.keys.now) (λ keys left.
-          Carries g.D.Disks (part_effect machine (length c.loop-next.ram) image part keys) run.result left here there))
+          Carries g.D.Disks (part_effect machine (length c.loop-next.ram) c.args.time image part keys) run.result left here there))
           run.ensures.does (invariant.keeps.told is) in
           let done = subst
           (λ size. OnKeys g.I.Source (c.loop-next.bios.keys.now, run.new.bios.keys.now) (λ keys left.
-          Carries g.D.Disks (part_effect machine size (now (g.D.Disks.past c.loop-next.bios.disks.now)) part keys) run.result left here there))
+          Carries g.D.Disks (part_effect machine size c.args.time (now (g.D.Disks.past c.loop-next.bios.disks.now)) part keys) run.result left here there))
           invariant.memory told in
-          continues_more g.D.Disks g.I.Source (part_effect machine (length c.args.ram.now)) _ _ behind part run.result _ _ _ start here there (invariant.does is) rest done (invariant.keeps.told is) zero;
+          continues_more g.D.Disks g.I.Source (part_effect machine (length c.args.ram.now) c.args.time) _ _ behind part run.result _ _ _ start here there (invariant.does is) rest done (invariant.keeps.told is) zero;
       begun =
           begun_more _ (parts_behind words 0) behind part c.in-Some.from run.result run.new.out.failed c.part_at-read.result.next begun
           (λ zero. subst (λ n. parts_behind words n ≡ part ∷ behind) zero c.part_at-read.ensures.part)
           early zero;
-      keeps = keeps_twice g.D.Disks c.args.bios.now.disks.now c.loop-next.bios.disks.now run.new.bios.disks.now invariant.keeps run.ensures.asks.keeps;
+      keeps = goes_on_join g.D.Disks c.args.bios.now.disks.now c.loop-next.bios.disks.now run.new.bios.disks.now invariant.keeps run.ensures.asks.keeps;
       keys_later = let before = invariant.keys_later in let after = run.ensures.asks.later in omega (arith, before, after);
       sink = has_failed_twice _ old new invariant.sink run.ensures.asks.sink;
       memory = run.ensures.memory ∙ invariant.memory;
@@ -189,4 +190,24 @@ returns-clause-does g c =
     let rest : parts_of_next c.args.words.now c.loop-next.next ≡ [] = rw c.in_default.is refl in
     let machine = machine_of g.D.Disks c.args.bios.now.disks.now in
     told_from (g.D.Disks.past c.args.bios.now.disks.now) _
-    (λ is. continues_end g.D.Disks g.I.Source (part_effect machine (length c.args.ram.now)) _ _ _ _ _ _ (c.loop-next.invariant.does is) rest)
+    (λ is. continues_end g.D.Disks g.I.Source (part_effect machine (length c.args.ram.now) c.args.time) _ _ _ _ _ _ (c.loop-next.invariant.does is) rest)
+
+pub loop-next-init : goal.loop-next-init
+loop-next-init g c = record {
+  place = omega arith;
+  run = c.requires.begins;
+  does = λ is. continues_start g.D.Disks g.I.Source (part_effect (machine_of g.D.Disks c.args.bios.now.disks.now) (length c.args.ram.now) c.args.time) _ _ _;
+  begun = inl refl;
+  keeps = goes_on_self g.D.Disks c.args.bios.now.disks.now;
+  keys_later = omega arith;
+  sink = record { later = omega arith; failed = λ is. inl is };
+  memory = refl;
+  conf = λ is. is;
+  boots = λ is. is;
+  writes = λ is. is;
+  stays = λ none. ((refl, refl), none);
+  unwritten = λ none. (same_self g.D.Disks c.args.bios.now.disks.now, none);
+  disks_reference = refl;
+  keys_reference = refl;
+  out_reference = refl;
+}

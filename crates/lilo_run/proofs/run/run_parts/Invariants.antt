@@ -1,7 +1,7 @@
 -- What the parts that are left do is what is left of all of them.
 use Rattle.std.proofs.Common.{◌≡◌, ◌≤◌, length, IfSome, IsOk}
 use Rattle.disk_trait.specs.Moments.{IsTold}
-use Rattle.loader_core.specs.Leaves.{KeepsDisks}
+use Rattle.disk_trait.specs.Calls.{GoesOn}
 use Rattle.sector_address.specs.Machine.{machine_of}
 use Rattle.lilo_words.specs.Run.{run_behind, parts_behind, parts_of_next}
 use Rattle.stream_trait.specs.Shows.{sink_of, HasFailed}
@@ -17,11 +17,11 @@ invariant-loop-next g l = record {
   run : IfSome l.next (λ from. IsOk (run_behind l.words from));
   does :
       IsTold (g.D.Disks.past l.fn.bios.disks.now)
-      → Continues g.D.Disks g.I.Source (part_effect (machine_of g.D.Disks l.fn.bios.disks.now) (length l.fn.ram))
+      → Continues g.D.Disks g.I.Source (part_effect (machine_of g.D.Disks l.fn.bios.disks.now) (length l.fn.ram) l.fn.time)
       (parts_behind l.words 0) (parts_of_next l.words l.next) l.fn.bios.keys.now l.bios.keys.now
       (state_of g.I.Source g.O.Sink (l.fn.bios.disks.now, l.fn.bios.keys.now, l.fn.ram, l.fn.out)) (state_of g.I.Source g.O.Sink (l.bios.disks.now, l.bios.keys.now, l.ram, l.out));
   begun : Begun (g.D.Disks.size_of l.fn.bios.disks.now) (parts_behind l.words 0) l.next;
-  keeps : KeepsDisks g.D.Disks l.fn.bios.disks.now l.bios.disks.now;
+  keeps : GoesOn g.D.Disks l.fn.bios.disks.now l.bios.disks.now;
   keys_later : g.I.Source.faults l.fn.bios.keys.now ≤ g.I.Source.faults l.bios.keys.now;
   sink :
       HasFailed (sink_of g.O.Sink l.fn.out)

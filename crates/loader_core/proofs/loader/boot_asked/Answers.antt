@@ -8,6 +8,10 @@ use Rattle.loader_core.proofs.AskedLemmas.{asked_ok, asked_err, asked_write, ask
 use Rattle.loader_core.proofs.LeavesLemmas.{leaves_as, leaves_after}
 use Rattle.loader_core.specs.Start.{unasked}
 use Rattle.loader_core.proofs.BootLemmas.{keys_map}
+use Rattle.bios_model.proofs.WriteLemmas.{goes_on_read}
+use Rattle.std.proofs.Common.{◌∙◌, arith, rules}
+use Rattle.loader_core.proofs.LeavesLemmas.{goes_on_after, rose_after, lost_unasked, heard_unasked}
+use Rattle.stream_trait.proofs.ShowsLemmas.{has_failed_twice}
 use Rattle.loader_core.proofs.loader.boot_asked.Goals as goal
 
 pub returns-in-Ok-clause-went : goal.returns-in-Ok-clause-went
@@ -55,3 +59,32 @@ returns-in-Err-clause-went g c =
     ))
     asked)
     c.in-Err.ensures.asked
+
+pub returns-in-Ok-clause-asks : goal.returns-in-Ok-clause-asks
+returns-in-Ok-clause-asks g c =
+    let asks = c.in-Ok.ensures.only in
+    let only = c.boot_chosen.ensures.only in
+    record {
+      keeps = goes_on_after g.D.Disks c.args.bios.now.disks.now c.ask.new.bios.disks.now c.boot_chosen.new.disks asks.reads.same asks.reads.later only.keeps;
+      lost = λ lost. rose_after _ _ _ asks.reads.later (only.failed (lost_unasked c.boot_chosen.result c.unasked.result c.unasked.ensures lost));
+      later = asks.later;
+      keys = λ unheard. absurd (heard_unasked c.boot_chosen.result c.unasked.result c.unasked.ensures unheard);
+      sink = has_failed_twice _ _ _ asks.sink only.sink;
+      same_disks_reference = search rules;
+      same_keys_reference = asks.same_keys_reference;
+      same_reference = only.same_reference ∙ asks.same_reference;
+    }
+
+pub returns-in-Err-clause-asks : goal.returns-in-Err-clause-asks
+returns-in-Err-clause-asks g c =
+    let asks = c.in-Err.ensures.only in
+    record {
+      keeps = goes_on_read g.D.Disks c.args.bios.now.disks.now c.ask.new.bios.disks.now asks.reads.same asks.reads.later;
+      lost = λ lost. search rules;
+      later = asks.later;
+      keys = λ unheard. search rules;
+      sink = search rules;
+      same_disks_reference = asks.same_disks_reference;
+      same_keys_reference = asks.same_keys_reference;
+      same_reference = c.put.ensures.same_reference ∙ asks.same_reference;
+    }

@@ -10,6 +10,9 @@ use Rattle.loader_core.proofs.BootLemmas.{read_failed, boot_lost, boot_read, boo
 use Rattle.loader_core.proofs.LeavesLemmas.{leaves_as, leaves_after, read_leaves, other_leaves}
 use Rattle.disk_trait.specs.Calls.{SameOf}
 use Rattle.section_loader.specs.declared.reason.Halt.TheVariants.{Device}
+use Rattle.bios_model.proofs.WriteLemmas.{goes_on_read}
+use Rattle.std.proofs.Common.{refl, arith, rules}
+use Rattle.loader_core.proofs.LeavesLemmas.{goes_on_after, rose_after, lost_unasked, heard_unasked}
 use Rattle.loader_core.proofs.loader.boot_by.Goals as goal
 
 pub returns-then-is_err-clause-went : goal.returns-then-is_err-clause-went
@@ -61,3 +64,48 @@ returns-in-Err-clause-went g c =
           (sink_of g.O.Sink c.args.out.now) (sink_of g.O.Sink c.boot_other.new.out) (other_left now machine bytes size fault left) (c.boot_other.ensures.report now machine size left)),
     )))
     here
+
+pub returns-then-is_err-clause-asks : goal.returns-then-is_err-clause-asks
+returns-then-is_err-clause-asks g c =
+    let rose = read_failed (g.D.Disks.size_of c.args.bios.now.disks.now c.args.device.disk) c.args.device.start (g.D.Disks.faults c.args.bios.now.disks.now) (g.D.Disks.faults c.read.new.self) c.read.result c.read.ensures.cause c.requires.device (sym c.is_err.ensures.value ∙ c.if-is_err.true) in
+    let same : SameOf g.D.Disks c.args.bios.now.disks.now c.read.new.self = record { same_past = c.read.ensures.past; same_size = c.read.ensures.size; same_count = c.read.ensures.count; same_geometry = c.read.ensures.geometry } in
+    record {
+      keeps = goes_on_read g.D.Disks c.args.bios.now.disks.now c.read.new.self same c.read.ensures.cause.later;
+      lost = λ lost. rose;
+      later = omega arith;
+      keys = λ unheard. let h : ⊥ = cc in absurd h;
+      sink = search rules;
+      same_disks_reference = search rules;
+      same_keys_reference = refl;
+      same_reference = refl;
+    }
+
+pub returns-in-Ok-clause-asks : goal.returns-in-Ok-clause-asks
+returns-in-Ok-clause-asks g c =
+    let asks = c.boot_map.ensures.asks in
+    let later = c.read.ensures.cause.later in
+    let same : SameOf g.D.Disks c.args.bios.now.disks.now c.read.new.self = record { same_past = c.read.ensures.past; same_size = c.read.ensures.size; same_count = c.read.ensures.count; same_geometry = c.read.ensures.geometry } in
+    record {
+      keeps = goes_on_after g.D.Disks c.args.bios.now.disks.now c.read.new.self c.boot_map.new.bios.disks.now same later asks.keeps;
+      lost = λ lost. rose_after _ _ _ later (asks.lost lost);
+      later = asks.later;
+      keys = asks.keys;
+      sink = asks.sink;
+      same_disks_reference = search rules;
+      same_keys_reference = asks.same_keys_reference;
+      same_reference = asks.same_reference;
+    }
+
+pub returns-in-Err-clause-asks : goal.returns-in-Err-clause-asks
+returns-in-Err-clause-asks g c =
+    let same : SameOf g.D.Disks c.args.bios.now.disks.now c.read.new.self = record { same_past = c.read.ensures.past; same_size = c.read.ensures.size; same_count = c.read.ensures.count; same_geometry = c.read.ensures.geometry } in
+    record {
+      keeps = goes_on_read g.D.Disks c.args.bios.now.disks.now c.read.new.self same c.read.ensures.cause.later;
+      lost = λ lost. absurd (c.boot_other.ensures.device (lost_unasked c.boot_other.result c.unasked.result c.unasked.ensures lost));
+      later = omega arith;
+      keys = λ unheard. absurd (heard_unasked c.boot_other.result c.unasked.result c.unasked.ensures unheard);
+      sink = c.boot_other.ensures.sink;
+      same_disks_reference = search rules;
+      same_keys_reference = refl;
+      same_reference = c.boot_other.ensures.same_reference;
+    }

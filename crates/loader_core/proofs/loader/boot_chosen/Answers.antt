@@ -8,6 +8,8 @@ use Rattle.disk_trait.proofs.ToldLemmas.{told_all, told_map}
 use Rattle.loader_core.specs.Report.{Report}
 use Rattle.loader_core.specs.Start.{ReportsBy}
 use Rattle.loader_core.proofs.BootLemmas.{chosen_reports, idle_reported, idle_chosen}
+use Rattle.std.proofs.Common.{refl, rules}
+use Rattle.loader_core.proofs.LeavesLemmas.{goes_on_self}
 use Rattle.loader_core.proofs.loader.boot_chosen.Goals as goal
 
 pub returns-in-Some-clause-report : goal.returns-in-Some-clause-report
@@ -30,3 +32,11 @@ returns-in-None-clause-report g c =
     (λ now model at entries long.
     subst P (sym (idle_chosen now machine (slot_view c.args.at.now.slot) model c.args.prompt.now.state (length c.args.ram.now) (sym c.in-None.ensures)))
     (idle_reported g.D.Disks g.O.Sink c.args.disks.now c.args.ram.now c.args.out.now c.args.phase.now))
+
+pub returns-in-None-clause-only : goal.returns-in-None-clause-only
+returns-in-None-clause-only g c = record {
+  keeps = goes_on_self g.D.Disks c.args.disks.now;
+  failed = λ failed. let h : ⊥ = cc in absurd h;
+  sink = search rules;
+  same_reference = refl;
+}

@@ -10,6 +10,10 @@ use Rattle.loader_core.specs.Start.{ReportsBy}
 use Rattle.loader_core.specs.View.{picked_view}
 use Rattle.loader_core.proofs.BootLemmas.{texts_same, texts_halted, texts_unwritten, reported_after}
 use Rattle.loader_core.proofs.LeavesLemmas.{read_leaves}
+use Rattle.bios_model.proofs.WriteLemmas.{goes_on_read}
+use Rattle.std.proofs.Common.{◌≡◌, rules}
+use Rattle.section_loader.specs.declared.reason.Halt.TheVariants.{Device}
+use Rattle.loader_core.proofs.LeavesLemmas.{goes_on_after, rose_after}
 use Rattle.loader_core.proofs.loader.boot_entry.Goals as goal
 
 pub returns-in-Ok-clause-report : goal.returns-in-Ok-clause-report
@@ -40,3 +44,24 @@ returns-in-Err-clause-report g c =
           (λ reason is. texts_unwritten now machine entry picked _ (length c.args.ram.now) c.in-Err.halt reason is texts);
     })
     c.in-Err.ensures.texts
+
+pub returns-in-Ok-clause-only : goal.returns-in-Ok-clause-only
+returns-in-Ok-clause-only g c =
+    let reads = c.in-Ok.ensures.reads in
+    let only = c.boot_texts.ensures.only in
+    record {
+      keeps = goes_on_after g.D.Disks c.args.disks.now c.read_texts.new.disks c.boot_texts.new.disks reads.same reads.later only.keeps;
+      failed = λ failed. rose_after _ _ _ reads.later (only.failed failed);
+      sink = only.sink;
+      same_reference = only.same_reference;
+    }
+
+pub returns-in-Err-clause-only : goal.returns-in-Err-clause-only
+returns-in-Err-clause-only g c =
+    let reads = c.in-Err.ensures.reads in
+    record {
+      keeps = goes_on_read g.D.Disks c.args.disks.now c.read_texts.new.disks reads.same reads.later;
+      failed = λ failed. reads.failed (let is : c.in-Err.halt ≡ Device = cc in ap Err is);
+      sink = search rules;
+      same_reference = c.put.ensures.same_reference;
+    }

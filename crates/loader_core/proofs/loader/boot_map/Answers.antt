@@ -6,6 +6,10 @@ use Rattle.stream_trait.specs.Shows.{sink_of}
 use Rattle.disk_trait.proofs.ToldLemmas.{told_map, told_both}
 use Rattle.loader_core.proofs.BootLemmas.{map_found, map_halted, map_write, map_unwritten, keys_map, keys_still}
 use Rattle.loader_core.proofs.LeavesLemmas.{leaves_as, leaves_after, read_leaves}
+use Rattle.bios_model.proofs.WriteLemmas.{goes_on_read}
+use Rattle.std.proofs.Common.{◌≡◌, refl, arith, rules}
+use Rattle.section_loader.specs.declared.reason.Halt.TheVariants.{Device}
+use Rattle.loader_core.proofs.LeavesLemmas.{goes_on_after, rose_after}
 use Rattle.loader_core.proofs.loader.boot_map.Goals as goal
 
 pub returns-in-Ok-clause-went : goal.returns-in-Ok-clause-went
@@ -38,3 +42,32 @@ returns-in-Err-clause-went g c =
           (sink_of g.O.Sink c.args.out.now) (sink_of g.O.Sink c.put.new.self) (sink_of g.O.Sink c.put-in-Err.new.self) found c.put.ensures.shown error,
     )))
     c.in-Err.ensures.parts
+
+pub returns-in-Ok-clause-asks : goal.returns-in-Ok-clause-asks
+returns-in-Ok-clause-asks g c =
+    let reads = c.in-Ok.ensures.reads in
+    let asks = c.boot_parts.ensures.asks in
+    record {
+      keeps = goes_on_after g.D.Disks c.args.bios.now.disks.now c.read_map.new.disks c.boot_parts.new.bios.disks.now reads.same reads.later asks.keeps;
+      lost = λ lost. rose_after _ _ _ reads.later (asks.lost lost);
+      later = asks.later;
+      keys = asks.keys;
+      sink = search rules;
+      same_disks_reference = search rules;
+      same_keys_reference = asks.same_keys_reference;
+      same_reference = search rules;
+    }
+
+pub returns-in-Err-clause-asks : goal.returns-in-Err-clause-asks
+returns-in-Err-clause-asks g c =
+    let reads = c.in-Err.ensures.reads in
+    record {
+      keeps = goes_on_read g.D.Disks c.args.bios.now.disks.now c.read_map.new.disks reads.same reads.later;
+      lost = λ lost. reads.failed (let is : c.in-Err.halt ≡ Device = cc in ap Err is);
+      later = omega arith;
+      keys = λ unheard. let h : ⊥ = cc in absurd h;
+      sink = search rules;
+      same_disks_reference = search rules;
+      same_keys_reference = refl;
+      same_reference = search rules;
+    }

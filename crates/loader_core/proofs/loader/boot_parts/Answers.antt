@@ -7,6 +7,8 @@ use Rattle.disk_trait.proofs.ToldLemmas.{told_all, told_map}
 use Rattle.loader_core.proofs.BootLemmas.{sectors_good, sectors_bad, sectors_write, bad_write, keys_map, keys_still}
 use Rattle.loader_core.proofs.LeavesLemmas.{leaves_as, read_leaves, same_self}
 use Rattle.section_loader.specs.declared.reason.Halt.TheVariants.{Refused}
+use Rattle.std.proofs.Common.{refl, arith, rules}
+use Rattle.loader_core.proofs.LeavesLemmas.{goes_on_self}
 use Rattle.loader_core.proofs.loader.boot_parts.Goals as goal
 
 pub returns-in-Ok-clause-went : goal.returns-in-Ok-clause-went
@@ -38,3 +40,15 @@ returns-in-Err-clause-went g c =
       sectors_bad now machine (boot_view c.args.boot.now) (length c.args.ram.now) sectors c.in-Err.reason (memory_of c.args.ram.now) c.args.ram.now left
           (sink_of g.O.Sink c.args.out.now) (sink_of g.O.Sink c.put.new.self) (sink_of g.O.Sink c.put-in-Err.new.self) judged c.put.ensures.shown c.put-in-Err.ensures.shown,
     )))
+
+pub returns-in-Err-clause-asks : goal.returns-in-Err-clause-asks
+returns-in-Err-clause-asks g c = record {
+  keeps = goes_on_self g.D.Disks c.args.bios.now.disks.now;
+  lost = λ lost. let h : ⊥ = cc in absurd h;
+  later = omega arith;
+  keys = λ unheard. let h : ⊥ = cc in absurd h;
+  sink = search rules;
+  same_disks_reference = refl;
+  same_keys_reference = refl;
+  same_reference = search rules;
+}

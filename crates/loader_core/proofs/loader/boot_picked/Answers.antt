@@ -9,6 +9,8 @@ use Rattle.disk_trait.proofs.ToldLemmas.{told_all, told_map}
 use Rattle.loader_core.specs.Report.{Report}
 use Rattle.loader_core.specs.Start.{ReportsBy}
 use Rattle.loader_core.proofs.BootLemmas.{item_there, entry_picked, none_picked, idle_reported}
+use Rattle.std.proofs.Common.{refl, rules}
+use Rattle.loader_core.proofs.LeavesLemmas.{goes_on_self}
 use Rattle.loader_core.proofs.loader.boot_picked.Goals as goal
 
 pub returns-in-Some-clause-report : goal.returns-in-Some-clause-report
@@ -34,3 +36,11 @@ returns-in-None-clause-report g c =
     (λ now.
     none_picked now machine (slot_view c.args.at.now.slot) (line_view c.args.at.now.line) c.args.table.now.entries.items (length c.args.ram.now) P c.args.pick.picked c.args.pick.words.now c.args.pick.lock_line.now none
     (idle_reported g.D.Disks g.O.Sink c.args.disks.now c.args.ram.now c.args.out.now c.args.phase.now))
+
+pub returns-in-None-clause-only : goal.returns-in-None-clause-only
+returns-in-None-clause-only g c = record {
+  keeps = goes_on_self g.D.Disks c.args.disks.now;
+  failed = λ failed. let h : ⊥ = cc in absurd h;
+  sink = search rules;
+  same_reference = refl;
+}

@@ -43,7 +43,7 @@ module _ (entry : Image) (machine : Machine) (begun : Begun) (found : Examined) 
       by true = value-is None is.names.backup made
       by false = refl
 
-  has-settled : HasSettled begun.volume entry c is.names Forced is.settled.finishes
+  pub has-settled : HasSettled begun.volume entry c is.names Forced is.settled.finishes
   has-settled =
       let foreign = is_foreign (entry begun.span.disk begun.span.start) in
       let made = (are-replaced (names_in begun.volume entry) begun.config begun.boot foreign is.names is.are).backup in

@@ -161,11 +161,13 @@ image=/boot/vmlinuz
 """
 
 
-def system(kernel, text=CONFIGURATION):
-    """The volume of a small system, in the order in which its files are made: names of 30 bytes, 64 inodes, 4032
-    sectors."""
-    volume = Volume('v1-30', 4032, 64)
+def system(kernel, text=CONFIGURATION, kind='v1-30', sectors=4032, before=(), inodes=64):
+    """The volume of a small system, in the order in which its files are made, with other files in /boot before them:
+    names of 30 bytes, 64 inodes, 4032 sectors."""
+    volume = Volume(kind, sectors, inodes)
     boot, etc = volume.mkdir(1, b'boot'), volume.mkdir(1, b'etc')
+    for name, content in before:
+        volume.file(boot, name, content)
     volume.file(boot, b'vmlinuz', kernel)
     volume.file(boot, b'initrd', b'\xA5' * 700)
     volume.file(boot, b'boot.b', b'\x90' * 512)
@@ -174,8 +176,9 @@ def system(kernel, text=CONFIGURATION):
 
 
 def disk(volume, **changed):
-    """A disk of 4096 sectors whose first partition, from sector 64 on, is a volume of 4032 sectors."""
-    return (table((0x81, 64, 4032))).ljust(64 * SECTOR, b'\0') + volume.bytes(**changed)
+    """A disk whose first partition, from sector 64 on to its end, is a volume: 4096 sectors with one of 4032."""
+    data = volume.bytes(**changed)
+    return table((0x81, 64, len(data) // SECTOR)).ljust(64 * SECTOR, b'\0') + data
 
 
 def installed(image):

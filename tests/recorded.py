@@ -1,0 +1,99 @@
+"""Runs of a program on an image file, recorded by strace, and the images that a stop of one may leave.
+
+A stop at a moment leaves all writes up to the last sync before it, and of those after it any. Where these are few, each
+choice of them is made; else none, all, every second one, the first or the last alone, and all but one of these."""
+
+import codecs
+import hashlib
+import itertools
+import re
+import subprocess
+
+BEGUN = re.compile(r'(\w+)\(\d+<([^>]*)>(.*)')
+CALL = re.compile(r'(\w+)\(\d+<([^>]*)>(.*)\)\s*= (-?\d+)')
+BYTES = re.compile(r', "((?:[^"\\]|\\.)*)"')
+TRACE = ['-y', '-x', '-s', '520', '-e', 'trace=lseek,read,pread64,write,pwrite64,fsync,fdatasync']
+
+
+def events(log, path):
+    """The writes to a file, each its place and its bytes, and its syncs, each None, as strace recorded them."""
+    found, place = [], 0
+    for name, where, rest, said in (call.groups() for call in map(CALL.match, log) if call):
+        if where != path or int(said) < 0:
+            continue
+        if name == 'lseek':
+            place = int(said)
+        elif name == 'read':
+            place += int(said)
+        elif name == 'write':
+            found.append((place, codecs.escape_decode(BYTES.search(rest)[1])[0][:int(said)]))
+            place += int(said)
+        elif name == 'pwrite64':
+            found.append((int(rest.rsplit(',', 1)[1]), codecs.escape_decode(BYTES.search(rest)[1])[0][:int(said)]))
+        elif name in ('fsync', 'fdatasync'):
+            found.append(None)
+    return found
+
+
+def traced(strace, test, program, words, content=b'', options=()):
+    """A run of a program by its words in the folder of a test: its status, its text, and the lines of its calls."""
+    log = test.path('log')
+    done = subprocess.run([strace, *TRACE, *options, '-o', log, program, *words], cwd=test.folder.name, input=content,
+                          stdout=subprocess.PIPE, stderr=subprocess.STDOUT, timeout=60)
+    with open(log, encoding='latin-1') as file:
+        return done.returncode, done.stdout, list(file)
+
+
+def calls(log, path):
+    """The calls of a run, each with its name, its number among those of that name, whether it is one on this file, and
+    the rest of its line."""
+    names, found = [], []
+    for call in filter(None, map(BEGUN.match, log)):
+        names.append(call[1])
+        found.append((call[1], names.count(call[1]), call[2] == path, call[3]))
+    return found
+
+
+def record(strace, test, program, image, words, content=b''):
+    """A run: its status, its text, and its events on an image in the folder of the test."""
+    status, said, log = traced(strace, test, program, words, content)
+    return status, said, events(log, test.path(image))
+
+
+def made(start, run):
+    """The image after all events of a run."""
+    image = bytearray(start)
+    for place, data in filter(None, run):
+        image[place:place + len(data)] = data
+    return bytes(image)
+
+
+def choices(writes):
+    """Which of the writes after the last sync a stop may leave, in their order."""
+    if len(writes) <= 5:
+        return [part for size in range(len(writes) + 1) for part in itertools.combinations(writes, size)]
+    return [[], writes, writes[::2], writes[1::2], writes[-1:], writes[:-1], writes[:1], writes[1:]]
+
+
+def images_left(start, run):
+    """Every image that a stop of a run may leave, each once."""
+    seen, durable, open_writes = set(), bytearray(start), []
+
+    def put(image, sectors):
+        for place, data in sectors.items():
+            image[place:place + len(data)] = data
+        return image
+
+    for event in [*run, None]:
+        for choice in choices(open_writes):
+            # Of the writes to one place the last one counts, and one that changes nothing counts as none.
+            sectors = {place: data for place, data in dict(choice).items() if durable[place:place + len(data)] != data}
+            image = bytes(put(bytearray(durable), sectors))
+            mark = hashlib.sha256(image).digest()
+            if mark not in seen:
+                seen.add(mark)
+                yield image
+        if event is None:
+            durable, open_writes = put(durable, dict(open_writes)), []
+        else:
+            open_writes.append(event)

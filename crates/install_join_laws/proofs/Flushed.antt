@@ -31,7 +31,7 @@ module _ {D : Type 0} {disks : Ghosts D} (start new : Volume D disks) (forced : 
   flushed-told = from.syncs.flushes.goes_on.told told
 
   -- the flush leaves what there was
-  joined : (P : Image → Type 0) → P Here → LeavesOnly (past_of from.flushed) (past_of new) P → LeavesOnly (past_of start) (past_of new) P
+  pub joined : (P : Image → Type 0) → P Here → LeavesOnly (past_of from.flushed) (past_of new) P → LeavesOnly (past_of start) (past_of new) P
   joined P here since =
       leaves_join (past_of start) (past_of from.flushed) (past_of new) P
       (leaves_weaker (past_of start) (past_of from.flushed) _ P from.syncs.flushes.any_moment (λ c left. subst P (sym (quiet c left)) here)) since

@@ -4,3 +4,7 @@ pub mod Prepared
 pub mod Own
 pub mod Staged
 pub mod Installed
+pub mod KeptNames
+pub mod KeptOwn
+pub mod Kept
+pub mod KeptInstalled

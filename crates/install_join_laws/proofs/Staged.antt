@@ -34,7 +34,7 @@ use Rattle.slot_lists.specs.Made.{place_view}
 use Rattle.install_apart_laws.proofs.Surveyed.{surveyed_apart_law}
 use Rattle.install_laws.specs.Headline.{Means}
 use Rattle.install_laws.specs.InstallVerdict.{Begun}
-use Rattle.install_order.specs.Begins.{IsBegun}
+use Rattle.install_order.specs.Begins.{AreOwn, IsBegun}
 use Rattle.install_order.specs.Stageable.{HasSizes, MayStage, path_made}
 use Rattle.install_order.specs.States.{IsStagedFor, StagesFrom, is_forced}
 use Rattle.install_order.specs.declared.planned.Planned.{Planned}
@@ -117,6 +117,10 @@ module _ {D : Type 0} {disks : Ghosts D} (entry : Volume D disks) (config : conf
 
   pub names : settles.OwnNames
   names = did.names
+
+  pub names-are : AreOwn Was From names
+  unfolding names
+  names-are = did.are
 
   abbrev Foreign : Bool
   Foreign = is_foreign (Was S.disk S.start)

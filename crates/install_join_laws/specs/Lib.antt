@@ -1,2 +1,4 @@
 pub mod Steps
 pub mod Laws
+pub mod Kept
+pub mod KeptLaws

@@ -7,6 +7,15 @@ ghost use Rattle.install_join_laws.specs.Laws.{
   StagingPreparesLaw,
   StagingStopsLaw,
 };
+ghost use Rattle.install_join_laws.specs.KeptLaws.{
+  BeginningKeepsLaw,
+  CommitKeepsLaw,
+  CommittedBackupLaw,
+  InstallationKeepsLaw,
+  InstalledLaw,
+  PlanKeepsLaw,
+  StagingKeepsLaw,
+};
 
 use disk_trait::Disks;
 
@@ -40,4 +49,41 @@ pub fn commit_ends_an_installation<D: Disks>()
 /// as before or as is meant, the same of the two for all keys and any memory, and from the commit on only as is meant.
 pub fn installation_is_the_headline<D: Disks>()
     ensures { InstallationLaw D.Disks }
+{}
+
+/// At every moment a beginning, also one that was refused, leaves a sound volume sound, a Held image Held and all names as before
+/// but those that settling changes.
+pub fn beginning_keeps_names<D: Disks>()
+    ensures { BeginningKeepsLaw D.Disks }
+{}
+
+/// So does an installation whose plan was refused, with each name as before or as in Settled, and the backup as before.
+pub fn stopped_plan_keeps_names<D: Disks>()
+    ensures { PlanKeepsLaw D.Disks }
+{}
+
+/// An installation that ended in its staging keeps a sound volume sound and a Held image Held, at every moment, and every name
+/// as before but the map's and the backup's, which are as before, settled or whole.
+pub fn stopped_staging_keeps_names<D: Disks>()
+    ensures { StagingKeepsLaw D.Disks }
+{}
+
+/// So does one that ended in its commit.
+pub fn stopped_commit_keeps_names<D: Disks>()
+    ensures { CommitKeepsLaw D.Disks }
+{}
+
+/// So does one that is committed, whether or not its tidying was refused.
+pub fn installation_keeps_names<D: Disks>()
+    ensures { InstallationKeepsLaw D.Disks }
+{}
+
+/// From the commit on the backup is the whole old boot sector, where one was to be made, and else as before.
+pub fn committed_installation_has_its_backup<D: Disks>()
+    ensures { CommittedBackupLaw D.Disks }
+{}
+
+/// Once it is done, the map is the whole new map, its backup is there, and nothing is at their names with `~`.
+pub fn done_installation_has_its_map<D: Disks>()
+    ensures { InstalledLaw D.Disks }
 {}

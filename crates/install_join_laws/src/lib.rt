@@ -5,7 +5,10 @@
 mod laws;
 
 pub use laws::{
-    commit_ends_an_installation, installation_is_the_headline,
+    beginning_keeps_names, commit_ends_an_installation, committed_installation_has_its_backup,
+    done_installation_has_its_map, installation_is_the_headline, installation_keeps_names,
     staged_installation_means_its_configuration, staging_prepares,
-    stopped_beginning_leaves_what_boots_as_before, stopped_staging_leaves_what_boots_as_before,
+    stopped_beginning_leaves_what_boots_as_before, stopped_commit_keeps_names,
+    stopped_plan_keeps_names, stopped_staging_keeps_names,
+    stopped_staging_leaves_what_boots_as_before,
 };

@@ -1,0 +1,90 @@
+-- What an installation keeps of the volume's names, in each image that a stop leaves (rules of this project's own). A path is a list of
+-- components, the last one first.
+use Rattle.std.specs.Prelude.{◌≡◌, ◌≢◌, ◌⊎◌, ℕ, Bool, true, false, is_some, IfSome, List, Option, None, Some}
+use Rattle.lilo_model.specs.Disks.{Image, Machine}
+use Rattle.lilo_model.specs.MinixFindNames.{Names}
+use Rattle.lilo_model.specs.MinixNames.{Thing, File, names_in, IsSound}
+use Rattle.lilo_model.specs.MinixParts.{Volume}
+use Rattle.lilo_model.specs.NamePlaces.{with_tilde}
+use Rattle.lilo_model.specs.Settled as model
+use Rattle.lilo_model.specs.Settled.{Held, IsSettled}
+use Rattle.install_laws.specs.InstallVerdict.{Begun}
+use Rattle.install_settle.specs.Found.{IsApartCopy}
+use Rattle.install_settle.specs.Settles.{IsBeside, stale_of}
+
+-- ---- what is at a name
+
+-- what was there in another image
+abbrev pub IsAsBefore : Volume → Image → Image → List (List ℕ) → Type 0
+IsAsBefore volume old c name = names_in volume c name ≡ names_in volume old name
+
+-- a file with these bytes
+abbrev pub IsFile : Volume → Image → List ℕ → List (List ℕ) → Type 0
+IsFile volume c bytes name = names_in volume c name ≡ Some (File bytes)
+
+-- nothing
+abbrev pub IsAbsent : Volume → Image → List (List ℕ) → Type 0
+IsAbsent volume c name = names_in volume c name ≡ None
+
+-- what is there in Settled Names, by the image at the entry
+pub record IsAsSettled (image : Image) (machine : Machine) (begun : Begun) (names : model.OwnNames) (c : Image)
+    (name : List (List ℕ)) : Type 0 where
+  pub after : Names
+  pub settled : IsSettled image machine begun.volume begun.span names.map (stale_of (is_some begun.config.force_backup) names)
+      (names_in begun.volume image) after
+  pub is : names_in begun.volume c name ≡ after name
+
+-- ---- until the map and the backup are made
+
+-- The volume is sound where it was. Each name is as before but the map's two, and that of a forced backup with `~`; where the backup's
+-- name with `~` is neither of the map's, each is as before or as in Settled. The image is Held where it was.
+pub record KeepsUnstaged (image : Image) (machine : Machine) (begun : Begun) (names : model.OwnNames) (c : Image) : Type 0 where
+  pub sound : IsSound begun.volume image → IsSound begun.volume c
+  pub others : (name : List (List ℕ)) → IsBeside names (is_some begun.config.force_backup) name → IsAsBefore begun.volume image c name
+  pub own : IsApartCopy names → (name : List (List ℕ)) → IsAsBefore begun.volume image c name ⊎ IsAsSettled image machine begun names c name
+  pub held : Held image machine begun.volume begun.span names.map → Held c machine begun.volume begun.span names.map
+
+-- The same of what may be planned: the configuration is apart, so each name is as before or as in Settled, and the backup as before.
+pub record KeepsUnplanned (image : Image) (machine : Machine) (begun : Begun) (names : model.OwnNames) (c : Image) : Type 0 where
+  pub kept : KeepsUnstaged image machine begun names c
+  pub own : (name : List (List ℕ)) → IsAsBefore begun.volume image c name ⊎ IsAsSettled image machine begun names c name
+  pub backup : IfSome names.backup (IsAsBefore begun.volume image c)
+
+-- ---- at every moment
+
+-- a name is none that an installation changes: neither of the map's, nor the backup's, nor, where it is forced, that with `~`
+pub record IsOther (names : model.OwnNames) (forced : Bool) (name : List (List ℕ)) : Type 0 where
+  pub beside : IsBeside names forced name
+  pub backup : IfSome names.backup (λ backup. name ≢ backup)
+
+-- The volume is sound where it was. Each other name is as before. The map is as before, as in Settled, or the whole new one, of these
+-- bytes. The backup is as before or the whole old boot sector. The image is Held where it was.
+pub record Keeps (image : Image) (machine : Machine) (begun : Begun) (names : model.OwnNames) (bytes : List ℕ) (c : Image) : Type 0 where
+  pub sound : IsSound begun.volume image → IsSound begun.volume c
+  pub others : (name : List (List ℕ)) → IsOther names (is_some begun.config.force_backup) name → IsAsBefore begun.volume image c name
+  pub map : IsAsBefore begun.volume image c names.map
+      ⊎ (IsAsSettled image machine begun names c names.map ⊎ IsFile begun.volume c bytes names.map)
+  pub backup : IfSome names.backup (λ backup. IsAsBefore begun.volume image c backup
+      ⊎ IsFile begun.volume c (image begun.span.disk begun.span.start) backup)
+  pub held : Held image machine begun.volume begun.span names.map → Held c machine begun.volume begun.span names.map
+
+-- ---- once it is committed, and done
+
+-- what is at a backup's name then: the boot sector, where nothing was there or the backup is forced; else what was there
+abbrev pub backup_then : Bool → List ℕ → Option Thing → Option Thing
+backup_then forced present None = Some (File present)
+backup_then true present (Some thing) = Some (File present)
+backup_then false present (Some thing) = Some thing
+
+-- it is so of the boot sector at the entry, where this is another system's
+abbrev pub HasBackup : Image → Begun → model.OwnNames → Image → Type 0
+HasBackup image begun names c =
+    IfSome names.backup (λ backup. names_in begun.volume c backup
+    ≡ backup_then (is_some begun.config.force_backup) (image begun.span.disk begun.span.start) (names_in begun.volume image backup))
+
+-- The map is the whole new one, of these bytes; nothing is at its name with `~`, nor at that of a forced backup; and the backup is there.
+pub record IsInstalled (image : Image) (begun : Begun) (names : model.OwnNames) (bytes : List ℕ) (c : Image) : Type 0 where
+  pub map : IsFile begun.volume c bytes names.map
+  pub tilde : IsAbsent begun.volume c (with_tilde names.map)
+  pub copy : IfSome (stale_of (is_some begun.config.force_backup) names) (λ backup. IsAbsent begun.volume c (with_tilde backup))
+  pub backup : HasBackup image begun names c

@@ -8,8 +8,8 @@ ghost use Rattle.install_answers.specs.Texts.{device_line, device_status, fault_
 use crate::path::show_path;
 use crate::plan::{plan_status, show_plan};
 use crate::write::show_write;
-use disk_trait::Phase;
-use install_order::InstallFault;
+use disk_trait::{Disks, Phase};
+use install_order::{Halt, InstallFault};
 use stream_trait::{Shown, Sink, SinkFailed};
 
 // Of a disk that failed.
@@ -79,6 +79,28 @@ pub fn say_fault<O: Sink>(fault: &InstallFault, phase: Phase, out: &mut Shown<'_
     out.put(b"lilo: ");
     show_fault(fault, phase, out);
     fault_status(fault, phase)
+}
+
+// Gives the memory of a refusal back.
+fn let_fault_go(_fault: InstallFault) {}
+
+/// The same of what ended an installation, with the disks, which are given back.
+pub fn say_halt<'d, D: Disks, O: Sink>(halt: Halt<'d, D>, out: &mut Shown<'_, O>) -> (u8, &'d mut D)
+    ensures status { result.0 ≡ fault_status halt.entry.fault halt.entry.phase }
+    ensures shown { Shows (sink_of O.Sink out.old) (codes "lilo: " ++ fault_text halt.entry.fault halt.entry.phase)
+        (sink_of O.Sink out.new) }
+    ensures disks { result.1.now ≡ halt.entry.volume.disks.now }
+    ensures same_reference { result.1.ghost_name ≡ halt.entry.volume.disks.ghost_name }
+    ensures same_sink { out.new.out.ghost_name ≡ out.old.out.ghost_name }
+{
+    let Halt {
+        volume,
+        phase,
+        fault,
+    } = halt;
+    let status = say_fault(&fault, phase, out);
+    let_fault_go(fault);
+    (status, volume.detach())
 }
 
 /// Puts the line that reports why an installation is refused, without `lilo: ` before it, with its newline.

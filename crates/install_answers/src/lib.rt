@@ -10,6 +10,6 @@ mod report;
 mod text;
 mod write;
 
-pub use answer::{fault_line, fault_status, say_fault};
+pub use answer::{fault_line, fault_status, say_fault, say_halt};
 pub use laws::{status_is_the_models, text_is_the_models};
 pub use report::Report;

@@ -33,24 +33,24 @@ use Rattle.install_preview.specs.Previews.{preview_answer}
 -- ---- refusals
 
 -- the first checks refuse what all of them do
-first-refuses : (fault : InstallFault) (met : Result (List Met) InstallRefusal) (apart : Result (Unit {0}) InstallRefusal) (names : Result model.OwnNames InstallRefusal)
+pub first_refuses : (fault : InstallFault) (met : Result (List Met) InstallRefusal) (apart : Result (Unit {0}) InstallRefusal) (names : Result model.OwnNames InstallRefusal)
     (may : model.OwnNames → Result (Unit {0}) InstallRefusal) (more : List Met → model.OwnNames → Result Answer InstallRefusal)
     → Refuses fault (met >>= λ m. apart >>= λ a. names >>= λ n. may n >>= λ b. Ok n)
     → Refuses fault (met >>= λ m. apart >>= λ a. names >>= λ n. may n >>= λ b. more m n)
-first-refuses fault (Err why) apart names may more is = is
-first-refuses fault (Ok met) (Err why) names may more is = is
-first-refuses fault (Ok met) (Ok apart) (Err why) may more is = is
-first-refuses fault (Ok met) (Ok apart) (Ok names) may more is = by (may names) is
+first_refuses fault (Err why) apart names may more is = is
+first_refuses fault (Ok met) (Err why) names may more is = is
+first_refuses fault (Ok met) (Ok apart) (Err why) may more is = is
+first_refuses fault (Ok met) (Ok apart) (Ok names) may more is = by (may names) is
   where
     by : (done : Result (Unit {0}) InstallRefusal) → Refuses fault (done >>= λ b. Ok names) → Refuses fault (done >>= λ b. more met names)
     by (Err why) same = same
     by (Ok done) same = stopped fault (more met names) same
 
 -- so do the later ones, whatever is answered in the end
-later-refuses : (fault : InstallFault) (plan : Result Plan InstallRefusal) (room : Plan → Result (List DiskSector) InstallRefusal) (own : List DiskSector → Result (Unit {0}) InstallRefusal)
+pub later_refuses : (fault : InstallFault) (plan : Result Plan InstallRefusal) (room : Plan → Result (List DiskSector) InstallRefusal) (own : List DiskSector → Result (Unit {0}) InstallRefusal)
     (answer : Plan → Answer) → Refuses fault (plan >>= λ p. room p >>= λ r. own r >>= λ c. Ok r) → Refuses fault (plan >>= λ p. room p >>= λ r. own r >>= λ c. Ok (answer p))
-later-refuses fault (Err why) room own answer is = is
-later-refuses fault (Ok plan) room own answer is = by (room plan) is
+later_refuses fault (Err why) room own answer is = is
+later_refuses fault (Ok plan) room own answer is = by (room plan) is
   where
     by-own : (places : List DiskSector) (done : Result (Unit {0}) InstallRefusal) → Refuses fault (done >>= λ c. Ok places) → Refuses fault (done >>= λ c. Ok (answer plan))
     by-own places (Err why) same = same
@@ -66,16 +66,16 @@ same-path : (section : ConfSection) (mapped : List MappedSection) → skips.skip
 same-path section [] = refl
 same-path section (mapped ∷ others) = refl
 
-same-skipped : (image : Image) (machine : Machine) (volume : Volume) (sections : List ConfSection)
+pub same_skipped : (image : Image) (machine : Machine) (volume : Volume) (sections : List ConfSection)
     → skips.skipped_paths image machine volume sections ≡ flat_map (λ section. skipped_path section (mapped_section image machine volume section)) sections
-same-skipped image machine volume [] = refl
-same-skipped image machine volume (section ∷ sections) =
+same_skipped image machine volume [] = refl
+same_skipped image machine volume (section ∷ sections) =
     ap (λ (paths : List (List ℕ)). paths ++ skips.skipped_paths image machine volume sections) (same-path section (mapped_section image machine volume section))
-    ∙ ap (λ (paths : List (List ℕ)). skipped_path section (mapped_section image machine volume section) ++ paths) (same-skipped image machine volume sections)
+    ∙ ap (λ (paths : List (List ℕ)). skipped_path section (mapped_section image machine volume section) ++ paths) (same_skipped image machine volume sections)
 
-same-clear : (foreign clear : Bool) → clear_answer foreign clear ≡ (if foreign then None else Some clear)
-same-clear true clear = refl
-same-clear false clear = refl
+pub same_clear : (foreign clear : Bool) → clear_answer foreign clear ≡ (if foreign then None else Some clear)
+same_clear true clear = refl
+same_clear false clear = refl
 
 -- ---- the whole
 
@@ -104,7 +104,7 @@ module _ (image : Image) (machine : Machine) (begun : Begun) (time : ℕ) where
   unfolding begin_checks
   look_refused fault is =
       rw all-is
-      (first-refuses fault (with_fault NotSound (survey begun.volume.layout (parts_of begun.volume image)))
+      (first_refuses fault (with_fault NotSound (survey begun.volume.layout (parts_of begun.volume image)))
       (with_fault NotApart (apart_checks image machine begun.volume begun.config begun.boot))
       (with_fault BadName (own_names (names_in begun.volume image) begun.config begun.boot (is_foreign (image begun.span.disk begun.span.start))))
       (λ names. require (may_settle image machine begun.volume (visits begun.volume.layout (parts_of begun.volume image)) begun.span names.map) NoLink) Rest is)
@@ -120,7 +120,7 @@ module _ (image : Image) (machine : Machine) (begun : Begun) (time : ℕ) where
     unfolding plan_checks test_room
     plan_refused fault is =
         rw rest-is
-        (later-refuses fault (with_fault NoPlan (plan_at image machine begun.volume begun.span begun.config time))
+        (later_refuses fault (with_fault NoPlan (plan_at image machine begun.volume begun.span begun.config time))
         (λ plan. with_fault NoRoom (room_for begun.volume (parts_of begun.volume image) (mapped_sectors image machine begun.span) ex.names (wish_of machine begun.config true time plan)))
         (λ places. with_fault NoPlan (own_places_check begun.config machine places))
         (answer_of image machine begun ex.met) is)
@@ -144,6 +144,6 @@ module _ (image : Image) (machine : Machine) (begun : Begun) (time : ℕ) where
         ≡ record { skipped = skipped; clear = clear; names = plan_names plan; default = default_place plan.config.default_name (plan_names plan) }
     unfolding answer_of
     answer_is plan skipped clear config skips-is clear-is =
-        let one = skips-is ∙ same-skipped image machine begun.volume begun.config.sections in
-        let two = clear-is ∙ (ex.clear ∙ same-clear (is_foreign (image begun.span.disk begun.span.start)) (is_clear begun.volume image ex.met machine begun.span)) in
+        let one = skips-is ∙ same_skipped image machine begun.volume begun.config.sections in
+        let two = clear-is ∙ (ex.clear ∙ same_clear (is_foreign (image begun.span.disk begun.span.start)) (is_clear begun.volume image ex.met machine begun.span)) in
         rw (one, two, config) refl

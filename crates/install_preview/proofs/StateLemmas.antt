@@ -77,10 +77,10 @@ module _ {D : Type 0} {disks : Ghosts D} (s : Surveyed D disks) (off : s.settled
       ∙ ap Ok (answer_is Now Here (begun_in s) s.time s.found ex (plan_view planned.plan) planned.plan.files.skipped clear (ap config_view held.config_is) is.chosen.map.skipped same)
 
 -- a fact of what disks hold now, where they report it
-told-from : (past : Option Past) (P : Image → Type 0) → (IsTold past → P (now past)) → Told past P
+pub told_from : (past : Option Past) (P : Image → Type 0) → (IsTold past → P (now past)) → Told past P
 unfolding IsTold now
-told-from None P f = tt
-told-from (Some past) P f = f tt
+told_from None P f = tt
+told_from (Some past) P f = f tt
 
 -- what is answered of what was looked at is answered of what was there before
 module _ {D : Type 0} {disks : Ghosts D} (old : Volume D disks) (config : confs.Config) (boot : Span) (time : ℕ) (s : Surveyed D disks) (same : SameVolume old s.volume) (later : faults_of old ≤ faults_of s.volume)
@@ -98,6 +98,6 @@ module _ {D : Type 0} {disks : Ghosts D} (old : Volume D disks) (config : confs.
       → IfSome config.boot (λ device. OnDisks disks old.disks.now (λ image machine. GivesPreview (preview_answer image machine (begun_of old config device boot) time) result))
   gives_back gives =
       subst (λ (o : Option Device). IfSome o (λ device. OnDisks disks old.disks.now (λ image machine. GivesPreview (preview_answer image machine (begun_of old config device boot) time) result))) (sym is_for.device_is)
-      (told-from (past_of old) _ (λ told.
+      (told_from (past_of old) _ (λ told.
       subst (λ (answer : Result Answer InstallRefusal). GivesPreview answer result) (same-answer (now (past_of old)) (machine_of disks old.disks.now))
       (back old s.volume same later (λ v m p. IsTold p → GivesPreview (preview_answer (now p) m (Begins v) s.time) result) gives told)))

@@ -20,8 +20,8 @@ ghost use Rattle.install_preview.specs.Previews.{
 };
 
 use disk_trait::{Disks, Phase, Span};
-use install_answers::{Report, say_fault};
-use install_order::{Halt, InstallFault, Planned, Surveyed};
+use install_answers::{Report, say_halt};
+use install_order::{Halt, Planned, Surveyed};
 use lilo_conf::Config;
 use minix_zones::Volume;
 use std::alloc::Global;
@@ -52,9 +52,6 @@ fn decide<'d, D: Disks>(
     Ok((planned, clear))
 }
 
-// Gives the memory of a refusal back.
-fn let_fault_go(_fault: InstallFault) {}
-
 // Reports why it is refused.
 fn refuse<'d, D: Disks, O: Sink>(halt: Halt<'d, D>, out: &mut Shown<'_, O>) -> (u8, &'d mut D)
     requires before { halt.phase ≡ Phase.Before }
@@ -68,14 +65,7 @@ fn refuse<'d, D: Disks, O: Sink>(halt: Halt<'d, D>, out: &mut Shown<'_, O>) -> (
     ensures same_reference { result.1.ghost_name ≡ halt.entry.volume.disks.ghost_name }
     ensures same_sink { out.new.out.ghost_name ≡ out.old.out.ghost_name }
 {
-    let Halt {
-        volume,
-        phase,
-        fault,
-    } = halt;
-    let status = say_fault(&fault, phase, out);
-    let_fault_go(fault);
-    (status, volume.detach())
+    say_halt(halt, out)
 }
 
 /// Reports what an installation by a configuration would do, and whether the present map is Clear, or why it is

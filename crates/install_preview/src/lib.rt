@@ -6,4 +6,4 @@ mod answer;
 mod trial;
 
 pub use answer::preview;
-pub use trial::preview_begun;
+pub use trial::{preview_begun, say_zone};

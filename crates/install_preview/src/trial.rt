@@ -60,9 +60,9 @@ pub fn preview_begun<D: Disks, O: Sink>(
     }
 }
 
-// Shows why there is no volume where one is looked for, and gives the status. The disks are handed back.
+/// Shows why there is no volume where one is looked for, and gives the status. The disks are handed back.
 #[tactic(auto, unfolding(lilo_model::specs::Refusal::refusal_line))]
-fn say_zone<D: Disks, O: Sink>(disks: &mut D, fault: ZoneFault, out: &mut Shown<'_, O>) -> u8
+pub fn say_zone<D: Disks, O: Sink>(disks: &mut D, fault: ZoneFault, out: &mut Shown<'_, O>) -> u8
     ensures answers { AnswersVerdict (zone_verdict fault) result (sink_of O.Sink out.old) (sink_of O.Sink out.new) }
     ensures statuses { IsTrue (is_preview_status result) }
     ensures device { result ≡ 8 → fault ≡ ZoneFault.Device }

@@ -5,12 +5,12 @@ use Rattle.install_preview.proofs.answer.refuse.Goals as goal
 
 pub returns-clause-refused : goal.returns-clause-refused
 returns-clause-refused g c before cause =
-    answers_refusal c.args.halt.fault before (faults_of c.args.halt.volume) cause c.say_fault-status.result _ _
-    (rw c.requires.before at c.say_fault-status.ensures.status) (rw c.requires.before at c.say_fault-status.ensures.shown)
+    answers_refusal c.args.halt.fault before (faults_of c.args.halt.volume) cause c.say_halt.result.0 _ _
+    (rw c.requires.before at c.say_halt.ensures.status) (rw c.requires.before at c.say_halt.ensures.shown)
 
 pub returns-clause-cause : goal.returns-clause-cause
 returns-clause-cause g c before cause is =
-    rose_by c.args.halt.fault before (faults_of c.args.halt.volume) cause (sym (rw c.requires.before at c.say_fault-status.ensures.status) ∙ is)
+    rose_by c.args.halt.fault before (faults_of c.args.halt.volume) cause (sym (rw c.requires.before at c.say_halt.ensures.status) ∙ is)
 
 pub returns-clause-known : goal.returns-clause-known
-returns-clause-known g c = status_known c.args.halt.fault c.say_fault-status.result (rw c.requires.before at c.say_fault-status.ensures.status)
+returns-clause-known g c = status_known c.args.halt.fault c.say_halt.result.0 (rw c.requires.before at c.say_halt.ensures.status)

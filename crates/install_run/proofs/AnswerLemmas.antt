@@ -1,0 +1,97 @@
+-- What is begun and planned is what the model's checks answer, on the image that settling left.
+use Rattle.std.proofs.Common.{◌≡◌, ℕ, Bool, false, List, Option, Result, Ok, Err, refl, ◌∙◌}
+use Rattle.lilo_model.specs.Apart.{apart_checks}
+use Rattle.lilo_model.specs.Checks.{◌>>=◌, require, with_fault}
+use Rattle.lilo_model.specs.Disks.{Image, Machine, DiskSector}
+use Rattle.lilo_model.specs.Mapped.{mapped_sectors}
+use Rattle.lilo_model.specs.Meant.{default_place}
+use Rattle.lilo_model.specs.MinixNames.{names_in}
+use Rattle.lilo_model.specs.MinixParts.{parts_of}
+use Rattle.lilo_model.specs.MinixSurvey.{Met, survey}
+use Rattle.lilo_model.specs.MinixWalk.{visits}
+use Rattle.lilo_model.specs.Plan.{Plan, plan_names}
+use Rattle.lilo_model.specs.PlanRefusal as plans
+use Rattle.lilo_model.specs.PlanRefusal.{plan_at, own_places_check}
+use Rattle.lilo_model.specs.Settled as model
+use Rattle.lilo_model.specs.Settled.{is_foreign, own_names}
+use Rattle.map_plan.specs.Skipped as skips
+use Rattle.install_laws.specs.InstallVerdict.{Answer, Begun, InstallRefusal, NotSound, NotApart, BadName, NoLink, NoPlan, NoRoom, install_room, is_clear, may_settle}
+use Rattle.install_order.specs.Checks.{IsExamined, begin_checks}
+use Rattle.install_order.specs.Faults.{Refuses}
+use Rattle.install_order.specs.Plans.{plan_checks, wish_of}
+use Rattle.install_order.specs.declared.examination.Examined.{Examined}
+use Rattle.install_order.specs.declared.fault.InstallFault.{InstallFault}
+use Rattle.install_room.specs.Room.{room_for}
+use Rattle.install_preview.proofs.PreviewLemmas.{first_refuses, later_refuses, same_skipped, same_clear}
+use Rattle.install_run.specs.Answers.{settled_answer, settled_report}
+
+module _ (image : Image) (machine : Machine) (settled : Image) (begun : Begun) (time : ℕ) where
+  -- the checks from the plan on
+  abbrev Rest : List Met → model.OwnNames → Result Answer InstallRefusal
+  Rest met names =
+      with_fault NoPlan (plan_at settled machine begun.volume begun.span begun.config time)
+      >>= λ plan. with_fault NoRoom (install_room image machine settled time begun names plan)
+      >>= λ places. with_fault NoPlan (own_places_check begun.config machine places)
+      >>= λ c. Ok (settled_report image machine settled begun met plan)
+
+  abbrev First : Result Answer InstallRefusal
+  First =
+      with_fault NotSound (survey begun.volume.layout (parts_of begun.volume image))
+      >>= λ met. with_fault NotApart (apart_checks image machine begun.volume begun.config begun.boot)
+      >>= λ a. with_fault BadName (own_names (names_in begun.volume image) begun.config begun.boot (is_foreign (image begun.span.disk begun.span.start)))
+      >>= λ names. require (may_settle image machine begun.volume (visits begun.volume.layout (parts_of begun.volume image)) begun.span names.map) NoLink
+      >>= λ b. Rest met names
+
+  all-is : settled_answer image machine settled begun time ≡ First
+  unfolding settled_answer
+  all-is = refl
+
+  -- what refuses to begin refuses it
+  pub begin_refused : (fault : InstallFault) → Refuses fault (begin_checks image machine begun.volume begun.config begun.boot begun.span)
+      → Refuses fault (settled_answer image machine settled begun time)
+  unfolding begin_checks
+  begin_refused fault is =
+      rw all-is
+      (first_refuses fault (with_fault NotSound (survey begun.volume.layout (parts_of begun.volume image)))
+      (with_fault NotApart (apart_checks image machine begun.volume begun.config begun.boot))
+      (with_fault BadName (own_names (names_in begun.volume image) begun.config begun.boot (is_foreign (image begun.span.disk begun.span.start))))
+      (λ names. require (may_settle image machine begun.volume (visits begun.volume.layout (parts_of begun.volume image)) begun.span names.map) NoLink) Rest is)
+
+  module _ (found : Examined) (ex : IsExamined image machine begun.volume begun.config begun.boot begun.span found) where
+    rest-is : settled_answer image machine settled begun time ≡ Rest ex.met ex.names
+    rest-is = all-is ∙ rw (ex.surveyed, ex.apart, ex.are, ex.may) refl
+
+    abbrev Checks : Result (List DiskSector) InstallRefusal
+    Checks = plan_checks settled machine begun.volume begun.config begun.span (mapped_sectors image machine begun.span) ex.names false time
+
+    -- what refuses a plan does
+    pub plan_refused : (fault : InstallFault) → Refuses fault Checks → Refuses fault (settled_answer image machine settled begun time)
+    unfolding plan_checks install_room
+    plan_refused fault is =
+        rw rest-is
+        (later_refuses fault (with_fault NoPlan (plan_at settled machine begun.volume begun.span begun.config time))
+        (λ plan. with_fault NoRoom (room_for begun.volume (parts_of begun.volume settled) (mapped_sectors image machine begun.span) ex.names (wish_of machine begun.config false time plan)))
+        (λ places. with_fault NoPlan (own_places_check begun.config machine places))
+        (settled_report image machine settled begun ex.met) is)
+
+    own-of : (places : List DiskSector) (given : Result (Unit {0}) plans.PlanFault) → (with_fault NoPlan given >>= λ c. Ok places) ≡ Ok places → given ≡ Ok tt
+    own-of places (Ok done) is = refl
+    own-of places (Err why) is = cc
+
+    -- a plan that passes is reported
+    pub plan_passes : (plan : Plan) (places : List DiskSector) → plan_at settled machine begun.volume begun.span begun.config time ≡ Ok plan
+        → room_for begun.volume (parts_of begun.volume settled) (mapped_sectors image machine begun.span) ex.names (wish_of machine begun.config false time plan) ≡ Ok places
+        → Checks ≡ Ok places → settled_answer image machine settled begun time ≡ Ok (settled_report image machine settled begun ex.met plan)
+    unfolding plan_checks install_room
+    plan_passes plan places map room passes =
+        let own : own_places_check begun.config machine places ≡ Ok tt = own-of places (own_places_check begun.config machine places) (rw (map, room) at passes) in
+        rest-is ∙ rw (map, room, own) refl
+
+    pub report_is : (plan : Plan) (skipped : List (List ℕ)) (clear : Option Bool) → plan.config ≡ begun.config → skipped ≡ skips.skipped_paths settled machine begun.volume begun.config.sections
+        → clear ≡ found.clear
+        → settled_report image machine settled begun ex.met plan
+        ≡ record { skipped = skipped; clear = clear; names = plan_names plan; default = default_place plan.config.default_name (plan_names plan) }
+    report_is plan skipped clear config skips-is clear-is =
+        let one = skips-is ∙ same_skipped settled machine begun.volume begun.config.sections in
+        let two = clear-is ∙ (ex.clear ∙ same_clear (is_foreign (image begun.span.disk begun.span.start)) (is_clear begun.volume image ex.met machine begun.span)) in
+        rw (one, two, config) refl

@@ -1,0 +1,465 @@
+-- What an installation answers and leaves, from how far it came.
+use Rattle.std.proofs.Common.{◌≡◌, ◌⊎◌, ◌++◌, ◌∙◌, ℕ, List, [], Bool, true, Option, Some, None, Result, Ok, Err, codes, refl, sym, ap, subst, inl, inr, arith, append-nil}
+use Rattle.std.specs.Prelude.{IfSome, IsTrue, is_some}
+use Rattle.disk_trait.specs.declared.disks.Disks.{Ghosts}
+use Rattle.disk_trait.specs.declared.disks.Phase.TheVariants.{Before}
+use Rattle.disk_trait.specs.declared.disks.Span as spans
+use Rattle.disk_trait.specs.Calls.{GoesOn}
+use Rattle.disk_trait.specs.Moments.{IsTold, now, IsQuiet, IsWhole, MayLeave}
+use Rattle.disk_trait.proofs.LawLemmas.{end_of_run_law}
+use Rattle.disk_trait.specs.Past.{Past}
+use Rattle.disk_trait.proofs.MomentLemmas.{told_now}
+use Rattle.disk_trait.proofs.NotWrittenLemmas.{not_written_stays}
+use Rattle.lilo_model.specs.Disks.{Image, Machine, DiskSector}
+use Rattle.lilo_model.specs.Meant.{meant}
+use Rattle.lilo_model.specs.MinixNames.{names_in}
+use Rattle.lilo_model.specs.Planned.{devices_in}
+use Rattle.lilo_model.specs.Settled as settles
+use Rattle.lilo_conf.specs.View.{config_view}
+use Rattle.lilo_conf.specs.declared.config.Config as configs
+use Rattle.map_plan.specs.declared.fault.PlanFault.{PlanFault}
+use Rattle.map_plan.specs.declared.fault.PlanFault.TheVariants as plans
+use Rattle.mbr_table.specs.declared.device.Device as devices
+use Rattle.lilo_model.specs.MinixParts.{volume_at}
+use Rattle.minix_zones.specs.View as volumes
+use Rattle.minix_zones.specs.View.{span_view}
+use Rattle.minix_zones.specs.declared.zone_fault.ZoneFault.{ZoneFault}
+use Rattle.minix_zones.specs.declared.zone_fault.ZoneFault.TheVariants as zones
+use Rattle.minix_zones.specs.Volume.{volume_view, past_of, sizes_of, faults_of}
+use Rattle.minix_zones.specs.declared.volume.Volume.{Volume}
+use Rattle.sector_address.specs.Machine.{machine_of, OnDisks}
+use Rattle.stream_trait.specs.Shows.{SinkState, Shows}
+use Rattle.stream_trait.proofs.ShowsLemmas.{shows_join}
+use Rattle.install_answers.specs.Laws.{IsRefusal}
+use Rattle.install_answers.specs.Texts.{device_line, device_status, fault_status, fault_text, plan_status}
+use Rattle.install_answers.proofs.LawLemmas.{status_law, text_law}
+use Rattle.install_laws.specs.Headline.{Means}
+use Rattle.install_laws.specs.InstallVerdict.{Answer, Begun, InstallRefusal, answer_text, verdict_by}
+use Rattle.install_laws.specs.Stopped.{BootsAsEither, StaysAsBefore}
+use Rattle.install_order.specs.Begins.{AreOwn, LiesThere}
+use Rattle.install_order.specs.Faults.{HasInstallCause, IsStopped, Refuses}
+use Rattle.install_order.specs.Stageable.{HasSizes}
+use Rattle.install_order.specs.States.{HaltsCommit, IsCommitted, TidiesFrom}
+use Rattle.install_order.specs.View.{begun_of}
+use Rattle.install_order.specs.declared.committed.Committed.{Committed}
+use Rattle.install_order.specs.declared.fault.InstallFault.{InstallFault}
+use Rattle.install_order.specs.declared.fault.InstallFault.TheVariants as faults
+use Rattle.install_order.specs.declared.halt.Halt.{Halt}
+use Rattle.install_order.specs.declared.planned.Planned.{Planned}
+use Rattle.install_order.specs.declared.staged.Staged.{Staged}
+use Rattle.install_order.specs.declared.surveyed.Surveyed.{Surveyed}
+use Rattle.install_tidy.specs.Tidies.{Tidies}
+use Rattle.minix_write.specs.declared.write_fault.WriteFault.{WriteFault}
+use Rattle.install_begin.specs.Begin as begins
+use Rattle.install_preview.specs.Previews.{AnswersVerdict, answer_to, zone_verdict}
+use Rattle.install_preview.proofs.StateLemmas.{told_from}
+use Rattle.install_preview.proofs.TrialLemmas.{of_some}
+use Rattle.install_join_laws.specs.Kept.{HasBackup}
+use Rattle.install_join_laws.specs.KeptLaws.{map_of}
+use Rattle.install_join_laws.specs.Laws.{meant_from}
+use Rattle.install_join_laws.specs.Steps.{HasStaged, IsBegunWith, LiesOnDisks, begun_from, machine_on}
+use Rattle.install_join_laws.proofs.Begun.{leaves}
+use Rattle.install_join_laws.proofs.Installed.{installation_commit_ends_law, installation_law}
+use Rattle.install_join_laws.proofs.Kept.{staging_keeps_law}
+use Rattle.install_join_laws.proofs.KeptInstalled.{commit_keeps_law, committed_backup_law, installation_keeps_law, installed_law}
+use Rattle.install_join_laws.proofs.Prepared.{staging_stops_law}
+use Rattle.install_run.specs.Answers.{AnswersInstall, Answered, GivesInstall, LostEarly, LostLater, Starved, IsDiskFault, IsSettledFrom, is_install_status, settled_answer}
+use Rattle.install_run.specs.Keeps.{HasInstalled, IsBefore, IsDone, IsFirm, KeepsMost, KeepsWith}
+use Rattle.install_run.specs.Installs.{IsInstalled, Installs, InstallsBegun, Leaves, NoVolume, VolumeLost, meant_by}
+use Rattle.install_run.specs.Steps.{Finishes, FinishedEarly, FinishedWhole, HaltedCommit, HaltedStaging, HaltedTidying, IsHalted, IsPrepared, StaysBegun}
+use Rattle.install_run.proofs.CarriedLemmas.{tidies_some}
+
+-- ---- a value that there is
+
+pub some_is : {A : Type 0} → (option : Option A) → is_some option ≡ true → (value : A) × (option ≡ Some value)
+some_is None is = cc
+some_is (Some value) is = (value, refl)
+
+-- ---- a refusal before anything was planned
+
+before_3 : (status : ℕ) → status ≡ 3 → IsBefore status
+before_3 status is = record { not_done = none; not_committing = λ nine. omega (arith, is, nine) }
+  where
+    none : IsDone status → ⊥
+    none (inl zero) = omega (arith, is, zero)
+    none (inr ten) = omega (arith, is, ten)
+
+before_4 : (status : ℕ) → status ≡ 4 → IsBefore status
+before_4 status is = record { not_done = none; not_committing = λ nine. omega (arith, is, nine) }
+  where
+    none : IsDone status → ⊥
+    none (inl zero) = omega (arith, is, zero)
+    none (inr ten) = omega (arith, is, ten)
+
+before_5 : (status : ℕ) → status ≡ 5 → IsBefore status
+before_5 status is = record { not_done = none; not_committing = λ nine. omega (arith, is, nine) }
+  where
+    none : IsDone status → ⊥
+    none (inl zero) = omega (arith, is, zero)
+    none (inr ten) = omega (arith, is, ten)
+
+before_8 : (status : ℕ) → status ≡ 8 → IsBefore status
+before_8 status is = record { not_done = none; not_committing = λ nine. omega (arith, is, nine) }
+  where
+    none : IsDone status → ⊥
+    none (inl zero) = omega (arith, is, zero)
+    none (inr ten) = omega (arith, is, ten)
+
+before_13 : (status : ℕ) → status ≡ 13 → IsBefore status
+before_13 status is = record { not_done = none; not_committing = λ nine. omega (arith, is, nine) }
+  where
+    none : IsDone status → ⊥
+    none (inl zero) = omega (arith, is, zero)
+    none (inr ten) = omega (arith, is, ten)
+
+pub refusal_before : (fault : InstallFault) (status : ℕ) → status ≡ fault_status fault Before → IsBefore status
+refusal_before (faults.Survey fault) status is = before_3 status is
+refusal_before (faults.NotApart opt) status is = before_4 status is
+refusal_before (faults.Path path fault) status is = before_3 status is
+refusal_before (faults.Plan fault) status is = by fault is
+  where
+    by : (plan : PlanFault) → status ≡ plan_status plan → IsBefore status
+    by (plans.Missing text) same = before_3 status same
+    by plans.NoImagesLeft same = before_3 status same
+    by (plans.Header path fault) same = before_4 status same
+    by (plans.Address opt fault) same = before_4 status same
+    by (plans.TooManySlots opt slots) same = before_4 status same
+    by (plans.GeometryDiffers opt have) same = before_4 status same
+    by (plans.OtherIsBoot path) same = before_4 status same
+    by (plans.NoSignature path) same = before_4 status same
+    by (plans.MessageTooLong size) same = before_4 status same
+    by (plans.Table fault) same = before_3 status same
+    by (plans.Tree path fault) same = before_3 status same
+    by plans.Device same = before_8 status same
+    by plans.Memory same = before_13 status same
+refusal_before (faults.Write fault) status is = before_5 status is
+refusal_before faults.Device status is = before_8 status is
+refusal_before faults.Memory status is = before_13 status is
+
+module _ (fault : InstallFault) (refusal : IsRefusal fault) (status : ℕ) (old new : SinkState) (is : status ≡ fault_status fault Before)
+    (shown : Shows old (codes "lilo: " ++ fault_text fault Before) new) (stays : IsStopped fault → ⊥) where
+  refused-by : (given : Result Answer InstallRefusal) → Refuses fault given → AnswersVerdict (verdict_by answer_text given) status old new
+  refused-by (Ok answer) refuses = absurd (stays refuses)
+  refused-by (Err why) refuses = record {
+    status_is = is ∙ status_law fault Before why refuses refusal;
+    shown = subst (λ text. Shows old text new) (text_law fault Before why refuses refusal) shown;
+  }
+
+  refused-for : (image : Image) (machine : Machine) (settled : Image) (begun : Begun) (time : ℕ)
+      → IsStopped fault ⊎ (IsSettledFrom image machine begun settled × Refuses fault (settled_answer image machine settled begun time))
+      → AnswersInstall image machine settled begun time status old new
+  refused-for image machine settled begun time (inl stopped) = absurd (stays stopped)
+  refused-for image machine settled begun time (inr both) = Answered both.0 (refused-by (settled_answer image machine settled begun time) both.1)
+
+pub refused_answers : (image : Image) (machine : Machine) (settled : Image) (begun : Begun) (time : ℕ) (fault : InstallFault) (before after : ℕ) → HasInstallCause before after fault
+    → (status : ℕ) (old new : SinkState) → status ≡ fault_status fault Before → Shows old (codes "lilo: " ++ fault_text fault Before) new
+    → IsStopped fault ⊎ (IsSettledFrom image machine begun settled × Refuses fault (settled_answer image machine settled begun time))
+    → AnswersInstall image machine settled begun time status old new
+refused_answers image machine settled begun time (faults.Survey fault) before after cause status old new is shown refuses = refused-for (faults.Survey fault) tt status old new is shown (λ s. s) image machine settled begun time refuses
+refused_answers image machine settled begun time (faults.NotApart opt) before after cause status old new is shown refuses = refused-for (faults.NotApart opt) tt status old new is shown (λ s. s) image machine settled begun time refuses
+refused_answers image machine settled begun time (faults.Path path fault) before after cause status old new is shown refuses = refused-for (faults.Path path fault) cause status old new is shown (λ s. s) image machine settled begun time refuses
+refused_answers image machine settled begun time (faults.Plan fault) before after cause status old new is shown refuses = refused-for (faults.Plan fault) tt status old new is shown (λ s. s) image machine settled begun time refuses
+refused_answers image machine settled begun time (faults.Write fault) before after cause status old new is shown refuses = refused-for (faults.Write fault) cause status old new is shown (λ s. s) image machine settled begun time refuses
+refused_answers image machine settled begun time faults.Device before after cause status old new is shown refuses = LostEarly is shown
+refused_answers image machine settled begun time faults.Memory before after cause status old new is shown refuses = Starved is shown
+
+-- a refusal leaves what boots as before
+pub refused_leaves : (machine : Machine) (begun : Begun) (settled : Image) (entry ended : Option Past) (status : ℕ) → IsBefore status
+    → StaysAsBefore machine begun.volume begun.span entry ended
+    → ((names : settles.OwnNames) → AreOwn (now entry) begun names → KeepsMost machine begun names entry ended ⊎ KeepsWith machine begun names entry ended)
+    → Leaves machine begun settled entry ended status
+refused_leaves machine begun settled entry ended status early stays keeps = record {
+  keeps = λ names own. record {
+    before = λ is. keeps names own;
+    later = λ at. absurd (none at);
+    backup = λ done. absurd (early.not_done done);
+    installed = λ zero. absurd (early.not_done (inl zero));
+  };
+  settles = λ at. absurd (none at);
+  before = λ is. stays;
+  at_commit = λ nine firm. absurd (early.not_committing nine);
+  done = λ done firm. absurd (early.not_done done);
+}
+  where
+    none : (status ≡ 9) ⊎ IsDone status → ⊥
+    none (inl nine) = early.not_committing nine
+    none (inr done) = early.not_done done
+
+-- ---- what is planned and carried out
+
+-- what is answered of it, once it was reported
+pub finished_answers : {D : Type 0} {disks : Ghosts D} → (image : Image) (machine : Machine) (settled : Image) (begun : Begun) (time : ℕ) (planned : Planned D disks) (answer : Answer)
+    (status : ℕ) (ended : Option Past) (old mid new : SinkState) → IsSettledFrom image machine begun settled → settled_answer image machine settled begun time ≡ Ok answer
+    → IsTold (past_of planned.volume) → Shows old (answer_text answer) mid → Finishes planned status ended mid new → AnswersInstall image machine settled begun time status old new
+finished_answers image machine settled begun time planned answer status ended old mid new tie is told shown (FinishedWhole tidied carried past zero rest) =
+    Answered tie
+    (rw is
+    (record {
+      status_is = zero;
+      shown = subst (λ text. Shows old text new) (append-nil (answer_text answer)) (shows_join old mid new (answer_text answer) [] shown rest);
+    }))
+finished_answers image machine settled begun time planned answer status ended old mid new tie is told shown (FinishedEarly halt halted past device status-is said) =
+    let lost = device told in
+    LostLater tie (record {
+      answer = answer;
+      is = is;
+      phase = halt.phase;
+      status_is = status-is ∙ ap (λ fault. fault_status fault halt.phase) lost;
+      shown = shows_join old mid new (answer_text answer) (codes "lilo: " ++ device_line halt.phase) shown
+          (subst (λ fault. Shows mid (codes "lilo: " ++ fault_text fault halt.phase) new) lost said);
+    })
+
+-- what is left of it
+module _ {D : Type 0} {disks : Ghosts D} (entry : Volume D disks) (config : configs.Config) (boot : spans.Span) (time : ℕ) (planned : Planned D disks)
+    (prepared : IsPrepared entry config boot time planned) (told : IsTold (past_of entry)) (quiet : IsQuiet (past_of entry)) (whole : IsWhole (sizes_of entry) (past_of entry)) where
+  abbrev S : Surveyed D disks
+  S = prepared.surveyed
+
+  is : IsBegunWith entry config boot time S
+  is = prepared.begun told quiet
+
+  abbrev From : Begun
+  From = begun_from entry S
+
+  abbrev Settled-image : Image
+  Settled-image = now (past_of planned.volume)
+
+  same-settled : Settled-image ≡ now (past_of S.volume)
+  same-settled = ap now prepared.has.same.same_disks.same_past
+
+  told-planned : IsTold (past_of planned.volume)
+  told-planned = subst IsTold (sym prepared.has.same.same_disks.same_past) ((leaves entry config boot time S is).goes_on.told told)
+
+  meant-same : meant_from entry S ≡ meant_by (machine_on entry) From Settled-image
+  meant-same = ap (λ (image : Image). meant (config_view S.config) (names_in (volume_view entry) image) (devices_in image (machine_on entry))) (sym same-settled)
+
+  module _ (there : LiesThere (now (past_of entry)) (machine_on entry) From) where
+    lies : IsFirm (now (past_of entry)) (machine_on entry) From Settled-image → LiesOnDisks entry S
+    lies firm = record {
+      whole = whole;
+      there = there;
+      devices = firm.devices (now (past_of S.volume)) (λ d s apart. (not_written_stays (past_of entry) (past_of S.volume) d s ((leaves entry config boot time S is).outside told d s apart)).0);
+      sizes = subst (HasSizes (volume_view entry)) same-settled firm.sizes;
+    }
+
+    module _ (staged : Staged D disks) (stages : HasStaged planned staged) (firm : IsFirm (now (past_of entry)) (machine_on entry) From Settled-image) where
+      committing : (halt : Halt D disks) → HaltsCommit staged halt
+          → (place : DiskSector) × BootsAsEither (machine_on entry) From.volume From.span place (meant_by (machine_on entry) From Settled-image) (past_of entry) (past_of halt.volume)
+      committing halt halts =
+          let first = installation_commit_ends_law disks entry config boot time S planned staged halt is prepared.has (lies firm) stages halts in (
+            first.place,
+            subst (λ m. BootsAsEither (machine_on entry) From.volume From.span first.place m (past_of entry) (past_of halt.volume)) meant-same first.is,
+          )
+
+      installing : (new : Volume D disks) (committed : Committed D disks) (result : Result (Unit {0}) WriteFault) → IsCommitted staged committed
+          → (path : List (List ℕ)) × Tidies committed.volume new path committed.map.tilde.directory result
+          → (place : DiskSector) × IsInstalled (machine_on entry) From place Settled-image (past_of entry) (past_of new)
+      installing new committed result commits tidies =
+          let first = installation_law disks entry new config boot time S planned staged committed tidies.0 committed.map.tilde.directory result is prepared.has (lies firm) stages commits tidies.1 in
+          let boots : BootsAsEither (machine_on entry) From.volume From.span first.place (meant_from entry S) (past_of entry) (past_of new) =
+          record { any_moment = first.is.any_moment; boot_or_meant = first.is.boot_or_meant } in (
+            first.place,
+            record {
+              either = subst (λ m. BootsAsEither (machine_on entry) From.volume From.span first.place m (past_of entry) (past_of new)) meant-same boots;
+              after = λ c left. subst (λ m. Means (machine_on entry) From.span first.place m c) meant-same (first.is.after c left);
+            },
+          )
+
+      abbrev Kept : settles.OwnNames → Option Past → Type 0
+      Kept names ended = KeepsWith (machine_on entry) From names (past_of entry) ended
+
+      committing-keeps : (halt : Halt D disks) → HaltsCommit staged halt → (names : settles.OwnNames) → AreOwn (now (past_of entry)) From names → Kept names (past_of halt.volume)
+      committing-keeps halt halts names own = record {
+        bytes = map_of entry planned;
+        each = commit_keeps_law disks entry config boot time S planned staged halt names is prepared.has (lies firm) own stages halts;
+      }
+
+      module _ (new : Volume D disks) (committed : Committed D disks) (result : Result (Unit {0}) WriteFault) (commits : IsCommitted staged committed) (tidies : TidiesFrom committed new result)
+          (names : settles.OwnNames) (own : AreOwn (now (past_of entry)) From names) where
+        installing-keeps : Kept names (past_of new)
+        installing-keeps = record {
+          bytes = map_of entry planned;
+          each = installation_keeps_law disks entry new config boot time S planned staged committed names result is prepared.has (lies firm) own stages commits tidies;
+        }
+
+        installing-backup : (c : Image) → MayLeave (past_of new) c → HasBackup (now (past_of entry)) From names c
+        installing-backup c left =
+            end_of_run_law (HasBackup (now (past_of entry)) From names) (past_of committed.volume) (past_of new)
+            (committed_backup_law disks entry new config boot time S planned staged committed names result is prepared.has (lies firm) own stages commits tidies) c left
+
+      has-installed : (new : Volume D disks) (committed : Committed D disks) → IsCommitted staged committed → TidiesFrom committed new (Ok tt) → IsQuiet (past_of new)
+          → (names : settles.OwnNames) → AreOwn (now (past_of entry)) From names → HasInstalled From names (past_of entry) (past_of new)
+      has-installed new committed commits tidies still names own = record {
+        bytes = map_of entry planned;
+        each = installed_law disks entry new config boot time S planned staged committed names is prepared.has (lies firm) own stages commits tidies still;
+      }
+
+    module _ (tie : IsSettledFrom (now (past_of entry)) (machine_on entry) From Settled-image) where
+      halted-leaves : (status : ℕ) (halt : Halt D disks) → IsHalted planned halt → status ≡ fault_status halt.fault halt.phase → halt.fault ≡ faults.Device
+          → Leaves (machine_on entry) From Settled-image (past_of entry) (past_of halt.volume) status
+      halted-leaves status halt (HaltedStaging phase halts) status-is lost =
+          refused_leaves (machine_on entry) From Settled-image (past_of entry) (past_of halt.volume) status
+          (before_8 status (status-is ∙ (ap (λ fault. fault_status fault halt.phase) lost ∙ ap device_status phase)))
+          (staging_stops_law disks entry config boot time S planned halt is prepared.has there halts)
+          (λ names own. inr (record {
+            bytes = map_of entry planned;
+            each = staging_keeps_law disks entry config boot time S planned halt names is prepared.has there own halts;
+          }))
+      halted-leaves status halt (HaltedCommit phase staged stages halts) status-is lost =
+          let nine : status ≡ 9 = status-is ∙ (ap (λ fault. fault_status fault halt.phase) lost ∙ ap device_status phase) in
+          record {
+            keeps = λ names own. record {
+              before = λ early. absurd (early.not_committing nine);
+              later = λ at firm. committing-keeps staged stages firm halt halts names own;
+              backup = λ done. absurd (none nine done);
+              installed = λ zero. absurd (none nine (inl zero));
+            };
+            settles = λ at. tie;
+            before = λ early. absurd (early.not_committing nine);
+            at_commit = λ at firm. committing staged stages firm halt halts;
+            done = λ done firm. absurd (none nine done);
+          }
+        where
+          none : status ≡ 9 → IsDone status → ⊥
+          none nine (inl zero) = omega (arith, nine, zero)
+          none nine (inr ten) = omega (arith, nine, ten)
+      halted-leaves status halt (HaltedTidying phase staged stages committed commits may halts) status-is lost =
+          let ten : status ≡ 10 = status-is ∙ (ap (λ fault. fault_status fault halt.phase) lost ∙ ap device_status phase) in
+          record {
+            keeps = λ names own. record {
+              before = λ early. absurd (early.not_done (inr ten));
+              later = λ at firm. installing-keeps staged stages firm halt.volume committed (Err halts.fault) commits halts.tidies names own;
+              backup = λ done firm. installing-backup staged stages firm halt.volume committed (Err halts.fault) commits halts.tidies names own;
+              installed = λ zero. absurd (omega (arith, ten, zero));
+            };
+            settles = λ at. tie;
+            before = λ early. absurd (early.not_done (inr ten));
+            at_commit = λ nine firm. absurd (omega (arith, ten, nine));
+            done = λ done firm. installing staged stages firm halt.volume committed (Err halts.fault) commits (tidies_some committed may halt.volume (Err halts.fault) halts.tidies);
+          }
+
+      finished-leaves : (status : ℕ) (ended : Option Past) (old new : SinkState) → Finishes planned status ended old new
+          → Leaves (machine_on entry) From Settled-image (past_of entry) ended status
+      finished-leaves status ended old new (FinishedWhole tidied carried past zero rest) =
+          subst (λ (p : Option Past). Leaves (machine_on entry) From Settled-image (past_of entry) p status) past
+          (record {
+            keeps = λ names own. record {
+              before = λ early. absurd (early.not_done (inl zero));
+              later = λ at firm. installing-keeps carried.staged carried.stages firm tidied.volume carried.committed (Ok tt) carried.commits carried.tidies names own;
+              backup = λ done firm. installing-backup carried.staged carried.stages firm tidied.volume carried.committed (Ok tt) carried.commits carried.tidies names own;
+              installed = λ at firm. has-installed carried.staged carried.stages firm tidied.volume carried.committed carried.commits carried.tidies carried.quiet names own;
+            };
+            settles = λ at. tie;
+            before = λ early. absurd (early.not_done (inl zero));
+            at_commit = λ nine firm. absurd (omega (arith, zero, nine));
+            done = λ done firm. installing carried.staged carried.stages firm tidied.volume carried.committed (Ok tt) carried.commits
+                (tidies_some carried.committed carried.may tidied.volume (Ok tt) carried.tidies);
+          })
+      finished-leaves status ended old new (FinishedEarly halt halted past device status-is said) =
+          subst (λ (p : Option Past). Leaves (machine_on entry) From Settled-image (past_of entry) p status) past
+          (halted-leaves status halt halted status-is (device told-planned))
+
+  -- ---- by what was begun with
+
+  module _ (device : devices.Device) (has : config.boot ≡ Some device) where
+    same-begun : From ≡ begun_of entry config device boot
+    same-begun =
+        let both : Some S.device ≡ Some device = sym is.held.device_is ∙ has in
+        let same : S.device ≡ device = cc in
+        ap (λ (c : configs.Config). begun_of entry c S.device S.boot) is.held.config_is
+        ∙ (ap (λ (d : devices.Device). begun_of entry config d S.boot) same
+        ∙ ap (λ (b : spans.Span). begun_of entry config device b) is.held.boot_is)
+
+    pub finished_leaves : IsSettledFrom (now (past_of entry)) (machine_on entry) (begun_of entry config device boot) Settled-image
+        → LiesThere (now (past_of entry)) (machine_on entry) (begun_of entry config device boot) → (status : ℕ) (ended : Option Past) (old new : SinkState)
+        → Finishes planned status ended old new → Leaves (machine_on entry) (begun_of entry config device boot) Settled-image (past_of entry) ended status
+    finished_leaves tie there status ended old new finishes =
+        subst (λ (b : Begun). Leaves (machine_on entry) b Settled-image (past_of entry) ended status) same-begun
+        (finished-leaves (subst (LiesThere (now (past_of entry)) (machine_on entry)) (sym same-begun) there)
+        (subst (λ (b : Begun). IsSettledFrom (now (past_of entry)) (machine_on entry) b Settled-image) (sym same-begun) tie) status ended old new finishes)
+
+-- ---- the whole, for the boot device that there is
+
+for_device : {A : Type 0} → (option : Option A) (value : A) (P : A → Type 0) → option ≡ Some value → P value → IfSome option P
+for_device option value P is holds = subst (λ o. IfSome o P) (sym is) holds
+
+module _ {D : Type 0} {disks : Ghosts D} (entry : Volume D disks) (config : configs.Config) (boot : spans.Span) (time : ℕ) (named : is_some config.boot ≡ true)
+    (status : ℕ) (ended : Option Past) (old new : SinkState) where
+  abbrev Whole : devices.Device → Type 0
+  Whole device = OnDisks disks entry.disks.now (λ image machine. Installs image machine (begun_of entry config device boot) time (past_of entry) ended status old new)
+
+  pub planned_installs : (planned : Planned D disks) (clear : Option Bool) → IsPrepared entry config boot time planned → IsWhole (sizes_of entry) (past_of entry)
+      → IfSome config.boot (λ device. OnDisks disks entry.disks.now (λ image machine. GivesInstall image machine (begun_of entry config device boot) time (Ok (planned, clear))))
+      → GoesOn disks entry.disks.now planned.volume.disks.now → (mid : SinkState) → Shows old (answer_text (answer_to planned clear)) mid
+      → Finishes planned status ended mid new → IfSome config.boot Whole
+  planned_installs planned clear prepared whole gives goes_on mid shown finishes =
+      let some = some_is config.boot named in
+      let device = some.0 in
+      let begun = begun_of entry config device boot in
+      let machine = machine_of disks entry.disks.now in
+      for_device config.boot device Whole some.1
+      (told_from (past_of entry) (λ image. Installs image machine begun time (past_of entry) ended status old new)
+      (λ told.
+      let given = told_now (past_of entry) (λ image. GivesInstall image machine begun time (Ok (planned, clear)))
+      (of_some config.boot device (λ d. OnDisks disks entry.disks.now (λ image m. GivesInstall image m (begun_of entry config d boot) time (Ok (planned, clear)))) some.1 gives) told in
+      record {
+        settled = now (past_of planned.volume);
+        answers = finished_answers (now (past_of entry)) machine (now (past_of planned.volume)) begun time planned (answer_to planned clear) status ended old mid new given.0 given.1
+            (goes_on.told told) shown finishes;
+        leaves = λ quiet there. finished_leaves entry config boot time planned prepared told quiet whole device some.1 given.0 there status ended mid new finishes;
+      }))
+
+  pub refused_installs : (halt : Halt D disks) → ended ≡ past_of halt.volume → HasInstallCause (faults_of entry) (faults_of halt.volume) halt.fault
+      → IfSome config.boot (λ device. OnDisks disks entry.disks.now (λ image machine. GivesInstall image machine (begun_of entry config device boot) time (Err halt)))
+      → IfSome config.boot (λ device. StaysBegun entry (begun_of entry config device boot) halt.volume)
+      → status ≡ fault_status halt.fault Before → Shows old (codes "lilo: " ++ fault_text halt.fault Before) new → IfSome config.boot Whole
+  refused_installs halt same cause gives stays status-is shown =
+      let some = some_is config.boot named in
+      let device = some.0 in
+      let begun = begun_of entry config device boot in
+      let machine = machine_of disks entry.disks.now in
+      let early = refusal_before halt.fault status status-is in
+      for_device config.boot device Whole some.1
+      (told_from (past_of entry) (λ image. Installs image machine begun time (past_of entry) ended status old new)
+      (λ told.
+      let given = told_now (past_of entry) (λ image. GivesInstall image machine begun time (Err halt))
+      (of_some config.boot device (λ d. OnDisks disks entry.disks.now (λ image m. GivesInstall image m (begun_of entry config d boot) time (Err halt))) some.1 gives) told in
+      record {
+        settled = now (past_of halt.volume);
+        answers = refused_answers (now (past_of entry)) machine (now (past_of halt.volume)) begun time halt.fault (faults_of entry) (faults_of halt.volume) cause status old new status-is shown given;
+        leaves = λ quiet there.
+            subst (λ (p : Option Past). Leaves machine begun (now (past_of halt.volume)) (past_of entry) p status) (sym same)
+            (refused_leaves machine begun (now (past_of halt.volume)) (past_of entry) (past_of halt.volume) status early
+            ((of_some config.boot device (λ d. StaysBegun entry (begun_of entry config d boot) halt.volume) some.1 stays).boots quiet there)
+            (λ names own. inl ((of_some config.boot device (λ d. StaysBegun entry (begun_of entry config d boot) halt.volume) some.1 stays).keeps quiet there names own)));
+      }))
+
+-- ---- where no volume lies
+
+pub no_volume : (image : Image) (machine : Machine) (time : ℕ) (begun : begins.Begun) (fault : ZoneFault) (status : ℕ) (entry ended : Option Past) (old new : SinkState)
+    → volumes.Refuses fault (volume_at image begun.volume) → AnswersVerdict (zone_verdict fault) status old new → ended ≡ entry
+    → InstallsBegun image machine time begun entry ended status old new
+no_volume image machine time begun zones.Device status entry ended old new refuses is same = VolumeLost is.status_is is.shown same
+no_volume image machine time begun (zones.Layout fault) status entry ended old new refuses is same = NoVolume _ refuses is same
+no_volume image machine time begun (zones.ZoneOutside zone) status entry ended old new refuses is same = NoVolume _ refuses is same
+
+pub zone_known : (fault : ZoneFault) (status : ℕ) → status ≡ (zone_verdict fault).status → IsTrue (is_install_status status)
+zone_known zones.Device status is = rw is refl
+zone_known (zones.Layout fault) status is = rw is refl
+zone_known (zones.ZoneOutside zone) status is = rw is refl
+
+-- a disk failed there alone
+pub zone_lost : (fault : ZoneFault) (status : ℕ) → status ≡ (zone_verdict fault).status → IsDiskFault status → fault ≡ zones.Device
+zone_lost zones.Device status is lost = refl
+zone_lost (zones.Layout fault) status is lost = absurd (none lost)
+  where
+    none : IsDiskFault status → ⊥
+    none (inl eight) = omega (arith, is, eight)
+    none (inr (inl nine)) = omega (arith, is, nine)
+    none (inr (inr ten)) = omega (arith, is, ten)
+zone_lost (zones.ZoneOutside zone) status is lost = absurd (none lost)
+  where
+    none : IsDiskFault status → ⊥
+    none (inl eight) = omega (arith, is, eight)
+    none (inr (inl nine)) = omega (arith, is, nine)
+    none (inr (inr ten)) = omega (arith, is, ten)

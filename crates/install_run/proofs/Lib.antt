@@ -1,0 +1,4 @@
+pub mod AnswerLemmas
+pub mod PreparedLemmas
+pub mod CarriedLemmas
+pub mod InstalledLemmas

@@ -1,0 +1,173 @@
+-- What is begun and planned is answered so.
+use Rattle.std.proofs.Common.{◌≡◌, Ok, Err, rules}
+use Rattle.std.proofs.lemmas.Option.{IfSome_then}
+use Rattle.disk_trait.proofs.MomentLemmas.{told_now}
+use Rattle.disk_trait.proofs.ToldLemmas.{told_map}
+use Rattle.minix_zones.specs.Volume.{past_of, faults_of}
+use Rattle.sector_address.specs.Machine.{machine_of}
+use Rattle.install_order.specs.Answers.{Leaves}
+use Rattle.install_order.specs.View.{begun_of}
+use Rattle.install_run.proofs.PreparedLemmas.{Begins, are, begin_stays, begun_leaves, cause_from, gives_back, gives_planned, gives_refused, planned_goes_on, planned_reference, planned_stays, ready_to_stage, refused_begin, some_of, told_after}
+use Rattle.install_run.proofs.prepare.prepare.Goals as goal
+
+pub returns-in_err-surveyed-clause-gives : goal.returns-in_err-surveyed-clause-gives
+returns-in_err-surveyed-clause-gives g c =
+    let halt = c.in_err-surveyed.field-0.0 in
+    let is : c.from_residual.result ≡ Err halt = search rules in
+    rw is
+    (IfSome_then c.args.config.boot c.in_err-surveyed.ensures.found
+    (λ device found.
+    told_map (past_of c.args.volume) _ _
+    (λ now refused. refused_begin now (machine_of g.D.Disks c.args.volume.disks.now) (begun_of c.args.volume c.args.config device c.args.boot) c.args.now _ halt.fault refused) found))
+
+pub returns-in_err-surveyed-clause-stays : goal.returns-in_err-surveyed-clause-stays
+returns-in_err-surveyed-clause-stays g c =
+    let halt = c.in_err-surveyed.field-0.0 in
+    let is : c.from_residual.result ≡ Err halt = search rules in
+    rw is
+    (IfSome_then c.args.config.boot c.in_err-surveyed.ensures.leaves
+    (λ device leaves. begin_stays c.args.volume halt.volume c.args.config device c.args.boot leaves))
+
+pub returns-in_err-surveyed-clause-goes_on : goal.returns-in_err-surveyed-clause-goes_on
+returns-in_err-surveyed-clause-goes_on g c =
+    let halt = c.in_err-surveyed.field-0.0 in
+    let is : c.from_residual.result ≡ Err halt = search rules in
+    rw is
+    (some_of c.args.config.boot (λ device. Leaves c.args.volume halt.volume (begun_of c.args.volume c.args.config device c.args.boot)) _ c.requires.device
+    c.in_err-surveyed.ensures.leaves (λ device leaves. leaves.goes_on))
+
+pub returns-in_err-planned-clause-gives : goal.returns-in_err-planned-clause-gives
+returns-in_err-planned-clause-gives g c =
+    let halt = c.in_err-planned.field-0.0 in
+    let is : c.from_residual-in_err-planned.result ≡ Err halt = search rules in
+    let s = c.in_ok-surveyed.surveyed in
+    let did = c.in_ok-surveyed.ensures in
+    let begins : Begins c.args.volume c.args.config c.args.boot c.args.now s =
+    record { found = did.found; held = did.held; leaves = did.leaves; settled = did.settled; surveys = did.surveyed } in
+    rw is
+    (gives_back c.args.volume c.args.config c.args.boot c.args.now s begins (Err halt)
+    (gives_refused c.args.volume c.args.config c.args.boot c.args.now s begins halt c.in_err-planned.ensures.same
+    (λ told. told_now (past_of s.volume) _ c.in_err-planned.ensures.planned (told_after c.args.volume c.args.config c.args.boot c.args.now s begins told) _ _
+    (are c.args.volume c.args.config c.args.boot c.args.now s begins told))))
+
+pub returns-in_err-planned-clause-stays : goal.returns-in_err-planned-clause-stays
+returns-in_err-planned-clause-stays g c =
+    let halt = c.in_err-planned.field-0.0 in
+    let is : c.from_residual-in_err-planned.result ≡ Err halt = search rules in
+    let s = c.in_ok-surveyed.surveyed in
+    let did = c.in_ok-surveyed.ensures in
+    let begins : Begins c.args.volume c.args.config c.args.boot c.args.now s =
+    record { found = did.found; held = did.held; leaves = did.leaves; settled = did.settled; surveys = did.surveyed } in
+    rw is (planned_stays c.args.volume c.args.config c.args.boot c.args.now s begins halt.volume c.in_err-planned.ensures.same)
+
+pub returns-in_err-planned-clause-goes_on : goal.returns-in_err-planned-clause-goes_on
+returns-in_err-planned-clause-goes_on g c =
+    let halt = c.in_err-planned.field-0.0 in
+    let is : c.from_residual-in_err-planned.result ≡ Err halt = search rules in
+    let s = c.in_ok-surveyed.surveyed in
+    let did = c.in_ok-surveyed.ensures in
+    let begins : Begins c.args.volume c.args.config c.args.boot c.args.now s =
+    record { found = did.found; held = did.held; leaves = did.leaves; settled = did.settled; surveys = did.surveyed } in
+    rw is (planned_goes_on c.args.volume c.args.config c.args.boot c.args.now s begins halt.volume c.in_err-planned.ensures.same c.in_err-planned.ensures.later)
+
+pub returns-in_err-planned-clause-cause : goal.returns-in_err-planned-clause-cause
+returns-in_err-planned-clause-cause g c =
+    let halt = c.in_err-planned.field-0.0 in
+    let is : c.from_residual-in_err-planned.result ≡ Err halt = search rules in
+    let s = c.in_ok-surveyed.surveyed in
+    let did = c.in_ok-surveyed.ensures in
+    let begins : Begins c.args.volume c.args.config c.args.boot c.args.now s =
+    record { found = did.found; held = did.held; leaves = did.leaves; settled = did.settled; surveys = did.surveyed } in
+    let leaves = begun_leaves c.args.volume c.args.config c.args.boot c.args.now s begins in
+    rw is (cause_from halt.fault (faults_of c.args.volume) (faults_of s.volume) (faults_of halt.volume) leaves.goes_on.later c.in_err-planned.ensures.cause)
+
+pub returns-clause-gives : goal.returns-clause-gives
+returns-clause-gives g c =
+    let s = c.in_ok-surveyed.surveyed in
+    let did = c.in_ok-surveyed.ensures in
+    let planned = c.in_ok-planned.planned in
+    let has = c.in_ok-planned.ensures in
+    let begins : Begins c.args.volume c.args.config c.args.boot c.args.now s =
+    record { found = did.found; held = did.held; leaves = did.leaves; settled = did.settled; surveys = did.surveyed } in
+    gives_back c.args.volume c.args.config c.args.boot c.args.now s begins (Ok (planned, c.clear-clear.result))
+    (gives_planned c.args.volume c.args.config c.args.boot c.args.now s begins planned c.clear-clear.result has.same
+    (λ told. told_now (past_of s.volume) _ has.planned (told_after c.args.volume c.args.config c.args.boot c.args.now s begins told) _ _
+    (are c.args.volume c.args.config c.args.boot c.args.now s begins told))
+    (λ told. told_now (past_of s.volume) _ has.found told) has.held c.clear-clear.ensures)
+
+pub returns-clause-prepared : goal.returns-clause-prepared
+returns-clause-prepared g c =
+    let s = c.in_ok-surveyed.surveyed in
+    let did = c.in_ok-surveyed.ensures in
+    let has = c.in_ok-planned.ensures in
+    record {
+      surveyed = s;
+      begun = λ told quiet. record {
+        told = told;
+        quiet = quiet;
+        held = did.held;
+        known = did.known;
+        found = did.found;
+        leaves = did.leaves;
+        settled = did.settled;
+        promises = did.promises quiet;
+        surveys = did.surveyed;
+        quiet_after = did.quiet quiet;
+      };
+      has = record { held = has.held; may = has.may; ready = has.ready; same = has.same };
+    }
+
+pub returns-clause-ready : goal.returns-clause-ready
+returns-clause-ready g c =
+    let s = c.in_ok-surveyed.surveyed in
+    let did = c.in_ok-surveyed.ensures in
+    let has = c.in_ok-planned.ensures in
+    let begins : Begins c.args.volume c.args.config c.args.boot c.args.now s =
+    record { found = did.found; held = did.held; leaves = did.leaves; settled = did.settled; surveys = did.surveyed } in
+    ready_to_stage c.args.volume c.args.config c.args.boot c.args.now s begins c.in_ok-planned.planned has.held has.same has.ready c.requires.there
+
+pub returns-clause-stays : goal.returns-clause-stays
+returns-clause-stays g c =
+    let s = c.in_ok-surveyed.surveyed in
+    let did = c.in_ok-surveyed.ensures in
+    let has = c.in_ok-planned.ensures in
+    let begins : Begins c.args.volume c.args.config c.args.boot c.args.now s =
+    record { found = did.found; held = did.held; leaves = did.leaves; settled = did.settled; surveys = did.surveyed } in
+    planned_stays c.args.volume c.args.config c.args.boot c.args.now s begins c.in_ok-planned.planned.volume has.same
+
+pub returns-clause-goes_on : goal.returns-clause-goes_on
+returns-clause-goes_on g c =
+    let s = c.in_ok-surveyed.surveyed in
+    let did = c.in_ok-surveyed.ensures in
+    let has = c.in_ok-planned.ensures in
+    let begins : Begins c.args.volume c.args.config c.args.boot c.args.now s =
+    record { found = did.found; held = did.held; leaves = did.leaves; settled = did.settled; surveys = did.surveyed } in
+    planned_goes_on c.args.volume c.args.config c.args.boot c.args.now s begins c.in_ok-planned.planned.volume has.same has.later
+
+-- ---- the same disks
+
+pub returns-in_err-surveyed-clause-same_reference : goal.returns-in_err-surveyed-clause-same_reference
+returns-in_err-surveyed-clause-same_reference g c =
+    let halt = c.in_err-surveyed.field-0.0 in
+    let is : c.from_residual.result ≡ Err halt = search rules in
+    rw is
+    (some_of c.args.config.boot (λ device. Leaves c.args.volume halt.volume (begun_of c.args.volume c.args.config device c.args.boot)) _ c.requires.device
+    c.in_err-surveyed.ensures.leaves (λ device leaves. leaves.kept.same_reference))
+
+pub returns-in_err-planned-clause-same_reference : goal.returns-in_err-planned-clause-same_reference
+returns-in_err-planned-clause-same_reference g c =
+    let halt = c.in_err-planned.field-0.0 in
+    let is : c.from_residual-in_err-planned.result ≡ Err halt = search rules in
+    let s = c.in_ok-surveyed.surveyed in
+    let did = c.in_ok-surveyed.ensures in
+    let begins : Begins c.args.volume c.args.config c.args.boot c.args.now s =
+    record { found = did.found; held = did.held; leaves = did.leaves; settled = did.settled; surveys = did.surveyed } in
+    rw is (planned_reference c.args.volume c.args.config c.args.boot c.args.now s begins halt.volume c.in_err-planned.ensures.same)
+
+pub returns-clause-same_reference : goal.returns-clause-same_reference
+returns-clause-same_reference g c =
+    let s = c.in_ok-surveyed.surveyed in
+    let did = c.in_ok-surveyed.ensures in
+    let begins : Begins c.args.volume c.args.config c.args.boot c.args.now s =
+    record { found = did.found; held = did.held; leaves = did.leaves; settled = did.settled; surveys = did.surveyed } in
+    planned_reference c.args.volume c.args.config c.args.boot c.args.now s begins c.in_ok-planned.planned.volume c.in_ok-planned.ensures.same

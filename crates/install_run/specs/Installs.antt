@@ -1,0 +1,66 @@
+-- What an installation does, by its exit status: what it answers, and what a stop at any moment leaves.
+use Rattle.std.specs.Prelude.{◌≡◌, ◌⊎◌, ℕ, List, Option, Ok, Err}
+use Rattle.disk_trait.specs.declared.disks.Phase.TheVariants.{Before}
+use Rattle.disk_trait.specs.Past.{Past}
+use Rattle.disk_trait.specs.Moments.{now, IsQuiet, MayLeave}
+use Rattle.lilo_model.specs.Boot.{Boot}
+use Rattle.lilo_model.specs.DefaultLine.{DefaultLine}
+use Rattle.lilo_model.specs.Disks.{Image, Machine, DiskSector}
+use Rattle.lilo_model.specs.Meant.{meant}
+use Rattle.lilo_model.specs.MinixNames.{names_in}
+use Rattle.lilo_model.specs.MinixParts as model
+use Rattle.lilo_model.specs.MinixParts.{ZoneFault, volume_at}
+use Rattle.lilo_model.specs.Planned.{devices_in}
+use Rattle.lilo_model.specs.Prompt.{Key}
+use Rattle.lilo_model.specs.Refusal as refusals
+use Rattle.lilo_model.specs.Settled as settles
+use Rattle.lilo_model.specs.Verdict.{verdict_of}
+use Rattle.stream_trait.specs.Shows.{SinkState, Shows}
+use Rattle.install_begin.specs.Begin as begins
+use Rattle.install_begin.specs.Begin.{begun_with}
+use Rattle.install_laws.specs.Headline.{Means}
+use Rattle.install_laws.specs.InstallVerdict.{Begun}
+use Rattle.install_laws.specs.Stopped.{BootsAsEither, StaysAsBefore}
+use Rattle.install_order.specs.Begins.{AreOwn, LiesThere}
+use Rattle.install_preview.specs.Previews.{AnswersVerdict}
+use Rattle.install_run.specs.Answers.{AnswersInstall, IsSettledFrom, lost_line}
+pub use Rattle.install_run.specs.Keeps.{IsBefore, IsDone, IsFirm}
+use Rattle.install_run.specs.Keeps.{KeepsNames}
+
+-- ---- what is left
+
+-- what the configuration and its files mean, once names are settled
+abbrev pub meant_by : Machine → Begun → Image → DefaultLine → List Key → ℕ → Boot
+meant_by machine begun settled = meant begun.config (names_in begun.volume settled) (devices_in settled machine)
+
+-- At any moment a stop leaves what boots as before or as is meant, the same of the two for all keys and any memory; and from the end
+-- on only what boots as is meant.
+pub record IsInstalled (machine : Machine) (begun : Begun) (place : DiskSector) (settled : Image) (entry ended : Option Past) : Type 0 where
+  pub either : BootsAsEither machine begun.volume begun.span place (meant_by machine begun settled) entry ended
+  pub after : (c : Image) → MayLeave ended c → Means machine begun.span place (meant_by machine begun settled) c
+
+-- What a stop leaves, by the status, with the place of the new map's default line: of a refusal, or of a disk that failed before the
+-- commit, what boots as before; of one that failed in it, the same of the two; and of what is done, the headline. What it keeps of names.
+pub record Leaves (machine : Machine) (begun : Begun) (settled : Image) (entry ended : Option Past) (status : ℕ) : Type 0 where
+  pub keeps : (names : settles.OwnNames) → AreOwn (now entry) begun names → KeepsNames machine begun settled names entry ended status
+  pub settles : (status ≡ 9) ⊎ IsDone status → IsSettledFrom (now entry) machine begun settled
+  pub before : IsBefore status → StaysAsBefore machine begun.volume begun.span entry ended
+  pub at_commit : status ≡ 9 → IsFirm (now entry) machine begun settled
+      → (place : DiskSector) × BootsAsEither machine begun.volume begun.span place (meant_by machine begun settled) entry ended
+  pub done : IsDone status → IsFirm (now entry) machine begun settled → (place : DiskSector) × IsInstalled machine begun place settled entry ended
+
+-- ---- the whole
+
+-- An installation answers, and leaves, by the image that its settling leaves. What it leaves rests on a quiet entry.
+pub record Installs (image : Image) (machine : Machine) (begun : Begun) (time : ℕ) (entry ended : Option Past) (status : ℕ) (old new : SinkState) : Type 0 where
+  pub settled : Image
+  pub answers : AnswersInstall image machine settled begun time status old new
+  pub leaves : IsQuiet entry → LiesThere (now entry) machine begun → Leaves machine begun settled entry ended status
+
+-- So it does by what was read, where a volume lies there; else that is answered, and nothing is done.
+pub data InstallsBegun (image : Image) (machine : Machine) (time : ℕ) (begun : begins.Begun) (entry ended : Option Past) (status : ℕ) (old new : SinkState) : Type 0 where
+  OnVolume : (volume : model.Volume) → volume_at image begun.volume ≡ Ok volume
+      → Installs image machine (begun_with begun volume) time entry ended status old new → InstallsBegun image machine time begun entry ended status old new
+  NoVolume : (fault : ZoneFault) → volume_at image begun.volume ≡ Err fault → AnswersVerdict (verdict_of (Err refusals.Layout)) status old new
+      → ended ≡ entry → InstallsBegun image machine time begun entry ended status old new
+  VolumeLost : status ≡ 8 → Shows old (lost_line Before) new → ended ≡ entry → InstallsBegun image machine time begun entry ended status old new

@@ -1,0 +1,58 @@
+-- What an installation keeps of the volume and its names, by its exit status (install_join_laws' words).
+use Rattle.std.specs.Prelude.{◌≡◌, ◌⊎◌, ◌≢◌, ℕ, List, Option}
+use Rattle.disk_trait.specs.Past.{Past}
+use Rattle.disk_trait.specs.Moments.{now, MayLeave, LeavesOnly}
+use Rattle.lilo_model.specs.Disks.{Image, Machine}
+use Rattle.lilo_model.specs.Settled as model
+use Rattle.install_apart_laws.specs.Laws.{KeepsDevices}
+use Rattle.install_laws.specs.InstallVerdict.{Begun}
+use Rattle.install_laws.specs.Writes.{IsApartSector}
+use Rattle.install_order.specs.Stageable.{HasSizes}
+use Rattle.install_join_laws.specs.Kept.{HasBackup, IsInstalled, Keeps, KeepsUnstaged}
+
+-- ---- what it rests on
+
+-- Where a device lies is read outside the volume, but for its block 0: in each image that is the same there, the devices lie where they
+-- lie in this one.
+abbrev pub DevicesLieOutside : Image → Machine → Begun → Type 0
+DevicesLieOutside image machine begun =
+    (c : Image) → ((d s : ℕ) → IsApartSector begun.volume d s → c d s ≡ image d s) → KeepsDevices image c machine begun.config begun.boot
+
+-- so it is at the entry, and once names are settled the size of each inode has 32 bits, as it has where each byte is one
+pub record IsFirm (image : Image) (machine : Machine) (begun : Begun) (settled : Image) : Type 0 where
+  pub devices : DevicesLieOutside image machine begun
+  pub sizes : HasSizes begun.volume settled
+
+-- ---- the exit status
+
+-- it is done, by the status; or nothing of its commit is
+abbrev pub IsDone : ℕ → Type 0
+IsDone status = (status ≡ 0) ⊎ (status ≡ 10)
+
+pub record IsBefore (status : ℕ) : Type 0 where
+  pub not_done : IsDone status → ⊥
+  pub not_committing : status ≢ 9
+
+-- ---- what is kept
+
+-- at any moment a stop leaves what keeps all names but those that settling changes
+abbrev pub KeepsMost : Machine → Begun → model.OwnNames → Option Past → Option Past → Type 0
+KeepsMost machine begun names entry ended = LeavesOnly entry ended (KeepsUnstaged (now entry) machine begun names)
+
+-- or, with some bytes of the new map, the others, and the map and the backup as they were or whole
+pub record KeepsWith (machine : Machine) (begun : Begun) (names : model.OwnNames) (entry ended : Option Past) : Type 0 where
+  pub bytes : List ℕ
+  pub each : LeavesOnly entry ended (Keeps (now entry) machine begun names bytes)
+
+-- the new map is there alone, with some bytes, and the backup, in each image that a stop leaves at the end
+pub record HasInstalled (begun : Begun) (names : model.OwnNames) (entry ended : Option Past) : Type 0 where
+  pub bytes : List ℕ
+  pub each : (c : Image) → MayLeave ended c → IsInstalled (now entry) begun names bytes c
+
+-- By the status: sound and Held where it was, with the others as before, and the map and the backup as before, or whole; once it is done the
+-- backup, and after 0 the map too.
+pub record KeepsNames (machine : Machine) (begun : Begun) (settled : Image) (names : model.OwnNames) (entry ended : Option Past) (status : ℕ) : Type 0 where
+  pub before : IsBefore status → KeepsMost machine begun names entry ended ⊎ KeepsWith machine begun names entry ended
+  pub later : (status ≡ 9) ⊎ IsDone status → IsFirm (now entry) machine begun settled → KeepsWith machine begun names entry ended
+  pub backup : IsDone status → IsFirm (now entry) machine begun settled → (c : Image) → MayLeave ended c → HasBackup (now entry) begun names c
+  pub installed : status ≡ 0 → IsFirm (now entry) machine begun settled → HasInstalled begun names entry ended

@@ -1,0 +1,4 @@
+pub mod Answers
+pub mod Steps
+pub mod Keeps
+pub mod Installs

@@ -1,0 +1,9 @@
+//! An installation, once what it begins with is read: it is planned, reported, and carried out in the order of
+//! install_order. What boots is as before until the commit, and as is meant from then on.
+#![tactic(auto)]
+
+mod carry;
+mod install;
+mod prepare;
+
+pub use install::install_begun;

@@ -21,7 +21,7 @@ use Rattle.lilo_run.specs.Refusal.{restore_verdict, halt_verdict}
 use Rattle.lilo_run.specs.Run.{State, Carries, CarriedOut, LostBefore, LostAtCommit, HaltsAt}
 use Rattle.lilo_run.specs.Verdict.{leaving, written_at, restored_at, restored_effect, restore_effect}
 use Rattle.lilo_run.specs.declared.refusal.Halt.{Halt}
-use Rattle.lilo_run.specs.declared.refusal.Halt.TheVariants.{Device as DeviceHalt, NotBuilt, NoPlace, NotOurs, Boot}
+use Rattle.lilo_run.specs.declared.refusal.Halt.TheVariants.{Device as DeviceHalt, NoPlace, NotOurs, Boot}
 use Rattle.lilo_run.proofs.RunLemmas.{carries_after}
 
 module _ {D : Type 0} (g : Ghosts D) (status : ℕ) (keys : List Key) (old new : State D) where
@@ -93,7 +93,6 @@ module _ {D : Type 0} (g : Ghosts D) (status : ℕ) (keys : List Key) (old new :
       LostBefore (record { answer = answer; shown = inl told }) (record { same = same; rose = failed refl })
   back_unplaced now machine root device place (NoPlace fault) halts same failed answer some told =
       rw halts (CarriedOut (record { answer = answer; shown = told; placed = λ zero. absurd (omega (arith, zero, some)) }) refl same)
-  back_unplaced now machine root device place NotBuilt halts same failed answer some told = absurd halts
   back_unplaced now machine root device place NotOurs halts same failed answer some told = absurd halts
   back_unplaced now machine root device place (Boot reason) halts same failed answer some told = absurd halts
 

@@ -25,7 +25,7 @@ use Rattle.lilo_model.specs.Faults.{Rose}
 use Rattle.lilo_run.specs.Run.{State, Does, Carries, IsPlaceHalt}
 use Rattle.lilo_run.proofs.RunLemmas.{carries_kept}
 use Rattle.lilo_model.specs.Prompt.{Key}
-use Rattle.lilo_run.specs.Verdict.{plain_command, command_effect, install_effect, test_effect, conf_effect, conf_query_effect, query_effect, reads_conf, has_conf}
+use Rattle.lilo_run.specs.Verdict.{Left, query_command, command_effect, test_effect, conf_effect, conf_query_effect, query_effect, reads_conf, has_conf}
 use Rattle.lilo_run.specs.declared.conf.ConfHalt.{ConfHalt}
 use Rattle.lilo_run.specs.declared.conf.ConfHalt.TheVariants.{File, Text}
 use Rattle.lilo_run.specs.declared.refusal.Halt.{Halt}
@@ -167,26 +167,20 @@ conf_listed now machine root path device status memory old new is (inr (inl fail
     inr (inl (record { answer = failed.answer; shown = failed.shown }))
 conf_listed now machine root path device status memory old new is (inr (inr failed)) = absurd failed.shown
 
--- an installation, and what it would do
-module _ {D : Type 0} (g : Ghosts D) (now : Image) (machine : Machine) (size time : ℕ) (root : Option Device) (path : List ℕ) (status : ℕ) (keys : List Key) (old new : State D) (reads : OnlyReads g old.disks new.disks (status ≡ 8)) where
-  pub installs :
-      Does (install_effect now machine root path) status old.memory new.memory old.sink new.sink
-      → Carries g (command_effect now machine size time root path words.Install keys) status keys old new
-  unfolding command_effect
-  installs does = carries_kept g (install_effect now machine root path) status keys old new reads does
-
+-- what an installation would do
+module _ {D : Type 0} (g : Ghosts D) (now : Image) (machine : Machine) (size time : ℕ) (root : Option Device) (path : List ℕ) (status : ℕ) (left : Left) (keys : List Key) (old new : State D) (reads : OnlyReads g old.disks new.disks (status ≡ 8)) where
   pub tests :
       Does (test_effect now machine time root path) status old.memory new.memory old.sink new.sink
-      → Carries g (command_effect now machine size time root path words.Test keys) status keys old new
+      → Carries g (command_effect now machine size time root path words.Test left keys) status keys old new
   unfolding command_effect
   tests does = carries_kept g (test_effect now machine time root path) status keys old new reads does
 
   -- `-q`
   pub queries :
-      (device : Option Device) → Does (plain_command now machine root path (words.Query device)) status old.memory new.memory old.sink new.sink
-      → Carries g (command_effect now machine size time root path (words.Query device) keys) status keys old new
+      (device : Option Device) → Does (query_command now machine root path device) status old.memory new.memory old.sink new.sink
+      → Carries g (command_effect now machine size time root path (words.Query device) left keys) status keys old new
   unfolding command_effect
-  queries device does = carries_kept g (plain_command now machine root path (words.Query device)) status keys old new reads does
+  queries device does = carries_kept g (query_command now machine root path device) status keys old new reads does
 
 -- ---- parts that read one
 

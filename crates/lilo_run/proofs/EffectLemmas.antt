@@ -34,7 +34,7 @@ use Rattle.lilo_run.specs.Run.{State, IsDone, Carries, CarriedOut, LostBefore, L
 use Rattle.lilo_run.specs.Verdict.{report_effect, boot_effect, regions_text}
 use Rattle.lilo_run.proofs.RunLemmas.{carries_after}
 use Rattle.lilo_run.specs.declared.refusal.Halt.{Halt}
-use Rattle.lilo_run.specs.declared.refusal.Halt.TheVariants.{Device, NotBuilt, NoPlace, NotOurs, Boot}
+use Rattle.lilo_run.specs.declared.refusal.Halt.TheVariants.{Device, NoPlace, NotOurs, Boot}
 
 -- ---- texts
 
@@ -171,6 +171,5 @@ module _ {D : Type 0} (g : Ghosts D) (now : Image) (machine : Machine) (size : â
   place_failed (Err fault) Device halts failed answer some told = LostBefore (record { answer = answer; shown = inl told }) (record { same = same; rose = failed refl })
   place_failed place (NoPlace fault) halts failed answer some told =
       rw halts (CarriedOut (record { answer = answer; shown = told; placed = Î» zero. absurd (omega (arith, zero, some)) }) refl same)
-  place_failed place NotBuilt halts failed answer some told = absurd halts
   place_failed place NotOurs halts failed answer some told = absurd halts
   place_failed place (Boot reason) halts failed answer some told = absurd halts

@@ -14,7 +14,7 @@ use Rattle.loader_core.specs.Report.{boot_report, boot_write}
 use Rattle.loader_core.proofs.ReportLemmas.{report_law}
 use Rattle.lilo_run.specs.Laws.{IsBootRun, model_effect, BootVerdictLaw}
 use Rattle.lilo_run.specs.Run.{Scene, Tells, TellsRun}
-use Rattle.lilo_run.specs.Verdict.{end_verdict, report_effect, boot_effect, command_effect, effects_of}
+use Rattle.lilo_run.specs.Verdict.{Left, end_verdict, report_effect, boot_effect, command_effect, effects_of}
 use Rattle.lilo_run.proofs.TellLemmas.{told_alone}
 
 ends_alike :
@@ -40,21 +40,21 @@ boot_verdict_law now machine memory dump (Ok span) keys =
 
 -- a boot by itself is one part
 boot_alone :
-    (now : Image) (machine : Machine) (size time : ℕ) (words : List (List ℕ)) (keys : List Key) (device : Device) (dump : Bool)
+    (now : Image) (machine : Machine) (size time : ℕ) (words : List (List ℕ)) (lefts : List Left) (keys : List Key) (device : Device) (dump : Bool)
     → IsBootRun words device dump
-    → effects_of now machine size time words keys ≡ boot_effect now machine size dump (place_at now machine device) keys ∷ []
+    → effects_of now machine size time words lefts keys ≡ boot_effect now machine size dump (place_at now machine device) keys ∷ []
 unfolding effects_of command_effect
-boot_alone now machine size time words keys device dump (part, is, command) = rw (is, command) refl
+boot_alone now machine size time words lefts keys device dump (part, is, command) = rw (is, command) refl
 
 -- what a boot by itself reports is the model's
 pub boot_tells :
-    {D : Type 0} → (g : Ghosts D) (now : Image) (machine : Machine) (size time : ℕ) (words : List (List ℕ)) (device : Device) (dump : Bool) (keys left : List Key)
+    {D : Type 0} → (g : Ghosts D) (now : Image) (machine : Machine) (size time : ℕ) (words : List (List ℕ)) (device : Device) (dump : Bool) (lefts : List Left) (keys left : List Key)
     (status : ℕ) (old new : Scene D)
-    → IsBootRun words device dump → TellsRun g (effects_of now machine size time words keys) status keys left old new
+    → IsBootRun words device dump → TellsRun g (effects_of now machine size time words lefts keys) status keys left old new
     → Tells g (model_effect now machine size (place_at now machine device) dump keys) status left old new
-boot_tells g now machine size time words device dump keys left status old new run told =
+boot_tells g now machine size time words device dump lefts keys left status old new run told =
     let place = place_at now machine device in
     let effect = boot_effect now machine size dump place keys in
     let tells = told_alone g effect status keys left old new
-    (subst (λ parts. TellsRun g parts status keys left old new) (boot_alone now machine size time words keys device dump run) told) in
+    (subst (λ parts. TellsRun g parts status keys left old new) (boot_alone now machine size time words lefts keys device dump run) told) in
     subst (λ e. Tells g e status left old new) (boot_verdict_law now machine size dump place keys) tells

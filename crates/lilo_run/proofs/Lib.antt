@@ -1,9 +1,11 @@
 pub mod BackupLemmas
 pub mod ConfLemmas
 pub mod EffectLemmas
+pub mod InstallLemmas
 pub mod LawLemmas
 pub mod MemoryLemmas
 pub mod LineLemmas
+pub mod PartLemmas
 pub mod RunLemmas
 pub mod ShotLemmas
 pub mod TellLemmas

@@ -7,8 +7,7 @@ use Rattle.lilo_model.specs.Refusal.{DeviceFault}
 use Rattle.lilo_model.specs.Devices.{Device}
 use Rattle.lilo_model.specs.Words as words
 use Rattle.lilo_model.specs.Words.{Command, Part, run_at}
-use Rattle.loader_core.specs.Report.{image_with}
-use Rattle.lilo_run.specs.Verdict.{query_effect, report_effect, boot_effect, install_effect, test_effect, line_effect, restore_effect, conf_query_effect, command_effect, part_effect, parts_effects, words_effects, effects_of, run_left, is_boot, has_boot, run_boots}
+use Rattle.lilo_run.specs.Verdict.{Left, query_effect, report_effect, boot_effect, install_effect, test_effect, line_effect, restore_effect, conf_query_effect, command_effect, part_effect, parts_effects, words_effects, effects_of, image_after, first_left, later_lefts, run_left, is_boot, has_boot, run_boots}
 use Rattle.lilo_run.proofs.RunLemmas.{no_boot_first}
 
 boot_boots :
@@ -20,79 +19,81 @@ boot_boots now machine memory dump (Err fault) keys = refl
 
 -- a command's effect says whether it boots
 pub boots_by :
-    (now : Image) (machine : Machine) (memory time : ℕ) (root : Option Device) (path : List ℕ) (command : Command) (keys : List Key)
-    → (command_effect now machine memory time root path command keys).boots ≡ is_boot command
+    (now : Image) (machine : Machine) (memory time : ℕ) (root : Option Device) (path : List ℕ) (command : Command) (left : Left) (keys : List Key)
+    → (command_effect now machine memory time root path command left keys).boots ≡ is_boot command
 unfolding command_effect query_effect conf_query_effect install_effect test_effect line_effect restore_effect
-boots_by now machine memory time root path words.Install keys = refl
-boots_by now machine memory time root path words.Test keys = refl
-boots_by now machine memory time root path (words.Query None) keys = refl
-boots_by now machine memory time root path (words.Query (Some device)) keys = refl
-boots_by now machine memory time root path (words.SetLine line) keys = refl
-boots_by now machine memory time root path (words.Restore device) keys = refl
-boots_by now machine memory time root path (words.Boot device dump) keys = boot_boots now machine memory dump (place_at now machine device) keys
+boots_by now machine memory time root path words.Install left keys = refl
+boots_by now machine memory time root path words.Test left keys = refl
+boots_by now machine memory time root path (words.Query None) left keys = refl
+boots_by now machine memory time root path (words.Query (Some device)) left keys = refl
+boots_by now machine memory time root path (words.SetLine line) left keys = refl
+boots_by now machine memory time root path (words.Restore device) left keys = refl
+boots_by now machine memory time root path (words.Boot device dump) left keys = boot_boots now machine memory dump (place_at now machine device) keys
 
 -- one that doesn't boot takes no key, and is the same in a memory of any size
-record IsKeyless (now : Image) (machine : Machine) (memory other time : ℕ) (root : Option Device) (path : List ℕ) (command : Command) (keys : List Key) : Type 0 where
-  pub same : command_effect now machine memory time root path command keys ≡ command_effect now machine other time root path command keys
-  pub left : (command_effect now machine memory time root path command keys).left ≡ keys
+record IsKeyless (now : Image) (machine : Machine) (memory other time : ℕ) (root : Option Device) (path : List ℕ) (command : Command) (found : Left) (keys : List Key) : Type 0 where
+  pub same : command_effect now machine memory time root path command found keys ≡ command_effect now machine other time root path command found keys
+  pub left : (command_effect now machine memory time root path command found keys).left ≡ keys
 
 keyless :
-    (now : Image) (machine : Machine) (memory other time : ℕ) (root : Option Device) (path : List ℕ) (command : Command) (keys : List Key) → is_boot command ≡ false
-    → IsKeyless now machine memory other time root path command keys
+    (now : Image) (machine : Machine) (memory other time : ℕ) (root : Option Device) (path : List ℕ) (command : Command) (found : Left) (keys : List Key) → is_boot command ≡ false
+    → IsKeyless now machine memory other time root path command found keys
 unfolding command_effect
-keyless now machine memory other time root path words.Install keys none = record { same = refl; left = refl }
-keyless now machine memory other time root path words.Test keys none = record { same = refl; left = refl }
-keyless now machine memory other time root path (words.Query device) keys none = record { same = refl; left = refl }
-keyless now machine memory other time root path (words.SetLine line) keys none = record { same = refl; left = refl }
-keyless now machine memory other time root path (words.Restore device) keys none = record { same = refl; left = refl }
-keyless now machine memory other time root path (words.Boot device dump) keys none = absurd cc
+keyless now machine memory other time root path words.Install found keys none = record { same = refl; left = refl }
+keyless now machine memory other time root path words.Test found keys none = record { same = refl; left = refl }
+keyless now machine memory other time root path (words.Query device) found keys none = record { same = refl; left = refl }
+keyless now machine memory other time root path (words.SetLine line) found keys none = record { same = refl; left = refl }
+keyless now machine memory other time root path (words.Restore device) found keys none = record { same = refl; left = refl }
+keyless now machine memory other time root path (words.Boot device dump) found keys none = absurd cc
 
 parts_same :
-    (machine : Machine) (memory other time : ℕ) (now : Image) (parts : List Part) (keys : List Key) → has_boot parts ≡ false
-    → parts_effects (part_effect machine memory time) now parts keys ≡ parts_effects (part_effect machine other time) now parts keys
-parts_same machine memory other time now [] keys none = refl
-parts_same machine memory other time now (part ∷ parts) keys none =
+    (machine : Machine) (memory other time : ℕ) (now : Image) (parts : List Part) (lefts : List Left) (keys : List Key) → has_boot parts ≡ false
+    → parts_effects (part_effect machine memory time) now parts lefts keys ≡ parts_effects (part_effect machine other time) now parts lefts keys
+parts_same machine memory other time now [] lefts keys none = refl
+parts_same machine memory other time now (part ∷ parts) lefts keys none =
     let both = no_boot_first part parts none in
-    let first = (keyless now machine memory other time part.root (conf_path part.config) part.command keys both.0).same in
-    let effect = part_effect machine other time now part keys in
-    let rest = parts_same machine memory other time (image_with now effect.write) parts effect.left both.1 in
+    let found = first_left now lefts in
+    let first = (keyless now machine memory other time part.root (conf_path part.config) part.command found keys both.0).same in
+    let effect = part_effect machine other time now part found keys in
+    let rest = parts_same machine memory other time (image_after effect now) parts (later_lefts lefts) effect.left both.1 in
     rw (first, rest) refl
 
 words_same :
-    (machine : Machine) (memory other time : ℕ) (now : Image) (words : List (List ℕ)) (keys : List Key) (run : Result (List Part) (Option ℕ)) → run_boots run ≡ false
-    → words_effects (part_effect machine memory time) now words keys run ≡ words_effects (part_effect machine other time) now words keys run
-words_same machine memory other time now words keys (Ok parts) none = parts_same machine memory other time now parts keys none
-words_same machine memory other time now words keys (Err wrong) none = refl
+    (machine : Machine) (memory other time : ℕ) (now : Image) (words : List (List ℕ)) (lefts : List Left) (keys : List Key) (run : Result (List Part) (Option ℕ)) → run_boots run ≡ false
+    → words_effects (part_effect machine memory time) now words lefts keys run ≡ words_effects (part_effect machine other time) now words lefts keys run
+words_same machine memory other time now words lefts keys (Ok parts) none = parts_same machine memory other time now parts lefts keys none
+words_same machine memory other time now words lefts keys (Err wrong) none = refl
 
 -- what arguments do is the same in a memory of any size
 pub same_in_any_memory :
-    (now : Image) (machine : Machine) (memory other time : ℕ) (words : List (List ℕ)) (keys : List Key) → run_boots (run_at words) ≡ false
-    → effects_of now machine memory time words keys ≡ effects_of now machine other time words keys
+    (now : Image) (machine : Machine) (memory other time : ℕ) (words : List (List ℕ)) (lefts : List Left) (keys : List Key) → run_boots (run_at words) ≡ false
+    → effects_of now machine memory time words lefts keys ≡ effects_of now machine other time words lefts keys
 unfolding effects_of
-same_in_any_memory now machine memory other time words keys none = words_same machine memory other time now words keys (run_at words) none
+same_in_any_memory now machine memory other time words lefts keys none = words_same machine memory other time now words lefts keys (run_at words) none
 
 parts_left :
-    (machine : Machine) (memory time : ℕ) (now : Image) (parts : List Part) (keys : List Key) → has_boot parts ≡ false
-    → run_left keys (parts_effects (part_effect machine memory time) now parts keys) ≡ keys
-parts_left machine memory time now [] keys none = refl
-parts_left machine memory time now (part ∷ parts) keys none =
+    (machine : Machine) (memory time : ℕ) (now : Image) (parts : List Part) (lefts : List Left) (keys : List Key) → has_boot parts ≡ false
+    → run_left keys (parts_effects (part_effect machine memory time) now parts lefts keys) ≡ keys
+parts_left machine memory time now [] lefts keys none = refl
+parts_left machine memory time now (part ∷ parts) lefts keys none =
     let both = no_boot_first part parts none in
-    let first = (keyless now machine memory memory time part.root (conf_path part.config) part.command keys both.0).left in
-    let rest = parts_left machine memory time (image_with now (part_effect machine memory time now part keys).write) parts keys both.1 in
+    let found = first_left now lefts in
+    let first = (keyless now machine memory memory time part.root (conf_path part.config) part.command found keys both.0).left in
+    let rest = parts_left machine memory time (image_after (part_effect machine memory time now part found keys) now) parts (later_lefts lefts) keys both.1 in
     rw first rest
 
 words_left :
-    (machine : Machine) (memory time : ℕ) (now : Image) (words : List (List ℕ)) (keys : List Key) (run : Result (List Part) (Option ℕ)) → run_boots run ≡ false
-    → run_left keys (words_effects (part_effect machine memory time) now words keys run) ≡ keys
-words_left machine memory time now words keys (Ok parts) none = parts_left machine memory time now parts keys none
-words_left machine memory time now words keys (Err wrong) none = refl
+    (machine : Machine) (memory time : ℕ) (now : Image) (words : List (List ℕ)) (lefts : List Left) (keys : List Key) (run : Result (List Part) (Option ℕ)) → run_boots run ≡ false
+    → run_left keys (words_effects (part_effect machine memory time) now words lefts keys run) ≡ keys
+words_left machine memory time now words lefts keys (Ok parts) none = parts_left machine memory time now parts lefts keys none
+words_left machine memory time now words lefts keys (Err wrong) none = refl
 
 -- without a boot all keys are left
 pub all_are_left :
-    (now : Image) (machine : Machine) (memory time : ℕ) (words : List (List ℕ)) (keys : List Key) → run_boots (run_at words) ≡ false
-    → run_left keys (effects_of now machine memory time words keys) ≡ keys
+    (now : Image) (machine : Machine) (memory time : ℕ) (words : List (List ℕ)) (lefts : List Left) (keys : List Key) → run_boots (run_at words) ≡ false
+    → run_left keys (effects_of now machine memory time words lefts keys) ≡ keys
 unfolding effects_of
-all_are_left now machine memory time words keys none = words_left machine memory time now words keys (run_at words) none
+all_are_left now machine memory time words lefts keys none = words_left machine memory time now words lefts keys (run_at words) none
 
 first_by : (first rest : Bool) → first ≡ true → (first || rest) ≡ true
 first_by true rest is = refl

@@ -23,9 +23,15 @@ use Rattle.loader_core.specs.Start.{OnKeys}
 use Rattle.loader_core.specs.Report.{LineWrite, image_with}
 use Rattle.bios_model.specs.Reads.{OnlyReads}
 use Rattle.loader_core.specs.Leaves.{HasPut}
-use Rattle.loader_core.proofs.LeavesLemmas.{same_self, same_join, leaves_after}
-use Rattle.lilo_run.specs.Run.{State, IsDone, Does, Carries, CarriedOut, LostBefore, LostAtCommit, LostAfter, Starved, Unheard, EndsAt, IsPassed, IsOver, Runs, IsLost, IsWriteLost, is_plain_status, is_conf_status, is_test_status, is_part_status}
-use Rattle.lilo_run.specs.Verdict.{Effect, keeping, early_status, early_parts, parts_effects, effects_of, is_boot, has_boot, is_write, has_write}
+use Rattle.loader_core.proofs.LeavesLemmas.{same_self, same_join, leaves_after, rose_after, goes_on_after}
+use Rattle.disk_trait.specs.Moments.{IsQuiet}
+use Rattle.disk_trait.specs.declared.disks.Phase.{Phase}
+use Rattle.install_begin.specs.Begin.{begun_with}
+use Rattle.install_laws.specs.InstallVerdict as verdicts
+use Rattle.install_run.specs.Installs.{Leaves}
+use Rattle.lilo_run.specs.Run.{State, IsDone, Does, Carries, CarriedOut, LostBefore, LostAtCommit, LostAfter, Starved, Unheard, EndsAt, IsPassed, IsOver, Runs, IsLost, IsWriteLost, is_plain_status, is_conf_status, is_install_status, is_test_status, is_part_status}
+use Rattle.lilo_run.specs.Run.{IsLeftBy, EndsAs, MakesBy, Makes, ComesBy, StarvesBy}
+use Rattle.lilo_run.specs.Verdict.{Effect, Installation, Left, keeping, early_status, early_parts, parts_effects, effects_of, image_by, image_after, is_boot, has_boot, is_write, has_write, works_on, has_work_on}
 
 -- how many turns are left at most
 abbrev pub turns_left : Option ℕ → ℕ → ℕ
@@ -44,9 +50,9 @@ module _ {D : Type 0} (g : Ghosts D) where
   -- a part that ended with 0 was done
   pub done_with_zero :
       (effect : Effect) (own : ℕ) (left : List Key) (old new : State D) → Carries g effect own left old new → own ≡ 0
-      → IsDone effect 0 old.memory new.memory old.sink new.sink × (effect.left ≡ left) × HasPut g old.disks new.disks effect.write
+      → IsDone effect 0 old.memory new.memory old.sink new.sink × (effect.left ≡ left) × Makes g effect 0 old.disks new.disks
   done_with_zero effect own left old new (CarriedOut done is put) zero =
-      (record { answer = sym zero ∙ done.answer; shown = done.shown; placed = λ none. done.placed zero }, is, put)
+      (record { answer = sym zero ∙ done.answer; shown = done.shown; placed = λ none. done.placed zero }, is, subst (λ n. Makes g effect n old.disks new.disks) zero put)
   done_with_zero effect own left old new (LostBefore failed same) zero = absurd (let eight = failed.answer in omega (arith, zero, eight))
   done_with_zero effect own left old new (LostAtCommit failed came) zero = absurd (let nine = failed.answer in omega (arith, zero, nine))
   done_with_zero effect own left old new (LostAfter failed came) zero = absurd (let ten = failed.answer in omega (arith, zero, ten))
@@ -61,19 +67,54 @@ module _ {D : Type 0} (g : Ghosts D) where
   carries_kept effect status keys old new reads (inr (inl failed)) = LostBefore failed (record { same = reads.same; rose = reads.failed failed.answer })
   carries_kept effect status keys old new reads (inr (inr failed)) = Starved failed reads.same
 
+  -- an installation that began as disks were read
+  module _ (first old new : D) (same : SameOf g first old) (later : g.faults first ≤ g.faults old) where
+    left_after : (found : Installation) (begun : verdicts.Begun) (own : ℕ) → IsLeftBy g found begun own old new → IsLeftBy g found begun own first new
+    left_after found begun own left = record {
+      settled = left.settled;
+      leaves =
+          λ quiet. subst (λ (p : Option Past). Leaves found.machine begun found.left.settled p (g.past new) own) same.same_past
+          (left.leaves (subst (λ (p : Option Past). IsQuiet p) (sym same.same_past) quiet));
+    }
+
+    pub ends_after : (found : Installation) (own : ℕ) → EndsAs g found own old new → EndsAs g found own first new
+    ends_after found own done = record {
+      begun = λ read is volume there. left_after found (begun_with read volume) own (done.begun read is volume there);
+      unread = λ refused. done.unread refused ∙ same.same_past;
+      no_volume = λ read is refused. done.no_volume read is refused ∙ same.same_past;
+      answered = done.answered;
+      ended = done.ended;
+      goes_on = goes_on_after g first old new same later done.goes_on;
+    }
+
+    makes_after :
+        (installs : Option Installation) (write : Option LineWrite) (own : ℕ) → MakesBy g installs write own old new → MakesBy g installs write own first new
+    makes_after None write own put = leaves_after g first old new same later write (Err (stops.Halt (ends.Refused reasons.Idle))) Before put
+    makes_after (Some found) write own done = ends_after found own done
+
+    comes_after :
+        (installs : Option Installation) (write : Option LineWrite) (phase : Phase) → ComesBy g installs write phase old new → ComesBy g installs write phase first new
+    comes_after None write phase came = leaves_after g first old new same later write (Err (stops.Halt ends.Device)) phase came
+    comes_after (Some found) write phase (done, rose) = (ends_after found _ done, rose_after _ _ _ later rose)
+
+    starves_after : (installs : Option Installation) → StarvesBy g installs old new → StarvesBy g installs first new
+    starves_after None kept = same_join g first old new same kept
+    starves_after (Some found) done = ends_after found 13 done
+
   -- one that began as disks were read
   pub carries_after :
       (effect : Effect) (status : ℕ) (left : List Key) (first : D) (old new : State D) → SameOf g first old.disks → g.faults first ≤ g.faults old.disks
       → Carries g effect status left old new → Carries g effect status left (record { disks = first; memory = old.memory; sink = old.sink; key_faults = old.key_faults }) new
   carries_after effect status left first old new same later (CarriedOut done is put) =
-      CarriedOut done is (leaves_after g first old.disks new.disks same later effect.write (Err (stops.Halt (ends.Refused reasons.Idle))) Before put)
+      CarriedOut done is (makes_after first old.disks new.disks same later effect.installs effect.write status put)
   carries_after effect status left first old new same later (LostBefore failed came) =
-      LostBefore failed (leaves_after g first old.disks new.disks same later effect.write (Err (stops.Halt ends.Device)) Before came)
+      LostBefore failed (comes_after first old.disks new.disks same later effect.installs effect.write Before came)
   carries_after effect status left first old new same later (LostAtCommit failed came) =
-      LostAtCommit failed (leaves_after g first old.disks new.disks same later effect.write (Err (stops.Halt ends.Device)) Commit came)
+      LostAtCommit failed (comes_after first old.disks new.disks same later effect.installs effect.write Commit came)
   carries_after effect status left first old new same later (LostAfter failed came) =
-      LostAfter failed (leaves_after g first old.disks new.disks same later effect.write (Err (stops.Halt ends.Device)) After came)
-  carries_after effect status left first old new same later (Starved failed kept) = Starved failed (same_join g first old.disks new.disks same kept)
+      LostAfter failed (comes_after first old.disks new.disks same later effect.installs effect.write After came)
+  carries_after effect status left first old new same later (Starved failed kept) =
+      Starved failed (starves_after first old.disks new.disks same later effect.installs kept)
   carries_after effect status left first old new same later (Unheard failed rose kept) = Unheard failed rose (same_join g first old.disks new.disks same kept)
 
   -- ---- what disks hold
@@ -84,6 +125,18 @@ module _ {D : Type 0} (g : Ghosts D) where
       → now (g.past new) ≡ image_with (now (g.past old)) write
   put_now old new None put told = ap now put.same_past
   put_now old new (Some write) put told = put.writes.written told
+
+  -- and once a part was done
+  pub makes_now :
+      (old new : D) (effect : Effect) → Makes g effect 0 old new → IsTold (g.past old)
+      → now (g.past new) ≡ image_after effect (now (g.past old))
+  makes_now old new effect makes told = by effect.installs makes
+    where
+      by :
+          (installs : Option Installation) → MakesBy g installs effect.write 0 old new
+          → now (g.past new) ≡ image_by installs effect.write (now (g.past old))
+      by None put = put_now old new effect.write put told
+      by (Some found) done = done.ended
 
   -- a fact of what disks hold, in the words of what they held before
   pub told_here :
@@ -104,65 +157,76 @@ shown_by true own none zero = absurd (let twelve : answer_of own true ≡ 12 = r
 not_12 : (own : ℕ) → IsTrue (is_part_status own) → own ≢ 12
 not_12 own known is = false≢true (rw is at known)
 
-module _ {D I : Type 0} (g : Ghosts D) (i : sources.Ghosts I) (effect : Image → Part → List Key → Effect) where
+module _ {D I : Type 0} (g : Ghosts D) (i : sources.Ghosts I) (effect : Image → Part → Left → List Key → Effect) where
   -- what parts do over what disks hold
-  abbrev pub effects_at : D → List Part → List Key → List Effect
-  effects_at disks parts keys = parts_effects effect (now (g.past disks)) parts keys
+  abbrev pub effects_at : D → List Part → List Left → List Key → List Effect
+  effects_at disks parts lefts keys = parts_effects effect (now (g.past disks)) parts lefts keys
+
+  -- what parts did, by what they found out
+  abbrev pub RunsParts : D → List Part → ℕ → List Key → List Key → State D → State D → Type 0
+  RunsParts disks parts status keys left old new = (lefts : List Left) × Runs g (effects_at disks parts lefts keys) status keys left old new
 
   -- what the rest of the parts does is what is left of all of them, by keys
   abbrev pub ContinuesWith : List Part → List Part → List Key → List Key → State D → State D → Type 0
   ContinuesWith all rest keys keys' start here =
-      (status : ℕ) (there : State D) (left : List Key) → Runs g (effects_at here.disks rest keys') status keys' left here there
-      → Runs g (effects_at start.disks all keys) status keys left start there
+      (status : ℕ) (there : State D) (left : List Key) (lefts : List Left) → Runs g (effects_at here.disks rest lefts keys') status keys' left here there
+      → RunsParts start.disks all status keys left start there
 
   -- whichever keys are left for the rest
   abbrev pub Continues : List Part → List Part → I → I → State D → State D → Type 0
   Continues all rest k0 k1 start here = OnKeys i (k0, k1) (λ keys keys'. ContinuesWith all rest keys keys' start here)
 
+  -- a part was done, by what it found out
+  abbrev pub CarriesOne : D → Part → ℕ → I → I → State D → State D → Type 0
+  CarriesOne disks part own k1 k2 here there =
+      OnKeys i (k1, k2) (λ keys left. (found : Left) × Carries g (effect (now (g.past disks)) part found keys) own left here there)
+
   pub continues_more :
       (all rest behind : List Part) (part : Part) (own : ℕ) (k0 k1 k2 : I) (start here there : State D)
       → Continues all rest k0 k1 start here → rest ≡ part ∷ behind
-      → OnKeys i (k1, k2) (λ keys left. Carries g (effect (now (g.past here.disks)) part keys) own left here there)
+      → CarriesOne here.disks part own k1 k2 here there
       → IsTold (g.past here.disks) → answer_of own there.sink.failed ≡ 0 → Continues all behind k0 k2 start there
   continues_more all rest behind part own k0 k1 k2 start here there goes is does told zero = λ keys2 may.
       let none = zero_before own there.sink.failed zero in
-      let (keys1, may1, carries) = does keys2 may in
+      let (keys1, may1, one) = does keys2 may in
+      let (found, carries) = one in
       let (keys0, may0, later) = goes keys1 may1 in
-      let first = effect (now (g.past here.disks)) part keys1 in
+      let first = effect (now (g.past here.disks)) part found keys1 in
       let (done, kept, put) = done_with_zero g first own keys2 here there carries none in
       let passed : IsPassed g first here there = record { done = done; wrote = put; whole = shown_by there.sink.failed own none zero } in (
         keys0,
         may0,
-        λ status last left runs.
-            let there_runs = subst (λ image. Runs g (parts_effects effect image behind keys2) status keys2 left there last) (put_now g here.disks there.disks first.write put told) runs in
-            let next = subst (λ keys. Runs g (parts_effects effect (image_with (now (g.past here.disks)) first.write) behind keys) status keys left there last) (sym kept) there_runs in
-            later status last left (rw is (inr (there, passed, next))),
+        λ status last left lefts runs.
+            let there_runs = subst (λ image. Runs g (parts_effects effect image behind lefts keys2) status keys2 left there last) (makes_now g here.disks there.disks first put told) runs in
+            let next = subst (λ keys. Runs g (parts_effects effect (image_after first (now (g.past here.disks))) behind lefts keys) status keys left there last) (sym kept) there_runs in
+            later status last left (found ∷ lefts) (rw is (inr (there, passed, next))),
       )
 
   pub continues_end :
       (all rest : List Part) (k0 k1 : I) (start here : State D) → Continues all rest k0 k1 start here → rest ≡ []
-      → OnKeys i (k0, k1) (λ keys left. Runs g (effects_at start.disks all keys) 0 keys left start here)
+      → OnKeys i (k0, k1) (λ keys left. RunsParts start.disks all 0 keys left start here)
   continues_end all rest k0 k1 start here goes is = λ keys1 may.
       let (keys0, may0, later) = goes keys1 may in
       let over : IsOver 0 keys1 keys1 here here = record { zero = refl; memory = refl; kept = refl; sink = refl; disks = refl } in
-      (keys0, may0, later 0 here keys1 (rw is over))
+      (keys0, may0, later 0 here keys1 [] (rw is over))
 
   pub continues_start : (all : List Part) (k : I) (start : State D) → Continues all all k k start start
-  continues_start all k start = λ keys may. (keys, may, λ status there left runs. runs)
+  continues_start all k start = λ keys may. (keys, may, λ status there left lefts runs. (lefts, runs))
 
   pub continues_last :
       (all rest behind : List Part) (part : Part) (own status : ℕ) (k0 k1 k2 : I) (start here there : State D)
       → Continues all rest k0 k1 start here → rest ≡ part ∷ behind
-      → OnKeys i (k1, k2) (λ keys left. Carries g (effect (now (g.past here.disks)) part keys) own left here there)
+      → CarriesOne here.disks part own k1 k2 here there
       → IsTrue (is_part_status own) → status ≡ answer_of own there.sink.failed → status ≢ 0
-      → ((keys : List Key) → (effect (now (g.past here.disks)) part keys).boots ≡ false → there.memory ≡ here.memory)
-      → OnKeys i (k0, k2) (λ keys left. Runs g (effects_at start.disks all keys) status keys left start there)
+      → ((found : Left) (keys : List Key) → (effect (now (g.past here.disks)) part found keys).boots ≡ false → there.memory ≡ here.memory)
+      → OnKeys i (k0, k2) (λ keys left. RunsParts start.disks all status keys left start there)
   continues_last all rest behind part own status k0 k1 k2 start here there goes is does known answer some quiet = λ keys2 may.
-      let (keys1, may1, carries) = does keys2 may in
+      let (keys1, may1, one) = does keys2 may in
+      let (found, carries) = one in
       let (keys0, may0, later) = goes keys1 may1 in
-      let ends : EndsAt g (effect (now (g.past here.disks)) part keys1) status keys2 here there =
-      record { own = own; does = carries; answer = answer; some = some; own_not_12 = not_12 own known; quiet = quiet keys1 } in
-      (keys0, may0, later status there keys2 (rw is (inl ends)))
+      let ends : EndsAt g (effect (now (g.past here.disks)) part found keys1) status keys2 here there =
+      record { own = own; does = carries; answer = answer; some = some; own_not_12 = not_12 own known; quiet = quiet found keys1 } in
+      (keys0, may0, later status there keys2 (found ∷ []) (rw is (inl ends)))
 
 -- a status that the sink doesn't change
 pub own_status : (own known : ℕ) (failed : Bool) → answer_of own failed ≡ known → known ≢ 12 → own ≡ known
@@ -214,6 +278,9 @@ plain_heard status known is = false≢true (rw is at known)
 
 pub conf_part_heard : (status : ℕ) → IsTrue (is_conf_status status) → status ≡ 11 → ⊥
 conf_part_heard status known is = false≢true (rw is at known)
+
+pub install_heard : (status : ℕ) → IsTrue (is_install_status status) → status ≡ 11 → ⊥
+install_heard status known is = false≢true (rw is at known)
 
 pub test_heard : (status : ℕ) → IsTrue (is_test_status status) → status ≡ 11 → ⊥
 test_heard status known is = false≢true (rw is at known)
@@ -282,9 +349,9 @@ Stays all rest (k0, old) (k1, new) = has_boot all ≡ false → ((new ≡ old) �
 abbrev pub StaysUnwritten : {D : Type 0} → Ghosts D → List Part → List Part → D → D → Type 0
 StaysUnwritten g all rest d0 d1 = has_write all ≡ false → SameOf g d0 d1 × (has_write rest ≡ false)
 
--- parts of which none boots but where others do
-abbrev pub AreBoots : List Part → List Part → Type 0
-AreBoots all rest = has_boot rest ≡ true → has_boot all ≡ true
+-- parts of which none works on after its write but where others do
+abbrev pub AreLong : List Part → List Part → Type 0
+AreLong all rest = has_work_on rest ≡ true → has_work_on all ≡ true
 
 -- parts of which none may write but where others may
 abbrev pub AreWrites : List Part → List Part → Type 0
@@ -298,13 +365,13 @@ some_later : (first rest : Bool) → rest ≡ true → (first || rest) ≡ true
 some_later true rest is = refl
 some_later false rest is = is
 
-pub boot_first : (all rest behind : List Part) (part : Part) → AreBoots all rest → rest ≡ part ∷ behind → is_boot part.command ≡ true → has_boot all ≡ true
-unfolding has_boot
-boot_first all rest behind part are is boots = are (rw is (some_by (is_boot part.command) (has_boot behind) boots))
+pub long_first : (all rest behind : List Part) (part : Part) → AreLong all rest → rest ≡ part ∷ behind → works_on part.command ≡ true → has_work_on all ≡ true
+unfolding has_work_on
+long_first all rest behind part are is long = are (rw is (some_by (works_on part.command) (has_work_on behind) long))
 
-pub boot_more : (all rest behind : List Part) (part : Part) → AreBoots all rest → rest ≡ part ∷ behind → AreBoots all behind
-unfolding has_boot
-boot_more all rest behind part are is boots = are (rw is (some_later (is_boot part.command) (has_boot behind) boots))
+pub long_more : (all rest behind : List Part) (part : Part) → AreLong all rest → rest ≡ part ∷ behind → AreLong all behind
+unfolding has_work_on
+long_more all rest behind part are is long = are (rw is (some_later (works_on part.command) (has_work_on behind) long))
 
 pub write_first : (all rest behind : List Part) (part : Part) → AreWrites all rest → rest ≡ part ∷ behind → is_write part.command ≡ true → has_write all ≡ true
 unfolding has_write
@@ -352,12 +419,12 @@ unfolding usage_text
 usage_is words wrong is = rw is refl
 
 pub usage_runs :
-    {D : Type 0} (g : Ghosts D) (image : Image) (machine : Machine) (size time : ℕ) (words : List (List ℕ)) (keys : List Key) (wrong : Option ℕ) (disks : D) (memory : Memory)
+    {D : Type 0} (g : Ghosts D) (image : Image) (machine : Machine) (size time : ℕ) (words : List (List ℕ)) (lefts : List Left) (keys : List Key) (wrong : Option ℕ) (disks : D) (memory : Memory)
     (key_faults : ℕ) (old new : SinkState)
     → run_at words ≡ Err wrong → Shows old (usage_text words) new
-    → Runs g (effects_of image machine size time words keys) 1 keys keys (record { disks = disks; memory = memory; sink = old; key_faults = key_faults }) (record { disks = disks; memory = memory; sink = new; key_faults = key_faults })
+    → Runs g (effects_of image machine size time words lefts keys) 1 keys keys (record { disks = disks; memory = memory; sink = old; key_faults = key_faults }) (record { disks = disks; memory = memory; sink = new; key_faults = key_faults })
 unfolding effects_of
-usage_runs g image machine size time words keys wrong disks memory key_faults old new is shown =
+usage_runs g image machine size time words lefts keys wrong disks memory key_faults old new is shown =
     rw is (inl (record {
       own = 1;
       does = CarriedOut (record { answer = refl; shown = shown; placed = λ zero. absurd (omega (arith, zero)) }) refl (same_self g disks);

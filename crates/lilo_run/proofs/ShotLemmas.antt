@@ -1,6 +1,6 @@
 -- `-R`: the words of a line, and how its write ends.
-use Rattle.std.proofs.Common.{◌≡◌, ◌≤◌, ◌<◌, eqb, ◌⊎◌, ◌∙◌, ◌+◌, ◌-◌, ℕ, inl, inr, min, Bool, true, false, List, [], ◌∷◌, ◌++◌, length, take, drop, get_or, Option, None, Some, Result, Ok, Err, refl, sym, ap, subst, arith, append_assoc, length-drop, take_all}
-use Rattle.std.specs.Prelude.{slice_get, slice_range, option_map}
+use Rattle.std.proofs.Common.{◌≡◌, ◌≤◌, ◌<◌, eqb, ◌⊎◌, ◌∙◌, ◌+◌, ◌-◌, ℕ, inl, inr, min, Bool, true, false, List, [], ◌∷◌, ◌++◌, length, take, drop, get_or, Option, Some, Result, Ok, Err, refl, sym, ap, arith, append_assoc, length-drop, take_all}
+use Rattle.std.specs.Prelude.{slice_get, slice_range}
 use Rattle.std.proofs.lemmas.Bool.{cases_lt, ne_eqb, eq-eqb}
 use Rattle.std.proofs.lemmas.List.{take_more, get_or-drop}
 use Rattle.std.proofs.lemmas.Option.{slice_get_within, get_or_from_slice_get}
@@ -14,10 +14,10 @@ use Rattle.lilo_model.specs.LineShots as model
 use Rattle.lilo_model.specs.LineShots.{shot_line, shot_place}
 use Rattle.lilo_model.specs.LineWords.{joined_words, is_empty_list}
 use Rattle.lilo_model.specs.Prompt.{Key}
-use Rattle.lilo_model.specs.Refusal.{DeviceFault, Refusal}
-use Rattle.lilo_model.specs.Verdict.{Verdict, verdict_of}
+use Rattle.lilo_model.specs.Refusal.{DeviceFault}
+use Rattle.lilo_model.specs.Verdict.{Verdict}
 use Rattle.lilo_words.proofs.Ranges.{range_empty, range_some}
-use Rattle.stream_trait.specs.Shows.{SinkState, Shows}
+use Rattle.stream_trait.specs.Shows.{Shows}
 use Rattle.disk_trait.specs.declared.disks.Disks.{Ghosts}
 use Rattle.disk_trait.specs.declared.disks.Phase.{Phase}
 use Rattle.disk_trait.specs.declared.disks.Phase.TheVariants.{Before, Commit, After}
@@ -28,10 +28,10 @@ use Rattle.one_shot.specs.declared.shot.ShotFault.{ShotFault}
 use Rattle.one_shot.specs.declared.shot.ShotFault.TheVariants as shots
 use Rattle.lilo_run.specs.Line.{spaced}
 use Rattle.lilo_run.specs.Refusal.{line_refused, shot_verdict, halt_verdict}
-use Rattle.lilo_run.specs.Run.{State, IsDone, Does, Carries, CarriedOut, LostBefore, LostAtCommit, Starved, HaltsAt}
-use Rattle.lilo_run.specs.Verdict.{Effect, leaving, conf_effect, line_on, line_by, line_verdict, shot_effect, line_effect}
+use Rattle.lilo_run.specs.Run.{State, Does, Carries, CarriedOut, LostBefore, LostAtCommit, Starved, HaltsAt}
+use Rattle.lilo_run.specs.Verdict.{leaving, conf_effect, line_on, line_verdict, shot_effect, line_effect}
 use Rattle.lilo_run.specs.declared.refusal.Halt.{Halt}
-use Rattle.lilo_run.specs.declared.refusal.Halt.TheVariants.{Device as DeviceHalt, NotBuilt, NoPlace, NotOurs, Boot}
+use Rattle.lilo_run.specs.declared.refusal.Halt.TheVariants.{Device as DeviceHalt, NoPlace, NotOurs, Boot}
 use Rattle.lilo_run.proofs.RunLemmas.{carries_after}
 
 -- ---- words
@@ -129,7 +129,6 @@ module _ {D : Type 0} (g : Ghosts D) (text : List ℕ) (status : ℕ) (keys : Li
   shot_unplaced now machine place DeviceHalt halts same failed answer some told = LostBefore (record { answer = answer; shown = inl told }) (record { same = same; rose = failed refl })
   shot_unplaced now machine place (NoPlace fault) halts same failed answer some told =
       rw halts (CarriedOut (record { answer = answer; shown = told; placed = λ zero. absurd (omega (arith, zero, some)) }) refl same)
-  shot_unplaced now machine place NotBuilt halts same failed answer some told = absurd halts
   shot_unplaced now machine place NotOurs halts same failed answer some told = absurd halts
   shot_unplaced now machine place (Boot reason) halts same failed answer some told = absurd halts
 

@@ -5,11 +5,10 @@ use Rattle.lilo_model.specs.Place.{memory_after}
 use Rattle.lilo_model.specs.Prompt.{Key}
 use Rattle.stream_trait.specs.Sink.{Takes}
 use Rattle.disk_trait.specs.declared.disks.Disks.{Ghosts}
-use Rattle.loader_core.specs.Leaves.{HasPut}
 use Rattle.stream_trait.specs.Shows.{answer_of, PrintsOne, ShowsOne}
 use Rattle.stream_trait.proofs.ShowsLemmas.{prints_of, prints_one_of}
 use Rattle.stream_trait.proofs.SinkLemmas.{Takes-trans}
-use Rattle.lilo_run.specs.Run.{State, Scene, IsDone, Carries, CarriedOut, LostBefore, LostAtCommit, LostAfter, Starved, Unheard, EndsAt, Runs, Answers, Tells, TellsVerdict, TellsLost, TellsLostAtCommit, TellsLostAfter, TellsUnheard, TellsStarved, TellsCut, TellsPassed, TellsRun}
+use Rattle.lilo_run.specs.Run.{State, Scene, IsDone, Carries, CarriedOut, LostBefore, LostAtCommit, LostAfter, Starved, Unheard, EndsAt, Runs, Answers, Makes, Tells, TellsVerdict, TellsLost, TellsLostAtCommit, TellsLostAfter, TellsUnheard, TellsStarved, TellsCut, TellsPassed, TellsRun}
 use Rattle.lilo_run.specs.Verdict.{Effect, run_verdict, run_left, run_written}
 use Rattle.lilo_run.proofs.EffectLemmas.{memory_after-append}
 use Rattle.lilo_run.proofs.RunLemmas.{done_with_zero}
@@ -41,19 +40,21 @@ module _ {D : Type 0} (g : Ghosts D) where
   -- it was done, and its text is the verdict's, or with 12 a prefix of it
   cut_tells :
       (part : Effect) (status own : ℕ) (left : List Key) (old new : State D)
-      → IsDone part own old.memory new.memory old.sink new.sink → part.left ≡ left → HasPut g old.disks new.disks part.write
+      → IsDone part own old.memory new.memory old.sink new.sink → part.left ≡ left → Makes g part own old.disks new.disks
       → status ≡ answer_of own new.sink.failed → status ≢ 0 → old.sink.failed ≡ false
       → (first failed : Bool) → own == 0 ≡ first → new.sink.failed ≡ failed → Tells g part status left (seen old) (seen new)
   cut_tells part status own left old new done is_left put answer some fine true true zero failed =
       let none = eqb-true own 0 zero in
       let twelve : status ≡ 12 = answer ∙ rw (none, failed) refl in
-      TellsCut twelve (sym done.answer ∙ none) is_left (done.shown.rose fine failed) (done.shown.front fine failed) put
+      TellsCut twelve (sym done.answer ∙ none) is_left (done.shown.rose fine failed) (done.shown.front fine failed)
+      (subst (λ n. Makes g part n old.disks new.disks) none put)
   cut_tells part status own left old new done is_left put answer some fine true false zero shown =
       absurd (some (answer ∙ let none = eqb-true own 0 zero in rw (none, shown) refl))
   cut_tells part status own left old new done is_left put answer some fine false failed other is =
       let plain : answer_of own new.sink.failed ≡ own = rw other refl in
       TellsVerdict (answer ∙ plain ∙ done.answer) is_left
-      (prints_of old.sink new.sink part.verdict.text done.shown fine) put
+      (prints_of old.sink new.sink part.verdict.text done.shown fine)
+      (subst (λ n. Makes g part n old.disks new.disks) (sym (answer ∙ plain)) put)
 
   end_tells :
       (part : Effect) (status : ℕ) (left : List Key) (old new : State D) → EndsAt g part status left old new
@@ -171,4 +172,5 @@ module _ {D : Type 0} (g : Ghosts D) where
   told_alone part status keys left old new (inl ends) = ends.tells
   told_alone part status keys left old new (inr (mid, passed, none)) =
       TellsVerdict (none.zero ∙ sym passed.zero) none.kept (inl (none.taken ∙ passed.taken))
-      (subst (λ disks. HasPut g old.disks disks part.write) (sym none.disks) passed.wrote)
+      (subst (λ n. Makes g part n old.disks new.disks) (sym none.zero)
+      (subst (λ disks. Makes g part 0 old.disks disks) (sym none.disks) passed.wrote))

@@ -1,5 +1,5 @@
 -- What `-t` does is the model's verdict of a test, by what it began with.
-use Rattle.std.proofs.Common.{◌≡◌, ◌≤◌, ℕ, inl, inr, List, Option, None, Some, Result, Ok, Err, refl}
+use Rattle.std.proofs.Common.{◌≡◌, ◌≤◌, ℕ, inl, inr, List, Option, None, Some, Result, Ok, Err, refl, sym, subst}
 use Rattle.std.specs.Prelude.{IsTrue}
 use Rattle.lilo_model.specs.Checks.{◌>>=◌, with_fault}
 use Rattle.lilo_model.specs.ConfRefusal.{ConfRefusal}
@@ -22,7 +22,7 @@ use Rattle.mbr_table.specs.declared.table_fault.TableFault.{TableFault}
 use Rattle.mbr_table.specs.declared.table_fault.TableFault.TheVariants as tables
 use Rattle.stream_trait.specs.Shows.{SinkState, Shows}
 use Rattle.lilo_run.specs.Refusal.{conf_verdict, table_verdict, text_verdict, ConfRefuses, HasConfCause, IsBeginHalt}
-use Rattle.lilo_run.specs.Run.{Does, is_test_status}
+use Rattle.lilo_run.specs.Run.{Does, is_install_status, is_test_status}
 use Rattle.lilo_run.specs.Verdict.{conf_effect, test_effect}
 use Rattle.lilo_run.specs.declared.conf.ConfHalt.{ConfHalt}
 use Rattle.lilo_run.specs.declared.conf.ConfHalt.TheVariants.{File, Text}
@@ -40,7 +40,7 @@ tested given status memory old new (inl verdict) = inl (record { answer = verdic
 tested given status memory old new (inr (inl failed)) = inr (inl (record { answer = failed.0; shown = inl failed.1 }))
 tested given status memory old new (inr (inr starved)) = inr (inr (record { answer = starved.0; shown = inl starved.1 }))
 
-begin_refuses : {A : Type 0} → (path : List ℕ) (fault : BeginFault) (halt : ConfHalt) (given : Result A Refusal) → IsBeginHalt fault halt → Refuses path fault given
+pub begin_refuses : {A : Type 0} → (path : List ℕ) (fault : BeginFault) (halt : ConfHalt) (given : Result A Refusal) → IsBeginHalt fault halt → Refuses path fault given
     → ConfRefuses path halt given
 begin_refuses path (begins.File fault) halt given is refuses = rw is refuses
 begin_refuses path (begins.Text fault) halt given is refuses = rw is refuses
@@ -71,27 +71,36 @@ module _ (image : Image) (machine : Machine) (time : ℕ) (root : Option Device)
       (conf_refused (λ given. verdict_by test_text (with_fault Reading given >>= test_on image machine time)) reading_refused path halt
       (begun_at image machine root path) status memory old new (begin_refuses path fault halt (begun_at image machine root path) is refuses) answer some shown)
 
--- the status of a refusal is one of `-t`
+-- the status of a refusal is one of these
+module _ (P : ℕ → Type 0) (two : P 2) (three : P 3) (eight : P 8) (thirteen : P 13) (path : List ℕ) (status : ℕ) where
+  table_known : (fault : TableFault) → status ≡ (table_verdict fault).status → P status
+  table_known tables.Device is = subst P (sym is) eight
+  table_known (tables.NoSignature sector) is = subst P (sym is) three
+  table_known (tables.OutsideDisk number) is = subst P (sym is) three
+  table_known (tables.LoopedChain sector) is = subst P (sym is) three
+  table_known tables.TooMany is = subst P (sym is) three
+  table_known tables.UnknownDevice is = subst P (sym is) three
+  table_known (tables.NoPartition number) is = subst P (sym is) three
+  table_known (tables.NoDisk disk) is = subst P (sym is) three
+
+  text_known : (view : Option ConfRefusal) → status ≡ (text_verdict view).status → P status
+  text_known None is = subst P (sym is) thirteen
+  text_known (Some refusal) is = subst P (sym is) two
+
+  pub conf_known : (halt : ConfHalt) → status ≡ (conf_verdict path halt).status → P status
+  conf_known (File files.NoVolume) is = subst P (sym is) three
+  conf_known (File (files.Place fault)) is = table_known fault is
+  conf_known (File files.Device) is = subst P (sym is) eight
+  conf_known (File files.Layout) is = subst P (sym is) three
+  conf_known (File files.Missing) is = subst P (sym is) three
+  conf_known (File files.BadPath) is = subst P (sym is) three
+  conf_known (File files.Memory) is = subst P (sym is) thirteen
+  conf_known (Text fault) is = text_known (fault_view fault) is
+
+-- so it is of `-t`
 pub refusal_known : (path : List ℕ) (halt : ConfHalt) (status : ℕ) → status ≡ (conf_verdict path halt).status → IsTrue (is_test_status status)
-refusal_known path (File files.NoVolume) status is = rw is refl
-refusal_known path (File (files.Place fault)) status is = by fault is
-  where
-    by : (fault : TableFault) → status ≡ (table_verdict fault).status → IsTrue (is_test_status status)
-    by tables.Device is = rw is refl
-    by (tables.NoSignature sector) is = rw is refl
-    by (tables.OutsideDisk number) is = rw is refl
-    by (tables.LoopedChain sector) is = rw is refl
-    by tables.TooMany is = rw is refl
-    by tables.UnknownDevice is = rw is refl
-    by (tables.NoPartition number) is = rw is refl
-    by (tables.NoDisk disk) is = rw is refl
-refusal_known path (File files.Device) status is = rw is refl
-refusal_known path (File files.Layout) status is = rw is refl
-refusal_known path (File files.Missing) status is = rw is refl
-refusal_known path (File files.BadPath) status is = rw is refl
-refusal_known path (File files.Memory) status is = rw is refl
-refusal_known path (Text fault) status is = by (fault_view fault) is
-  where
-    by : (view : Option ConfRefusal) → status ≡ (text_verdict view).status → IsTrue (is_test_status status)
-    by None is = rw is refl
-    by (Some refusal) is = rw is refl
+refusal_known path halt status is = conf_known (λ n. IsTrue (is_test_status n)) refl refl refl refl path status halt is
+
+-- and of an installation
+pub install_refusal_known : (path : List ℕ) (halt : ConfHalt) (status : ℕ) → status ≡ (conf_verdict path halt).status → IsTrue (is_install_status status)
+install_refusal_known path halt status is = conf_known (λ n. IsTrue (is_install_status n)) refl refl refl refl path status halt is

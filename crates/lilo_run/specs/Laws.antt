@@ -12,7 +12,7 @@ use Rattle.stream_trait.specs.declared.source.Source as sources
 use Rattle.disk_trait.specs.declared.disks.Disks as disks
 use Rattle.loader_core.specs.Report.{LineWrite, boot_write}
 use Rattle.lilo_run.specs.Run.{Tells, scene_of}
-use Rattle.lilo_run.specs.Verdict.{Effect, boot_effect, effects_of, run_left, run_boots}
+use Rattle.lilo_run.specs.Verdict.{Effect, Left, boot_effect, effects_of, run_left, run_boots}
 
 -- words are one part, which boots this device
 abbrev pub IsBootRun : List (List ℕ) → Device → Bool → Type 0
@@ -44,13 +44,13 @@ TellsBoot g i o now machine memory place dump keys left status old new =
 
 -- where no part boots, what arguments do is the same in a memory of any size
 abbrev pub NoMemoryLaw : Type 0
-NoMemoryLaw = (now : Image) (machine : Machine) (memory other time : ℕ) (words : List (List ℕ)) (keys : List Key) → run_boots (run_at words) ≡ false
-    → effects_of now machine memory time words keys ≡ effects_of now machine other time words keys
+NoMemoryLaw = (now : Image) (machine : Machine) (memory other time : ℕ) (words : List (List ℕ)) (lefts : List Left) (keys : List Key) → run_boots (run_at words) ≡ false
+    → effects_of now machine memory time words lefts keys ≡ effects_of now machine other time words lefts keys
 
 -- where no part boots, all keys are left
 abbrev pub NoKeysLaw : Type 0
-NoKeysLaw = (now : Image) (machine : Machine) (memory time : ℕ) (words : List (List ℕ)) (keys : List Key) → run_boots (run_at words) ≡ false
-    → run_left keys (effects_of now machine memory time words keys) ≡ keys
+NoKeysLaw = (now : Image) (machine : Machine) (memory time : ℕ) (words : List (List ℕ)) (lefts : List Left) (keys : List Key) → run_boots (run_at words) ≡ false
+    → run_left keys (effects_of now machine memory time words lefts keys) ≡ keys
 
 -- the verdict of a boot is the model's, and so are the keys that it leaves and what it writes of the default line
 abbrev pub BootVerdictLaw : Type 0

@@ -1,3 +1,4 @@
+pub mod Install
 pub mod Laws
 pub mod Line
 pub mod Refusal

@@ -39,10 +39,6 @@ place_fault_view NoDisk = model.NoDisk
 place_fault_view NoPartition = model.NoPartition
 place_fault_view BadTable = model.BadTable
 
--- what is answered and printed of parts that aren't built yet
-abbrev pub not_built : Verdict
-not_built = record { status = 15; text = codes "lilo: not built\n" }
-
 -- what is answered and printed where a disk failed before anything was written
 abbrev pub device_failed : Verdict
 device_failed = record { status = 8; text = codes "lilo: device\n" }
@@ -76,7 +72,6 @@ reason_verdict reason = verdict_of (Err (model.Boot reason))
 -- what is answered and printed where a command ended early
 abbrev pub halt_verdict : Halt → Verdict
 halt_verdict halts.Device = device_failed
-halt_verdict halts.NotBuilt = not_built
 halt_verdict (halts.NoPlace fault) = verdict_of (Err (model.Device (place_fault_view fault)))
 halt_verdict halts.NotOurs = verdict_of (Err model.NotOurs)
 halt_verdict (halts.Boot reason) = reason_verdict (reason_view reason)

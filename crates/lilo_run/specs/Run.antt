@@ -1,5 +1,5 @@
 -- How what was done relates to what the definitions give.
-use Rattle.std.specs.Prelude.{◌≡◌, ◌≢◌, ◌≤◌, ◌⊎◌, ℕ, ◌==◌, Bool, false, List, [], ◌∷◌, ◌++◌, length, All, Option, None, Some, Result, Ok, Err}
+use Rattle.std.specs.Prelude.{◌≡◌, ◌≢◌, ◌≤◌, ◌⊎◌, ℕ, ◌==◌, Bool, true, false, List, [], ◌∷◌, ◌++◌, length, All, Option, None, Some, Result, Ok, Err, IsErr}
 use Rattle.std.specs.List.{list_any}
 use Rattle.std.specs.Option.{option_map}
 use Rattle.disk_trait.specs.declared.disks.Span.{Span}
@@ -26,24 +26,30 @@ use Rattle.stream_trait.specs.declared.source.Source as sources
 use Rattle.stream_trait.specs.Sink.{TakesFront}
 use Rattle.section_loader.specs.View.{reason_view}
 use Rattle.lilo_run.specs.declared.refusal.Halt.{Halt}
-use Rattle.lilo_run.specs.declared.refusal.Halt.TheVariants.{Device, NotBuilt, NoPlace, NotOurs, Boot}
+use Rattle.lilo_run.specs.declared.refusal.Halt.TheVariants.{Device, NoPlace, NotOurs, Boot}
 use Rattle.lilo_run.specs.declared.refusal.PlaceFault.TheVariants as variants
-use Rattle.lilo_run.specs.Refusal.{place_fault_view}
+use Rattle.lilo_run.specs.Refusal.{place_fault_view, phase_verdict}
 use Rattle.disk_trait.specs.declared.disks.Phase.TheVariants.{Before, Commit, After}
-use Rattle.disk_trait.specs.Calls.{SameOf}
+use Rattle.disk_trait.specs.Calls.{SameOf, GoesOn}
 use Rattle.disk_trait.specs.Moments.{now, IsQuiet, LeavesOnly}
 use Rattle.disk_trait.specs.NotWritten.{IsOther, NotWritten}
 use Rattle.loader_core.specs.Leaves.{HasPut, CameTo}
 use Rattle.loader_core.specs.Report.{LineWrite, image_with}
 use Rattle.lilo_model.specs.Disks.{Image}
-use Rattle.lilo_run.specs.Verdict.{Effect, leaving, effects_of, run_verdict, run_image}
+use Rattle.lilo_model.specs.MinixParts.{Volume, volume_at}
+use Rattle.disk_trait.specs.declared.disks.Phase.{Phase}
+use Rattle.install_begin.specs.Begin as begins
+use Rattle.install_begin.specs.Begin.{begun_at, begun_with}
+use Rattle.install_laws.specs.InstallVerdict.{Begun}
+use Rattle.install_run.specs.Answers.{IsSettledFrom}
+use Rattle.install_run.specs.Installs.{Leaves}
+use Rattle.lilo_run.specs.Verdict.{Effect, Installation, Left, leaving, effects_of, run_verdict, run_image}
 
 -- ---- a reader
 
 -- what a reader returned, seen by view, is what the model gives, unless a disk failed
 abbrev pub Halts : {B : Type 0} → Halt → Result B model.Refusal → Type 0
 Halts Device read = Unit {0}
-Halts NotBuilt read = ⊥
 Halts (NoPlace fault) read = read ≡ Err (model.Device (place_fault_view fault))
 Halts NotOurs read = read ≡ Err model.NotOurs
 Halts (Boot reason) read = read ≡ Err (model.Boot (reason_view reason))
@@ -104,6 +110,51 @@ abbrev pub DoesBeside : {D O : Type 0} → Ghosts D → sinks.Ghosts O → D →
 DoesBeside g o disks memory status old new effect =
     Told (g.past disks) (λ now. Does (effect now (machine_of g disks)) status memory memory (sink_of o old) (sink_of o new))
 
+-- ---- what a part makes of the disks
+
+-- What settling leaves is found out where that decided the answer, and from a quiet moment on a stop leaves what the status
+-- says.
+pub record IsLeftBy {D : Type 0} (g : Ghosts D) (found : Installation) (begun : Begun) (own : ℕ) (old new : D) : Type 0 where
+  pub settled : found.left.answered ≡ true → IsSettledFrom found.image found.machine begun found.left.settled
+  pub leaves : IsQuiet (g.past old) → Leaves found.machine begun found.left.settled (g.past old) (g.past new) own
+
+-- An installation ended with this status. Where what it begins with is refused, it did nothing.
+pub record EndsAs {D : Type 0} (g : Ghosts D) (found : Installation) (own : ℕ) (old new : D) : Type 0 where
+  pub begun : (read : begins.Begun) → begun_at found.image found.machine found.root found.path ≡ Ok read
+      → (volume : Volume) → volume_at found.image read.volume ≡ Ok volume → IsLeftBy g found (begun_with read volume) own old new
+  pub unread : IsErr (begun_at found.image found.machine found.root found.path) → g.past new ≡ g.past old
+  pub no_volume : (read : begins.Begun) → begun_at found.image found.machine found.root found.path ≡ Ok read
+      → IsErr (volume_at found.image read.volume) → g.past new ≡ g.past old
+  -- only a disk that failed, or memory that ended, keeps it from an answer
+  pub answered : own ≢ 8 → own ≢ 13 → found.left.answered ≡ true
+  pub ended : now (g.past new) ≡ found.left.ended
+  pub goes_on : GoesOn g old new
+
+-- what is to be installed was, with this status, or the sector was written
+abbrev pub MakesBy : {D : Type 0} → Ghosts D → Option Installation → Option LineWrite → ℕ → D → D → Type 0
+MakesBy g None write own old new = HasPut g old new write
+MakesBy g (Some found) write own old new = EndsAs g found own old new
+
+-- a disk failed in this phase
+abbrev pub ComesBy : {D : Type 0} → Ghosts D → Option Installation → Option LineWrite → Phase → D → D → Type 0
+ComesBy g None write phase old new = CameTo g old new write phase
+ComesBy g (Some found) write phase old new = EndsAs g found (phase_verdict phase).status old new × Rose (g.faults old) (g.faults new)
+
+-- memory didn't suffice
+abbrev pub StarvesBy : {D : Type 0} → Ghosts D → Option Installation → D → D → Type 0
+StarvesBy g None old new = SameOf g old new
+StarvesBy g (Some found) old new = EndsAs g found 13 old new
+
+-- the same of a command
+abbrev pub Makes : {D : Type 0} → Ghosts D → Effect → ℕ → D → D → Type 0
+Makes g effect own old new = MakesBy g effect.installs effect.write own old new
+
+abbrev pub Comes : {D : Type 0} → Ghosts D → Effect → Phase → D → D → Type 0
+Comes g effect phase old new = ComesBy g effect.installs effect.write phase old new
+
+abbrev pub Starves : {D : Type 0} → Ghosts D → Effect → D → D → Type 0
+Starves g effect old new = StarvesBy g effect.installs old new
+
 -- ---- keys
 
 -- the disks, the memory and the sink at a moment, and how often the source of keys has failed
@@ -113,18 +164,18 @@ pub record State (D : Type 0) : Type 0 where
   pub sink : SinkState
   pub key_faults : ℕ
 
--- It was done, left the keys that it is to leave, and wrote what it is to write. Or memory didn't suffice, or the source of
+-- It was done, left the keys that it is to leave, and made of the disks what it is to make. Or memory didn't suffice, or the source of
 -- keys or a disk failed: before the write, in it, or after it. Then its count of faults rose, the disks' in that phase.
 pub data Carries {D : Type 0} (g : Ghosts D) (effect : Effect) (status : ℕ) (left : List Key) (old new : State D) : Type 0 where
-  CarriedOut : IsDone effect status old.memory new.memory old.sink new.sink → effect.left ≡ left → HasPut g old.disks new.disks effect.write
+  CarriedOut : IsDone effect status old.memory new.memory old.sink new.sink → effect.left ≡ left → Makes g effect status old.disks new.disks
       → Carries g effect status left old new
-  LostBefore : IsFailed 8 effect.failures status old.sink new.sink → CameTo g old.disks new.disks effect.write Before
+  LostBefore : IsFailed 8 effect.failures status old.sink new.sink → Comes g effect Before old.disks new.disks
       → Carries g effect status left old new
-  LostAtCommit : IsFailed 9 effect.at_commit status old.sink new.sink → CameTo g old.disks new.disks effect.write Commit
+  LostAtCommit : IsFailed 9 effect.at_commit status old.sink new.sink → Comes g effect Commit old.disks new.disks
       → Carries g effect status left old new
-  LostAfter : IsFailed 10 effect.after_commit status old.sink new.sink → CameTo g old.disks new.disks effect.write After
+  LostAfter : IsFailed 10 effect.after_commit status old.sink new.sink → Comes g effect After old.disks new.disks
       → Carries g effect status left old new
-  Starved : IsFailed 13 effect.starved status old.sink new.sink → SameOf g old.disks new.disks → Carries g effect status left old new
+  Starved : IsFailed 13 effect.starved status old.sink new.sink → Starves g effect old.disks new.disks → Carries g effect status left old new
   Unheard : IsFailed 11 effect.unheard status old.sink new.sink → Rose old.key_faults new.key_faults → SameOf g old.disks new.disks
       → Carries g effect status left old new
 
@@ -144,12 +195,25 @@ abbrev pub CarriesOn : {D I O : Type 0} → Ghosts D → sources.Ghosts I → si
 CarriesOn g i o status old new effect =
     OnDisks g old.0 (λ now machine. CarriesBy g i o status (effect now machine (length old.2)) old new)
 
+-- the same of a part, by what is found out
+abbrev pub CarriesPart : {D I O : Type 0} → Ghosts D → sources.Ghosts I → sinks.Ghosts O → ℕ → D × I × List ℕ × Shown O → D × I × List ℕ × Shown O → (disks.Image → disks.Machine → ℕ → Left → List Key → Effect) → Type 0
+CarriesPart g i o status old new effect =
+    OnDisks g old.0 (λ now machine. OnKeys i (old.1, new.1) (λ all left. (found : Left)
+    × Carries g (effect now machine (length old.2) found all) status left (state_of i o old) (state_of i o new)))
+
 -- the same of a command that leaves this memory and all keys alone, by the disks and the sink before it and after it
 abbrev pub CarriesBeside : {D O : Type 0} → Ghosts D → sinks.Ghosts O → Memory → ℕ → D × Shown O → D × Shown O → (disks.Image → disks.Machine → Effect) → Type 0
 CarriesBeside g o memory status old new effect =
     OnDisks g old.0 (λ now machine. (keys : List Key) (key_faults : ℕ) → Carries g (leaving keys (effect now machine)) status keys
     (record { disks = old.0; memory = memory; sink = sink_of o old.1; key_faults = key_faults })
     (record { disks = new.0; memory = memory; sink = sink_of o new.1; key_faults = key_faults }))
+
+-- the same by what is found out
+abbrev pub CarriesFound : {D O : Type 0} → Ghosts D → sinks.Ghosts O → Memory → ℕ → D × Shown O → D × Shown O → (disks.Image → disks.Machine → Left → Effect) → Type 0
+CarriesFound g o memory status old new effect =
+    OnDisks g old.0 (λ now machine. (found : Left) × ((keys : List Key) (key_faults : ℕ) → Carries g (leaving keys (effect now machine found)) status keys
+    (record { disks = old.0; memory = memory; sink = sink_of o old.1; key_faults = key_faults })
+    (record { disks = new.0; memory = memory; sink = sink_of o new.1; key_faults = key_faults })))
 
 -- a disk failed in a write or after it, by the status
 abbrev pub IsWriteLost : ℕ → Type 0
@@ -175,7 +239,7 @@ pub record EndsAt {D : Type 0} (g : Ghosts D) (part : Effect) (status : ℕ) (le
 -- a part was done with 0, and its text was shown whole
 pub record IsPassed {D : Type 0} (g : Ghosts D) (part : Effect) (old new : State D) : Type 0 where
   pub done : IsDone part 0 old.memory new.memory old.sink new.sink
-  pub wrote : HasPut g old.disks new.disks part.write
+  pub wrote : Makes g part 0 old.disks new.disks
   pub whole : new.sink.failed ≡ false
 
 -- no part more was done: these keys are left
@@ -199,10 +263,11 @@ abbrev pub RunsAll : {D I O : Type 0} → Ghosts D → sources.Ghosts I → sink
 RunsAll g i o parts status keys left old new = Runs g parts status keys left (state_of i o old) (state_of i o new)
 
 -- a fact about what the parts of arguments do by keys over what disks hold, with a memory of so many bytes and at a time,
--- where the disks report their past: whichever keys the source leaves, it holds of those that it left before
+-- where the disks report their past: whichever keys the source leaves, it holds of those that it left before, by what each
+-- part finds out
 abbrev pub OnParts : {D I : Type 0} → Ghosts D → sources.Ghosts I → D → I × I → ℕ → ℕ → List (List ℕ) → (List Effect → List Key → List Key → Type 0) → Type 0
 OnParts g i disks keys memory time words P =
-    Told (g.past disks) (λ now. OnKeys i keys (λ all left. P (effects_of now (machine_of g disks) memory time words all) all left))
+    Told (g.past disks) (λ now. OnKeys i keys (λ all left. (lefts : List Left) × P (effects_of now (machine_of g disks) memory time words lefts all) all left))
 
 -- ---- the whole
 
@@ -237,18 +302,19 @@ TellsOne texts old new = PrintsOne old.taken texts new.taken old.faults new.faul
 -- of want of memory with 13, and with 12 in the place of 0 a prefix of the verdict's. Where it wasn't a failure's, these
 -- keys are left, and what is to be written was; a failure before the write left the disks, one in it has written it or
 -- hasn't, and one after it left it written: the disks' count of faults rose from the part's entry, from the write's start
--- or from its end on. The source's count rose from the part's entry on.
+-- or from its end on. What an installation leaves goes with its status, which is 0 in the place of 12. The source's count
+-- rose from the part's entry on.
 pub data Tells {D : Type 0} (g : Ghosts D) (part : Effect) (status : ℕ) (left : List Key) (old new : Scene D) : Type 0 where
-  TellsVerdict : status ≡ part.verdict.status → part.left ≡ left → TellsText part.verdict.text old new → HasPut g old.disks new.disks part.write
+  TellsVerdict : status ≡ part.verdict.status → part.left ≡ left → TellsText part.verdict.text old new → Makes g part status old.disks new.disks
       → Tells g part status left old new
-  TellsLost : status ≡ 8 → TellsOne part.failures old new → CameTo g old.disks new.disks part.write Before → Tells g part status left old new
-  TellsLostAtCommit : status ≡ 9 → TellsOne part.at_commit old new → CameTo g old.disks new.disks part.write Commit → Tells g part status left old new
-  TellsLostAfter : status ≡ 10 → TellsOne part.after_commit old new → CameTo g old.disks new.disks part.write After → Tells g part status left old new
+  TellsLost : status ≡ 8 → TellsOne part.failures old new → Comes g part Before old.disks new.disks → Tells g part status left old new
+  TellsLostAtCommit : status ≡ 9 → TellsOne part.at_commit old new → Comes g part Commit old.disks new.disks → Tells g part status left old new
+  TellsLostAfter : status ≡ 10 → TellsOne part.after_commit old new → Comes g part After old.disks new.disks → Tells g part status left old new
   TellsUnheard : status ≡ 11 → TellsOne part.unheard old new → Rose old.key_faults new.key_faults → SameOf g old.disks new.disks
       → Tells g part status left old new
-  TellsStarved : status ≡ 13 → TellsOne part.starved old new → SameOf g old.disks new.disks → Tells g part status left old new
+  TellsStarved : status ≡ 13 → TellsOne part.starved old new → Starves g part old.disks new.disks → Tells g part status left old new
   TellsCut : status ≡ 12 → part.verdict.status ≡ 0 → part.left ≡ left → Rose old.faults new.faults → TakesFront old.taken part.verdict.text new.taken
-      → HasPut g old.disks new.disks part.write → Tells g part status left old new
+      → Makes g part 0 old.disks new.disks → Tells g part status left old new
 
 -- what a sink has taken after a text that it took whole
 abbrev pub taken_behind : Option (List ℕ) → List ℕ → Option (List ℕ)
@@ -261,10 +327,10 @@ pub record TellsEnd {D : Type 0} (g : Ghosts D) (part : Effect) (status : ℕ) (
   pub placed : status ≡ 12 → new.memory ≡ memory_after old.memory part.written
   pub quiet : part.boots ≡ false → new.memory ≡ old.memory
 
--- a part answered 0: it wrote what it is to write, its text was taken whole, and memory has what it puts there
+-- a part answered 0: it made of the disks what it is to make, its text was taken whole, and memory has what it puts there
 pub record TellsPassed {D : Type 0} (g : Ghosts D) (part : Effect) (old new : Scene D) : Type 0 where
   pub zero : part.verdict.status ≡ 0
-  pub wrote : HasPut g old.disks new.disks part.write
+  pub wrote : Makes g part 0 old.disks new.disks
   pub placed : new.memory ≡ memory_after old.memory part.written
   pub taken : new.taken ≡ taken_behind old.taken part.verdict.text
   pub later : old.faults ≤ new.faults
@@ -297,7 +363,7 @@ TellsAll g i o parts status keys left old new = TellsRun g parts status keys lef
 
 -- ---- what is left of the disks
 
--- the disks hold what they held, with what some parts wrote
+-- the disks hold what they held, with what some parts wrote or installed
 abbrev pub HoldsWritten : {D : Type 0} → Ghosts D → List Effect → D → D → Type 0
 HoldsWritten g parts old new = now (g.past new) ≡ run_image (now (g.past old)) parts
 
@@ -307,31 +373,39 @@ abbrev pub IsWritten : List Effect → Image → Image → Type 0
 IsWritten [] now c = c ≡ now
 IsWritten (part ∷ parts) now c = (c ≡ now) ⊎ IsWritten parts (image_with now part.write) c
 
+-- no part installs: what an installation leaves goes with its status
+abbrev pub InstallsNothing : List Effect → Type 0
+InstallsNothing parts = All (λ part. part.installs ≡ None) parts
+
 -- a sector isn't the one that is written
 abbrev pub IsBeside : ℕ → ℕ → Option LineWrite → Type 0
 IsBeside d s None = Unit {0}
 IsBeside d s (Some write) = IsOther write.place.disk write.place.sector d s
 
--- from a quiet moment, a stop at any moment leaves what was held before some part
+-- from a quiet moment, where no part installs, a stop at any moment leaves what was held before some part
 abbrev pub LeavesWritten : {D : Type 0} → Ghosts D → List Effect → D → D → Type 0
-LeavesWritten g parts old new = IsQuiet (g.past old) → LeavesOnly (g.past old) (g.past new) (IsWritten parts (now (g.past old)))
+LeavesWritten g parts old new = InstallsNothing parts → IsQuiet (g.past old) → LeavesOnly (g.past old) (g.past new) (IsWritten parts (now (g.past old)))
 
--- every sector but those that the parts write is never written
+-- where no part installs, every sector but those that the parts write is never written
 abbrev pub LeavesOthers : {D : Type 0} → Ghosts D → List Effect → D → D → Type 0
 LeavesOthers g parts old new =
-    (d s : ℕ) → All (λ part. IsBeside d s part.write) parts → NotWritten (g.past old) (g.past new) d s
+    InstallsNothing parts → (d s : ℕ) → All (λ part. IsBeside d s part.write) parts → NotWritten (g.past old) (g.past new) d s
 
 -- whether a part that reads no configuration and doesn't boot may end with this status
 abbrev pub is_plain_status : ℕ → Bool
-is_plain_status status = list_any (λ known. known == status) (0 ∷ 3 ∷ 6 ∷ 7 ∷ 8 ∷ 15 ∷ [])
+is_plain_status status = list_any (λ known. known == status) (0 ∷ 3 ∷ 6 ∷ 7 ∷ 8 ∷ [])
 
 -- whether one that reads a configuration may
 abbrev pub is_conf_status : ℕ → Bool
-is_conf_status status = list_any (λ known. known == status) (0 ∷ 2 ∷ 3 ∷ 6 ∷ 7 ∷ 8 ∷ 13 ∷ 15 ∷ [])
+is_conf_status status = list_any (λ known. known == status) (0 ∷ 2 ∷ 3 ∷ 6 ∷ 7 ∷ 8 ∷ 13 ∷ [])
 
 -- whether `-t` may
 abbrev pub is_test_status : ℕ → Bool
 is_test_status status = list_any (λ known. known == status) (0 ∷ 2 ∷ 3 ∷ 4 ∷ 5 ∷ 8 ∷ 13 ∷ [])
+
+-- whether an installation may
+abbrev pub is_install_status : ℕ → Bool
+is_install_status status = list_any (λ known. known == status) (0 ∷ 2 ∷ 3 ∷ 4 ∷ 5 ∷ 8 ∷ 9 ∷ 10 ∷ 13 ∷ [])
 
 -- whether a device that isn't found may
 abbrev pub is_place_status : ℕ → Bool
@@ -343,20 +417,20 @@ is_restore_status status = list_any (λ known. known == status) (0 ∷ 3 ∷ 6 �
 
 -- whether `-R` may
 abbrev pub is_line_status : ℕ → Bool
-is_line_status status = list_any (λ known. known == status) (0 ∷ 2 ∷ 3 ∷ 4 ∷ 6 ∷ 7 ∷ 8 ∷ 9 ∷ 13 ∷ 15 ∷ [])
+is_line_status status = list_any (λ known. known == status) (0 ∷ 2 ∷ 3 ∷ 4 ∷ 6 ∷ 7 ∷ 8 ∷ 9 ∷ 13 ∷ [])
 
 -- whether a boot may
 abbrev pub is_boot_status : ℕ → Bool
-is_boot_status status = list_any (λ known. known == status) (0 ∷ 3 ∷ 6 ∷ 7 ∷ 8 ∷ 9 ∷ 10 ∷ 11 ∷ 15 ∷ [])
+is_boot_status status = list_any (λ known. known == status) (0 ∷ 3 ∷ 6 ∷ 7 ∷ 8 ∷ 9 ∷ 10 ∷ 11 ∷ [])
 
 -- whether a part may
 abbrev pub is_part_status : ℕ → Bool
-is_part_status status = list_any (λ known. known == status) (0 ∷ 2 ∷ 3 ∷ 4 ∷ 5 ∷ 6 ∷ 7 ∷ 8 ∷ 9 ∷ 10 ∷ 11 ∷ 13 ∷ 15 ∷ [])
+is_part_status status = list_any (λ known. known == status) (0 ∷ 2 ∷ 3 ∷ 4 ∷ 5 ∷ 6 ∷ 7 ∷ 8 ∷ 9 ∷ 10 ∷ 11 ∷ 13 ∷ [])
 
 -- whether parts in order may
 abbrev pub is_run_status : ℕ → Bool
-is_run_status status = list_any (λ known. known == status) (0 ∷ 2 ∷ 3 ∷ 4 ∷ 5 ∷ 6 ∷ 7 ∷ 8 ∷ 9 ∷ 10 ∷ 11 ∷ 12 ∷ 13 ∷ 15 ∷ [])
+is_run_status status = list_any (λ known. known == status) (0 ∷ 2 ∷ 3 ∷ 4 ∷ 5 ∷ 6 ∷ 7 ∷ 8 ∷ 9 ∷ 10 ∷ 11 ∷ 12 ∷ 13 ∷ [])
 
 -- whether arguments may
 abbrev pub is_status : ℕ → Bool
-is_status status = list_any (λ known. known == status) (0 ∷ 1 ∷ 2 ∷ 3 ∷ 4 ∷ 5 ∷ 6 ∷ 7 ∷ 8 ∷ 9 ∷ 10 ∷ 11 ∷ 12 ∷ 13 ∷ 15 ∷ [])
+is_status status = list_any (λ known. known == status) (0 ∷ 1 ∷ 2 ∷ 3 ∷ 4 ∷ 5 ∷ 6 ∷ 7 ∷ 8 ∷ 9 ∷ 10 ∷ 11 ∷ 12 ∷ 13 ∷ [])

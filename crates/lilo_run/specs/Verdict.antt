@@ -1,6 +1,5 @@
 -- What `lilo` answers, prints, writes, and leaves in memory and of its keys, as if nothing failed, and what it may print
--- where something did. The verdicts are the model's, but for words that need a part that isn't built yet. (This project's
--- own.)
+-- where something did. The verdicts are the model's. (This project's own.)
 use Rattle.std.specs.Prelude.{ℕ, ◌==◌, Bool, true, false, if◌then◌else◌, List, [], ◌∷◌, ◌++◌, map, flat_map, Option, None, Some, Result, Ok, Err}
 use Rattle.std.specs.List.{list_any}
 use Rattle.std.specs.Result.{result_ok}
@@ -21,8 +20,27 @@ use Rattle.lilo_model.specs.Words as words
 use Rattle.lilo_model.specs.Words.{Command, Part, run_at, usage_text}
 use Rattle.loader_core.specs.Report.{LineWrite, Report, boot_report, image_with}
 use Rattle.boot_backup.specs.Restore.{boot_place, restored_in}
-use Rattle.install_laws.specs.InstallVerdict.{test_verdict}
-use Rattle.lilo_run.specs.Refusal.{not_built, device_failed, failed_at_commit, failed_after_commit, keys_failed, no_memory, reason_verdict, line_refused}
+use Rattle.install_begin.specs.Begin.{begun_at}
+use Rattle.install_laws.specs.InstallVerdict.{Answer, InstallRefusal, Reading, answer_text, test_verdict, verdict_by}
+use Rattle.install_run.specs.Answers.{install_on}
+use Rattle.lilo_run.specs.Refusal.{device_failed, failed_at_commit, failed_after_commit, keys_failed, no_memory, reason_verdict, line_refused}
+
+-- What is found out only as an installation runs: the image that its settling leaves, whether that decided the answer (else a
+-- disk failed or memory ended first), and the image at its end.
+pub record Left : Type 0 where
+  pub settled : Image
+  pub answered : Bool
+  pub ended : Image
+
+-- an installation: what disks hold at its entry, the device that is named for the volume, the configuration's path, the time
+-- in seconds since 1970, and what is found out
+pub record Installation : Type 0 where
+  pub image : Image
+  pub machine : Machine
+  pub root : Option Device
+  pub path : List ℕ
+  pub time : ℕ
+  pub left : Left
 
 -- what a command does
 pub record Effect : Type 0 where
@@ -44,13 +62,15 @@ pub record Effect : Type 0 where
   pub left : List Key
   -- the sector that it writes: of a default line, or a boot sector
   pub write : Option LineWrite
+  -- the installation that it is: no other command writes more than that sector
+  pub installs : Option Installation
   -- whether it boots: no other command changes memory
   pub boots : Bool
 
 -- a command that only answers and prints
 abbrev pub plain_effect : Verdict → List (List ℕ) → Effect
 plain_effect verdict failures =
-    record { verdict = verdict; failures = failures; at_commit = []; after_commit = []; starved = []; unheard = []; written = []; left = []; write = None; boots = false }
+    record { verdict = verdict; failures = failures; at_commit = []; after_commit = []; starved = []; unheard = []; written = []; left = []; write = None; installs = None; boots = false }
 
 -- one that reads a configuration first, which takes memory
 abbrev pub conf_effect : Verdict → Effect
@@ -63,7 +83,7 @@ leaving keys effect = record effect { left = keys }
 
 -- the same of one that writes nothing
 abbrev pub keeping : List Key → Effect → Effect
-keeping keys effect = record effect { left = keys; write = None }
+keeping keys effect = record effect { left = keys; write = None; installs = None }
 
 -- ---- a command
 
@@ -105,6 +125,7 @@ report_effect dump report = record {
   written = end_written report.result;
   left = report.left;
   write = report.write;
+  installs = None;
   boots = true;
 }
 
@@ -114,14 +135,30 @@ boot_effect now machine memory dump (Ok span) keys = report_effect dump (boot_re
 boot_effect now machine memory dump (Err fault) keys =
     record (plain_effect (verdict_of (Err (refusals.Device fault))) (device_failed.text ∷ [])) { left = keys; boots = true }
 
--- what is answered and printed of a configuration whose part isn't built: it is read, and then that is reported
-abbrev pub unbuilt_behind : Result Device refusals.Refusal → Verdict
-unbuilt_behind (Ok device) = not_built
-unbuilt_behind (Err refusal) = verdict_of (Err refusal)
+-- what an installation answers, by the image that its settling leaves
+abbrev pub installed_answer : Image → Machine → Option Device → List ℕ → ℕ → Left → Result Answer InstallRefusal
+installed_answer image machine root path time left =
+    with_fault Reading (begun_at image machine root path) >>= install_on image machine left.settled time
 
--- an installation: so far its configuration is read, whose device and path are these
-unfoldable pub install_effect : Image → Machine → Option Device → List ℕ → Effect
-install_effect now machine root path = conf_effect (unbuilt_behind (conf_device now machine root path))
+-- what is printed of it where a disk failed before the commit: the line alone, or behind the text of the answer
+abbrev pub lost_text : Verdict → Left → List ℕ
+lost_text verdict left = failed_behind device_failed (if left.answered then verdict.text else [])
+
+-- an installation that answers so
+abbrev pub installing : Verdict → Installation → Effect
+installing verdict found =
+    record (plain_effect verdict (lost_text verdict found.left ∷ [])) {
+      at_commit = failed_behind failed_at_commit verdict.text ∷ [];
+      after_commit = failed_behind failed_after_commit verdict.text ∷ [];
+      starved = no_memory.text ∷ [];
+      installs = Some found;
+    }
+
+-- an installation at a time, whose configuration's device and path are these
+unfoldable pub install_effect : Image → Machine → Option Device → List ℕ → ℕ → Left → Effect
+install_effect image machine root path time left =
+    installing (verdict_by answer_text (installed_answer image machine root path time left))
+    (record { image = image; machine = machine; root = root; path = path; time = time; left = left })
 
 -- `-t` at a time
 unfoldable pub test_effect : Image → Machine → ℕ → Option Device → List ℕ → Effect
@@ -191,43 +228,63 @@ restored_effect found =
 unfoldable pub restore_effect : Image → Machine → Option Device → Device → Result Span refusals.DeviceFault → Effect
 restore_effect now machine root device place = restored_effect (restored_on now machine root device place)
 
--- a command that writes no disk and is the same at any time, whose volume lies on this device, where one is named, and has its configuration at this
--- path
-abbrev pub plain_command : Image → Machine → Option Device → List ℕ → Command → Effect
-plain_command now machine root path (words.Query (Some device)) = query_effect now machine (place_at now machine device)
-plain_command now machine root path (words.Query None) = conf_query_effect now machine root path
-plain_command now machine root path words.Install = install_effect now machine root path
-plain_command now machine root path _ = plain_effect not_built []
+-- `-q` on a device, or on that of a configuration
+abbrev pub query_command : Image → Machine → Option Device → List ℕ → Option Device → Effect
+query_command now machine root path (Some device) = query_effect now machine (place_at now machine device)
+query_command now machine root path None = conf_query_effect now machine root path
 
--- a command by keys, of which only a boot takes any, with a memory of so many bytes and at a time
-unfoldable pub command_effect : Image → Machine → ℕ → ℕ → Option Device → List ℕ → Command → List Key → Effect
-command_effect now machine memory time root path (words.Boot device dump) keys = boot_effect now machine memory dump (place_at now machine device) keys
-command_effect now machine memory time root path words.Install keys = keeping keys (plain_command now machine root path words.Install)
-command_effect now machine memory time root path words.Test keys = keeping keys (test_effect now machine time root path)
-command_effect now machine memory time root path (words.Query device) keys = keeping keys (plain_command now machine root path (words.Query device))
-command_effect now machine memory time root path (words.SetLine line) keys = leaving keys (line_effect now machine root path (joined_words line))
-command_effect now machine memory time root path (words.Restore device) keys = leaving keys (restore_effect now machine root device (place_at now machine device))
+-- a command by keys, of which only a boot takes any, with a memory of so many bytes and at a time, whose volume lies on this
+-- device, where one is named, and has its configuration at this path; only an installation looks at what is found out
+unfoldable pub command_effect : Image → Machine → ℕ → ℕ → Option Device → List ℕ → Command → Left → List Key → Effect
+command_effect now machine memory time root path (words.Boot device dump) left keys = boot_effect now machine memory dump (place_at now machine device) keys
+command_effect now machine memory time root path words.Install left keys = leaving keys (install_effect now machine root path time left)
+command_effect now machine memory time root path words.Test left keys = keeping keys (test_effect now machine time root path)
+command_effect now machine memory time root path (words.Query device) left keys = keeping keys (query_command now machine root path device)
+command_effect now machine memory time root path (words.SetLine line) left keys = leaving keys (line_effect now machine root path (joined_words line))
+command_effect now machine memory time root path (words.Restore device) left keys = leaving keys (restore_effect now machine root device (place_at now machine device))
 
 -- a part
-abbrev pub part_effect : Machine → ℕ → ℕ → Image → Part → List Key → Effect
-part_effect machine memory time now part keys = command_effect now machine memory time part.root (conf_path part.config) part.command keys
+abbrev pub part_effect : Machine → ℕ → ℕ → Image → Part → Left → List Key → Effect
+part_effect machine memory time now part left keys = command_effect now machine memory time part.root (conf_path part.config) part.command left keys
 
 -- ---- a run
 
--- what parts do in order, each over what the disks hold after the one before it, and by the keys that it left
-abbrev pub parts_effects : (Image → Part → List Key → Effect) → Image → List Part → List Key → List Effect
-parts_effects effect now [] keys = []
-parts_effects effect now (part ∷ parts) keys =
-    effect now part keys ∷ parts_effects effect (image_with now (effect now part keys).write) parts (effect now part keys).left
+-- what disks hold once something was installed, or else a sector written
+abbrev pub image_by : Option Installation → Option LineWrite → Image → Image
+image_by None write now = image_with now write
+image_by (Some found) write now = found.left.ended
+
+-- the same once a part was done
+abbrev pub image_after : Effect → Image → Image
+image_after effect now = image_by effect.installs effect.write now
+
+-- what the first of some parts finds out, where it is given
+abbrev pub first_left : Image → List Left → Left
+first_left now [] = record { settled = now; answered = false; ended = now }
+first_left now (left ∷ lefts) = left
+
+abbrev pub later_lefts : List Left → List Left
+later_lefts [] = []
+later_lefts (left ∷ lefts) = lefts
+
+-- what parts do in order, each over what the disks hold after the one before it, by what it finds out and by the keys that
+-- are left
+abbrev pub parts_effects : (Image → Part → Left → List Key → Effect) → Image → List Part → List Left → List Key → List Effect
+parts_effects effect now [] lefts keys = []
+parts_effects effect now (part ∷ parts) lefts keys =
+    effect now part (first_left now lefts) keys
+    ∷ parts_effects effect (image_after (effect now part (first_left now lefts) keys) now) parts (later_lefts lefts)
+    (effect now part (first_left now lefts) keys).left
 
 -- what the parts of a run do; words that are none are as one part, which shows the usage
-abbrev pub words_effects : (Image → Part → List Key → Effect) → Image → List (List ℕ) → List Key → Result (List Part) (Option ℕ) → List Effect
-words_effects effect now words keys (Ok parts) = parts_effects effect now parts keys
-words_effects effect now words keys (Err wrong) = keeping keys (plain_effect (record { status = 1; text = usage_text words }) []) ∷ []
+abbrev pub words_effects : (Image → Part → Left → List Key → Effect) → Image → List (List ℕ) → List Left → List Key → Result (List Part) (Option ℕ) → List Effect
+words_effects effect now words lefts keys (Ok parts) = parts_effects effect now parts lefts keys
+words_effects effect now words lefts keys (Err wrong) = keeping keys (plain_effect (record { status = 1; text = usage_text words }) []) ∷ []
 
--- what the parts of arguments do by keys over disks that hold this image, with a memory of so many bytes and at a time
-unfoldable pub effects_of : Image → Machine → ℕ → ℕ → List (List ℕ) → List Key → List Effect
-effects_of now machine memory time words keys = words_effects (part_effect machine memory time) now words keys (run_at words)
+-- what the parts of arguments do, by what each finds out and by keys, over disks that hold this image, with a memory of so
+-- many bytes and at a time
+unfoldable pub effects_of : Image → Machine → ℕ → ℕ → List (List ℕ) → List Left → List Key → List Effect
+effects_of now machine memory time words lefts keys = words_effects (part_effect machine memory time) now words lefts keys (run_at words)
 
 -- Verdict: the texts of the parts that answer 0, and after them the first other verdict
 abbrev pub run_verdict : List Effect → Verdict
@@ -244,10 +301,10 @@ run_left keys (part ∷ parts) = run_left part.left parts
 abbrev pub run_written : List Effect → List Written
 run_written parts = flat_map (λ part. part.written) parts
 
--- what disks hold once they wrote what they write
+-- what disks hold once all were done
 abbrev pub run_image : Image → List Effect → Image
 run_image now [] = now
-run_image now (part ∷ parts) = run_image (image_with now part.write) parts
+run_image now (part ∷ parts) = run_image (image_after part now) parts
 
 -- ---- what is known of words, whatever disks hold
 
@@ -280,9 +337,20 @@ is_boot _ = false
 unfoldable pub has_boot : List Part → Bool
 has_boot parts = list_any (λ part. is_boot part.command) parts
 
+-- whether a command works on once its write is durable: a boot reads what it starts, and an installation tidies
+abbrev pub works_on : Command → Bool
+works_on (words.Boot device dump) = true
+works_on words.Install = true
+works_on _ = false
+
+-- whether one of some parts does
+unfoldable pub has_work_on : List Part → Bool
+has_work_on parts = list_any (λ part. works_on part.command) parts
+
 -- whether a command may write a disk
 abbrev pub is_write : Command → Bool
 is_write (words.Boot device dump) = true
+is_write words.Install = true
 is_write (words.SetLine line) = true
 is_write (words.Restore device) = true
 is_write _ = false

@@ -11,7 +11,7 @@ ghost use Rattle.mbr_table.specs.View.{device_view};
 ghost use Rattle.conf_settings.specs.View.{fault_view, reason_view};
 ghost use Rattle.lilo_run.specs.Refusal.{conf_verdict, file_verdict, text_verdict, GivesDevice, HasConfCause};
 ghost use Rattle.lilo_run.specs.Run.{is_conf_status, DoesBeside};
-ghost use Rattle.lilo_run.specs.Verdict.{plain_command, conf_query_effect, install_effect, early_status};
+ghost use Rattle.lilo_run.specs.Verdict.{query_command, conf_query_effect, early_status};
 ghost use Rattle.bios_model.specs.Reads.{ReadsAndShows};
 
 use crate::place::place_halt;
@@ -58,8 +58,8 @@ pub(crate) fn query<D: Disks, O: Sink>(
     out: &mut Shown<'_, O>,
 ) -> u8
     ensures does { (memory : Memory) → DoesBeside D.Disks O.Sink disks.old memory result out.old out.new
-        (λ now machine. plain_command now machine (option_map device_view root) path.now
-        (Query (option_map device_view device))) }
+        (λ now machine. query_command now machine (option_map device_view root) path.now
+        (option_map device_view device)) }
     ensures early { IfSome (early_status (D.size_of disks.old) (Query (option_map device_view device)))
         (λ status. result ≡ status) }
     ensures known { IsTrue (is_conf_status result) }
@@ -88,26 +88,6 @@ fn query_conf<D: Disks, O: Sink>(
 {
     match boot_device(alloc, disks, root, path) {
         Ok(device) => query_device(disks, device, out),
-        Err(halt) => say_conf(out, halt, path),
-    }
-}
-
-/// Carries out an installation. So far its configuration is read.
-#[tactic(auto, unfolding(crate::specs::Verdict::install_effect))]
-pub(crate) fn install<D: Disks, O: Sink>(
-    alloc: Global,
-    disks: &mut D,
-    root: Option<Device>,
-    path: &[u8],
-    out: &mut Shown<'_, O>,
-) -> u8
-    ensures does { (memory : Memory) → DoesBeside D.Disks O.Sink disks.old memory result out.old out.new (λ now machine.
-        install_effect now machine (option_map device_view root) path.now) }
-    ensures known { IsTrue (is_conf_status result) }
-    ensures only { ReadsAndShows D.Disks O.Sink (disks.old, out.old) (disks.new, out.new) (result ≡ 8) }
-{
-    match boot_device(alloc, disks, root, path) {
-        Ok(_device) => say(out, Halt::NotBuilt),
         Err(halt) => say_conf(out, halt, path),
     }
 }

@@ -6,6 +6,7 @@
 mod backup;
 mod boot;
 mod conf;
+mod install_part;
 mod laws;
 mod line;
 mod memory;

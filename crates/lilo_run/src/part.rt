@@ -4,12 +4,13 @@ ghost use Rattle.lilo_words.specs.View.{command_view, part_view};
 ghost use Rattle.disk_trait.specs.Calls.{SameOf};
 ghost use Rattle.disk_trait.specs.Moments.{IsWhole};
 ghost use Rattle.loader_core.specs.Leaves.{WritesAndAsks};
-ghost use Rattle.lilo_run.specs.Run.{is_part_status, CarriesOn, IsLost, IsWriteLost};
-ghost use Rattle.lilo_run.specs.Verdict.{part_effect, early_status, is_boot, is_write, reads_conf};
+ghost use Rattle.lilo_run.specs.Run.{is_part_status, CarriesPart, IsLost, IsWriteLost};
+ghost use Rattle.lilo_run.specs.Verdict.{part_effect, early_status, is_boot, is_write, reads_conf, works_on};
 
 use crate::backup::put_back;
 use crate::boot::boot_device;
-use crate::conf::{conf_path, install, query, say_memory};
+use crate::conf::{conf_path, query, say_memory};
+use crate::install_part::install;
 use crate::line::{joined, put_line};
 use crate::test_part::test;
 use bios_model::{Bios, Ram};
@@ -31,7 +32,7 @@ pub(crate) fn carry_out<D: Disks, I: Source, O: Sink>(
     time: u32,
 ) -> u8
     requires whole { IsWhole (D.size_of bios.old.disks.now) (D.past bios.old.disks.now) }
-    ensures does { CarriesOn D.Disks I.Source O.Sink result
+    ensures does { CarriesPart D.Disks I.Source O.Sink result
         (bios.old.disks.now, bios.old.keys.now, ram.old, out.old)
         (bios.new.disks.now, bios.new.keys.now, ram.new, out.new)
         (λ now machine memory. part_effect machine memory time now (part_view words.now part.entry)) }
@@ -43,7 +44,7 @@ pub(crate) fn carry_out<D: Disks, I: Source, O: Sink>(
     ensures written { (words : List (List ℕ)) → IsWriteLost result
         → is_write (command_view words part.entry.command) ≡ true }
     ensures after { (words : List (List ℕ)) → result ≡ 10
-        → is_boot (command_view words part.entry.command) ≡ true }
+        → works_on (command_view words part.entry.command) ≡ true }
     ensures memory { length ram.new ≡ length ram.old }
     ensures quiet { (words : List (List ℕ)) → is_boot (command_view words part.entry.command) ≡ false
         → ram.new ≡ ram.old }
@@ -58,7 +59,7 @@ pub(crate) fn carry_out<D: Disks, I: Source, O: Sink>(
     match part.command {
         Command::Query(device) => query(alloc, bios.disks, device, part.root, path, out),
         Command::Boot { device, dump } => boot_device(bios, device, dump, ram, out),
-        Command::Install => install(alloc, bios.disks, part.root, path, out),
+        Command::Install => install(alloc, bios.disks, part.root, path, time, out),
         Command::Test => test(alloc, bios.disks, part.root, path, time, out),
         Command::SetLine { from, to } => match joined(alloc, words, from, to) {
             Ok(text) => put_line(alloc, bios.disks, part.root, path, text.as_slice(), out),

@@ -30,8 +30,6 @@ pub(crate) enum PlaceFault {
 pub(crate) enum Halt {
     /// A disk failed.
     Device,
-    /// The arguments need a part that isn't built yet.
-    NotBuilt,
     /// The device isn't found.
     NoPlace(PlaceFault),
     /// The boot sector isn't of this format, or of another version.
@@ -66,7 +64,6 @@ impl Halt {
     {
         match self {
             Halt::Device => 8,
-            Halt::NotBuilt => 15,
             Halt::NoPlace(_) => 3,
             Halt::NotOurs => 6,
             Halt::Boot(reason) => reason_status(reason),
@@ -80,7 +77,6 @@ impl Halt {
     {
         match self {
             Halt::Device => line(b"lilo: device\n"),
-            Halt::NotBuilt => line(b"lilo: not built\n"),
             Halt::NoPlace(PlaceFault::NoDisk) => line(b"lilo: volume: no disk\n"),
             Halt::NoPlace(PlaceFault::NoPartition) => line(b"lilo: volume: no partition\n"),
             Halt::NoPlace(PlaceFault::BadTable) => line(b"lilo: volume: table\n"),

@@ -1,6 +1,6 @@
 // The top call: what the program `lilo` does with its arguments.
 ghost use Rattle.std.specs.Prelude.{◌≡◌, true, Bool, ◌↔◌, ◌++◌, codes, false, length, IfSome, IfOk, IsOk};
-ghost use Rattle.std.specs.Prelude.{IsErr, IsTrue};
+ghost use Rattle.std.specs.Prelude.{ℕ, List, Option, IsErr, IsTrue};
 ghost use Rattle.disk_trait.specs.Calls.{GoesOn, SameOf};
 ghost use Rattle.disk_trait.specs.Moments.{IsWhole};
 ghost use Rattle.lilo_model.specs.Faults.{Rose};
@@ -25,9 +25,10 @@ ghost use Rattle.lilo_run.specs.Run.{
 ghost use Rattle.lilo_run.specs.Run.{HoldsWritten, LeavesWritten, LeavesOthers};
 ghost use Rattle.loader_core.specs.Start.{OnKeys};
 ghost use Rattle.lilo_model.specs.ConfVerdict.{place_at};
-ghost use Rattle.lilo_run.specs.Verdict.{part_effect, parts_effects, run_verdict, run_left, run_written};
-ghost use Rattle.lilo_run.specs.Verdict.{early_answer, early_parts, has_boot, has_write, has_conf};
+ghost use Rattle.lilo_run.specs.Verdict.{part_effect, parts_effects, run_verdict, run_left, run_written, Left};
+ghost use Rattle.lilo_run.specs.Verdict.{early_answer, early_parts, has_boot, has_write, has_conf, has_work_on};
 ghost use Rattle.lilo_run.specs.Laws.{IsBootRun, TellsBoot};
+ghost use Rattle.lilo_run.specs.Install.{IsInstallRun, InstallHolds, TellsInstall};
 ghost use Rattle.loader_core.specs.Leaves.{WritesAndAsks};
 
 use crate::part::carry_out;
@@ -53,33 +54,33 @@ use stream_trait::{Sink, Source, Words, answer};
 /// makes the default line another, that line's sector is written and made durable. The options `-C`, `--root` and `-v`
 /// before `-q DEVICE` and `boot` have no effect, nor have `-C` and `-v` before `-u`.
 /// `-t` looks at and plans what an installation by a configuration would do at a time, in seconds since 1970, by
-/// [`install_preview::preview_begun`], and prints it; it writes nothing. An installation reads its configuration so
-/// far; what it does then isn't built yet.
+/// [`install_preview::preview_begun`], and prints it; it writes nothing. An installation does it, by
+/// [`install_run::install_begun`], and prints it before it is done.
 ///
 /// | status | comes | text |
 /// |---|---|---|
-/// | 0 | done | the names; what the boot shows, and the memory; what an installation would do |
+/// | 0 | done | the names; what the boot shows, and the memory; what an installation does, or would do |
 /// | 1 | the arguments aren't in the grammar | `lilo: usage: WORD`, or `(end)` |
 /// | 2 | the configuration's text is refused | `lilo: config: OPTION: REASON at line N` |
 /// | 3 | the device isn't found | `lilo: volume: no disk`, `no partition` or `table` |
 /// | 3 | the volume or the configuration's file isn't | `lilo: volume: no volume`, `layout`, `missing PATH`, `path PATH` |
-/// | 3 | `-t` finds a volume that isn't sound, or a named path is refused | `lilo: volume: REASON` |
+/// | 3 | the volume isn't sound, or a named path is refused | `lilo: volume: REASON` |
 /// | 4 | the words after `-R` make N bytes, which are too many | `lilo: address: line N over 255` |
-/// | 4 | for `-t` the configuration isn't apart, or can't be mapped | `lilo: address: REASON` |
-/// | 5 | for `-t` the volume has no room | `lilo: space: REASON` |
+/// | 4 | the configuration isn't apart, or can't be mapped | `lilo: address: REASON` |
+/// | 5 | the volume has no room | `lilo: space: REASON` |
 /// | 6 | `-q`, `-R` or `-u` finds a foreign boot sector, or one of another version; `-u` no backup | `lilo: not ours` |
 /// | 7 | the boot is refused, or the map is | `lilo: boot: REASON` |
-/// | 8 | a disk failed before the part wrote | `lilo: device` |
+/// | 8 | a disk failed before the part wrote, or an installation its boot sector | `lilo: device` |
 /// | 9 | a disk failed in the write of the default line or the boot sector, or the flush of it | `lilo: device at commit` |
 /// | 10 | a disk failed after that | `lilo: device after commit` |
 /// | 11 | the source of keys failed | `lilo: keys` |
 /// | 12 | the sink failed at a part that would answer 0 | |
-/// | 13 | there is no memory for a configuration, the plan of `-t`, or the words after `-R` | `lilo: memory` |
-/// | 15 | the part isn't built yet | `lilo: not built` |
+/// | 13 | there is no memory for a configuration, a plan, or the words after `-R` | `lilo: memory` |
 ///
-/// After the sink failed nothing is put, and the part that runs is the last. Only boots take keys. Only boots, `-R` and
-/// `-u` write: the sector of the default line, or with `-u` the boot sector, and no other. Memory is allocated for a
-/// configuration, the plan of `-t` and the words after `-R` alone.
+/// After the sink failed nothing is put, and the part that runs is the last. Only boots take keys. Only boots, `-R`,
+/// `-u` and installations write: the first two the sector of the default line, `-u` the boot sector, and no other; an
+/// installation files of its volume, and the boot sector as its commit. Memory is allocated for a configuration, a plan
+/// and the words after `-R` alone.
 pub fn lilo<D: Disks, I: Source, O: Sink>(
     alloc: Global,
     words: &Words,
@@ -99,7 +100,7 @@ pub fn lilo<D: Disks, I: Source, O: Sink>(
     ensures at_commit { result ≡ 9 → Rose (D.faults disks.old) (D.faults disks.new) }
     ensures after_commit { result ≡ 10 → Rose (D.faults disks.old) (D.faults disks.new) }
     ensures written { IsWriteLost result → IfOk (run_at words.now) (λ parts. has_write parts ≡ true) }
-    ensures after { result ≡ 10 → IfOk (run_at words.now) (λ parts. has_boot parts ≡ true) }
+    ensures after { result ≡ 10 → IfOk (run_at words.now) (λ parts. has_work_on parts ≡ true) }
     ensures unheard { result ≡ 11 → Rose (I.faults keys.old) (I.faults keys.new) }
     ensures sink { result ≡ 12 → Rose (O.faults out.old) (O.faults out.new) }
     ensures starved { result ≡ 13 → IfOk (run_at words.now) (λ parts. has_conf parts ≡ true) }
@@ -122,8 +123,21 @@ pub fn lilo<D: Disks, I: Source, O: Sink>(
         (place_at now machine device) dump all left result
         (disks.old, keys.old, ram.old, out.old) (disks.new, keys.new, ram.new, out.new))) }
 
-    // Each part that answers 0 wrote its default line or boot sector, and a stop at any moment leaves what the disks
-    // held before one of the parts or after it: that sector has its old bytes or its new ones, and no other is written.
+    // An installation by itself, by what is found out: the image that its settling leaves, and the one at its end.
+    ensures install { (root : Option Device) (path : List ℕ) → IsInstallRun words.now root path
+        → OnDisks D.Disks disks.old (λ image machine. OnKeys I.Source (keys.old, keys.new) (λ all left.
+        TellsInstall D.Disks I.Source O.Sink image machine root path now all left result
+        (disks.old, keys.old, ram.old, out.old) (disks.new, keys.new, ram.new, out.new))) }
+
+    // What a stop leaves of it at any moment: what boots as before until the commit, in it the one or the other, and
+    // from then on what boots as the configuration means.
+    ensures headline { (root : Option Device) (path : List ℕ) → IsInstallRun words.now root path
+        → OnDisks D.Disks disks.old (λ image machine. OnKeys I.Source (keys.old, keys.new) (λ _ _.
+        InstallHolds image machine root path (D.past disks.old) (D.past disks.new) result)) }
+
+    // Each part that answers 0 wrote its default line or boot sector, or installed. Where none installs, a stop at any
+    // moment leaves what the disks held before one of the parts or after it: that sector has its old bytes or its new
+    // ones, and no other is written.
     ensures lines { result ≡ 0 → OnParts D.Disks I.Source disks.old (keys.old, keys.new) (length ram.old) now
         words.now (λ parts _ _. HoldsWritten D.Disks parts disks.old disks.new) }
     ensures moments { OnParts D.Disks I.Source disks.old (keys.old, keys.new) (length ram.old) now words.now
@@ -136,7 +150,7 @@ pub fn lilo<D: Disks, I: Source, O: Sink>(
     ensures usage_line { IsErr (run_at words.now)
         → Prints (O.taken out.old) (usage_text words.now) (O.taken out.new) (O.faults out.old) (O.faults out.new) }
 
-    // Whatever the disks report, these are the statuses, and what isn't built or is of a disk without sectors is known.
+    // Whatever the disks report, these are the statuses, and what is of a disk without sectors is known.
     ensures statuses { IsTrue (is_status result) }
     ensures early { IfSome (early_answer (D.size_of disks.old) (run_at words.now)) (λ status. result ≡ status) }
 
@@ -148,8 +162,8 @@ pub fn lilo<D: Disks, I: Source, O: Sink>(
     ensures no_run { IsErr (run_at words.now) → (ram.new ≡ ram.old) × (keys.new ≡ keys.old) }
     ensures size { length ram.new ≡ length ram.old }
 
-    // Without a boot, `-R` and `-u` no disk is written, whatever the disks report; and their sizes and shapes always
-    // stay.
+    // Without a boot, `-R`, `-u` and an installation no disk is written, whatever the disks report; and their sizes and
+    // shapes always stay.
     ensures same { IfOk (run_at words.now) (λ parts. has_write parts ≡ false → SameOf D.Disks disks.old disks.new) }
     ensures same_no_run { IsErr (run_at words.now) → SameOf D.Disks disks.old disks.new }
     ensures keeps { GoesOn D.Disks disks.old disks.new }
@@ -181,7 +195,7 @@ fn run_words<D: Disks, I: Source, O: Sink>(
         (λ status. result ≡ status) }
     ensures known { IsTrue (is_status result) }
     ensures written { IsWriteLost result → IfOk (run_at words.now) (λ parts. has_write parts ≡ true) }
-    ensures after { result ≡ 10 → IfOk (run_at words.now) (λ parts. has_boot parts ≡ true) }
+    ensures after { result ≡ 10 → IfOk (run_at words.now) (λ parts. has_work_on parts ≡ true) }
     ensures starved { result ≡ 13 → IfOk (run_at words.now) (λ parts. has_conf parts ≡ true) }
     ensures unshown { result ≡ 12 → out.new.failed ≡ true }
     ensures memory { length ram.new ≡ length ram.old }
@@ -215,15 +229,17 @@ fn run_parts<D: Disks, I: Source, O: Sink>(
     requires whole { IsWhole (D.size_of bios.old.disks.now) (D.past bios.old.disks.now) }
     requires begins { IsOk (run_behind words.now 0) }
     ensures does { OnDisks D.Disks bios.old.disks.now (λ now machine.
-        OnKeys I.Source (bios.old.keys.now, bios.new.keys.now) (λ all left. RunsAll D.Disks I.Source O.Sink
-        (parts_effects (part_effect machine (length ram.old) time) now (parts_behind words.now 0) all) result all left
+        OnKeys I.Source (bios.old.keys.now, bios.new.keys.now) (λ all left. (lefts : List Left)
+        × RunsAll D.Disks I.Source O.Sink
+        (parts_effects (part_effect machine (length ram.old) time) now (parts_behind words.now 0) lefts all)
+        result all left
         (bios.old.disks.now, bios.old.keys.now, ram.old, out.old)
         (bios.new.disks.now, bios.new.keys.now, ram.new, out.new))) }
     ensures early { IfSome (early_parts (D.size_of bios.old.disks.now) (parts_behind words.now 0))
         (λ status. result ≡ status) }
     ensures known { IsTrue (is_run_status result) }
     ensures written { IsWriteLost result → has_write (parts_behind words.now 0) ≡ true }
-    ensures after { result ≡ 10 → has_boot (parts_behind words.now 0) ≡ true }
+    ensures after { result ≡ 10 → has_work_on (parts_behind words.now 0) ≡ true }
     ensures starved { result ≡ 13 → has_conf (parts_behind words.now 0) ≡ true }
     ensures unshown { result ≡ 12 → out.new.failed ≡ true }
     ensures memory { length ram.new ≡ length ram.old }

@@ -38,7 +38,7 @@ pub(crate) fn test<D: Disks, O: Sink>(
 }
 
 // How it is reported that an installation can't begin.
-fn begin_halt(fault: BeginFault) -> ConfHalt
+pub(crate) fn begin_halt(fault: BeginFault) -> ConfHalt
     ensures { IsBeginHalt fault result }
 {
     match fault {

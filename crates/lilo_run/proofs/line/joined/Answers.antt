@@ -1,4 +1,4 @@
-use Rattle.std.proofs.Common.{◌≡◌, ◌∙◌, inl, inr, ap, refl, slice_range, arith}
+use Rattle.std.proofs.Common.{◌∙◌, inl, inr, ap, refl, arith}
 use Rattle.lilo_model.specs.LineWords.{joined_words}
 use Rattle.lilo_run.proofs.ShotLemmas.{joined_more, joined_none, range_stop}
 use Rattle.lilo_run.proofs.line.joined.Goals as goal

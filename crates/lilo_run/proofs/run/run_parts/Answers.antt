@@ -11,11 +11,11 @@ use Rattle.stream_trait.specs.Shows.{sink_of, answer_of}
 use Rattle.stream_trait.proofs.ShowsLemmas.{has_failed_twice}
 use Rattle.loader_core.specs.Start.{OnKeys}
 use Rattle.lilo_run.specs.Run.{Carries, state_of}
-use Rattle.lilo_run.specs.Verdict.{part_effect, early_status}
+use Rattle.lilo_run.specs.Verdict.{Left, part_effect, early_status}
 use Rattle.lilo_run.proofs.ConfLemmas.{read_first, read_more}
 use Rattle.lilo_model.specs.ConfVerdict.{conf_path}
 use Rattle.lilo_run.proofs.MemoryLemmas.{boots_by}
-use Rattle.lilo_run.proofs.RunLemmas.{Begun, place_within, continues_more, continues_end, continues_last, own_status, own_lost, own_write_lost, boot_first, boot_more, write_first, write_more, begun_more, begun_last, stays_more, unwritten_more, told_here, told_from, continues_start}
+use Rattle.lilo_run.proofs.RunLemmas.{Begun, place_within, continues_more, continues_end, continues_last, own_status, own_lost, own_write_lost, long_first, long_more, write_first, write_more, begun_more, begun_last, stays_more, unwritten_more, told_here, told_from, continues_start}
 use Rattle.loader_core.proofs.LeavesLemmas.{rose_after, goes_on_self, same_self}
 use Rattle.lilo_run.proofs.run.run_parts.Goals as goal
 
@@ -35,16 +35,16 @@ returns-in_default-answer-clause-does g c =
     told_from (g.D.Disks.past c.args.bios.now.disks.now) _
     (λ is.
     let told = told_here g.D.Disks c.args.bios.now.disks.now c.loop-next.bios.disks.now invariant.keeps.size invariant.keeps.geometry
-    (λ image machine. OnKeys g.I.Source (c.loop-next.bios.keys.now, run.new.bios.keys.now) (λ keys left.
-    Carries g.D.Disks (part_effect machine (length c.loop-next.ram) c.args.time image part keys) run.result left here there))
+    (λ image machine. OnKeys g.I.Source (c.loop-next.bios.keys.now, run.new.bios.keys.now) (λ keys left. (found : Left)
+    × Carries g.D.Disks (part_effect machine (length c.loop-next.ram) c.args.time image part found keys) run.result left here there))
     run.ensures.does (invariant.keeps.told is) in
     let done = subst
-    (λ size. OnKeys g.I.Source (c.loop-next.bios.keys.now, run.new.bios.keys.now) (λ keys left.
-    Carries g.D.Disks (part_effect machine size c.args.time (now (g.D.Disks.past c.loop-next.bios.disks.now)) part keys) run.result left here there))
+    (λ size. OnKeys g.I.Source (c.loop-next.bios.keys.now, run.new.bios.keys.now) (λ keys left. (found : Left)
+    × Carries g.D.Disks (part_effect machine size c.args.time (now (g.D.Disks.past c.loop-next.bios.disks.now)) part found keys) run.result left here there))
     invariant.memory told in
     continues_last g.D.Disks g.I.Source (part_effect machine (length c.args.ram.now) c.args.time) _ _ _ part run.result c.answer.result _ _ _ start here there (invariant.does is) rest done run.ensures.known answer
     (grind (arith, tests))
-    (λ keys none. ap memory_of (run.ensures.quiet words (sym (boots_by (now (g.D.Disks.past c.loop-next.bios.disks.now)) machine (length c.args.ram.now) c.args.time part.root (conf_path part.config) part.command keys) ∙ none))))
+    (λ found keys none. ap memory_of (run.ensures.quiet words (sym (boots_by (now (g.D.Disks.past c.loop-next.bios.disks.now)) machine (length c.args.ram.now) c.args.time part.root (conf_path part.config) part.command found keys) ∙ none))))
 
 pub returns-in_default-answer-clause-early : goal.returns-in_default-answer-clause-early
 returns-in_default-answer-clause-early g c =
@@ -106,7 +106,7 @@ returns-in_default-answer-clause-after g c =
     λ lost.
     let own : c.carry_out-own.result ≡ 10 =
     own_status c.carry_out-own.result 10 c.failed.result (sym c.answer.ensures ∙ lost) (λ is. omega (arith, is)) in
-    boot_first (parts_behind words 0) _ behind part c.loop-next.invariant.boots rest (c.carry_out-own.ensures.after words own)
+    long_first (parts_behind words 0) _ behind part c.loop-next.invariant.long rest (c.carry_out-own.ensures.after words own)
 
 pub returns-in_default-answer-clause-asks : goal.returns-in_default-answer-clause-asks
 returns-in_default-answer-clause-asks g c =
@@ -154,12 +154,12 @@ loop-next-preserved g c =
       does =
           λ is.
           let told = told_here g.D.Disks c.args.bios.now.disks.now c.loop-next.bios.disks.now invariant.keeps.size invariant.keeps.geometry
-          (λ image machine. OnKeys g.I.Source (c.loop-next.bios.keys.now, run.new.bios.keys.now) (λ keys left.
-          Carries g.D.Disks (part_effect machine (length c.loop-next.ram) c.args.time image part keys) run.result left here there))
+          (λ image machine. OnKeys g.I.Source (c.loop-next.bios.keys.now, run.new.bios.keys.now) (λ keys left. (found : Left)
+          × Carries g.D.Disks (part_effect machine (length c.loop-next.ram) c.args.time image part found keys) run.result left here there))
           run.ensures.does (invariant.keeps.told is) in
           let done = subst
-          (λ size. OnKeys g.I.Source (c.loop-next.bios.keys.now, run.new.bios.keys.now) (λ keys left.
-          Carries g.D.Disks (part_effect machine size c.args.time (now (g.D.Disks.past c.loop-next.bios.disks.now)) part keys) run.result left here there))
+          (λ size. OnKeys g.I.Source (c.loop-next.bios.keys.now, run.new.bios.keys.now) (λ keys left. (found : Left)
+          × Carries g.D.Disks (part_effect machine size c.args.time (now (g.D.Disks.past c.loop-next.bios.disks.now)) part found keys) run.result left here there))
           invariant.memory told in
           continues_more g.D.Disks g.I.Source (part_effect machine (length c.args.ram.now) c.args.time) _ _ behind part run.result _ _ _ start here there (invariant.does is) rest done (invariant.keeps.told is) zero;
       begun =
@@ -171,7 +171,7 @@ loop-next-preserved g c =
       sink = has_failed_twice _ old new invariant.sink run.ensures.asks.sink;
       memory = run.ensures.memory ∙ invariant.memory;
       conf = read_more (parts_behind words 0) _ behind part invariant.conf rest;
-      boots = boot_more (parts_behind words 0) _ behind part invariant.boots rest;
+      long = long_more (parts_behind words 0) _ behind part invariant.long rest;
       writes = write_more (parts_behind words 0) _ behind part invariant.writes rest;
       stays =
           stays_more (parts_behind words 0) _ behind part
@@ -203,7 +203,7 @@ loop-next-init g c = record {
   sink = record { later = omega arith; failed = λ is. inl is };
   memory = refl;
   conf = λ is. is;
-  boots = λ is. is;
+  long = λ is. is;
   writes = λ is. is;
   stays = λ none. ((refl, refl), none);
   unwritten = λ none. (same_self g.D.Disks c.args.bios.now.disks.now, none);

@@ -8,7 +8,7 @@ use Rattle.stream_trait.specs.Shows.{sink_of, HasFailed}
 use Rattle.lilo_run.specs.Run.{state_of}
 use Rattle.lilo_run.specs.Verdict.{part_effect}
 use Rattle.lilo_run.proofs.ConfLemmas.{AreRead}
-use Rattle.lilo_run.proofs.RunLemmas.{turns_left, Continues, Begun, AreBoots, AreWrites, Stays, StaysUnwritten}
+use Rattle.lilo_run.proofs.RunLemmas.{turns_left, Continues, Begun, AreLong, AreWrites, Stays, StaysUnwritten}
 use Rattle.lilo_run.proofs.run.run_parts.Given as goal
 
 abbrev pub invariant-loop-next : goal.invariant-loop-next
@@ -28,7 +28,7 @@ invariant-loop-next g l = record {
       (sink_of g.O.Sink l.out);
   memory : length l.ram ≡ length l.fn.ram;
   conf : AreRead (parts_behind l.words 0) (parts_of_next l.words l.next);
-  boots : AreBoots (parts_behind l.words 0) (parts_of_next l.words l.next);
+  long : AreLong (parts_behind l.words 0) (parts_of_next l.words l.next);
   writes : AreWrites (parts_behind l.words 0) (parts_of_next l.words l.next);
   stays :
       Stays (parts_behind l.words 0) (parts_of_next l.words l.next) (l.fn.bios.keys.now, l.fn.ram)

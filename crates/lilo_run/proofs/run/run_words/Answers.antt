@@ -2,7 +2,7 @@
 use Rattle.lilo_words.specs.Wrong.{wrong_view}
 use Rattle.disk_trait.proofs.ToldLemmas.{told_all}
 use Rattle.lilo_run.proofs.RunLemmas.{usage_is, usage_runs}
-use Rattle.std.proofs.Common.{◌≡◌, refl, arith, rules}
+use Rattle.std.proofs.Common.{[], refl, arith, rules}
 use Rattle.loader_core.proofs.LeavesLemmas.{goes_on_self}
 use Rattle.lilo_run.proofs.run.run_words.Goals as goal
 
@@ -16,8 +16,11 @@ returns-in-Err-clause-does g c =
     (λ now left may. (
       left,
       may,
-      usage_runs g.D.Disks now _ _ _ c.args.words.now left (wrong_view c.in-Err.wrong) c.args.bios.now.disks.now _ _ _ _ c.in-Err.ensures.wrong
-          (rw (usage_is c.args.words.now (wrong_view c.in-Err.wrong) c.in-Err.ensures.wrong, ← c.word.ensures) c.say_usage.ensures.shown),
+      (
+        [],
+        usage_runs g.D.Disks now _ _ _ c.args.words.now [] left (wrong_view c.in-Err.wrong) c.args.bios.now.disks.now _ _ _ _ c.in-Err.ensures.wrong
+            (rw (usage_is c.args.words.now (wrong_view c.in-Err.wrong) c.in-Err.ensures.wrong, ← c.word.ensures) c.say_usage.ensures.shown),
+      ),
     ))
 
 pub returns-in-Err-clause-asks : goal.returns-in-Err-clause-asks

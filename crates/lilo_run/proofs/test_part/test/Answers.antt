@@ -4,7 +4,7 @@ use Rattle.mbr_table.specs.View.{device_view}
 use Rattle.sector_address.specs.Machine.{machine_of}
 use Rattle.disk_trait.proofs.ToldLemmas.{told_map, told_both}
 use Rattle.install_begin.specs.View.{begun_view}
-use Rattle.lilo_run.proofs.TestLemmas.{test_done, test_refused, begin_lost, refusal_known}
+use Rattle.lilo_run.proofs.TestLemmas.{test_done, test_refused, refusal_known}
 use Rattle.lilo_run.proofs.test_part.test.Goals as goal
 
 pub returns-in-Ok-clause-does : goal.returns-in-Ok-clause-does

@@ -1,0 +1,39 @@
+-- An installation by itself: what it answers, and what a stop at any moment leaves of it.
+use Rattle.std.specs.Prelude.{◌≡◌, ℕ, ◌==◌, if◌then◌else◌, List, [], ◌∷◌, Option, Ok}
+use Rattle.disk_trait.specs.Past.{Past}
+use Rattle.disk_trait.specs.Moments.{IsQuiet}
+use Rattle.disk_trait.specs.declared.disks.Disks as disks
+use Rattle.lilo_model.specs.ConfVerdict.{conf_path}
+use Rattle.lilo_model.specs.Devices.{Device}
+use Rattle.lilo_model.specs.Disks.{Image, Machine}
+use Rattle.lilo_model.specs.MinixParts.{Volume, volume_at}
+use Rattle.lilo_model.specs.Prompt.{Key}
+use Rattle.lilo_model.specs.Words.{Part, Install, run_at}
+use Rattle.stream_trait.specs.declared.sink.Sink.{Ghosts}
+use Rattle.stream_trait.specs.declared.source.Source as sources
+use Rattle.install_begin.specs.Begin as begins
+use Rattle.install_begin.specs.Begin.{begun_at, begun_with}
+use Rattle.install_run.specs.Installs.{Leaves}
+use Rattle.lilo_run.specs.Run.{Tells, scene_of}
+use Rattle.lilo_run.specs.Verdict.{Left, leaving, install_effect}
+
+-- words are one part, which installs, with this device named for the volume and this path of the configuration
+abbrev pub IsInstallRun : List (List ℕ) → Option Device → List ℕ → Type 0
+IsInstallRun words root path =
+    (part : Part) × (run_at words ≡ Ok (part ∷ [])) × (part.command ≡ Install) × (part.root ≡ root) × (conf_path part.config ≡ path)
+
+-- the status, the text, the keys left and what the disks hold go with what is found out
+abbrev pub TellsInstall : {D I O : Type 0} → disks.Ghosts D → sources.Ghosts I → Ghosts O → Image → Machine → Option Device → List ℕ → ℕ → List Key → List Key → ℕ → D × I × List ℕ × O → D × I × List ℕ × O → Type 0
+TellsInstall g i o now machine root path time keys left status old new =
+    (found : Left) × Tells g (leaving keys (install_effect now machine root path time found)) status left (scene_of i o old) (scene_of i o new)
+
+-- the status of what was done: 12 comes where it is 0 and the text wasn't shown
+abbrev pub done_status : ℕ → ℕ
+done_status status = if status == 12 then 0 else status
+
+-- From a quiet moment, where a volume and a configuration are read, there is an image by which a stop at any moment leaves what the
+-- status says: where the commit began, the image that settling left.
+abbrev pub InstallHolds : Image → Machine → Option Device → List ℕ → Option Past → Option Past → ℕ → Type 0
+InstallHolds image machine root path entry ended status =
+    (read : begins.Begun) → begun_at image machine root path ≡ Ok read → (volume : Volume) → volume_at image read.volume ≡ Ok volume
+    → IsQuiet entry → (settled : Image) × Leaves machine (begun_with read volume) settled entry ended (done_status status)

@@ -1,3 +1,4 @@
 pub mod TextLemmas
 pub mod LawLemmas
+pub mod StatusLemmas
 pub mod ReportLemmas

@@ -1,9 +1,17 @@
+pub mod AsPlanned
+pub mod AsRead
 pub mod Entry
+pub mod Inodes
+pub mod Leads
+pub mod Led
 pub mod Mapped
 pub mod Names
+pub mod Passing
 pub mod Paths
+pub mod Plans
 pub mod Stays
 pub mod Surveyed
 pub mod Tables
 pub mod Tests
+pub mod Unmet
 pub mod Walks

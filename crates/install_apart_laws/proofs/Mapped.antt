@@ -19,7 +19,8 @@ use Rattle.lilo_model.specs.Settled.{OwnNames, own_names}
 use Rattle.install_settle.specs.Settles.{stale_of}
 use Rattle.install_stage_laws.specs.Mapped.{OnFile, OnKernel, OnSection}
 use Rattle.install_apart_laws.specs.Mapped.{IsNotReplaced, MappedApartLaw}
-use Rattle.install_apart_laws.proofs.Paths.{IsOwnFile, not-there}
+use Rattle.install_apart_laws.proofs.Leads.{not-there}
+use Rattle.install_apart_laws.proofs.Paths.{IsOwnFile}
 use Rattle.install_apart_laws.proofs.Tests.{tests-pass}
 use Rattle.install_apart_laws.proofs.Entry.{files, backup-files, IsApartFromAll, apart-from-all}
 

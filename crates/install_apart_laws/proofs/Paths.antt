@@ -1,116 +1,19 @@
 -- Paths that lead to no guarded name lead to none once settling is done.
-use Rattle.std.proofs.Common.{◌≡◌, ◌≢◌, ℕ, ◌==◌, ◌&&◌, Bool, true, false, not, if◌then◌else◌, inl, inr, List, [], is_some, option_map, Option, Some, None, Result, Ok, Err, refl, sym, ◌∙◌, ap, subst}
+use Rattle.std.proofs.Common.{◌≡◌, ◌≢◌, ℕ, Bool, true, false, if◌then◌else◌, inl, inr, List, [], is_some, Option, Some, None, Ok, refl, sym, ◌∙◌, ap, subst}
 use Rattle.std.specs.Prelude.{◌⊎◌, IfSome}
-use Rattle.std.proofs.lemmas.Bool.{eq-eqb, eqb-true}
-use Rattle.lilo_model.specs.Apart.{is_same_inode, ends_at, leads_to_absent, is_apart_path}
+use Rattle.lilo_model.specs.Apart.{is_apart_path}
 use Rattle.lilo_model.specs.Disks.{Image}
-use Rattle.lilo_model.specs.MinixFind.{TreeFault, find_in}
-use Rattle.lilo_model.specs.MinixFindNames.{Names, leads_to_directory, link_text, path_of, AgreesOn}
-use Rattle.lilo_model.specs.MinixNames.{Thing, File, names, names_in, reached, thing, IsSound}
+use Rattle.lilo_model.specs.MinixFind.{find_in}
+use Rattle.lilo_model.specs.MinixFindNames.{Names, leads_to_directory, link_text, path_of}
+use Rattle.lilo_model.specs.MinixNames.{Thing, File, names_in, reached, IsSound}
 use Rattle.lilo_model.specs.MinixParts.{Volume, parts_of}
 use Rattle.lilo_model.specs.NamePlaces.{with_tilde, plain_path, same_path, with_name, without_name}
 use Rattle.lilo_model.specs.Settled.{OwnNames, without_stale, file_or_nothing}
-use Rattle.minix_laws.proofs.WalkNames.{find_law}
 use Rattle.minix_names.proofs.PathLemmas.{path-same, same-is, same-not, name-here}
 use Rattle.install_settle.specs.Settles.{stale_of, IsBeside}
 use Rattle.install_apart_laws.specs.Laws.{HasSettled}
 use Rattle.install_apart_laws.proofs.Walks.{AreAlike, IsPlain, plain-file, alike-back, alike-file, alike-both, alike-joined, path-too}
-
--- ---- what a path leads to
-
-module _ (volume : Volume) (image : Image) where
-  abbrev Leads : List (List ℕ) → Option ℕ
-  Leads path = reached volume.layout (parts_of volume image) path
-
-  -- something is at a path that leads somewhere
-  pub leads-some : (path : List (List ℕ)) (number : ℕ) → Leads path ≡ Some number → is_some (names_in volume image path) ≡ true
-  unfolding names_in names
-  leads-some path number is = ap (λ (o : Option ℕ). is_some (option_map (thing volume.layout (parts_of volume image)) o)) is
-
-  pub leads-none : (path : List (List ℕ)) (number : ℕ) → Leads path ≡ Some number → names_in volume image path ≡ None → ⊥
-  leads-none path number is none = let some = subst (λ (o : Option Thing). is_some o ≡ true) none (leads-some path number is) in cc
-
-  module _ (sound : IsSound volume image) (text : List ℕ) where
-    agrees : (at : Result (List (List ℕ)) TreeFault) → path_of (names_in volume image) true text ≡ at → AgreesOn volume.layout (parts_of volume image) (find_in image volume text) at
-    agrees at is = subst (AgreesOn volume.layout (parts_of volume image) (find_in image volume text)) is (find_law volume image sound true text)
-
-    -- the inode at the path where a walk over Names ends
-    pub ends-find : (path : List (List ℕ)) → path_of (names_in volume image) true text ≡ Ok path → (number : ℕ) × (find_in image volume text ≡ Ok number) × (Leads path ≡ Some number)
-    ends-find path is = by (find_in image volume text) refl (agrees (Ok path) is)
-      where
-        by : (found : Result ℕ TreeFault) → find_in image volume text ≡ found → AgreesOn volume.layout (parts_of volume image) found (Ok path)
-            → (number : ℕ) × (find_in image volume text ≡ Ok number) × (Leads path ≡ Some number)
-        by (Ok number) is leads = (number, is, leads)
-        by (Err fault) is leads = absurd leads
-
-    -- and the path at which one ends, by the inode
-    pub find-ends : (number : ℕ) → find_in image volume text ≡ Ok number → (path : List (List ℕ)) × (path_of (names_in volume image) true text ≡ Ok path) × (Leads path ≡ Some number)
-    find-ends number is = by (path_of (names_in volume image) true text) refl
-      where
-        by : (at : Result (List (List ℕ)) TreeFault) → path_of (names_in volume image) true text ≡ at
-            → (path : List (List ℕ)) × (path_of (names_in volume image) true text ≡ Ok path) × (Leads path ≡ Some number)
-        by (Ok path) at = (path, at, subst (λ (f : Result ℕ TreeFault). AgreesOn volume.layout (parts_of volume image) f (Ok path)) is (agrees (Ok path) at))
-        by (Err fault) at = absurd (subst (λ (f : Result ℕ TreeFault). AgreesOn volume.layout (parts_of volume image) f (Err fault)) is (agrees (Err fault) at))
-
-  -- ---- a path that is apart from a name
-
-  module _ (text : List ℕ) (name : List (List ℕ)) where
-    abbrev Absent : Type 0
-    Absent = (names_in volume image (plain_path name) ≡ None) × (path_of (with_name name (Some (File [])) (names_in volume image)) true text ≡ Ok name)
-
-    same-number : (number : ℕ) (found : Result ℕ TreeFault) → found ≡ Ok number → is_same_inode (Some number) found ≡ true
-    same-number number found is = rw is (eq-eqb number number refl)
-
-    leads-absent : Absent → leads_to_absent (names_in volume image) text name ≡ true
-    leads-absent absent = rw (absent.0, absent.1, path-same name) refl
-
-    both-not : (one two : Bool) → (not one && not two) ≡ true → (one ≡ false) × (two ≡ false)
-    both-not false false is = (refl, refl)
-    both-not false true is = cc
-    both-not true two is = cc
-
-    module _ (apart : is_apart_path image volume text name ≡ true) where
-      parts : (is_same_inode (Leads (plain_path name)) (find_in image volume text) ≡ false) × (leads_to_absent (names_in volume image) text name ≡ false)
-      unfolding is_apart_path
-      parts = both-not (is_same_inode (Leads (plain_path name)) (find_in image volume text)) (leads_to_absent (names_in volume image) text name) apart
-
-      -- it doesn't lead to the inode there
-      pub not-there : (number : ℕ) → Leads (plain_path name) ≡ Some number → find_in image volume text ≡ Ok number → ⊥
-      not-there number leads found =
-          let same : is_same_inode (Leads (plain_path name)) (find_in image volume text) ≡ true = rw leads (same-number number (find_in image volume text) found) in
-          let other = parts.0 in
-          cc
-
-      -- nor to where nothing is
-      pub not-absent : Absent → ⊥
-      not-absent absent = let same = leads-absent absent in let other = parts.1 in cc
-
-    -- what does neither is apart
-    pub is-apart : ((number : ℕ) → Leads (plain_path name) ≡ Some number → find_in image volume text ≡ Ok number → ⊥) → (Absent → ⊥) → is_apart_path image volume text name ≡ true
-    unfolding is_apart_path
-    is-apart there absent =
-        rw (no-inode (Leads (plain_path name)) (find_in image volume text) refl refl, no-name (names_in volume image (plain_path name)) refl) refl
-      where
-        no-inode : (leads : Option ℕ) (found : Result ℕ TreeFault) → Leads (plain_path name) ≡ leads → find_in image volume text ≡ found → is_same_inode leads found ≡ false
-        no-inode None found one two = refl
-        no-inode (Some number) (Err fault) one two = refl
-        no-inode (Some number) (Ok other) one two = by (number == other) refl
-          where
-            by : (same : Bool) → (number == other) ≡ same → (number == other) ≡ false
-            by true is = absurd (there number one (two ∙ ap Ok (sym (eqb-true number other is))))
-            by false is = is
-
-        no-name : (what : Option Thing) → names_in volume image (plain_path name) ≡ what → leads_to_absent (names_in volume image) text name ≡ false
-        no-name (Some one) is = rw is refl
-        no-name None is = rw is (at (path_of (with_name name (Some (File [])) (names_in volume image)) true text) refl)
-          where
-            at : (end : Result (List (List ℕ)) TreeFault) → path_of (with_name name (Some (File [])) (names_in volume image)) true text ≡ end → ends_at name end ≡ false
-            at (Err fault) end = refl
-            at (Ok path) end = by (same_path name path) refl
-              where
-                by : (same : Bool) → same_path name path ≡ same → same_path name path ≡ false
-                by true same = absurd (absent (is, end ∙ ap Ok (sym (same-is name path same))))
-                by false same = same
+use Rattle.install_apart_laws.proofs.Leads.{leads-some, leads-none, ends-find, find-ends, not-there, not-absent, is-apart}
 
 -- ---- once settling is done
 
@@ -149,10 +52,10 @@ module _ (volume : Volume) (old c : Image) (names : OwnNames) (forced finishes :
 
   -- ---- a path is one of the changed names, or beside them
 
-  abbrev IsStale : List (List ℕ) → Type 0
+  abbrev pub IsStale : List (List ℕ) → Type 0
   IsStale path = (backup : List (List ℕ)) × (Stale ≡ Some backup) × (path ≡ with_tilde backup)
 
-  abbrev IsSomewhere : List (List ℕ) → Type 0
+  abbrev pub IsSomewhere : List (List ℕ) → Type 0
   IsSomewhere path = (path ≡ P) ⊎ ((path ≡ with_tilde P) ⊎ (IsStale path ⊎ IsBeside names forced path))
 
   other-path : (one other : List (List ℕ)) → same_path one other ≡ false → other ≢ one
@@ -161,7 +64,7 @@ module _ (volume : Volume) (old c : Image) (names : OwnNames) (forced finishes :
       let there : same_path one one ≡ false = subst (λ (p : List (List ℕ)). same_path one p ≡ false) same apart in
       cc
 
-  somewhere : (path : List (List ℕ)) → IsSomewhere path
+  pub somewhere : (path : List (List ℕ)) → IsSomewhere path
   somewhere path = by (same_path P path) (same_path (with_tilde P) path) refl refl
     where
       copy : (one : path ≢ P) (two : path ≢ with_tilde P) (some : Option (List (List ℕ))) → Stale ≡ some → IsStale path ⊎ IsBeside names forced path
@@ -206,7 +109,7 @@ module _ (volume : Volume) (old c : Image) (names : OwnNames) (forced finishes :
       ∙ (ap (λ (o : Option (List (List ℕ))). without_stale o Middle (with_tilde backup)) some
       ∙ (rw (path-same (with_tilde backup)) refl))
 
-  new-beside : (path : List (List ℕ)) → IsBeside names forced path → New path ≡ Old path
+  pub new-beside : (path : List (List ℕ)) → IsBeside names forced path → New path ≡ Old path
   new-beside path beside = is.has path ∙ (copy Stale beside.stale ∙ middle)
     where
       middle : Middle path ≡ Old path
@@ -240,7 +143,7 @@ module _ (volume : Volume) (old c : Image) (names : OwnNames) (forced finishes :
             at true = none-plain
             at false = middle (same_path (with_tilde P) P)
 
-    stale-own : (backup : List (List ℕ)) → Stale ≡ Some backup → IsOwnFile Old (with_tilde backup)
+    pub stale-own : (backup : List (List ℕ)) → Stale ≡ Some backup → IsOwnFile Old (with_tilde backup)
     stale-own backup some = subst (λ (o : Option (List (List ℕ))). IfSome o (λ backup. IsOwnFile Old (with_tilde backup))) some files.stale
 
     -- directories and links are the same
@@ -277,7 +180,7 @@ module _ (volume : Volume) (old c : Image) (names : OwnNames) (forced finishes :
     -- ---- paths that are apart
 
     -- a walk over Names with these directories and links doesn't end at a name that a path is apart from
-    no-end : (walked : Names) → AreAlike Old walked → (text : List ℕ) (name : List (List ℕ)) → IsOwnFile Old name → is_apart_path old volume text name ≡ true
+    pub no-end : (walked : Names) → AreAlike Old walked → (text : List ℕ) (name : List (List ℕ)) → IsOwnFile Old name → is_apart_path old volume text name ≡ true
         → path_of walked true text ≡ Ok name → ⊥
     no-end walked same text name own apart ends = by (Old name) refl
       where

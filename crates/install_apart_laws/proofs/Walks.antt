@@ -93,7 +93,7 @@ module _ (one other : Names) (alike : AreAlike one other) where
   link-there true at text is = some-link (other at) text (alike.links at ∙ is)
   link-there false at text is = cc
 
-  followed-same : (wanted : Bool) (at : List (List ℕ)) → followed_text wanted (other at) ≡ followed_text wanted (one at)
+  pub followed-same : (wanted : Bool) (at : List (List ℕ)) → followed_text wanted (other at) ≡ followed_text wanted (one at)
   followed-same true at = alike.links at
   followed-same false at = refl
 
@@ -165,20 +165,24 @@ module _ (one other : Names) (alike : AreAlike one other) where
 
 -- ---- Names with a file more
 
--- where a file comes to what is plain, directories and links are the same
-pub alike-file : (at : List (List ℕ)) (names : Names) → IsPlain (names at) → AreAlike names (with_name at (Some (File [])) names)
-alike-file at names plain = record { directories = λ path. directory path (same_path at path) refl; links = λ path. link path (same_path at path) refl }
+-- where what is plain comes to what is plain, directories and links are the same
+pub alike-plain : (at : List (List ℕ)) (what : Option Thing) (names : Names) → IsPlain what → IsPlain (names at) → AreAlike names (with_name at what names)
+alike-plain at what names now plain = record { directories = λ path. directory path (same_path at path) refl; links = λ path. link path (same_path at path) refl }
   where
     plain-there : (path : List (List ℕ)) → same_path at path ≡ true → IsPlain (names path)
     plain-there path is = subst (λ (p : List (List ℕ)). IsPlain (names p)) (Rattle.minix_names.proofs.PathLemmas.same-is at path is) plain
 
-    directory : (path : List (List ℕ)) (test : Bool) → same_path at path ≡ test → leads_to_directory (if test then Some (File []) else names path) ≡ leads_to_directory (names path)
-    directory path true is = sym (plain-there path is).directory
+    directory : (path : List (List ℕ)) (test : Bool) → same_path at path ≡ test → leads_to_directory (if test then what else names path) ≡ leads_to_directory (names path)
+    directory path true is = now.directory ∙ sym (plain-there path is).directory
     directory path false is = refl
 
-    link : (path : List (List ℕ)) (test : Bool) → same_path at path ≡ test → link_text (if test then Some (File []) else names path) ≡ link_text (names path)
-    link path true is = sym (plain-there path is).link
+    link : (path : List (List ℕ)) (test : Bool) → same_path at path ≡ test → link_text (if test then what else names path) ≡ link_text (names path)
+    link path true is = now.link ∙ sym (plain-there path is).link
     link path false is = refl
+
+-- so they are where a file comes to it
+pub alike-file : (at : List (List ℕ)) (names : Names) → IsPlain (names at) → AreAlike names (with_name at (Some (File [])) names)
+alike-file at names plain = alike-plain at (Some (File [])) names (record { directory = refl; link = refl }) plain
 
 -- and so they are in both of two Names that are alike
 pub alike-both : (at : List (List ℕ)) (one other : Names) → AreAlike one other → AreAlike (with_name at (Some (File [])) one) (with_name at (Some (File [])) other)

@@ -1,4 +1,5 @@
 pub mod Laws
 pub mod Mapped
+pub mod Plans
 pub mod Surveyed
 pub mod Tables

@@ -1,7 +1,8 @@
-// What is apart once settling is done, and what is mapped.
+// What is apart once settling is done, what is mapped, and what is planned.
 ghost use Rattle.install_apart_laws.specs.Laws.{SettledApartLaw};
 ghost use Rattle.install_apart_laws.specs.Mapped.{MappedApartLaw};
-ghost use Rattle.install_apart_laws.specs.Surveyed.{SurveyedApartLaw};
+ghost use Rattle.install_apart_laws.specs.Plans.{PassingLaw, SettledPlanLaw};
+ghost use Rattle.install_apart_laws.specs.Surveyed.{BegunPlansLaw, SurveyedApartLaw};
 ghost use Rattle.install_apart_laws.specs.Tables.{OutsideTablesLaw, TablesLaw};
 
 /// A configuration that was apart is apart still once the names that an installation replaces are settled, where the devices
@@ -29,4 +30,21 @@ pub fn device_lies_where_its_tables_are_outside()
 /// backup's.
 pub fn mapped_files_are_not_replaced()
     ensures { MappedApartLaw }
+{}
+
+/// What a configuration that was apart plans once names are settled is what it planned before, or it is refused as it
+/// was, where the paths that it names fail as they did.
+pub fn settled_configuration_plans_the_same()
+    ensures { SettledPlanLaw }
+{}
+
+/// A path that passes by each name that settling changes fails as it did once they are settled.
+pub fn path_that_passes_by_fails_as_before()
+    ensures { PassingLaw }
+{}
+
+/// So what an installation that began plans is what it would have planned at its entry, where the devices that its
+/// configuration names lie where they lay and its paths pass by what settling changes.
+pub fn begun_installation_plans_the_same()
+    ensures { BegunPlansLaw }
 {}

@@ -1,21 +1,23 @@
 -- What is read step by step, and how it is refused.
-use Rattle.std.proofs.Common.{◌≡◌, ◌≤◌, ◌<◌, ◌+◌, ◌*◌, ℕ, inl, inr, List, length, Option, None, Some, Result, Ok, Err, refl, sym, ap, subst, arith}
+use Rattle.std.proofs.Common.{◌≡◌, ℕ, List, Option, None, Some, Result, Ok, Err, refl, ap}
 use Rattle.lilo_model.specs.Checks.{◌>>=◌, with_fault}
 use Rattle.lilo_model.specs.Conf.{Config, conf_at}
 use Rattle.lilo_model.specs.ConfLawful.{IsLawful, names_of_config}
 use Rattle.lilo_model.specs.ConfRefusal.{ConfRefusal}
 use Rattle.lilo_model.specs.ConfVerdict.{ConfFile, volume_refusal, conf_file, file_on, place_at}
 use Rattle.lilo_model.specs.Devices.{Device, IsDevice}
-use Rattle.lilo_model.specs.Disks.{Image, Machine, Span}
-use Rattle.lilo_model.specs.MinixLayout.{Super, LayoutFault, IsSuper, super_at, super_sector}
+use Rattle.lilo_model.specs.Disks.{Image, Machine, Span, DiskSector}
 use Rattle.lilo_model.specs.MinixParts as model
 use Rattle.lilo_model.specs.MinixParts.{Layout, parts_of, volume_at, volume_with}
 use Rattle.lilo_model.specs.MinixWalk.{visits}
 use Rattle.lilo_model.specs.Partitions.{span_of}
+use Rattle.lilo_model.specs.Plan.{Plan}
 use Rattle.lilo_model.specs.Refusal as refusals
 use Rattle.lilo_model.specs.Refusal.{Refusal, DeviceFault}
+use Rattle.lilo_model.specs.Settled.{OwnNames}
 use Rattle.lilo_model.specs.VolumeSearch as search
 use Rattle.lilo_model.specs.VolumeSearch.{Located, VolumeFault, volume_place}
+use Rattle.write_model.specs.Wish as rooms
 use Rattle.conf_file.specs.declared.file_fault.FileFault.TheVariants as files
 use Rattle.conf_settings.specs.View.{fault_view}
 use Rattle.conf_settings.specs.declared.reason.ConfFault.{ConfFault}
@@ -26,15 +28,15 @@ use Rattle.mbr_table.specs.Gives as placed
 use Rattle.mbr_table.specs.declared.table_fault.TableFault.{TableFault}
 use Rattle.mbr_table.specs.declared.table_fault.TableFault.TheVariants as tables
 use Rattle.minix_search.specs.View as found
-use Rattle.install_begin.specs.Begin.{Named, Begun, begun_at, begun_on, named_by, named_conf, named_in, placed_by, test_on}
-use Rattle.install_begin.specs.Laws.{TestLaw}
+use Rattle.install_begin.specs.Begin.{Named, Begun, answer_on, begun_at, begun_on, named_by, named_conf, named_in, placed_by, test_on}
+use Rattle.install_begin.specs.Laws.{AnswerLaw, TestLaw}
 use Rattle.install_begin.specs.View.{Refuses, RefusesText}
 use Rattle.install_begin.specs.declared.fault.BeginFault.{BeginFault}
 use Rattle.install_begin.specs.declared.fault.BeginFault.TheVariants.{File, Text}
 
 -- ---- the model's reading, step by step
 
-module _ (image : Image) (machine : Machine) (time : ℕ) (path : List ℕ) where
+module _ (image : Image) (machine : Machine) (room : installs.Begun → OwnNames → Plan → Result (List DiskSector) rooms.Refusal) (time : ℕ) (path : List ℕ) where
   abbrev read-as : Located → Config → Span → model.Volume → installs.Begun
   read-as place config span volume = record {
     volume = volume;
@@ -44,7 +46,7 @@ module _ (image : Image) (machine : Machine) (time : ℕ) (path : List ℕ) wher
   }
 
   abbrev checks : installs.Begun → Result Answer InstallRefusal
-  checks begun = install_checks image machine (visits begun.volume.layout (parts_of begun.volume image)) (test_room image machine time begun) time begun
+  checks begun = install_checks image machine (visits begun.volume.layout (parts_of begun.volume image)) (room begun) time begun
 
   -- what the model reads once the boot device is looked for, the text of the configuration is read, and so on
   abbrev whole-in : Located → Config → Span → Result model.Volume model.ZoneFault → Result installs.Begun Refusal
@@ -77,39 +79,41 @@ module _ (image : Image) (machine : Machine) (time : ℕ) (path : List ℕ) wher
 
   by-place : (place : Located) (config : Config) (given : Result Span DeviceFault)
       → (with_fault Reading (whole-at place config given) >>= checks)
-      ≡ (with_fault Reading (step-at place (named_by config place.device) given) >>= test_on image machine time)
-  unfolding test_on
+      ≡ (with_fault Reading (step-at place (named_by config place.device) given) >>= answer_on room image machine time)
   by-place place config (Ok span) = by-volume place config span (volume_at image place.span)
   by-place place config (Err fault) = refl
 
   by-config : (place : Located) (given : Result Config ConfRefusal)
       → (with_fault Reading (whole-by place given) >>= checks)
-      ≡ (with_fault Reading (step-by place (with_fault refusals.Config given >>= λ config. Ok (named_by config place.device))) >>= test_on image machine time)
+      ≡ (with_fault Reading (step-by place (with_fault refusals.Config given >>= λ config. Ok (named_by config place.device))) >>= answer_on room image machine time)
   by-config place (Ok config) = by-place place config (place_at image machine (boot_device config place.device))
   by-config place (Err fault) = refl
 
   by-text : (place : Located) (given : Result (List ℕ) Refusal)
-      → (with_fault Reading (whole-of place given) >>= checks) ≡ (with_fault Reading (step-of place given) >>= test_on image machine time)
+      → (with_fault Reading (whole-of place given) >>= checks) ≡ (with_fault Reading (step-of place given) >>= answer_on room image machine time)
   by-text place (Ok text) = by-config place (conf_at text)
   by-text place (Err refusal) = refl
 
   module _ (root : Option Device) where
     by-search : (given : Result Located VolumeFault) → volume_place image machine root ≡ given
         → (with_fault Reading (with_fault volume_refusal given >>= λ place. whole-of place (file_on image place.span path)) >>= checks)
-        ≡ (with_fault Reading (with_fault volume_refusal given >>= begun_on image machine root path) >>= test_on image machine time)
+        ≡ (with_fault Reading (with_fault volume_refusal given >>= begun_on image machine root path) >>= answer_on room image machine time)
     unfolding begun_on named_conf conf_file
     by-search (Ok place) is = rw is (by-text place (file_on image place.span path))
     by-search (Err fault) is = refl
 
-    -- an answer of `-t` is that of what was read
-    answer-read : install_answer image machine root path (test_room image machine time) time
-        ≡ (with_fault Reading (begun_at image machine root path) >>= test_on image machine time)
+    -- an answer is that of what was read
+    answer-read : install_answer image machine root path room time
+        ≡ (with_fault Reading (begun_at image machine root path) >>= answer_on room image machine time)
     unfolding install_answer begun_by begun_at
     answer-read = by-search (volume_place image machine root) refl
 
+pub answer_law : AnswerLaw
+answer_law image machine root path room time = answer-read image machine room time path root
+
 pub test_law : TestLaw
-unfolding test_verdict
-test_law image machine root path time = ap (verdict_by test_text) (answer-read image machine time path root)
+unfolding test_verdict test_on
+test_law image machine root path time = ap (verdict_by test_text) (answer_law image machine root path (test_room image machine time) time)
 
 -- ---- refusals
 

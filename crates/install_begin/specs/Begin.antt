@@ -1,15 +1,18 @@
 -- What an installation and `-t` begin with, step by step, and what `-t` answers by it. (This project's own.)
-use Rattle.std.specs.Prelude.{ℕ, List, Option, Some, Result, Ok, Err}
+use Rattle.std.specs.Prelude.{ℕ, List, Option, Some, Result, Ok}
 use Rattle.lilo_model.specs.Checks.{◌>>=◌, with_fault}
 use Rattle.lilo_model.specs.Conf.{Config, conf_at}
 use Rattle.lilo_model.specs.ConfVerdict.{volume_refusal, conf_file, place_at}
 use Rattle.lilo_model.specs.Devices.{Device}
-use Rattle.lilo_model.specs.Disks.{Image, Machine, Span}
+use Rattle.lilo_model.specs.Disks.{Image, Machine, Span, DiskSector}
 use Rattle.lilo_model.specs.MinixParts.{Volume, parts_of, volume_at}
 use Rattle.lilo_model.specs.MinixWalk.{visits}
+use Rattle.lilo_model.specs.Plan.{Plan}
 use Rattle.lilo_model.specs.Refusal as refusals
 use Rattle.lilo_model.specs.Refusal.{Refusal}
+use Rattle.lilo_model.specs.Settled.{OwnNames}
 use Rattle.lilo_model.specs.VolumeSearch.{Located, volume_place}
+use Rattle.write_model.specs.Wish as rooms
 use Rattle.install_laws.specs.InstallVerdict as model
 use Rattle.install_laws.specs.InstallVerdict.{Answer, InstallRefusal, Reading, boot_device, install_checks, test_room}
 
@@ -63,8 +66,12 @@ begun_at image machine root path = do
 abbrev pub begun_with : Begun → Volume → model.Begun
 begun_with begun volume = record { volume = volume; config = begun.named.config; boot = begun.named.boot; span = begun.span }
 
--- what `-t` answers then
-unfoldable pub test_on : Image → Machine → ℕ → Begun → Result Answer InstallRefusal
-test_on image machine time begun = do
+-- what is answered then, by the room that there is for what is planned
+abbrev pub answer_on : (model.Begun → OwnNames → Plan → Result (List DiskSector) rooms.Refusal) → Image → Machine → ℕ → Begun → Result Answer InstallRefusal
+answer_on room image machine time begun = do
   volume ← with_fault (λ fault. Reading refusals.Layout) (volume_at image begun.volume)
-  install_checks image machine (visits volume.layout (parts_of volume image)) (test_room image machine time (begun_with begun volume)) time (begun_with begun volume)
+  install_checks image machine (visits volume.layout (parts_of volume image)) (room (begun_with begun volume)) time (begun_with begun volume)
+
+-- what `-t` answers
+unfoldable pub test_on : Image → Machine → ℕ → Begun → Result Answer InstallRefusal
+test_on image machine time begun = answer_on (test_room image machine time) image machine time begun

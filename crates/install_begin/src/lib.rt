@@ -9,5 +9,5 @@ mod laws;
 mod reading;
 
 pub use fault::BeginFault;
-pub use laws::tests_answer_as_the_model;
+pub use laws::{tests_answer_as_the_model, what_is_read_is_answered_as_the_model};
 pub use reading::{Begun, begin};

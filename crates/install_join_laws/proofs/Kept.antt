@@ -23,7 +23,7 @@ use Rattle.minix_zones.specs.declared.zone_fault.ZoneFault.TheVariants as zones
 use Rattle.install_apart_laws.proofs.Walks.{value-is}
 use Rattle.install_begin_laws.specs.Laws.{IsNoneOfMap}
 use Rattle.install_laws.specs.InstallVerdict.{Begun}
-use Rattle.install_order.specs.Begins.{AreOwn, IsBegun, LiesThere}
+use Rattle.install_order.specs.Begins.{AreApartNames, AreOwn, IsBegun, LiesThere}
 use Rattle.install_order.specs.Checks.{IsExamined}
 use Rattle.install_order.specs.Stageable.{MayStage, path_made}
 use Rattle.install_order.specs.States.{StagesFrom, is_forced}
@@ -34,13 +34,13 @@ use Rattle.install_order.proofs.BeginLemmas.{backup-apart}
 use Rattle.install_order.proofs.ReadyLemmas.{stageable}
 use Rattle.install_settle.specs.Settles.{HasNames, IsBeside, stale_of}
 use Rattle.install_stage.specs.Stages.{AreStagingBackup, IsStagingRoom, StagesRoom, with_room}
-use Rattle.install_join_laws.specs.Kept.{IsAsBefore, IsAsSettled, IsFile, IsOther, Keeps, KeepsUnplanned, KeepsUnstaged}
+use Rattle.install_join_laws.specs.Kept.{IsAsBefore, IsAsSettled, IsFile, IsOther, Keeps, KeepsUnstaged}
 use Rattle.install_join_laws.specs.KeptLaws.{BeginningKeepsLaw, KeepsSince, PlanKeepsLaw, StagingKeepsLaw, map_of}
 use Rattle.install_join_laws.specs.Steps.{HasPlanned, IsBegunWith, begun_from, machine_on}
 use Rattle.install_join_laws.proofs.Begun.{begun, boot-apart, examined, leaves, may-stage, plan-view-same, told-after}
 use Rattle.install_join_laws.proofs.Flushed.{flushed-now, flushed-view, joined}
 use Rattle.install_join_laws.proofs.KeptNames.{IsNoBackup, room-backup, room-other, settled-beside, staging-backup, staging-other}
-use Rattle.install_join_laws.proofs.KeptOwn.{AreApartNames, apart-copies, backup-beside, backup-differs, kept-then, kept-unstaged, map-differs, map-no-stale, stale-same}
+use Rattle.install_join_laws.proofs.KeptOwn.{apart-copies, backup-beside, backup-differs, kept-then, kept-unstaged, map-differs, map-no-stale, stale-same}
 
 pub beginning_keeps_law : {D : Type 0} (disks : Ghosts D) → BeginningKeepsLaw disks
 beginning_keeps_law disks entry ended config device boot names quiet there own left =
@@ -155,23 +155,12 @@ module _ {D : Type 0} {disks : Ghosts D} (entry : Volume D disks) (config : conf
   pub beginning-run : (bytes : List ℕ) → LeavesOnly (past_of entry) (past_of surveyed.volume) (Keeps Was M From names bytes)
   beginning-run bytes =
       leaves_weaker (past_of entry) (past_of surveyed.volume) _ _ ((leaves entry config boot time surveyed is).any_moment is.quiet)
-      (λ c b. kept-then Was M From names own apart bytes c (kept-unstaged Was M From names own there c b))
+      (λ c b. kept-then Was M From names own bytes c (kept-unstaged Was M From names own there c b))
 
-  pub unplanned-run : LeavesOnly (past_of entry) (past_of surveyed.volume) (KeepsUnplanned Was M From names)
+  pub unplanned-run : LeavesOnly (past_of entry) (past_of surveyed.volume) (KeepsUnstaged Was M From names)
   unplanned-run =
       leaves_weaker (past_of entry) (past_of surveyed.volume) _ _ ((leaves entry config boot time surveyed is).any_moment is.quiet)
-      (λ c b. unplanned c (kept-unstaged Was M From names own there c b))
-    where
-      unplanned : (c : Image) → KeepsUnstaged Was M From names c → KeepsUnplanned Was M From names c
-      unplanned c k = record {
-        kept = k;
-        own = k.own (apart-copies Was M From names own apart);
-        backup = each names.backup (backup-beside Was M From names own apart);
-      }
-        where
-          each : (backup : Option (List (List ℕ))) → IfSome backup (IsBeside names Forced) → IfSome backup (IsAsBefore View Was c)
-          each None beside = tt
-          each (Some path) beside = k.others path beside
+      (λ c b. kept-unstaged Was M From names own there c b)
 
   -- ---- what is staged
 
@@ -324,7 +313,7 @@ module _ {D : Type 0} {disks : Ghosts D} (entry : Volume D disks) (config : conf
 
 pub plan_keeps_law : {D : Type 0} (disks : Ghosts D) → PlanKeepsLaw disks
 plan_keeps_law disks entry config boot time surveyed halt names is there own same =
-    subst (λ (p : Option Past). LeavesOnly (past_of entry) p (KeepsUnplanned (now (past_of entry)) (machine_on entry) (begun_from entry surveyed) names)) (sym same.same_disks.same_past)
+    subst (λ (p : Option Past). LeavesOnly (past_of entry) p (KeepsUnstaged (now (past_of entry)) (machine_on entry) (begun_from entry surveyed) names)) (sym same.same_disks.same_past)
     (unplanned-run entry config boot time surveyed is there names own)
 
 pub staging_keeps_law : {D : Type 0} (disks : Ghosts D) → StagingKeepsLaw disks

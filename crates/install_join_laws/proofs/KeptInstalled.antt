@@ -412,7 +412,7 @@ module _ {D : Type 0} {disks : Ghosts D} (entry : Volume D disks) (config : conf
       tidy-run : LeavesOnly (past_of committed.volume) (past_of new) (IsTidying View Com Map)
       tidy-run = subst (λ (v : model.Volume). LeavesOnly (past_of committed.volume) (past_of new) (IsTidying v Com Map)) view-committed tidies.any_moment
 
-      map-run : LeavesOnly (past_of committed.volume) (past_of new) (IsTidiedMap Is M View S C surveyed.time places.p0 Map)
+      pub map-run : LeavesOnly (past_of committed.volume) (past_of new) (IsTidiedMap Is M View S C surveyed.time places.p0 Map)
       map-run =
           tidied_map_law Is M View S C Dev surveyed.time (room_zones planned.room) places.p0 places.p1 places.p2 places.p3 places.p4 places.rest staged.sector Map
           (past_of staged.volume) (past_of committed.volume) (past_of new) room.is room.leads committed-is

@@ -11,7 +11,7 @@ use Rattle.install_apart_laws.proofs.Names.{AreReplaced, IsBackup, are-replaced,
 use Rattle.install_apart_laws.proofs.Walks.{value-is}
 use Rattle.install_begin_laws.specs.Laws.{IsNoneOfMap}
 use Rattle.install_laws.specs.InstallVerdict.{Begun}
-use Rattle.install_order.specs.Begins.{AreOwn, IsBeginning, IsOnTheWay, LiesThere}
+use Rattle.install_order.specs.Begins.{AreApartNames, AreOwn, IsBeginning, IsOnTheWay, LiesThere}
 use Rattle.install_settle.specs.Found.{IsApartCopy}
 use Rattle.install_settle.specs.Settles.{AreSettling, HasNames, IsBeside, finishes, stale_of}
 use Rattle.install_settle.specs.declared.settling.LeftMap.{LeftMap}
@@ -19,10 +19,6 @@ use Rattle.install_settle.proofs.NamesLemmas.{apart-of}
 use Rattle.install_settle.proofs.PathLemmas.{stale-copy, tilde-differs}
 use Rattle.install_join_laws.specs.Kept.{IsAsBefore, IsAsSettled, IsFile, Keeps, KeepsUnstaged}
 use Rattle.install_join_laws.proofs.KeptNames.{finished-map, plainly, settled-beside, stale-other, with-other}
-
--- no path of a backup is one of the map's
-abbrev pub AreApartNames : OwnNames → Type 0
-AreApartNames names = IfSome names.backup (λ backup. IsNoneOfMap names.map backup × IsNoneOfMap names.map (with_tilde backup))
 
 module _ (image : Image) (machine : Machine) (begun : Begun) (names : OwnNames) (own : AreOwn image begun names) where
   abbrev Old : Names
@@ -133,34 +129,6 @@ module _ (image : Image) (machine : Machine) (begun : Begun) (names : OwnNames) 
                 ∙ ap (λ (s : Option (List (List ℕ))). settled (finishes left) names.map s Old name) (sym is))))
     settling-own apart (inr (inr (inr has))) name = inr (as-settled (finishes left) holder c name (has name))
 
-  -- ---- an image that a beginning leaves
-
-  pub kept-unstaged : LiesThere image machine begun → (c : Image) → IsBeginning image machine begun c → KeepsUnstaged image machine begun names c
-  kept-unstaged there c b = record {
-    sound = b.sound;
-    others = λ name beside. other name beside b.names;
-    own = λ apart name. either apart name b.names;
-    held = b.held there names own;
-  }
-    where
-      same : (way : IsOnTheWay image machine begun c) → way.names ≡ names
-      same way = value-is way.names names (sym way.are ∙ own)
-
-      holds : (way : IsOnTheWay image machine begun c) → Finishes image machine begun.volume begun.span names.map (finishes way.left)
-      holds way = subst (λ (n : OwnNames). Finishes image machine begun.volume begun.span n.map (finishes way.left)) (same way) way.holder
-
-      has : (way : IsOnTheWay image machine begun c) → AreSettling begun.volume image names Forced way.left c
-      has way = subst (λ (n : OwnNames). AreSettling begun.volume image n Forced way.left c) (same way) way.has
-
-      other : (name : List (List ℕ)) → IsBeside names Forced name → HasNames begun.volume c Old ⊎ IsOnTheWay image machine begun c → IsAsBefore begun.volume image c name
-      other name beside (inl before) = before name
-      other name beside (inr way) = settling-other c way.left (holds way) (has way) name beside
-
-      either : IsApartCopy names → (name : List (List ℕ)) → HasNames begun.volume c Old ⊎ IsOnTheWay image machine begun c
-          → IsAsBefore begun.volume image c name ⊎ IsAsSettled image machine begun names c name
-      either apart name (inl before) = inl (before name)
-      either apart name (inr way) = settling-own c way.left (holds way) apart (has way) name
-
   -- ---- where the names are apart
 
   module _ (apart : AreApartNames names) where
@@ -184,22 +152,67 @@ module _ (image : Image) (machine : Machine) (begun : Begun) (names : OwnNames) 
             at true = subst (λ (o : Option (List (List ℕ))). IfSome o (λ backup. path ≢ with_tilde backup)) (sym is) differs
             at false = tt
 
-    -- what is kept until then is kept at every moment
-    pub kept-then : (bytes : List ℕ) (c : Image) → KeepsUnstaged image machine begun names c → Keeps image machine begun names bytes c
-    kept-then bytes c k = record {
-      sound = k.sound;
-      others = λ name other. k.others name other.beside;
-      map = by (k.own apart-copies names.map);
-      backup = each names.backup backup-beside;
-      held = k.held;
-    }
-      where
-        by : IsAsBefore begun.volume image c names.map ⊎ IsAsSettled image machine begun names c names.map
-            → IsAsBefore begun.volume image c names.map ⊎ (IsAsSettled image machine begun names c names.map ⊎ IsFile begun.volume c bytes names.map)
-        by (inl before) = inl before
-        by (inr settled-is) = inr (inl settled-is)
+  -- ---- an image that a beginning leaves
 
-        each : (backup : Option (List (List ℕ))) → IfSome backup (IsBeside names Forced)
-            → IfSome backup (λ path. IsAsBefore begun.volume image c path ⊎ IsFile begun.volume c (image begun.span.disk begun.span.start) path)
-        each None beside = tt
-        each (Some path) beside = inl (k.others path beside)
+  pub kept-unstaged : LiesThere image machine begun → (c : Image) → IsBeginning image machine begun c → KeepsUnstaged image machine begun names c
+  kept-unstaged there c b = record {
+    sound = b.sound;
+    others = λ name beside. other name beside b.names;
+    own = λ name. either name b.names;
+    backup = at b.names;
+    held = b.held there names own;
+  }
+    where
+      same : (way : IsOnTheWay image machine begun c) → way.names ≡ names
+      same way = value-is way.names names (sym way.are ∙ own)
+
+      apart-there : (way : IsOnTheWay image machine begun c) → AreApartNames names
+      apart-there way = subst AreApartNames (same way) way.apart
+
+      holds : (way : IsOnTheWay image machine begun c) → Finishes image machine begun.volume begun.span names.map (finishes way.left)
+      holds way = subst (λ (n : OwnNames). Finishes image machine begun.volume begun.span n.map (finishes way.left)) (same way) way.holder
+
+      has : (way : IsOnTheWay image machine begun c) → AreSettling begun.volume image names Forced way.left c
+      has way = subst (λ (n : OwnNames). AreSettling begun.volume image n Forced way.left c) (same way) way.has
+
+      other : (name : List (List ℕ)) → IsBeside names Forced name → HasNames begun.volume c Old ⊎ IsOnTheWay image machine begun c → IsAsBefore begun.volume image c name
+      other name beside (inl before) = before name
+      other name beside (inr way) = settling-other c way.left (holds way) (has way) name beside
+
+      either : (name : List (List ℕ)) → HasNames begun.volume c Old ⊎ IsOnTheWay image machine begun c
+          → IsAsBefore begun.volume image c name ⊎ IsAsSettled image machine begun names c name
+      either name (inl before) = inl (before name)
+      either name (inr way) = settling-own c way.left (holds way) (apart-copies (apart-there way)) (has way) name
+
+      each : (backup : Option (List (List ℕ))) (P Q : List (List ℕ) → Type 0) → ((path : List (List ℕ)) → P path → Q path) → IfSome backup P → IfSome backup Q
+      each None P Q from holds = tt
+      each (Some path) P Q from holds = from path holds
+
+      itself : (backup : Option (List (List ℕ))) → IfSome backup (λ path. path ≡ path)
+      itself None = tt
+      itself (Some path) = refl
+
+      at : HasNames begun.volume c Old ⊎ IsOnTheWay image machine begun c → IfSome names.backup (IsAsBefore begun.volume image c)
+      at (inl before) = each names.backup (λ path. path ≡ path) (IsAsBefore begun.volume image c) (λ path here. before path) (itself names.backup)
+      at (inr way) =
+          each names.backup (IsBeside names Forced) (IsAsBefore begun.volume image c) (λ path beside. other path beside (inr way)) (backup-beside (apart-there way))
+
+  -- what is kept until then is kept at every moment
+  pub kept-then : (bytes : List ℕ) (c : Image) → KeepsUnstaged image machine begun names c → Keeps image machine begun names bytes c
+  kept-then bytes c k = record {
+    sound = k.sound;
+    others = λ name other. k.others name other.beside;
+    map = by (k.own names.map);
+    backup = each names.backup k.backup;
+    held = k.held;
+  }
+    where
+      by : IsAsBefore begun.volume image c names.map ⊎ IsAsSettled image machine begun names c names.map
+          → IsAsBefore begun.volume image c names.map ⊎ (IsAsSettled image machine begun names c names.map ⊎ IsFile begun.volume c bytes names.map)
+      by (inl before) = inl before
+      by (inr settled-is) = inr (inl settled-is)
+
+      each : (backup : Option (List (List ℕ))) → IfSome backup (IsAsBefore begun.volume image c)
+          → IfSome backup (λ path. IsAsBefore begun.volume image c path ⊎ IsFile begun.volume c (image begun.span.disk begun.span.start) path)
+      each None before = tt
+      each (Some path) before = inl before

@@ -8,3 +8,4 @@ pub mod KeptNames
 pub mod KeptOwn
 pub mod Kept
 pub mod KeptInstalled
+pub mod LaidInstalled

@@ -70,7 +70,7 @@ unfolding replaceable_name
 replaceable at true text path place file tilde = let too = tilde refl in rw (place, file, too) refl
 replaceable at false text path place file tilde = rw (place, file) refl
 
-module _ (entry : Image) (machine : Machine) (begun : Begun) (found : Examined) (copies : found.settling.copy ≡ true → is_some begun.config.force_backup ≡ true) (c : Image)
+module _ (entry : Image) (machine : Machine) (begun : Begun) (found : Examined) (c : Image)
     (sound : IsSound begun.volume entry) (is : IsBegun entry machine begun found c) where
   abbrev Old : Names
   Old = names_in begun.volume entry
@@ -91,7 +91,7 @@ module _ (entry : Image) (machine : Machine) (begun : Begun) (found : Examined) 
   own-files = files entry begun.volume begun.config begun.boot Foreign is.names is.are
 
   settled-has : HasSettled begun.volume entry c is.names Forced is.settled.finishes
-  settled-has = has-settled entry machine begun found copies c is
+  settled-has = has-settled entry machine begun found c is
 
   all-alike : AreAlike Old New
   all-alike = alike begun.volume entry c is.names Forced is.settled.finishes sound settled-has own-files

@@ -2,7 +2,6 @@
 use Rattle.std.proofs.Common.{◌≡◌, ◌≤◌, ℕ, Bool, true, false, is_some, List, [], ◌∷◌, length, Option, None, Ok, refl, sym, ◌∙◌, ap, subst, subst₂, arith}
 use Rattle.std.specs.Prelude.{IfSome}
 use Rattle.std.specs.Option.{option_map}
-use Rattle.std.proofs.lemmas.Bool.{and_parts}
 use Rattle.std.proofs.lemmas.List.{length-map}
 use Rattle.disk_trait.specs.declared.disks.Disks.{Ghosts}
 use Rattle.disk_trait.specs.declared.disks.Span as spans
@@ -133,12 +132,9 @@ module _ {D : Type 0} {disks : Ghosts D} (entry : Volume D disks) (config : conf
       clash : true ≡ false → ⊥
       clash off = cc
 
-  copies : surveyed.found.settling.copy ≡ true → is_some C.force_backup ≡ true
-  copies copy = (and_parts _ _ (sym is.known.fits.copies ∙ copy)).0
-
   own : settles.own_names (names_in View Is) C Dev Foreign ≡ Ok names
   unfolding names
-  own = own-still Was M From surveyed.found copies Is (examined entry config boot time surveyed is).sound did
+  own = own-still Was M From surveyed.found Is (examined entry config boot time surveyed is).sound did
 
   found-now : span_of Is M Dev ≡ Ok S
   found-now = lies.devices.boots ∙ lies.there

@@ -9,7 +9,6 @@ use Rattle.lilo_model.specs.NamePlaces.{with_tilde}
 use Rattle.lilo_model.specs.Settled as model
 use Rattle.lilo_model.specs.Settled.{Held, IsSettled}
 use Rattle.install_laws.specs.InstallVerdict.{Begun}
-use Rattle.install_settle.specs.Found.{IsApartCopy}
 use Rattle.install_settle.specs.Settles.{IsBeside, stale_of}
 
 -- ---- what is at a name
@@ -36,19 +35,14 @@ pub record IsAsSettled (image : Image) (machine : Machine) (begun : Begun) (name
 
 -- ---- until the map and the backup are made
 
--- The volume is sound where it was. Each name is as before but the map's two, and that of a forced backup with `~`; where the backup's
--- name with `~` is neither of the map's, each is as before or as in Settled. The image is Held where it was.
+-- The volume is sound where it was. Each name is as before or as in Settled, and as before but the map's two, and that of a forced backup
+-- with `~`; so the backup is as before. The image is Held where it was.
 pub record KeepsUnstaged (image : Image) (machine : Machine) (begun : Begun) (names : model.OwnNames) (c : Image) : Type 0 where
   pub sound : IsSound begun.volume image → IsSound begun.volume c
   pub others : (name : List (List ℕ)) → IsBeside names (is_some begun.config.force_backup) name → IsAsBefore begun.volume image c name
-  pub own : IsApartCopy names → (name : List (List ℕ)) → IsAsBefore begun.volume image c name ⊎ IsAsSettled image machine begun names c name
-  pub held : Held image machine begun.volume begun.span names.map → Held c machine begun.volume begun.span names.map
-
--- The same of what may be planned: the configuration is apart, so each name is as before or as in Settled, and the backup as before.
-pub record KeepsUnplanned (image : Image) (machine : Machine) (begun : Begun) (names : model.OwnNames) (c : Image) : Type 0 where
-  pub kept : KeepsUnstaged image machine begun names c
   pub own : (name : List (List ℕ)) → IsAsBefore begun.volume image c name ⊎ IsAsSettled image machine begun names c name
   pub backup : IfSome names.backup (IsAsBefore begun.volume image c)
+  pub held : Held image machine begun.volume begun.span names.map → Held c machine begun.volume begun.span names.map
 
 -- ---- at every moment
 

@@ -20,7 +20,7 @@ use Rattle.install_order.specs.declared.planned.Planned.{Planned}
 use Rattle.install_order.specs.declared.staged.Staged.{Staged}
 use Rattle.install_order.specs.declared.surveyed.Surveyed.{Surveyed}
 use Rattle.install_stage.specs.MapFile.{map_bytes}
-use Rattle.install_join_laws.specs.Kept.{HasBackup, IsInstalled, Keeps, KeepsUnplanned, KeepsUnstaged}
+use Rattle.install_join_laws.specs.Kept.{HasBackup, IsInstalled, Keeps, KeepsUnstaged}
 use Rattle.install_join_laws.specs.Steps.{begun_from, machine_on, HasPlanned, HasStaged, IsBegunWith, LiesOnDisks}
 
 -- ---- the words
@@ -41,7 +41,8 @@ KeepsSince entry surveyed planned names =
 
 -- ---- at every moment
 
--- whatever a stop leaves of a beginning, also of one that was refused, keeps all names but those that settling changes
+-- whatever a stop leaves of a beginning, also of one that was refused, keeps all names but those that settling changes, and these as before
+-- or as in Settled
 abbrev pub BeginningKeepsLaw : {D : Type 0} → Ghosts D → Type 0
 BeginningKeepsLaw {D} disks =
     (entry ended : Volume D disks) (config : Config) (device : Device) (boot : Span) (names : model.OwnNames)
@@ -60,7 +61,7 @@ PlanKeepsLaw {D} disks =
     → LiesThere (now (past_of entry)) (machine_on entry) (begun_from entry surveyed) → AreNamesOf entry surveyed names
     → SameVolume surveyed.volume halt.volume
     → LeavesOnly (past_of entry) (past_of halt.volume)
-    (KeepsUnplanned (now (past_of entry)) (machine_on entry) (begun_from entry surveyed) names)
+    (KeepsUnstaged (now (past_of entry)) (machine_on entry) (begun_from entry surveyed) names)
 
 -- at every moment since its entry an installation whose staging was refused keeps the others, the map and the backup
 abbrev pub StagingKeepsLaw : {D : Type 0} → Ghosts D → Type 0

@@ -2,3 +2,4 @@ pub mod Steps
 pub mod Laws
 pub mod Kept
 pub mod KeptLaws
+pub mod LaidLaws

@@ -16,11 +16,12 @@ ghost use Rattle.install_join_laws.specs.KeptLaws.{
   PlanKeepsLaw,
   StagingKeepsLaw,
 };
+ghost use Rattle.install_join_laws.specs.LaidLaws.{CommittedLaysLaw, InstalledLaysLaw};
 
 use disk_trait::Disks;
 
-/// At every moment a stop of a beginning, also of one that was refused, leaves what boots as before, where the old map is
-/// Clear.
+/// At every moment a stop of a beginning, also of one that was refused, leaves what boots as before, where the old map
+/// is Clear.
 pub fn stopped_beginning_leaves_what_boots_as_before<D: Disks>()
     ensures { BeginningStopsLaw D.Disks }
 {}
@@ -45,25 +46,26 @@ pub fn commit_ends_an_installation<D: Disks>()
     ensures { InstallationCommitEndsLaw D.Disks }
 {}
 
-/// One that is committed has the headline, whether or not its tidying was refused: at every moment a stop leaves what boots
-/// as before or as is meant, the same of the two for all keys and any memory, and from the commit on only as is meant.
+/// One that is committed has the headline, whether or not its tidying was refused: at every moment a stop leaves what
+/// boots as before or as is meant, the same of the two for all keys and any memory, and from the commit on only as is
+/// meant.
 pub fn installation_is_the_headline<D: Disks>()
     ensures { InstallationLaw D.Disks }
 {}
 
-/// At every moment a beginning, also one that was refused, leaves a sound volume sound, a Held image Held and all names as before
-/// but those that settling changes.
+/// At every moment a beginning, also one that was refused, leaves a sound volume sound, a Held image Held and all names
+/// as before but those that settling changes, and these as before or as in Settled.
 pub fn beginning_keeps_names<D: Disks>()
     ensures { BeginningKeepsLaw D.Disks }
 {}
 
-/// So does an installation whose plan was refused, with each name as before or as in Settled, and the backup as before.
+/// So does an installation whose plan was refused, with the backup as before.
 pub fn stopped_plan_keeps_names<D: Disks>()
     ensures { PlanKeepsLaw D.Disks }
 {}
 
-/// An installation that ended in its staging keeps a sound volume sound and a Held image Held, at every moment, and every name
-/// as before but the map's and the backup's, which are as before, settled or whole.
+/// An installation that ended in its staging keeps a sound volume sound and a Held image Held, at every moment, and
+/// every name as before but the map's and the backup's, which are as before, settled or whole.
 pub fn stopped_staging_keeps_names<D: Disks>()
     ensures { StagingKeepsLaw D.Disks }
 {}
@@ -86,4 +88,15 @@ pub fn committed_installation_has_its_backup<D: Disks>()
 /// Once it is done, the map is the whole new map, its backup is there, and nothing is at their names with `~`.
 pub fn done_installation_has_its_map<D: Disks>()
     ensures { InstalledLaw D.Disks }
+{}
+
+/// From the commit on, also where tidying was refused, the map lies as it was planned, in the file at the path of `map` or
+/// at that with `~`, and what stays of the boot sector that was there is there.
+pub fn committed_map_lies_as_planned<D: Disks>()
+    ensures { CommittedLaysLaw D.Disks }
+{}
+
+/// Once it is done, the map lies so in the file at the path of `map` itself.
+pub fn done_map_lies_as_planned<D: Disks>()
+    ensures { InstalledLaysLaw D.Disks }
 {}

@@ -1,5 +1,6 @@
 -- What a beginning leaves, from what settling does.
 use Rattle.std.proofs.Common.{◌≡◌, ◌&&◌, ◌↔◌, ℕ, Bool, true, false, List, Option, None, Some, Result, Ok, Err, OnOk, refl, sym, ◌∙◌, ap, subst, inr}
+use Rattle.std.proofs.lemmas.Bool.{and_parts}
 use Rattle.std.specs.Prelude.{IfSome, is_some}
 use Rattle.disk_trait.specs.declared.disks.Disks.{Ghosts}
 use Rattle.disk_trait.specs.Moments.{IsTold, now, IsQuiet, LeavesOnly}
@@ -37,7 +38,7 @@ use Rattle.old_map.specs.Clear.{clear_answer}
 use Rattle.old_map.specs.Old.{IsOldMap}
 use Rattle.install_settle.specs.Found.{IsApartCopy, is_copy_there, left_map}
 use Rattle.install_settle.specs.Settles.{finishes, stale_of, SettlesRight, IsSettling, IsSettledIn, Settles}
-use Rattle.install_order.specs.Begins.{LiesThere, IsBeginning, IsBegun, AnswersClear}
+use Rattle.install_order.specs.Begins.{AreApartNames, LiesThere, IsBeginning, IsBegun, AnswersClear}
 use Rattle.install_order.specs.Checks.{IsExamined}
 use Rattle.install_order.specs.declared.examination.Examined.{Examined}
 
@@ -98,6 +99,19 @@ module _ (image : Image) (machine : Machine) (begun : Begun) (found : Examined) 
       by true same copy = same
       by false same copy = let none = no-copy same in cc
 
+  -- ---- what is known of what may be settled
+
+  pub backup-apart : AreApartNames is.names
+  backup-apart = apart_backup_law image machine begun.volume begun.config begun.boot foreign is.names is.apart is.are
+
+  pub apart-copy : IsApartCopy is.names
+  apart-copy = by is.names.backup backup-apart
+    where
+      by : (backup : Option (List (List ℕ))) → IfSome backup (λ backup. IsNoneOfMap is.names.map backup × IsNoneOfMap is.names.map (with_tilde backup))
+          → IfSome backup (λ backup. IsNoneOfMap is.names.map (with_tilde backup))
+      by None apart = tt
+      by (Some backup) apart = apart.1
+
   -- ---- an image that is left
 
   module _ (c : Image) (settling : IsSettling begun.volume image is.names forced found.settling c)
@@ -110,7 +124,7 @@ module _ (image : Image) (machine : Machine) (begun : Begun) (found : Examined) 
     pub beginning : IsBeginning image machine begun c
     beginning = record {
       sound = λ sound. settling.sound;
-      names = inr (record { names = is.names; are = is.are; left = found.settling.map; holder = right.holder; has = settling.has });
+      names = inr (record { names = is.names; are = is.are; apart = backup-apart; left = found.settling.map; holder = right.holder; has = settling.has });
       boot = boot-stays;
       held = λ there names are held.
           let same : names ≡ is.names = value-is names is.names (sym are ∙ is.are) in
@@ -121,7 +135,8 @@ module _ (image : Image) (machine : Machine) (begun : Begun) (found : Examined) 
 
   -- ---- once it is settled
 
-  module _ (c : Image) (done : IsSettledIn begun.volume image is.names forced found.settling c) (left : IsBeginning image machine begun c) (gains : GainsNothing begun.volume image c) where
+  module _ (c : Image) (done : IsSettledIn begun.volume image is.names forced found.settling c) (left : IsBeginning image machine begun c) (gains : GainsNothing begun.volume image c)
+      (apart : (d s : ℕ) → IsApartSector begun.volume d s → c d s ≡ image d s) where
     stale-same : (f : Bool) → foreign ≡ f → stale_of forced is.names ≡ stale_backup f (stale_of forced is.names)
     stale-same true same = refl
     stale-same false same = by forced
@@ -139,6 +154,7 @@ module _ (image : Image) (machine : Machine) (begun : Begun) (found : Examined) 
 
     pub begun-is : IsBegun image machine begun found c
     begun-is = record {
+      was_sound = is.sound;
       sound = done.sound;
       left = left;
       names = is.names;
@@ -148,28 +164,15 @@ module _ (image : Image) (machine : Machine) (begun : Begun) (found : Examined) 
         holder = right.holder;
         is = λ name. done.has name ∙ ap (λ (s : Option (List (List ℕ))). settled (finishes found.settling.map) is.names.map s (names_in begun.volume image) name) (stale-same foreign refl);
       };
+      copies = λ copy. (and_parts _ _ (sym is.settling.copy ∙ copy)).0;
       paths = done.paths;
       file = done.file;
+      keeps = done.keeps;
       gains = gains;
+      outside = apart;
       clear = λ there clear. clear_again_law begun.volume machine begun.span image c clear (left.spared there clear) gains;
       map = map-stays;
     }
-
-  -- ---- what is known of what may be settled
-
-  -- the backup's names are none of the map's
-  abbrev AreApart : List (List ℕ) → Type 0
-  AreApart backup = IsNoneOfMap is.names.map backup × IsNoneOfMap is.names.map (with_tilde backup)
-
-  pub backup-apart : IfSome is.names.backup AreApart
-  backup-apart = apart_backup_law image machine begun.volume begun.config begun.boot foreign is.names is.apart is.are
-
-  pub apart-copy : IsApartCopy is.names
-  apart-copy = by is.names.backup backup-apart
-    where
-      by : (backup : Option (List (List ℕ))) → IfSome backup AreApart → IfSome backup (λ backup. IsNoneOfMap is.names.map (with_tilde backup))
-      by None apart = tt
-      by (Some backup) apart = apart.1
 
 -- ---- a run
 
@@ -213,10 +216,13 @@ module _ {D : Type 0} {disks : Ghosts D} (old new : Volume D disks) (machine : M
           (λ c three. beginning Was machine begun found is c three.0.0 three.0.1 (λ off. three.1))
 
   -- what the disks hold now
+  stays-outside : Outside (now (past_of new))
+  stays-outside d s apart = (not_written_stays (past_of old) (past_of new) d s (outside d s apart)).0
+
   pub begins-now : IsBeginning Was machine begun (now (past_of new))
   begins-now = beginning Was machine begun found is (now (past_of new))
       (subst (λ v. IsSettling v Was is.names (is_some begun.config.force_backup) found.settling (now (past_of new))) (sym at) (settles.left told))
-      (λ d s apart. (not_written_stays (past_of old) (past_of new) d s (outside d s apart)).0)
+      stays-outside
       (λ copy place not. (not_written_stays (past_of old) (past_of new) place.disk place.sector (others copy place not)).0)
 
   pub begins-done : result ≡ Ok tt → IsBegun Was machine begun found (now (past_of new))
@@ -226,6 +232,7 @@ module _ {D : Type 0} {disks : Ghosts D} (old new : Volume D disks) (machine : M
       begins-now
       (subst (λ (v : volumes.Volume). GainsNothing v Was (now (past_of new))) (sym at)
       (subst (λ (r : Result (Unit {0}) WriteFault). OnOk r (GainsNothing (volume_view old) Was (now (past_of new)))) ok (settles.gains told)))
+      stays-outside
 
 -- ---- whether the map is Clear
 

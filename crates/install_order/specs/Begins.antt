@@ -1,9 +1,11 @@
 -- What the beginning of an installation leaves, at any moment of it and once it is done (a rule of this project's own).
-use Rattle.std.specs.Prelude.{◌≡◌, ◌⊎◌, ◌↔◌, ◌&&◌, Bool, true, false, is_some, Option, None, Some, Ok}
+use Rattle.std.specs.Prelude.{◌≡◌, ◌⊎◌, ℕ, ◌↔◌, ◌&&◌, Bool, true, false, IfSome, is_some, Option, None, Some, Ok}
 use Rattle.lilo_model.specs.Clear.{Clear}
 use Rattle.lilo_model.specs.Disks.{Image, Machine}
 use Rattle.lilo_model.specs.Mapped.{mapped_sectors}
 use Rattle.lilo_model.specs.MinixNames.{names_in, IsSound}
+use Rattle.lilo_model.specs.MinixParts.{parts_of}
+use Rattle.lilo_model.specs.NamePlaces.{with_tilde}
 use Rattle.lilo_model.specs.Partitions.{span_of}
 use Rattle.lilo_model.specs.Settled as model
 use Rattle.lilo_model.specs.Settled.{Finishes, Held, IsSettled, is_foreign, own_names}
@@ -11,10 +13,12 @@ use Rattle.boot_laws.specs.SameOn.{SameOn}
 use Rattle.minix_layout.specs.View.{kind_view}
 use Rattle.minix_layout.specs.declared.superblock.Super.{Super}
 use Rattle.minix_names.specs.Component.{IsFileName}
+use Rattle.minix_sees_laws.specs.Tree.{KeepsNamed}
 use Rattle.install_apart.specs.Own.{AreInside, AreOwnTwins, AreReplaceable, IsBackupNamed}
-use Rattle.install_begin_laws.specs.Laws.{GainsNothing}
+use Rattle.install_begin_laws.specs.Laws.{GainsNothing, IsNoneOfMap}
 use Rattle.install_laws.specs.Boots.{HasBootOf}
 use Rattle.install_laws.specs.InstallVerdict.{Begun}
+use Rattle.install_laws.specs.Writes.{IsApartSector}
 use Rattle.install_settle.specs.Found.{IsCopyLeft, IsLeft, has_copy}
 use Rattle.install_settle.specs.Settles.{HasNames, AreSettling, KeepsPaths, KeepsMap, finishes, stale_of}
 use Rattle.install_settle.specs.declared.settling.LeftMap.{LeftMap}
@@ -46,11 +50,16 @@ pub record FitsVolume (layout : Super) (forced : Bool) (found : Examined) : Type
 
 -- ---- at any moment
 
+-- no name of the backup, with `~` or without, is one of the map's
+abbrev pub AreApartNames : model.OwnNames → Type 0
+AreApartNames names = IfSome names.backup (λ backup. IsNoneOfMap names.map backup × IsNoneOfMap names.map (with_tilde backup))
+
 -- Names are on the way to the settled ones: as before, or both names of the map are on the one file, or the map is
--- settled, or all is
+-- settled, or all is; and the backup's names are none of the map's
 pub record IsOnTheWay (image : Image) (machine : Machine) (begun : Begun) (c : Image) : Type 0 where
   pub names : model.OwnNames
   pub are : AreOwn image begun names
+  pub apart : AreApartNames names
   pub left : LeftMap
   pub holder : Finishes image machine begun.volume begun.span names.map (finishes left)
   pub has : AreSettling begun.volume image names (is_some begun.config.force_backup) left c
@@ -68,18 +77,23 @@ pub record IsBeginning (image : Image) (machine : Machine) (begun : Begun) (c : 
 
 -- ---- once it is done
 
--- Names are settled, other paths lead where they led, and `map` where it or `map~` did, no inode refers to another zone than
--- before, and a Clear map is Clear again, with what was read of it
+-- On a sound volume, and a sound one still, Names are settled, other paths lead where they led, and `map` where it or `map~` did, a
+-- copy is removed only of a forced backup, what is named before and after stays, no inode refers to another zone than before, what
+-- isn't the volume's, or is of its block 0, is as it was, and a Clear map is Clear again, with what was read of it
 pub record IsBegun (image : Image) (machine : Machine) (begun : Begun) (found : Examined) (c : Image) : Type 0 where
+  pub was_sound : IsSound begun.volume image
   pub sound : IsSound begun.volume c
   pub left : IsBeginning image machine begun c
   pub names : model.OwnNames
   pub are : AreOwn image begun names
   pub settled : IsSettled image machine begun.volume begun.span names.map (stale_of (is_some begun.config.force_backup) names)
       (names_in begun.volume image) (names_in begun.volume c)
+  pub copies : found.settling.copy ≡ true → is_some begun.config.force_backup ≡ true
   pub paths : KeepsPaths begun.volume image names found.settling.copy c
   pub file : KeepsMap begun.volume image names settled.finishes c
+  pub keeps : KeepsNamed begun.volume.layout (parts_of begun.volume image) (parts_of begun.volume c)
   pub gains : GainsNothing begun.volume image c
+  pub outside : (d s : ℕ) → IsApartSector begun.volume d s → c d s ≡ image d s
   pub clear : LiesThere image machine begun → Clear begun.volume image machine begun.span → Clear begun.volume c machine begun.span
   pub map : LiesThere image machine begun → Clear begun.volume image machine begun.span
       → IsOldMap begun.volume c machine begun.span found.old

@@ -1,5 +1,17 @@
 // An installation begins.
-ghost use Rattle.std.specs.Prelude.{◌≡◌, ◌≢◌, ◌<◌, ◌≤◌, true, false, is_some, IfOk, IfErr, IfSome, Some};
+ghost use Rattle.std.specs.Prelude.{
+  ◌≡◌,
+  ◌≢◌,
+  ◌<◌,
+  ◌≤◌,
+  true,
+  false,
+  is_some,
+  IfOk,
+  IfErr,
+  IfSome,
+  Some,
+};
 ghost use Rattle.disk_trait.specs.Moments.{IsTold, IsQuiet};
 ghost use Rattle.disk_trait.specs.Past.{Told};
 ghost use Rattle.lilo_model.specs.ConfLawful.{IsLawful};
@@ -8,7 +20,17 @@ ghost use Rattle.mbr_table.specs.View.{device_view};
 ghost use Rattle.minix_zones.specs.View.{span_view};
 ghost use Rattle.minix_zones.specs.Volume.{volume_view, past_of, sizes_of, faults_of, SameVolume};
 ghost use Rattle.sector_address.specs.Machine.{OnDisks};
-ghost use Rattle.install_order.specs.Answers.{volume_in, found_in, IsFor, IsKnown, IsLookedAt, Leaves, Promises, SaysClear, Settled};
+ghost use Rattle.install_order.specs.Answers.{
+  volume_in,
+  found_in,
+  IsFor,
+  IsKnown,
+  IsLookedAt,
+  Leaves,
+  Promises,
+  SaysClear,
+  Settled,
+};
 ghost use Rattle.install_order.specs.Checks.{IsLaid, GivesExamined};
 ghost use Rattle.install_order.specs.Faults.{HasInstallCause};
 ghost use Rattle.install_order.specs.Plans.{Surveys};
@@ -79,7 +101,8 @@ impl<'d, D: Disks> Surveyed<'d, D> {
         ensures known { IfOk result IsKnown }
         ensures clear { IfSome config.boot (λ device.
             IfOk result (SaysClear volume.entry (begun_of volume.entry config device boot))) }
-        ensures cause { IfErr result (λ halt. HasInstallCause (faults_of volume.entry) (faults_of halt.volume) halt.fault) }
+        ensures cause { IfErr result (λ halt.
+            HasInstallCause (faults_of volume.entry) (faults_of halt.volume) halt.fault) }
         ensures phase { IfErr result (λ halt. halt.phase ≡ Phase.Before) }
         ensures later { faults_of volume.entry ≤ faults_of (volume_in result) }
 
@@ -110,10 +133,12 @@ impl<'d, D: Disks> Surveyed<'d, D> {
             (begun_of self.entry.volume self.entry.config self.entry.device self.entry.boot) }
         ensures settled { IfOk result (Settled self.entry.volume
             (begun_of self.entry.volume self.entry.config self.entry.device self.entry.boot)) }
-        ensures quiet { IsQuiet (past_of self.entry.volume) → IfOk result (λ surveyed. IsQuiet (past_of surveyed.volume)) }
+        ensures quiet { IsQuiet (past_of self.entry.volume)
+            → IfOk result (λ surveyed. IsQuiet (past_of surveyed.volume)) }
         ensures held { IfOk result (IsLookedAt self.entry) }
         ensures known { IfOk result IsKnown }
-        ensures device { IsTold (past_of self.entry.volume) → IfErr result (λ halt. halt.fault ≡ InstallFault.Device) }
+        ensures device { IsTold (past_of self.entry.volume)
+            → IfErr result (λ halt. halt.fault ≡ InstallFault.Device) }
         ensures cause { IfErr result (λ halt.
             HasInstallCause (faults_of self.entry.volume) (faults_of halt.volume) halt.fault) }
         ensures phase { IfErr result (λ halt. halt.phase ≡ Phase.Before) }
@@ -167,7 +192,8 @@ impl<'d, D: Disks> Surveyed<'d, D> {
             (span_view boot) (found_in result))) }
         ensures refused { IfErr result (λ halt. halt.fault ≢ InstallFault.Device
             → past_of halt.volume ≡ past_of volume.entry) }
-        ensures cause { IfErr result (λ halt. HasInstallCause (faults_of volume.entry) (faults_of halt.volume) halt.fault) }
+        ensures cause { IfErr result (λ halt.
+            HasInstallCause (faults_of volume.entry) (faults_of halt.volume) halt.fault) }
         ensures phase { IfErr result (λ halt. halt.phase ≡ Phase.Before) }
 
         // What is settled, at any moment and in the end.
@@ -177,7 +203,8 @@ impl<'d, D: Disks> Surveyed<'d, D> {
             IfOk result (Settled volume.entry (begun_of volume.entry config device boot))) }
         ensures promises { IsQuiet (past_of volume.entry) → IfSome config.boot (λ device.
             IfOk result (Promises volume.entry (begun_of volume.entry config device boot))) }
-        ensures quiet { IsQuiet (past_of volume.entry) → IfOk result (λ surveyed. IsQuiet (past_of surveyed.volume)) }
+        ensures quiet { IsQuiet (past_of volume.entry)
+            → IfOk result (λ surveyed. IsQuiet (past_of surveyed.volume)) }
         ensures held { IfOk result (IsFor config boot now true) }
         ensures known { IfOk result IsKnown }
         ensures surveyed { IfSome config.boot (λ device.

@@ -9,7 +9,12 @@ ghost use Rattle.minix_zones.specs.Volume.{volume_view, past_of, faults_of, Same
 ghost use Rattle.install_apart.specs.Names.{ArePairsInside, AreTwins};
 ghost use Rattle.install_apart.specs.Own.{AreInside, AreOwnTwins, IsBackupInside, IsBackupTwins};
 ghost use Rattle.install_order.specs.Faults.{HasInstallCause};
-ghost use Rattle.install_order.specs.Stageable.{BackupLiesWhereSound, IsSmallWhereRead, LieWhereSound, PairLiesWhereSound};
+ghost use Rattle.install_order.specs.Stageable.{
+  BackupLiesWhereSound,
+  IsSmallWhereRead,
+  LieWhereSound,
+  PairLiesWhereSound,
+};
 
 use crate::fault::InstallFault;
 use disk_trait::Disks;

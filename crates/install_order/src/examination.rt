@@ -84,7 +84,8 @@ fn find_present<D: Disks>(
 ) -> Result<Present, InstallFault>
     requires on_disk { boot.start < sizes_of volume.old boot.disk }
     ensures found { OnDisks D.Disks volume.old.disks.now (λ now machine. IsSound (volume_view volume.old) now
-        → GivesPresent now machine (volume_view volume.old) (config_view config.now) (device_view device) (span_view boot) result) }
+        → GivesPresent now machine (volume_view volume.old) (config_view config.now) (device_view device)
+        (span_view boot) result) }
     ensures files { IfOk result (λ found. AreReplaceable (is_some config.now.force_backup) found.own) }
     ensures inside { IfOk result (λ found. AreInside volume.old.layout found.own) }
     ensures twins { IfOk result (λ found. AreOwnTwins found.own) }
@@ -147,9 +148,9 @@ fn find_rest<D: Disks>(
     }
 }
 
-/// What an installation finds before it writes anything: a survey finds the volume sound, the configuration is apart from
-/// what is written, the names that it replaces may be, and a rename that is to be finished has a link left. Nothing is
-/// written.
+/// What an installation finds before it writes anything: a survey finds the volume sound, the configuration is apart
+/// from what is written, the names that it replaces may be, and a rename that is to be finished has a link left.
+/// Nothing is written.
 ///
 /// # Errors
 ///
@@ -164,7 +165,8 @@ pub fn examine<D: Disks>(
     requires laid { Told (past_of volume.old) (IsLaid (volume_view volume.old)) }
     requires on_disk { boot.start < sizes_of volume.old boot.disk }
     ensures found { OnDisks D.Disks volume.old.disks.now (λ now machine.
-        GivesExamined now machine (volume_view volume.old) (config_view config.now) (device_view device) (span_view boot) result) }
+        GivesExamined now machine (volume_view volume.old) (config_view config.now) (device_view device)
+        (span_view boot) result) }
     ensures files { IfOk result (λ found. AreReplaceable (is_some config.now.force_backup) found.own) }
     ensures inside { IfOk result (λ found. AreInside volume.old.layout found.own) }
     ensures twins { IfOk result (λ found. AreOwnTwins found.own) }
@@ -174,7 +176,8 @@ pub fn examine<D: Disks>(
     ensures left { IfOk result (λ found.
         IsLeft (kind_view volume.old.layout.kind) found.own.map found.settling.map) }
     ensures copy { IfOk result (λ found. IsCopyLeft found.own.backup found.settling.copy) }
-    ensures copies { IfOk result (λ found. found.settling.copy ≡ (is_some config.now.force_backup && has_copy found.own.backup)) }
+    ensures copies { IfOk result (λ found.
+        found.settling.copy ≡ (is_some config.now.force_backup && has_copy found.own.backup)) }
     ensures cause { IfErr result (HasInstallCause (faults_of volume.old) (faults_of volume.new)) }
     ensures later { faults_of volume.old ≤ faults_of volume.new }
     ensures same { SameVolume volume.old volume.new }

@@ -7,7 +7,16 @@ ghost use Rattle.install_apart.specs.Faults.{HasNameCause};
 ghost use Rattle.install_settle.specs.Found.{HasSettleCause};
 ghost use Rattle.map_plan.specs.View.{HasPlanCause};
 ghost use Rattle.old_map.specs.Old.{HasOldMapCause};
-ghost use Rattle.install_order.specs.Faults.{HasInstallCause, survey_refusal, apart_refusal, name_refusal, settle_refusal, old_refusal, plan_refusal, write_refusal};
+ghost use Rattle.install_order.specs.Faults.{
+  HasInstallCause,
+  survey_refusal,
+  apart_refusal,
+  name_refusal,
+  settle_refusal,
+  old_refusal,
+  plan_refusal,
+  write_refusal,
+};
 
 use conf_settings::Opt;
 use conf_text::Text;

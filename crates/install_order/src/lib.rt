@@ -1,6 +1,6 @@
-//! The order of an installation. It begins with what is read before anything is written: whether the volume is sound, what
-//! is apart, the names that are replaced, what an earlier installation left behind, and whether the present map is Clear.
-//! Then what was left behind is settled, and the map is planned with the room for it.
+//! The order of an installation. It begins with what is read before anything is written: whether the volume is sound,
+//! what is apart, the names that are replaced, what an earlier installation left behind, and whether the present map is
+//! Clear. Then what was left behind is settled, and the map is planned with the room for it.
 #![tactic(auto)]
 
 mod begin;

@@ -11,8 +11,8 @@ use mbr_table::Device;
 use minix_zones::Volume;
 use sector_parts::Sector;
 
-/// A volume for which an installation is planned: the map, and the room for it and for a backup of the boot sector, where
-/// one is made.
+/// A volume for which an installation is planned: the map, and the room for it and for a backup of the boot sector,
+/// where one is made.
 #[derive(Drop)]
 pub struct Planned<'d, D: Disks> {
     pub(crate) volume: Volume<'d, D>,

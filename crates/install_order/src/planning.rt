@@ -1,5 +1,19 @@
 // An installation is planned.
-ghost use Rattle.std.specs.Prelude.{◌≡◌, ◌<◌, ◌≤◌, ◌*◌, All, is_some, not, ℕ, List, Ok, IfOk, IfErr, OnOk};
+ghost use Rattle.std.specs.Prelude.{
+  ◌≡◌,
+  ◌<◌,
+  ◌≤◌,
+  ◌*◌,
+  All,
+  is_some,
+  not,
+  ℕ,
+  List,
+  Ok,
+  IfOk,
+  IfErr,
+  OnOk,
+};
 ghost use Rattle.disk_trait.specs.Past.{Told};
 ghost use Rattle.lilo_model.specs.ConfLawful.{IsLawful};
 ghost use Rattle.lilo_model.specs.Disks.{DiskSector, Machine};
@@ -20,7 +34,20 @@ ghost use Rattle.install_room.specs.Names.{AreCalled};
 ghost use Rattle.install_room.specs.Room.{SuitRoom, places_view};
 ghost use Rattle.install_order.specs.Answers.{IsKnown};
 ghost use Rattle.install_order.specs.Faults.{HasInstallCause};
-ghost use Rattle.install_order.specs.Plans.{IsMap, GivesMap, GivesRoom, GivesChecked, GivesPlaces, GivesChoices, IsOfPlan, GivesPlanned, GivesPlanOf, AreSurveyed, IsPlannedFor, planned_volume};
+ghost use Rattle.install_order.specs.Plans.{
+  IsMap,
+  GivesMap,
+  GivesRoom,
+  GivesChecked,
+  GivesPlaces,
+  GivesChoices,
+  IsOfPlan,
+  GivesPlanned,
+  GivesPlanOf,
+  AreSurveyed,
+  IsPlannedFor,
+  planned_volume,
+};
 ghost use Rattle.install_order.specs.Stageable.{GivesStage, IsReady, IsWishedRoom, LieWhereSound, wish_for};
 
 use crate::directories::look_at_names;
@@ -166,7 +193,8 @@ fn let_plan_go(_plan: MapPlan) {}
 // The boot sector as it is.
 fn read_present<D: Disks>(volume: &mut Volume<'_, D>, boot: Span) -> Result<Sector, InstallFault>
     requires { boot.start < sizes_of volume.old boot.disk }
-    ensures present { IfOk result (λ present. Told (past_of volume.old) (λ image. present ≡ image boot.disk boot.start)) }
+    ensures present { IfOk result (λ present.
+        Told (past_of volume.old) (λ image. present ≡ image boot.disk boot.start)) }
     ensures fault { IfErr result (λ fault. fault ≡ InstallFault.Device) }
     ensures cause { IfErr result (HasInstallCause (faults_of volume.old) (faults_of volume.new)) }
     ensures later { faults_of volume.old ≤ faults_of volume.new }
@@ -196,7 +224,8 @@ fn look_again<D: Disks>(
     requires on_disk { boot.start < sizes_of volume.old boot.disk }
     requires inside { AreInside volume.old.layout own.now }
     requires twins { AreOwnTwins own.now }
-    ensures present { IfOk result (λ present. Told (past_of volume.old) (λ image. present ≡ image boot.disk boot.start)) }
+    ensures present { IfOk result (λ present.
+        Told (past_of volume.old) (λ image. present ≡ image boot.disk boot.start)) }
     ensures lie { OnOk result (LieWhereSound volume.new own.now) }
     ensures fault { IfErr result (λ fault. fault ≡ InstallFault.Device) }
     ensures cause { IfErr result (HasInstallCause (faults_of volume.old) (faults_of volume.new)) }
@@ -265,7 +294,8 @@ fn choose_for<D: Disks>(
         → GivesChoices image machine (volume_view volume.old) (config_view plan.config) (span_view boot) time settled
         found.now result) }
     ensures suits { IfOk result (λ choices. SuitRoom volume.old.layout volume.old.span choices.room) }
-    ensures disk { IfOk result (λ choices. All (λ place. place.disk ≡ choices.plan.disk) choices.room.places.items) }
+    ensures disk { IfOk result (λ choices.
+        All (λ place. place.disk ≡ choices.plan.disk) choices.room.places.items) }
     ensures config { IfOk result (λ choices. choices.plan.config ≡ plan.config) }
     ensures volume_disk { IfOk result (λ choices. choices.plan.disk ≡ volume.old.span.disk) }
     ensures wished { IfOk result (λ choices. IsWishedRoom volume.new found.now
@@ -310,7 +340,8 @@ fn choose<D: Disks>(
         → GivesChoices image machine (volume_view volume.old) (config_view config) (span_view boot) time settled
         found.now result) }
     ensures suits { IfOk result (λ choices. SuitRoom volume.old.layout volume.old.span choices.room) }
-    ensures disk { IfOk result (λ choices. All (λ place. place.disk ≡ choices.plan.disk) choices.room.places.items) }
+    ensures disk { IfOk result (λ choices.
+        All (λ place. place.disk ≡ choices.plan.disk) choices.room.places.items) }
     ensures config { IfOk result (λ choices. choices.plan.config ≡ config) }
     ensures volume_disk { IfOk result (λ choices. choices.plan.disk ≡ volume.old.span.disk) }
     ensures wished { IfOk result (λ choices. IsWishedRoom volume.new found.now
@@ -326,13 +357,13 @@ fn choose<D: Disks>(
 }
 
 impl<'d, D: Disks> Surveyed<'d, D> {
-    /// Plans the map of the configuration and finds the room for it and for a backup of the boot sector, where one is made:
-    /// every choice is made, and all memory is taken. Nothing is written.
+    /// Plans the map of the configuration and finds the room for it and for a backup of the boot sector, where one is
+    /// made: every choice is made, and all memory is taken. Nothing is written.
     ///
     /// # Errors
     ///
-    /// `Plan` of files and devices, of what they hold and of their addresses, then `Write` of the room, then `Plan` of the
-    /// addresses of the map's own sectors; `Device` and `Memory`. The phase is `Before`.
+    /// `Plan` of files and devices, of what they hold and of their addresses, then `Write` of the room, then `Plan` of
+    /// the addresses of the map's own sectors; `Device` and `Memory`. The phase is `Before`.
     pub fn plan(self, alloc: Global) -> Result<Planned<'d, D>, Halt<'d, D>>
         requires known { IsKnown self }
 
@@ -353,7 +384,8 @@ impl<'d, D: Disks> Surveyed<'d, D> {
         ensures ready { IfOk result IsReady }
 
         // When it is refused.
-        ensures cause { IfErr result (λ halt. HasInstallCause (faults_of self.entry.volume) (faults_of halt.volume) halt.fault) }
+        ensures cause { IfErr result (λ halt.
+            HasInstallCause (faults_of self.entry.volume) (faults_of halt.volume) halt.fault) }
         ensures phase { IfErr result (λ halt. halt.phase ≡ Phase.Before) }
         ensures later { faults_of self.entry.volume ≤ faults_of (planned_volume result) }
 

@@ -26,8 +26,8 @@ pub struct Surveyed<'d, D: Disks> {
 impl<'d, D: Disks> Surveyed<'d, D> {
     ghost use Rattle.std.specs.Prelude.{◌≡◌};
 
-    /// Whether the map that was there is Clear: no sector that a boot of it may look at lies where files are written. None
-    /// where the boot sector is another system's.
+    /// Whether the map that was there is Clear: no sector that a boot of it may look at lies where files are written.
+    /// None where the boot sector is another system's.
     pub fn clear(&self) -> Option<bool>
         ensures { result ≡ self.now.found.clear }
     {

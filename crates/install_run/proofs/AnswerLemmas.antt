@@ -27,14 +27,14 @@ use Rattle.install_run.specs.Answers.{settled_answer, settled_report}
 
 module _ (image : Image) (machine : Machine) (settled : Image) (begun : Begun) (time : ℕ) where
   -- the checks from the plan on
-  abbrev Rest : List Met → model.OwnNames → Result Answer InstallRefusal
+  abbrev pub Rest : List Met → model.OwnNames → Result Answer InstallRefusal
   Rest met names =
       with_fault NoPlan (plan_at settled machine begun.volume begun.span begun.config time)
       >>= λ plan. with_fault NoRoom (install_room image machine settled time begun names plan)
       >>= λ places. with_fault NoPlan (own_places_check begun.config machine places)
       >>= λ c. Ok (settled_report image machine settled begun met plan)
 
-  abbrev First : Result Answer InstallRefusal
+  abbrev pub First : Result Answer InstallRefusal
   First =
       with_fault NotSound (survey begun.volume.layout (parts_of begun.volume image))
       >>= λ met. with_fault NotApart (apart_checks image machine begun.volume begun.config begun.boot)
@@ -42,7 +42,7 @@ module _ (image : Image) (machine : Machine) (settled : Image) (begun : Begun) (
       >>= λ names. require (may_settle image machine begun.volume (visits begun.volume.layout (parts_of begun.volume image)) begun.span names.map) NoLink
       >>= λ b. Rest met names
 
-  all-is : settled_answer image machine settled begun time ≡ First
+  pub all-is : settled_answer image machine settled begun time ≡ First
   unfolding settled_answer
   all-is = refl
 

@@ -1,6 +1,6 @@
 -- How far an installation that is planned came.
-use Rattle.std.proofs.Common.{◌≡◌, ◌≤◌, ◌⊎◌, ◌∙◌, ℕ, List, [], Option, Some, None, Result, Ok, Err, IfOk, IfErr, refl, sym, ap, subst, inl, inr, arith}
-use Rattle.std.specs.Prelude.{IsSome, IsTrue}
+use Rattle.std.proofs.Common.{◌≡◌, ◌≤◌, ◌∙◌, ℕ, List, [], Option, Some, None, Result, Ok, Err, IfOk, IfErr, refl, sym, ap, subst, inl, inr, arith}
+use Rattle.std.specs.Prelude.{IsTrue}
 use Rattle.disk_trait.specs.declared.disks.Disks.{Ghosts}
 use Rattle.disk_trait.specs.declared.disks.Phase.{Phase}
 use Rattle.disk_trait.specs.declared.disks.Phase.TheVariants.{Before, Commit, After}
@@ -8,15 +8,13 @@ use Rattle.disk_trait.specs.Calls.{GoesOn}
 use Rattle.disk_trait.specs.Moments.{IsTold, IsQuiet}
 use Rattle.disk_trait.specs.Past.{Past}
 use Rattle.lilo_model.specs.Faults.{Rose}
-use Rattle.map_plan.specs.View.{plan_refusal}
-use Rattle.map_plan.specs.declared.fault.PlanFault.{PlanFault}
-use Rattle.map_plan.specs.declared.fault.PlanFault.TheVariants as plans
 use Rattle.minix_write.specs.declared.write_fault.WriteFault.{WriteFault}
 use Rattle.minix_write.specs.declared.write_fault.WriteFault.TheVariants as writes
 use Rattle.minix_zones.specs.Volume.{past_of, faults_of}
 use Rattle.minix_zones.specs.declared.volume.Volume.{Volume}
 use Rattle.sector_address.specs.Machine.{machine_of}
-use Rattle.install_answers.specs.Texts.{fault_status, plan_status}
+use Rattle.install_answers.specs.Texts.{device_status, fault_status}
+use Rattle.install_answers.proofs.StatusLemmas.{of_status, rose_by}
 use Rattle.install_order.specs.Faults.{HasInstallCause, write_refusal}
 use Rattle.install_order.specs.Stageable.{path_made}
 use Rattle.install_order.specs.States.{HaltsCommit, HaltsStaging, HaltsTidying, IsCommitted, IsTidiedFrom, MayBeTidied, StopsStaging, TidiesFrom, is_forced}
@@ -34,10 +32,6 @@ use Rattle.install_run.specs.Steps.{Carries, HaltedTidying, IsReadyToStage, volu
 use Rattle.install_run.proofs.PreparedLemmas.{cause_from}
 
 -- ---- a disk failed
-
--- a count that rose after it stayed or rose
-pub rose_after : (a b c : ℕ) → a ≤ b → Rose b c → Rose a c
-rose_after a b c below rose full = let risen = rose full in omega (arith, below, risen)
 
 -- a staging of a plan on disks that report their past is refused for that alone
 pub staging_lost : {D : Type 0} {disks : Ghosts D} → (planned : Planned D disks) → IsReadyToStage planned → (halt : Halt D disks) → HaltsStaging planned halt
@@ -133,87 +127,27 @@ commit_cause staged halt halts =
 
 -- ---- what is answered
 
--- a status of a disk that failed is that of no other refusal
-pub rose_in : (fault : InstallFault) (phase : Phase) (before after : ℕ) → HasInstallCause before after fault → IsDiskFault (fault_status fault phase) → Rose before after
-rose_in (faults.Survey fault) phase before after cause is = absurd (none is)
-  where
-    none : IsDiskFault 3 → ⊥
-    none (inl same) = omega (arith, same)
-    none (inr (inl same)) = omega (arith, same)
-    none (inr (inr same)) = omega (arith, same)
-rose_in (faults.NotApart opt) phase before after cause is = absurd (none is)
-  where
-    none : IsDiskFault 4 → ⊥
-    none (inl same) = omega (arith, same)
-    none (inr (inl same)) = omega (arith, same)
-    none (inr (inr same)) = omega (arith, same)
-rose_in (faults.Path path fault) phase before after cause is = absurd (none is)
-  where
-    none : IsDiskFault 3 → ⊥
-    none (inl same) = omega (arith, same)
-    none (inr (inl same)) = omega (arith, same)
-    none (inr (inr same)) = omega (arith, same)
-rose_in (faults.Plan fault) phase before after cause is = absurd (by fault cause is)
-  where
-    none : (status : ℕ) → (status ≡ 3) ⊎ (status ≡ 4) → IsDiskFault status → ⊥
-    none status (inl three) (inl same) = omega (arith, three, same)
-    none status (inl three) (inr (inl same)) = omega (arith, three, same)
-    none status (inl three) (inr (inr same)) = omega (arith, three, same)
-    none status (inr four) (inl same) = omega (arith, four, same)
-    none status (inr four) (inr (inl same)) = omega (arith, four, same)
-    none status (inr four) (inr (inr same)) = omega (arith, four, same)
+-- a status of a disk that failed lies between these
+fault_bounds : (status : ℕ) → IsDiskFault status → (8 ≤ status) × (status ≤ 10)
+fault_bounds status (inl is) = (omega (arith, is), omega (arith, is))
+fault_bounds status (inr (inl is)) = (omega (arith, is), omega (arith, is))
+fault_bounds status (inr (inr is)) = (omega (arith, is), omega (arith, is))
 
-    by : (plan : PlanFault) → IsSome (plan_refusal plan) → IsDiskFault (plan_status plan) → ⊥
-    by (plans.Missing text) some is = none 3 (inl refl) is
-    by plans.NoImagesLeft some is = none 3 (inl refl) is
-    by (plans.Header path fault) some is = none 4 (inr refl) is
-    by (plans.Address opt fault) some is = none 4 (inr refl) is
-    by (plans.TooManySlots opt slots) some is = none 4 (inr refl) is
-    by (plans.GeometryDiffers opt have) some is = none 4 (inr refl) is
-    by (plans.OtherIsBoot path) some is = none 4 (inr refl) is
-    by (plans.NoSignature path) some is = none 4 (inr refl) is
-    by (plans.MessageTooLong size) some is = none 4 (inr refl) is
-    by (plans.Table fault) some is = none 3 (inl refl) is
-    by (plans.Tree path fault) some is = none 3 (inl refl) is
-    by plans.Device some is = cc
-    by plans.Memory some is = cc
-rose_in (faults.Write fault) phase before after cause is = absurd (none is)
-  where
-    none : IsDiskFault 5 → ⊥
-    none (inl same) = omega (arith, same)
-    none (inr (inl same)) = omega (arith, same)
-    none (inr (inr same)) = omega (arith, same)
-rose_in faults.Device phase before after cause is = cause
-rose_in faults.Memory phase before after cause is = absurd (none is)
-  where
-    none : IsDiskFault 13 → ⊥
-    none (inl same) = omega (arith, same)
-    none (inr (inl same)) = omega (arith, same)
-    none (inr (inr same)) = omega (arith, same)
+-- so it is that of no other refusal
+pub rose_in : (fault : InstallFault) (phase : Phase) (before after : ℕ) → HasInstallCause before after fault → IsDiskFault (fault_status fault phase) → Rose before after
+rose_in = rose_by IsDiskFault
+    (λ is. let lies = fault_bounds 3 is in omega (arith, lies.0)) (λ is. let lies = fault_bounds 4 is in omega (arith, lies.0))
+    (λ is. let lies = fault_bounds 5 is in omega (arith, lies.0)) (λ is. let lies = fault_bounds 13 is in omega (arith, lies.1))
 
 -- each refusal has one of these
 pub status_in : (fault : InstallFault) (phase : Phase) (status : ℕ) → status ≡ fault_status fault phase → IsTrue (is_install_status status)
-status_in (faults.Survey fault) phase status is = rw is refl
-status_in (faults.NotApart opt) phase status is = rw is refl
-status_in (faults.Path path fault) phase status is = rw is refl
-status_in (faults.Plan fault) phase status is = by fault is
+status_in fault phase status is =
+    subst Known (sym is) (of_status (λ f given. Known given) phase (λ f. refl) (λ f. refl) (λ f. refl) (λ f. refl) refl (of_phase phase) fault)
   where
-    by : (plan : PlanFault) → status ≡ plan_status plan → IsTrue (is_install_status status)
-    by (plans.Missing text) same = rw same refl
-    by plans.NoImagesLeft same = rw same refl
-    by (plans.Header path fault) same = rw same refl
-    by (plans.Address opt fault) same = rw same refl
-    by (plans.TooManySlots opt slots) same = rw same refl
-    by (plans.GeometryDiffers opt have) same = rw same refl
-    by (plans.OtherIsBoot path) same = rw same refl
-    by (plans.NoSignature path) same = rw same refl
-    by (plans.MessageTooLong size) same = rw same refl
-    by (plans.Table fault) same = rw same refl
-    by (plans.Tree path fault) same = rw same refl
-    by plans.Device same = rw same refl
-    by plans.Memory same = rw same refl
-status_in (faults.Write fault) phase status is = rw is refl
-status_in faults.Device Before status is = rw is refl
-status_in faults.Device Commit status is = rw is refl
-status_in faults.Device After status is = rw is refl
-status_in faults.Memory phase status is = rw is refl
+    Known : ℕ → Type 0
+    Known given = IsTrue (is_install_status given)
+
+    of_phase : (phase : Phase) → Known (device_status phase)
+    of_phase Before = refl
+    of_phase Commit = refl
+    of_phase After = refl

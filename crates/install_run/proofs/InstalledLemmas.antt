@@ -1,6 +1,8 @@
 -- What an installation answers and leaves, from how far it came.
-use Rattle.std.proofs.Common.{◌≡◌, ◌⊎◌, ◌++◌, ◌∙◌, ℕ, List, [], Bool, true, Option, Some, None, Result, Ok, Err, codes, refl, sym, ap, subst, inl, inr, arith, append-nil}
+use Rattle.std.proofs.Common.{◌≡◌, ◌⊎◌, ◌++◌, ◌∙◌, ℕ, ◌==◌, List, [], ◌∷◌, Bool, true, not, Option, Some, None, Result, Ok, Err, codes, refl, sym, ap, subst, inl, inr, arith, append-nil}
+use Rattle.std.proofs.lemmas.Bool.{false≢true}
 use Rattle.std.specs.Prelude.{IfSome, IsTrue, is_some}
+use Rattle.std.specs.List.{list_any}
 use Rattle.disk_trait.specs.declared.disks.Disks.{Ghosts}
 use Rattle.disk_trait.specs.declared.disks.Phase.TheVariants.{Before}
 use Rattle.disk_trait.specs.declared.disks.Span as spans
@@ -11,14 +13,15 @@ use Rattle.disk_trait.specs.Past.{Past}
 use Rattle.disk_trait.proofs.MomentLemmas.{told_now}
 use Rattle.disk_trait.proofs.NotWrittenLemmas.{not_written_stays}
 use Rattle.lilo_model.specs.Disks.{Image, Machine, DiskSector}
+use Rattle.lilo_model.specs.Lays.{Lays}
 use Rattle.lilo_model.specs.Meant.{meant}
 use Rattle.lilo_model.specs.MinixNames.{names_in}
+use Rattle.lilo_model.specs.Plan.{Plan}
+use Rattle.lilo_model.specs.Planned as plans
 use Rattle.lilo_model.specs.Planned.{devices_in}
 use Rattle.lilo_model.specs.Settled as settles
 use Rattle.lilo_conf.specs.View.{config_view}
 use Rattle.lilo_conf.specs.declared.config.Config as configs
-use Rattle.map_plan.specs.declared.fault.PlanFault.{PlanFault}
-use Rattle.map_plan.specs.declared.fault.PlanFault.TheVariants as plans
 use Rattle.mbr_table.specs.declared.device.Device as devices
 use Rattle.lilo_model.specs.MinixParts.{volume_at}
 use Rattle.minix_zones.specs.View as volumes
@@ -31,8 +34,9 @@ use Rattle.sector_address.specs.Machine.{machine_of, OnDisks}
 use Rattle.stream_trait.specs.Shows.{SinkState, Shows}
 use Rattle.stream_trait.proofs.ShowsLemmas.{shows_join}
 use Rattle.install_answers.specs.Laws.{IsRefusal}
-use Rattle.install_answers.specs.Texts.{device_line, device_status, fault_status, fault_text, plan_status}
+use Rattle.install_answers.specs.Texts.{device_line, device_status, fault_status, fault_text}
 use Rattle.install_answers.proofs.LawLemmas.{status_law, text_law}
+use Rattle.install_answers.proofs.StatusLemmas.{of_status}
 use Rattle.install_laws.specs.Headline.{Means}
 use Rattle.install_laws.specs.InstallVerdict.{Answer, Begun, InstallRefusal, answer_text, verdict_by}
 use Rattle.install_laws.specs.Stopped.{BootsAsEither, StaysAsBefore}
@@ -56,16 +60,18 @@ use Rattle.install_preview.proofs.StateLemmas.{told_from}
 use Rattle.install_preview.proofs.TrialLemmas.{of_some}
 use Rattle.install_join_laws.specs.Kept.{HasBackup}
 use Rattle.install_join_laws.specs.KeptLaws.{map_of}
+use Rattle.install_join_laws.specs.LaidLaws.{planned_on}
 use Rattle.install_join_laws.specs.Laws.{meant_from}
 use Rattle.install_join_laws.specs.Steps.{HasStaged, IsBegunWith, LiesOnDisks, begun_from, machine_on}
 use Rattle.install_join_laws.proofs.Begun.{leaves}
 use Rattle.install_join_laws.proofs.Installed.{installation_commit_ends_law, installation_law}
 use Rattle.install_join_laws.proofs.Kept.{staging_keeps_law}
 use Rattle.install_join_laws.proofs.KeptInstalled.{commit_keeps_law, committed_backup_law, installation_keeps_law, installed_law}
+use Rattle.install_join_laws.proofs.LaidInstalled.{committed_lays_law}
 use Rattle.install_join_laws.proofs.Prepared.{staging_stops_law}
 use Rattle.install_run.specs.Answers.{AnswersInstall, Answered, GivesInstall, LostEarly, LostLater, Starved, IsDiskFault, IsSettledFrom, is_install_status, settled_answer}
 use Rattle.install_run.specs.Keeps.{HasInstalled, IsBefore, IsDone, IsFirm, KeepsMost, KeepsWith}
-use Rattle.install_run.specs.Installs.{IsInstalled, Installs, InstallsBegun, Leaves, NoVolume, VolumeLost, meant_by}
+use Rattle.install_run.specs.Installs.{IsInstalled, Installs, InstallsBegun, LaysAsPlanned, Leaves, NoVolume, VolumeLost, meant_by}
 use Rattle.install_run.specs.Steps.{Finishes, FinishedEarly, FinishedWhole, HaltedCommit, HaltedStaging, HaltedTidying, IsHalted, IsPrepared, StaysBegun}
 use Rattle.install_run.proofs.CarriedLemmas.{tidies_some}
 
@@ -77,64 +83,22 @@ some_is (Some value) is = (value, refl)
 
 -- ---- a refusal before anything was planned
 
-before_3 : (status : ℕ) → status ≡ 3 → IsBefore status
-before_3 status is = record { not_done = none; not_committing = λ nine. omega (arith, is, nine) }
-  where
-    none : IsDone status → ⊥
-    none (inl zero) = omega (arith, is, zero)
-    none (inr ten) = omega (arith, is, ten)
+-- a status is none that comes once the commit began
+abbrev is_early : ℕ → Bool
+is_early status = not (list_any (λ later. later == status) (0 ∷ 9 ∷ 10 ∷ []))
 
-before_4 : (status : ℕ) → status ≡ 4 → IsBefore status
-before_4 status is = record { not_done = none; not_committing = λ nine. omega (arith, is, nine) }
+before_by : (status : ℕ) → is_early status ≡ true → IsBefore status
+before_by status early = record { not_done = none; not_committing = λ nine. false≢true (rw nine at early) }
   where
     none : IsDone status → ⊥
-    none (inl zero) = omega (arith, is, zero)
-    none (inr ten) = omega (arith, is, ten)
-
-before_5 : (status : ℕ) → status ≡ 5 → IsBefore status
-before_5 status is = record { not_done = none; not_committing = λ nine. omega (arith, is, nine) }
-  where
-    none : IsDone status → ⊥
-    none (inl zero) = omega (arith, is, zero)
-    none (inr ten) = omega (arith, is, ten)
-
-before_8 : (status : ℕ) → status ≡ 8 → IsBefore status
-before_8 status is = record { not_done = none; not_committing = λ nine. omega (arith, is, nine) }
-  where
-    none : IsDone status → ⊥
-    none (inl zero) = omega (arith, is, zero)
-    none (inr ten) = omega (arith, is, ten)
-
-before_13 : (status : ℕ) → status ≡ 13 → IsBefore status
-before_13 status is = record { not_done = none; not_committing = λ nine. omega (arith, is, nine) }
-  where
-    none : IsDone status → ⊥
-    none (inl zero) = omega (arith, is, zero)
-    none (inr ten) = omega (arith, is, ten)
+    none (inl zero) = false≢true (rw zero at early)
+    none (inr ten) = false≢true (rw ten at early)
 
 pub refusal_before : (fault : InstallFault) (status : ℕ) → status ≡ fault_status fault Before → IsBefore status
-refusal_before (faults.Survey fault) status is = before_3 status is
-refusal_before (faults.NotApart opt) status is = before_4 status is
-refusal_before (faults.Path path fault) status is = before_3 status is
-refusal_before (faults.Plan fault) status is = by fault is
-  where
-    by : (plan : PlanFault) → status ≡ plan_status plan → IsBefore status
-    by (plans.Missing text) same = before_3 status same
-    by plans.NoImagesLeft same = before_3 status same
-    by (plans.Header path fault) same = before_4 status same
-    by (plans.Address opt fault) same = before_4 status same
-    by (plans.TooManySlots opt slots) same = before_4 status same
-    by (plans.GeometryDiffers opt have) same = before_4 status same
-    by (plans.OtherIsBoot path) same = before_4 status same
-    by (plans.NoSignature path) same = before_4 status same
-    by (plans.MessageTooLong size) same = before_4 status same
-    by (plans.Table fault) same = before_3 status same
-    by (plans.Tree path fault) same = before_3 status same
-    by plans.Device same = before_8 status same
-    by plans.Memory same = before_13 status same
-refusal_before (faults.Write fault) status is = before_5 status is
-refusal_before faults.Device status is = before_8 status is
-refusal_before faults.Memory status is = before_13 status is
+refusal_before fault status is =
+    subst IsBefore (sym is)
+    (of_status (λ f given. IsBefore given) Before (λ f. before_by 3 refl) (λ f. before_by 4 refl) (λ f. before_by 5 refl) (λ f. before_by 13 refl)
+    (before_by 8 refl) (before_by 8 refl) fault)
 
 module _ (fault : InstallFault) (refusal : IsRefusal fault) (status : ℕ) (old new : SinkState) (is : status ≡ fault_status fault Before)
     (shown : Shows old (codes "lilo: " ++ fault_text fault Before) new) (stays : IsStopped fault → ⊥) where
@@ -164,11 +128,11 @@ refused_answers image machine settled begun time faults.Device before after caus
 refused_answers image machine settled begun time faults.Memory before after cause status old new is shown refuses = Starved is shown
 
 -- a refusal leaves what boots as before
-pub refused_leaves : (machine : Machine) (begun : Begun) (settled : Image) (entry ended : Option Past) (status : ℕ) → IsBefore status
+pub refused_leaves : (machine : Machine) (begun : Begun) (settled : Image) (time : ℕ) (entry ended : Option Past) (status : ℕ) → IsBefore status
     → StaysAsBefore machine begun.volume begun.span entry ended
     → ((names : settles.OwnNames) → AreOwn (now entry) begun names → KeepsMost machine begun names entry ended ⊎ KeepsWith machine begun names entry ended)
-    → Leaves machine begun settled entry ended status
-refused_leaves machine begun settled entry ended status early stays keeps = record {
+    → Leaves machine begun settled time entry ended status
+refused_leaves machine begun settled time entry ended status early stays keeps = record {
   keeps = λ names own. record {
     before = λ is. keeps names own;
     later = λ at. absurd (none at);
@@ -179,6 +143,7 @@ refused_leaves machine begun settled entry ended status early stays keeps = reco
   before = λ is. stays;
   at_commit = λ nine firm. absurd (early.not_committing nine);
   done = λ done firm. absurd (early.not_done done);
+  lays = λ done firm. absurd (early.not_done done);
 }
   where
     none : (status ≡ 9) ⊎ IsDone status → ⊥
@@ -232,6 +197,11 @@ module _ {D : Type 0} {disks : Ghosts D} (entry : Volume D disks) (config : conf
 
   meant-same : meant_from entry S ≡ meant_by (machine_on entry) From Settled-image
   meant-same = ap (λ (image : Image). meant (config_view S.config) (names_in (volume_view entry) image) (devices_in image (machine_on entry))) (sym same-settled)
+
+  plan-same : planned_on entry S ≡ plans.planned Settled-image (machine_on entry) From.volume From.config time
+  plan-same =
+      ap (λ (image : Image). plans.planned image (machine_on entry) From.volume From.config S.time) (sym same-settled)
+      ∙ ap (λ (t : ℕ). plans.planned Settled-image (machine_on entry) From.volume From.config t) is.held.time_is
 
   module _ (there : LiesThere (now (past_of entry)) (machine_on entry) From) where
     lies : IsFirm (now (past_of entry)) (machine_on entry) From Settled-image → LiesOnDisks entry S
@@ -287,6 +257,13 @@ module _ {D : Type 0} {disks : Ghosts D} (entry : Volume D disks) (config : conf
             end_of_run_law (HasBackup (now (past_of entry)) From names) (past_of committed.volume) (past_of new)
             (committed_backup_law disks entry new config boot time S planned staged committed names result is prepared.has (lies firm) own stages commits tidies) c left
 
+        installing-lays : (c : Image) → MayLeave (past_of new) c → LaysAsPlanned (machine_on entry) From Settled-image time names (past_of entry) c
+        installing-lays c left =
+            subst (λ (plan : Plan). Lays c (machine_on entry) From.volume From.span plan names.map (now (past_of entry) From.span.disk From.span.start)) plan-same
+            (end_of_run_law (λ c. Lays c (machine_on entry) From.volume From.span (planned_on entry S) names.map (now (past_of entry) From.span.disk From.span.start))
+            (past_of committed.volume) (past_of new)
+            (committed_lays_law disks entry new config boot time S planned staged committed names result is prepared.has (lies firm) own stages commits tidies) c left)
+
       has-installed : (new : Volume D disks) (committed : Committed D disks) → IsCommitted staged committed → TidiesFrom committed new (Ok tt) → IsQuiet (past_of new)
           → (names : settles.OwnNames) → AreOwn (now (past_of entry)) From names → HasInstalled From names (past_of entry) (past_of new)
       has-installed new committed commits tidies still names own = record {
@@ -296,10 +273,10 @@ module _ {D : Type 0} {disks : Ghosts D} (entry : Volume D disks) (config : conf
 
     module _ (tie : IsSettledFrom (now (past_of entry)) (machine_on entry) From Settled-image) where
       halted-leaves : (status : ℕ) (halt : Halt D disks) → IsHalted planned halt → status ≡ fault_status halt.fault halt.phase → halt.fault ≡ faults.Device
-          → Leaves (machine_on entry) From Settled-image (past_of entry) (past_of halt.volume) status
+          → Leaves (machine_on entry) From Settled-image time (past_of entry) (past_of halt.volume) status
       halted-leaves status halt (HaltedStaging phase halts) status-is lost =
-          refused_leaves (machine_on entry) From Settled-image (past_of entry) (past_of halt.volume) status
-          (before_8 status (status-is ∙ (ap (λ fault. fault_status fault halt.phase) lost ∙ ap device_status phase)))
+          refused_leaves (machine_on entry) From Settled-image time (past_of entry) (past_of halt.volume) status
+          (subst IsBefore (sym (status-is ∙ (ap (λ fault. fault_status fault halt.phase) lost ∙ ap device_status phase))) (before_by 8 refl))
           (staging_stops_law disks entry config boot time S planned halt is prepared.has there halts)
           (λ names own. inr (record {
             bytes = map_of entry planned;
@@ -318,6 +295,7 @@ module _ {D : Type 0} {disks : Ghosts D} (entry : Volume D disks) (config : conf
             before = λ early. absurd (early.not_committing nine);
             at_commit = λ at firm. committing staged stages firm halt halts;
             done = λ done firm. absurd (none nine done);
+            lays = λ done firm. absurd (none nine done);
           }
         where
           none : status ≡ 9 → IsDone status → ⊥
@@ -336,12 +314,13 @@ module _ {D : Type 0} {disks : Ghosts D} (entry : Volume D disks) (config : conf
             before = λ early. absurd (early.not_done (inr ten));
             at_commit = λ nine firm. absurd (omega (arith, ten, nine));
             done = λ done firm. installing staged stages firm halt.volume committed (Err halts.fault) commits (tidies_some committed may halt.volume (Err halts.fault) halts.tidies);
+            lays = λ done firm names own. installing-lays staged stages firm halt.volume committed (Err halts.fault) commits halts.tidies names own;
           }
 
       finished-leaves : (status : ℕ) (ended : Option Past) (old new : SinkState) → Finishes planned status ended old new
-          → Leaves (machine_on entry) From Settled-image (past_of entry) ended status
+          → Leaves (machine_on entry) From Settled-image time (past_of entry) ended status
       finished-leaves status ended old new (FinishedWhole tidied carried past zero rest) =
-          subst (λ (p : Option Past). Leaves (machine_on entry) From Settled-image (past_of entry) p status) past
+          subst (λ (p : Option Past). Leaves (machine_on entry) From Settled-image time (past_of entry) p status) past
           (record {
             keeps = λ names own. record {
               before = λ early. absurd (early.not_done (inl zero));
@@ -354,9 +333,10 @@ module _ {D : Type 0} {disks : Ghosts D} (entry : Volume D disks) (config : conf
             at_commit = λ nine firm. absurd (omega (arith, zero, nine));
             done = λ done firm. installing carried.staged carried.stages firm tidied.volume carried.committed (Ok tt) carried.commits
                 (tidies_some carried.committed carried.may tidied.volume (Ok tt) carried.tidies);
+            lays = λ done firm names own. installing-lays carried.staged carried.stages firm tidied.volume carried.committed (Ok tt) carried.commits carried.tidies names own;
           })
       finished-leaves status ended old new (FinishedEarly halt halted past device status-is said) =
-          subst (λ (p : Option Past). Leaves (machine_on entry) From Settled-image (past_of entry) p status) past
+          subst (λ (p : Option Past). Leaves (machine_on entry) From Settled-image time (past_of entry) p status) past
           (halted-leaves status halt halted status-is (device told-planned))
 
   -- ---- by what was begun with
@@ -372,9 +352,9 @@ module _ {D : Type 0} {disks : Ghosts D} (entry : Volume D disks) (config : conf
 
     pub finished_leaves : IsSettledFrom (now (past_of entry)) (machine_on entry) (begun_of entry config device boot) Settled-image
         → LiesThere (now (past_of entry)) (machine_on entry) (begun_of entry config device boot) → (status : ℕ) (ended : Option Past) (old new : SinkState)
-        → Finishes planned status ended old new → Leaves (machine_on entry) (begun_of entry config device boot) Settled-image (past_of entry) ended status
+        → Finishes planned status ended old new → Leaves (machine_on entry) (begun_of entry config device boot) Settled-image time (past_of entry) ended status
     finished_leaves tie there status ended old new finishes =
-        subst (λ (b : Begun). Leaves (machine_on entry) b Settled-image (past_of entry) ended status) same-begun
+        subst (λ (b : Begun). Leaves (machine_on entry) b Settled-image time (past_of entry) ended status) same-begun
         (finished-leaves (subst (LiesThere (now (past_of entry)) (machine_on entry)) (sym same-begun) there)
         (subst (λ (b : Begun). IsSettledFrom (now (past_of entry)) (machine_on entry) b Settled-image) (sym same-begun) tie) status ended old new finishes)
 
@@ -428,8 +408,8 @@ module _ {D : Type 0} {disks : Ghosts D} (entry : Volume D disks) (config : conf
         settled = now (past_of halt.volume);
         answers = refused_answers (now (past_of entry)) machine (now (past_of halt.volume)) begun time halt.fault (faults_of entry) (faults_of halt.volume) cause status old new status-is shown given;
         leaves = λ quiet there.
-            subst (λ (p : Option Past). Leaves machine begun (now (past_of halt.volume)) (past_of entry) p status) (sym same)
-            (refused_leaves machine begun (now (past_of halt.volume)) (past_of entry) (past_of halt.volume) status early
+            subst (λ (p : Option Past). Leaves machine begun (now (past_of halt.volume)) time (past_of entry) p status) (sym same)
+            (refused_leaves machine begun (now (past_of halt.volume)) time (past_of entry) (past_of halt.volume) status early
             ((of_some config.boot device (λ d. StaysBegun entry (begun_of entry config d boot) halt.volume) some.1 stays).boots quiet there)
             (λ names own. inl ((of_some config.boot device (λ d. StaysBegun entry (begun_of entry config d boot) halt.volume) some.1 stays).keeps quiet there names own)));
       }))

@@ -1,4 +1,5 @@
 pub mod AnswerLemmas
+pub mod EntryLemmas
 pub mod PreparedLemmas
 pub mod CarriedLemmas
 pub mod InstalledLemmas

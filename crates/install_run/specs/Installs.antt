@@ -6,11 +6,12 @@ use Rattle.disk_trait.specs.Moments.{now, IsQuiet, MayLeave}
 use Rattle.lilo_model.specs.Boot.{Boot}
 use Rattle.lilo_model.specs.DefaultLine.{DefaultLine}
 use Rattle.lilo_model.specs.Disks.{Image, Machine, DiskSector}
+use Rattle.lilo_model.specs.Lays.{Lays}
 use Rattle.lilo_model.specs.Meant.{meant}
 use Rattle.lilo_model.specs.MinixNames.{names_in}
 use Rattle.lilo_model.specs.MinixParts as model
 use Rattle.lilo_model.specs.MinixParts.{ZoneFault, volume_at}
-use Rattle.lilo_model.specs.Planned.{devices_in}
+use Rattle.lilo_model.specs.Planned.{devices_in, planned}
 use Rattle.lilo_model.specs.Prompt.{Key}
 use Rattle.lilo_model.specs.Refusal as refusals
 use Rattle.lilo_model.specs.Settled as settles
@@ -39,10 +40,18 @@ pub record IsInstalled (machine : Machine) (begun : Begun) (place : DiskSector) 
   pub either : BootsAsEither machine begun.volume begun.span place (meant_by machine begun settled) entry ended
   pub after : (c : Image) → MayLeave ended c → Means machine begun.span place (meant_by machine begun settled) c
 
+-- in an image the map lies as it was planned on the settled one: lilo_model's Lays, with what stays of the boot sector at the entry
+abbrev pub LaysAsPlanned : Machine → Begun → Image → ℕ → settles.OwnNames → Option Past → Image → Type 0
+LaysAsPlanned machine begun settled time names entry c =
+    Lays c machine begun.volume begun.span (planned settled machine begun.volume begun.config time) names.map (now entry begun.span.disk begun.span.start)
+
 -- What a stop leaves, by the status, with the place of the new map's default line: of a refusal, or of a disk that failed before the
--- commit, what boots as before; of one that failed in it, the same of the two; and of what is done, the headline. What it keeps of names.
-pub record Leaves (machine : Machine) (begun : Begun) (settled : Image) (entry ended : Option Past) (status : ℕ) : Type 0 where
+-- commit, what boots as before; of one that failed in it, the same of the two; and of what is done, the headline, and a map that lies as
+-- planned. What it keeps of names.
+pub record Leaves (machine : Machine) (begun : Begun) (settled : Image) (time : ℕ) (entry ended : Option Past) (status : ℕ) : Type 0 where
   pub keeps : (names : settles.OwnNames) → AreOwn (now entry) begun names → KeepsNames machine begun settled names entry ended status
+  pub lays : IsDone status → IsFirm (now entry) machine begun settled → (names : settles.OwnNames) → AreOwn (now entry) begun names
+      → (c : Image) → MayLeave ended c → LaysAsPlanned machine begun settled time names entry c
   pub settles : (status ≡ 9) ⊎ IsDone status → IsSettledFrom (now entry) machine begun settled
   pub before : IsBefore status → StaysAsBefore machine begun.volume begun.span entry ended
   pub at_commit : status ≡ 9 → IsFirm (now entry) machine begun settled
@@ -55,7 +64,7 @@ pub record Leaves (machine : Machine) (begun : Begun) (settled : Image) (entry e
 pub record Installs (image : Image) (machine : Machine) (begun : Begun) (time : ℕ) (entry ended : Option Past) (status : ℕ) (old new : SinkState) : Type 0 where
   pub settled : Image
   pub answers : AnswersInstall image machine settled begun time status old new
-  pub leaves : IsQuiet entry → LiesThere (now entry) machine begun → Leaves machine begun settled entry ended status
+  pub leaves : IsQuiet entry → LiesThere (now entry) machine begun → Leaves machine begun settled time entry ended status
 
 -- So it does by what was read, where a volume lies there; else that is answered, and nothing is done.
 pub data InstallsBegun (image : Image) (machine : Machine) (time : ℕ) (begun : begins.Begun) (entry ended : Option Past) (status : ℕ) (old new : SinkState) : Type 0 where

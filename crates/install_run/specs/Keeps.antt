@@ -3,10 +3,13 @@ use Rattle.std.specs.Prelude.{◌≡◌, ◌⊎◌, ◌≢◌, ℕ, List, Option
 use Rattle.disk_trait.specs.Past.{Past}
 use Rattle.disk_trait.specs.Moments.{now, MayLeave, LeavesOnly}
 use Rattle.lilo_model.specs.Disks.{Image, Machine}
+use Rattle.lilo_model.specs.MinixNames.{names_in}
 use Rattle.lilo_model.specs.Settled as model
 use Rattle.install_apart_laws.specs.Laws.{KeepsDevices}
+use Rattle.install_apart_laws.specs.Plans.{AllPassBy}
 use Rattle.install_laws.specs.InstallVerdict.{Begun}
 use Rattle.install_laws.specs.Writes.{IsApartSector}
+use Rattle.install_order.specs.Begins.{AreOwn}
 use Rattle.install_order.specs.Stageable.{HasSizes}
 use Rattle.install_join_laws.specs.Kept.{HasBackup, IsInstalled, Keeps, KeepsUnstaged}
 
@@ -18,7 +21,13 @@ abbrev pub DevicesLieOutside : Image → Machine → Begun → Type 0
 DevicesLieOutside image machine begun =
     (c : Image) → ((d s : ℕ) → IsApartSector begun.volume d s → c d s ≡ image d s) → KeepsDevices image c machine begun.config begun.boot
 
--- so it is at the entry, and once names are settled the size of each inode has 32 bits, as it has where each byte is one
+-- Nothing that is read rests on what settling changes: neither where the devices lie, nor which paths of the configuration can't be followed,
+-- as none of them goes on after a name that is replaced.
+pub record IsSteady (image : Image) (machine : Machine) (begun : Begun) : Type 0 where
+  pub devices : DevicesLieOutside image machine begun
+  pub paths : (names : model.OwnNames) → AreOwn image begun names → AllPassBy (names_in begun.volume image) names begun.config
+
+-- devices lie so at the entry, and once names are settled the size of each inode has 32 bits, as it has where each byte is one
 pub record IsFirm (image : Image) (machine : Machine) (begun : Begun) (settled : Image) : Type 0 where
   pub devices : DevicesLieOutside image machine begun
   pub sizes : HasSizes begun.volume settled
@@ -35,7 +44,7 @@ pub record IsBefore (status : ℕ) : Type 0 where
 
 -- ---- what is kept
 
--- at any moment a stop leaves what keeps all names but those that settling changes
+-- at any moment a stop leaves what keeps all names but those that settling changes, and these as before or as in Settled
 abbrev pub KeepsMost : Machine → Begun → model.OwnNames → Option Past → Option Past → Type 0
 KeepsMost machine begun names entry ended = LeavesOnly entry ended (KeepsUnstaged (now entry) machine begun names)
 

@@ -1,4 +1,5 @@
 pub mod Answers
 pub mod Steps
 pub mod Keeps
+pub mod Entry
 pub mod Installs

@@ -4,6 +4,8 @@
 
 mod carry;
 mod install;
+mod laws;
 mod prepare;
 
 pub use install::install_begun;
+pub use laws::installations_answer_by_their_entry;

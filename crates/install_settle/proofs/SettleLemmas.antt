@@ -25,7 +25,7 @@ use Rattle.minix_remove.specs.Target.{IsDirectoryNow}
 use Rattle.minix_sees_laws.specs.Sees.{SeenAsIn}
 use Rattle.minix_sees_laws.specs.Tree.{KeepsNamed, TreeAs, HasTreeWith, HasTreeMoved}
 use Rattle.minix_sees_laws.proofs.Seen.{opened, seen_same_law, seen_sound_law}
-use Rattle.minix_sees_laws.proofs.Tree.{sees_tree_law, has_names_law, has_moved_law}
+use Rattle.minix_sees_laws.proofs.Tree.{sees_tree_law, keeps_join_law, has_names_law, has_moved_law}
 use Rattle.minix_steps.specs.Written.{parts_now}
 use Rattle.minix_tree.specs.declared.stat.Stat.{Stat}
 use Rattle.minix_turns.specs.Joined.{SeenOrWith}
@@ -54,7 +54,7 @@ use Rattle.install_settle.proofs.HeldLemmas.{held-same, held-gone, held-both, he
 use Rattle.install_settle.proofs.LeadLemmas.{tilde-at, plain-at, held-is}
 use Rattle.install_settle.proofs.PathLemmas.{tilde-differs, file-apart, stale-copy, leads-kept, leads-join}
 use Rattle.install_settle.proofs.NamesLemmas.{absent-same, with-as, names-with, names-moved}
-use Rattle.install_settle.proofs.GainLemmas.{gains_none, gains_join}
+use Rattle.install_settle.proofs.GainLemmas.{gains_none, gains_join, named_gone}
 use Rattle.install_settle.proofs.RenameLemmas.{leaves-untold}
 use Rattle.install_settle.proofs.WriteLemmas.{apart-not}
 
@@ -269,6 +269,7 @@ module _ (volume : volumes.Volume) (old : Image) (names : model.OwnNames) (force
       has = λ name. done.has name ∙ all-by (stale_of forced names) refl (facts.none copy) (copy-apart (stale_of forced names) refl) name;
       paths = beside-mid;
       file = done.file;
+      keeps = done.keeps;
       held = done.held;
     }
 
@@ -290,6 +291,12 @@ module _ (volume : volumes.Volume) (old : Image) (names : model.OwnNames) (force
       gone-file : (c : Image) → HasTreeWith volume mid c (with_tilde backup) None None → KeepsMap volume old names (finishes settling.map) c
       gone-file c gone = gone.tree.others P (λ same. copy-apart (Some backup) stale (sym same)) ∙ done.file
 
+      -- what is named at the end was named in the middle
+      gone-keeps : (c : Image) → HasTreeWith volume mid c (with_tilde backup) None None → KeepsNamed volume.layout (parts_of volume old) (parts_of volume c)
+      gone-keeps c gone =
+          keeps_join_law volume.layout (parts_of volume old) (parts_of volume mid) (parts_of volume c) done.keeps gone.tree.keeps
+          (λ number was now. named_gone volume mid c (with_tilde backup) gone number now)
+
       pub all-left : (c : Image) → SeenOrWith volume mid (with_tilde backup) None None c → IsSettling volume old names forced settling c
       all-left c (inl seen) = record {
         sound = seen.sound;
@@ -299,7 +306,14 @@ module _ (volume : volumes.Volume) (old : Image) (names : model.OwnNames) (force
       all-left c (inr gone) = record { sound = gone.sound; has = inr (inr (inr (gone-names c gone))); held = held-foreign volume old c P settling copy }
 
       pub all-done : (c : Image) → HasTreeWith volume mid c (with_tilde backup) None None → IsSettledIn volume old names forced settling c
-      all-done c gone = record { sound = gone.sound; has = gone-names c gone; paths = gone-paths c gone; file = gone-file c gone; held = held-foreign volume old c P settling copy }
+      all-done c gone = record {
+        sound = gone.sound;
+        has = gone-names c gone;
+        paths = gone-paths c gone;
+        file = gone-file c gone;
+        keeps = gone-keeps c gone;
+        held = held-foreign volume old c P settling copy;
+      }
 
 -- ---- what is known of what is to be settled
 

@@ -13,6 +13,7 @@ use Rattle.lilo_model.specs.MinixFindNames.{Names}
 use Rattle.lilo_model.specs.NamePlaces.{with_tilde, with_name}
 use Rattle.lilo_model.specs.Settled as model
 use Rattle.lilo_model.specs.Settled.{Finishes, Held, is_foreign, settled}
+use Rattle.minix_sees_laws.specs.Tree.{KeepsNamed}
 use Rattle.minix_write.specs.declared.write_fault.WriteFault.{WriteFault}
 use Rattle.minix_write.specs.declared.write_fault.WriteFault.TheVariants.{Device}
 use Rattle.minix_zones.specs.Volume.{volume_view, past_of, KeepsVolume, HasDeviceCause}
@@ -108,12 +109,13 @@ pub record IsSettling (volume : parts.Volume) (old : Image) (names : model.OwnNa
   pub has : AreSettling volume old names forced settling.map c
   pub held : KeepsHeld volume old names.map settling c
 
--- and at the end
+-- and at the end, where what is named in both images stays
 pub record IsSettledIn (volume : parts.Volume) (old : Image) (names : model.OwnNames) (forced : Bool) (settling : Settling) (c : Image) : Type 0 where
   pub sound : IsSound volume c
   pub has : HasNames volume c (with_all_settled settling.map forced names (names_in volume old))
   pub paths : KeepsPaths volume old names settling.copy c
   pub file : KeepsMap volume old names (finishes settling.map) c
+  pub keeps : KeepsNamed volume.layout (parts_of volume old) (parts_of volume c)
   pub held : KeepsHeld volume old names.map settling c
 
 -- ---- the call

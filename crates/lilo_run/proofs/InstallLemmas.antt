@@ -1,7 +1,8 @@
 -- What an installation does, by what it began with.
 use Rattle.std.proofs.Common.{◌≡◌, ◌≢◌, ◌⊎◌, ⊎_elim, ◌∙◌, ◌++◌, ℕ, inl, inr, Bool, true, false, List, [], ◌∷◌, Option, None, Some, Result, Ok, Err, refl, sym, ap, subst, arith}
-use Rattle.std.specs.Prelude.{if◌then◌else◌, IsErr}
+use Rattle.std.specs.Prelude.{if◌then◌else◌, IfSome, IsErr}
 use Rattle.std.proofs.lemmas.Bool.{false≢true, ne_eqb}
+use Rattle.boot_laws.proofs.Checks.{bind-same, told-given}
 use Rattle.disk_trait.specs.Past.{Past}
 use Rattle.disk_trait.specs.Moments.{now, IsQuiet}
 use Rattle.disk_trait.specs.Calls.{GoesOn}
@@ -13,11 +14,13 @@ use Rattle.lilo_model.specs.Checks.{◌>>=◌, with_fault}
 use Rattle.lilo_model.specs.ConfRefusal.{ConfRefusal}
 use Rattle.lilo_model.specs.ConfVerdict.{place_at, volume_refusal}
 use Rattle.lilo_model.specs.Devices.{Device}
-use Rattle.lilo_model.specs.Disks.{Image, Machine, Span}
+use Rattle.lilo_model.specs.Disks.{Image, Machine, Span, DiskSector}
 use Rattle.lilo_model.specs.Faults.{Rose}
+use Rattle.lilo_model.specs.MinixNames.{names_in}
 use Rattle.lilo_model.specs.MinixParts.{Volume, ZoneFault, volume_at}
 use Rattle.lilo_model.specs.Partitions.{TableFault, device_fault, span_of}
 use Rattle.lilo_model.specs.Place.{Memory}
+use Rattle.lilo_model.specs.Plan.{Plan}
 use Rattle.lilo_model.specs.PlanRefusal as plans
 use Rattle.lilo_model.specs.PlanRefusal.{PlanFault, plan_status}
 use Rattle.lilo_model.specs.Prompt.{Key}
@@ -26,6 +29,7 @@ use Rattle.lilo_model.specs.Refusal.{Refusal, refusal_status}
 use Rattle.lilo_model.specs.Settled.{OwnNames}
 use Rattle.lilo_model.specs.Verdict.{Verdict, verdict_of}
 use Rattle.lilo_model.specs.VolumeSearch.{Located, VolumeFault, volume_place}
+use Rattle.write_model.specs.Wish as rooms
 use Rattle.stream_trait.specs.Shows.{SinkState, Shows}
 use Rattle.conf_file.specs.declared.file_fault.FileFault.TheVariants as files
 use Rattle.conf_settings.specs.View.{fault_view}
@@ -33,18 +37,20 @@ use Rattle.mbr_table.specs.declared.table_fault.TableFault as declared
 use Rattle.mbr_table.specs.declared.table_fault.TableFault.TheVariants as tables
 use Rattle.install_answers.specs.Texts.{device_status}
 use Rattle.install_begin.specs.Begin as begins
-use Rattle.install_begin.specs.Begin.{begun_at, begun_on, begun_with, named_conf, placed_by}
+use Rattle.install_begin.specs.Begin.{answer_on, begun_at, begun_on, begun_with, named_conf, placed_by}
 use Rattle.install_begin.specs.View.{RefusesText}
+use Rattle.install_begin.proofs.BeginLemmas.{answer_law}
 use Rattle.install_laws.specs.Boots.{BootsAs, HasBootOf}
 use Rattle.install_laws.specs.InstallVerdict as installs
-use Rattle.install_laws.specs.InstallVerdict.{Answer, InstallRefusal, Reading, NotSound, NotApart, BadName, NoPlan, NoLink, NoRoom, answer_text, install_line, install_status, verdict_by}
+use Rattle.install_laws.specs.InstallVerdict.{Answer, InstallRefusal, Reading, NotSound, NotApart, BadName, NoPlan, NoLink, NoRoom, answer_text, install_line, install_room, install_status, install_verdict, verdict_by}
 use Rattle.install_laws.specs.Stopped.{StaysAsBefore}
 use Rattle.install_preview.specs.Previews.{AnswersVerdict}
 use Rattle.install_run.specs.Answers as outcomes
 use Rattle.install_run.specs.Answers.{AnswersInstall, IsDiskFault, IsLostIn, IsSettledFrom, install_on, lost_line, settled_answer}
 use Rattle.install_run.specs.Keeps.{KeepsMost}
+use Rattle.install_run.proofs.EntryLemmas.{entry_answer_law}
 use Rattle.install_run.specs.Installs.{Installs, InstallsBegun, OnVolume, NoVolume, VolumeLost, Leaves}
-use Rattle.lilo_run.specs.Install.{IsInstallRun, InstallHolds, done_status}
+use Rattle.lilo_run.specs.Install.{ReadsSteady, IsInstallRun, IsModelled, InstallHolds, done_status}
 use Rattle.lilo_run.specs.Refusal.{ConfRefuses, conf_verdict, device_failed, no_memory, table_verdict, text_verdict}
 use Rattle.lilo_run.specs.Run.{State, Scene, Carries, CarriedOut, LostBefore, LostAtCommit, LostAfter, Starved, IsLeftBy, EndsAs, Tells, TellsVerdict, TellsLost, TellsLostAtCommit, TellsLostAfter, TellsUnheard, TellsStarved, TellsCut, TellsRun}
 use Rattle.lilo_run.specs.Verdict.{Effect, Installation, Left, command_effect, effects_of, failed_behind, first_left, install_effect, installed_answer, installing, leaving}
@@ -123,10 +129,10 @@ module _ (image : Image) (machine : Machine) (root : Option Device) (path : List
   unfolding install_effect
   effect_by given is = ap (λ answer. installing (verdict_by answer_text answer) installation) is
 
-  answer_on :
+  answer_read :
       (read : begins.Begun) → begun_at image machine root path ≡ Ok read
       → installed_answer image machine root path time left ≡ install_on image machine left.settled time read
-  answer_on read is = ap (λ given. with_fault Reading given >>= install_on image machine left.settled time) is
+  answer_read read is = ap (λ given. with_fault Reading given >>= install_on image machine left.settled time) is
 
   answer_off :
       (refusal : Refusal) → begun_at image machine root path ≡ Err refusal
@@ -146,14 +152,14 @@ module _ (image : Image) (machine : Machine) (root : Option Device) (path : List
       (read : begins.Begun) (volume : Volume) → begun_at image machine root path ≡ Ok read → volume_at image read.volume ≡ Ok volume
       → install_effect image machine root path time left
       ≡ installing (verdict_by answer_text (settled_answer image machine left.settled (begun_with read volume) time)) installation
-  effect_on read volume is there = effect_by _ (answer_on read is ∙ by_volume read (Ok volume) there)
+  effect_on read volume is there = effect_by _ (answer_read read is ∙ by_volume read (Ok volume) there)
 
   -- where there is none
   pub effect_without :
       (read : begins.Begun) (fault : ZoneFault) → begun_at image machine root path ≡ Ok read → volume_at image read.volume ≡ Err fault
       → install_effect image machine root path time left ≡ installing (verdict_of (Err refusals.Layout)) installation
   effect_without read fault is there =
-      effect_by _ (answer_on read is ∙ by_volume read (Err fault) there)
+      effect_by _ (answer_read read is ∙ by_volume read (Err fault) there)
       ∙ ap (λ verdict. installing verdict installation) (reading_verdict refusals.Layout)
 
   -- and where what it begins with is refused
@@ -218,11 +224,22 @@ module _ {D : Type 0} (g : Ghosts D) (old new : D) where
   keeps_same :
       (machine : Machine) (begun : installs.Begun) (names : OwnNames) → g.past new ≡ g.past old → IsQuiet (g.past old)
       → KeepsMost machine begun names (g.past old) (g.past new)
-  keeps_same machine begun names same quiet =
+  keeps_same machine begun names same_past quiet =
       let keeps : KeepsMost machine begun names (g.past old) (g.past old) =
       leaves_none (g.past old) _
-      (λ c left. rw (quiet c left) (record { sound = λ sound. sound; others = λ name beside. refl; own = λ apart name. inl refl; held = λ held. held })) in
-      subst (λ (p : Option Past). KeepsMost machine begun names (g.past old) p) (sym same) keeps
+      (λ c left. rw (quiet c left) (record {
+        sound = λ sound. sound;
+        others = λ name beside. refl;
+        own = λ name. inl refl;
+        backup = same names.backup;
+        held = λ held. held;
+      })) in
+      subst (λ (p : Option Past). KeepsMost machine begun names (g.past old) p) (sym same_past) keeps
+    where
+      same : (backup : Option (List (List ℕ)))
+          → IfSome backup (λ path. names_in begun.volume (now (g.past old)) path ≡ names_in begun.volume (now (g.past old)) path)
+      same None = tt
+      same (Some path) = refl
 
   -- a disk failed, or memory ended, before anything was done
   abbrev pub IsEarly : Installation → ℕ → Type 0
@@ -253,6 +270,7 @@ module _ {D : Type 0} (g : Ghosts D) (old new : D) where
           before = λ is. stays_same found.machine begun.volume begun.span same quiet;
           at_commit = λ nine firm. absurd (not_nine own early nine);
           done = λ is firm. absurd (not_done own early is);
+          lays = λ is firm. absurd (not_done own early is);
         };
   }
 
@@ -484,17 +502,6 @@ install_alone :
 unfolding effects_of command_effect
 install_alone now machine size time words lefts keys root path (part, is, command, rooted, called) = rw (is, command, rooted, called) refl
 
-pub install_tells :
-    {D : Type 0} → (g : Ghosts D) (now : Image) (machine : Machine) (size time : ℕ) (words : List (List ℕ)) (root : Option Device) (path : List ℕ) (lefts : List Left)
-    (keys left : List Key) (status : ℕ) (old new : Scene D)
-    → IsInstallRun words root path → TellsRun g (effects_of now machine size time words lefts keys) status keys left old new
-    → (found : Left) × Tells g (leaving keys (install_effect now machine root path time found)) status left old new
-install_tells g now machine size time words root path lefts keys left status old new run told = (
-  first_left now lefts,
-  told_alone g (leaving keys (install_effect now machine root path time (first_left now lefts))) status keys left old new
-      (subst (λ parts. TellsRun g parts status keys left old new) (install_alone now machine size time words lefts keys root path run) told),
-)
-
 -- 12 is no answer
 plan_not_12 : (fault : PlanFault) → plan_status fault ≢ 12
 plan_not_12 (plans.Missing text) is = omega (arith, is)
@@ -538,18 +545,68 @@ done_own status other = rw (ne_eqb status 12 other) refl
 done_as : (status own : ℕ) → status ≡ own → own ≢ 12 → done_status status ≡ own
 done_as status own is other = done_own status (λ twelve. other (sym is ∙ twelve)) ∙ is
 
+-- ---- by the image at the entry
+
+module _ {D : Type 0} (g : Ghosts D) (image : Image) (machine : Machine) (root : Option Device) (path : List ℕ) (time : ℕ) (found : Left) where
+  abbrev Room : installs.Begun → OwnNames → Plan → Result (List DiskSector) rooms.Refusal
+  Room = install_room image machine found.settled time
+
+  module _ (own : ℕ) (old new : D) (ends : EndsAs g (installation image machine root path time found) own old new) (so : found.answered ≡ true)
+      (steady : ReadsSteady image machine root path) where
+    on_read : (read : begins.Begun) → begun_at image machine root path ≡ Ok read
+        → install_on image machine found.settled time read ≡ answer_on Room image machine time read
+    unfolding install_on
+    on_read read is =
+        bind-same (with_fault (λ fault. Reading refusals.Layout) (volume_at image read.volume)) _ _ (λ volume there.
+        let lies = told-given (λ fault. Reading refusals.Layout) _ volume there in
+        entry_answer_law image machine found.settled (begun_with read volume) time ((ends.begun read is volume lies).settled so) (steady read is volume lies))
+
+    by_entry : installed_answer image machine root path time found ≡ (with_fault Reading (begun_at image machine root path) >>= answer_on Room image machine time)
+    by_entry =
+        bind-same (with_fault Reading (begun_at image machine root path)) (answer_on Room image machine time) (install_on image machine found.settled time)
+        (λ read is. on_read read (told-given Reading _ read is))
+
+    modelled : (install_effect image machine root path time found).verdict ≡ install_verdict image machine root path found.settled time
+    unfolding install_effect install_verdict
+    modelled = ap (verdict_by answer_text) (by_entry ∙ sym (answer_law image machine root path Room time))
+
+  pub tells_modelled :
+      (keys : List Key) (status : ℕ) (left : List Key) (old new : Scene D) → Tells g (leaving keys (install_effect image machine root path time found)) status left old new
+      → IsModelled image machine root path time found
+  unfolding install_effect
+  tells_modelled keys status left old new (TellsVerdict is kept printed ends) = modelled status old.disks new.disks ends
+  tells_modelled keys status left old new (TellsLost is printed (ends, rose)) = modelled 8 old.disks new.disks ends
+  tells_modelled keys status left old new (TellsLostAtCommit is printed (ends, rose)) = modelled 9 old.disks new.disks ends
+  tells_modelled keys status left old new (TellsLostAfter is printed (ends, rose)) = modelled 10 old.disks new.disks ends
+  tells_modelled keys status left old new (TellsUnheard is printed rose same) = absurd printed
+  tells_modelled keys status left old new (TellsStarved is printed ends) = modelled 13 old.disks new.disks ends
+  tells_modelled keys status left old new (TellsCut is zero kept rose front ends) = modelled 0 old.disks new.disks ends
+
+-- ---- what the run of one part leaves
+
+pub install_tells :
+    {D : Type 0} → (g : Ghosts D) (now : Image) (machine : Machine) (size time : ℕ) (words : List (List ℕ)) (root : Option Device) (path : List ℕ) (lefts : List Left)
+    (keys left : List Key) (status : ℕ) (old new : Scene D)
+    → IsInstallRun words root path → TellsRun g (effects_of now machine size time words lefts keys) status keys left old new
+    → (found : Left) × (IsModelled now machine root path time found × Tells g (leaving keys (install_effect now machine root path time found)) status left old new)
+install_tells g now machine size time words root path lefts keys left status old new run told =
+    let alone =
+    told_alone g (leaving keys (install_effect now machine root path time (first_left now lefts))) status keys left old new
+    (subst (λ parts. TellsRun g parts status keys left old new) (install_alone now machine size time words lefts keys root path run) told) in
+    (first_left now lefts, (tells_modelled g now machine root path time (first_left now lefts) keys status left old new alone, alone))
+
 module _ {D : Type 0} (g : Ghosts D) (image : Image) (machine : Machine) (root : Option Device) (path : List ℕ) (time : ℕ) (found : Left) where
   own_holds :
       (own status : ℕ) (old new : D) → done_status status ≡ own → EndsAs g (installation image machine root path time found) own old new
-      → InstallHolds image machine root path (g.past old) (g.past new) status
+      → InstallHolds image machine root path time (g.past old) (g.past new) status
   own_holds own status old new same ends = λ read is volume there quiet. (
     found.settled,
-    subst (λ n. Leaves machine (begun_with read volume) found.settled (g.past old) (g.past new) n) (sym same) ((ends.begun read is volume there).leaves quiet),
+    subst (λ n. Leaves machine (begun_with read volume) found.settled time (g.past old) (g.past new) n) (sym same) ((ends.begun read is volume there).leaves quiet),
   )
 
   pub install_holds :
       (keys : List Key) (status : ℕ) (left : List Key) (old new : Scene D) → Tells g (leaving keys (install_effect image machine root path time found)) status left old new
-      → InstallHolds image machine root path (g.past old.disks) (g.past new.disks) status
+      → InstallHolds image machine root path time (g.past old.disks) (g.past new.disks) status
   unfolding install_effect
   install_holds keys status left old new (TellsVerdict is kept printed ends) =
       own_holds status status old.disks new.disks
@@ -569,6 +626,6 @@ module _ {D : Type 0} (g : Ghosts D) (image : Image) (machine : Machine) (root :
 pub install_found :
     {D : Type 0} → (g : Ghosts D) (image : Image) (machine : Machine) (root : Option Device) (path : List ℕ) (time : ℕ)
     (keys : List Key) (status : ℕ) (left : List Key) (old new : Scene D)
-    → (found : Left) × Tells g (leaving keys (install_effect image machine root path time found)) status left old new
-    → InstallHolds image machine root path (g.past old.disks) (g.past new.disks) status
-install_found g image machine root path time keys status left old new (found, tells) = install_holds g image machine root path time found keys status left old new tells
+    → (found : Left) × (IsModelled image machine root path time found × Tells g (leaving keys (install_effect image machine root path time found)) status left old new)
+    → InstallHolds image machine root path time (g.past old.disks) (g.past new.disks) status
+install_found g image machine root path time keys status left old new (found, (modelled, tells)) = install_holds g image machine root path time found keys status left old new tells

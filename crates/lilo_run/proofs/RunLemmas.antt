@@ -1,7 +1,7 @@
 -- The loop over the parts of a run.
 use Rattle.std.proofs.Common.{◌≡◌, ◌≤◌, ◌<◌, ◌≢◌, ◌∙◌, ◌==◌, ◌⊎◌, ◌+◌, ◌-◌, ℕ, inl, inr, Bool, true, false, cond, ◌||◌, List, [], ◌∷◌, ◌++◌, Option, None, Some, Err, codes, IfSome, IsTrue, refl, sym, ap, subst, arith}
 use Rattle.std.proofs.lemmas.Bool.{eqb-true, false≢true}
-use Rattle.disk_trait.specs.Past.{Image, Past, Told}
+use Rattle.disk_trait.specs.Past.{Image, Past}
 use Rattle.disk_trait.specs.Moments.{IsTold, now}
 use Rattle.disk_trait.specs.Calls.{SameOf}
 use Rattle.disk_trait.specs.declared.disks.Phase.TheVariants.{Before, Commit, After}
@@ -73,7 +73,7 @@ module _ {D : Type 0} (g : Ghosts D) where
     left_after found begun own left = record {
       settled = left.settled;
       leaves =
-          λ quiet. subst (λ (p : Option Past). Leaves found.machine begun found.left.settled p (g.past new) own) same.same_past
+          λ quiet. subst (λ (p : Option Past). Leaves found.machine begun found.left.settled found.time p (g.past new) own) same.same_past
           (left.leaves (subst (λ (p : Option Past). IsQuiet p) (sym same.same_past) quiet));
     }
 
@@ -143,11 +143,6 @@ module _ {D : Type 0} (g : Ghosts D) where
       (old mid : D) → g.size_of mid ≡ g.size_of old → g.geometry_of mid ≡ g.geometry_of old
       → (P : Image → Machine → Type 0) → OnDisks g mid P → IsTold (g.past mid) → P (now (g.past mid)) (machine_of g old)
   told_here old mid size geometry P told is = rw (size, geometry) at (told_now (g.past mid) (λ image. P image (machine_of g mid)) told is)
-
-pub told_from : (past : Option Past) (P : Image → Type 0) → (IsTold past → P (now past)) → Told past P
-unfolding IsTold now
-told_from None P holds = tt
-told_from (Some past) P holds = holds tt
 
 -- a part that answers 0 was shown
 shown_by : (failed : Bool) (own : ℕ) → own ≡ 0 → answer_of own failed ≡ 0 → failed ≡ false

@@ -1,5 +1,5 @@
 -- An installation by itself: what it answers, and what a stop at any moment leaves of it.
-use Rattle.std.specs.Prelude.{◌≡◌, ℕ, ◌==◌, if◌then◌else◌, List, [], ◌∷◌, Option, Ok}
+use Rattle.std.specs.Prelude.{◌≡◌, ℕ, ◌==◌, true, if◌then◌else◌, List, [], ◌∷◌, Option, Ok}
 use Rattle.disk_trait.specs.Past.{Past}
 use Rattle.disk_trait.specs.Moments.{IsQuiet}
 use Rattle.disk_trait.specs.declared.disks.Disks as disks
@@ -13,7 +13,9 @@ use Rattle.stream_trait.specs.declared.sink.Sink.{Ghosts}
 use Rattle.stream_trait.specs.declared.source.Source as sources
 use Rattle.install_begin.specs.Begin as begins
 use Rattle.install_begin.specs.Begin.{begun_at, begun_with}
+use Rattle.install_laws.specs.InstallVerdict.{install_verdict}
 use Rattle.install_run.specs.Installs.{Leaves}
+use Rattle.install_run.specs.Keeps.{IsSteady}
 use Rattle.lilo_run.specs.Run.{Tells, scene_of}
 use Rattle.lilo_run.specs.Verdict.{Left, leaving, install_effect}
 
@@ -22,10 +24,24 @@ abbrev pub IsInstallRun : List (List ℕ) → Option Device → List ℕ → Typ
 IsInstallRun words root path =
     (part : Part) × (run_at words ≡ Ok (part ∷ [])) × (part.command ≡ Install) × (part.root ≡ root) × (conf_path part.config ≡ path)
 
--- the status, the text, the keys left and what the disks hold go with what is found out
-abbrev pub TellsInstall : {D I O : Type 0} → disks.Ghosts D → sources.Ghosts I → Ghosts O → Image → Machine → Option Device → List ℕ → ℕ → List Key → List Key → ℕ → D × I × List ℕ × O → D × I × List ℕ × O → Type 0
+-- where a volume and a configuration are read, nothing that is read then rests on what settling changes
+abbrev pub ReadsSteady : Image → Machine → Option Device → List ℕ → Type 0
+ReadsSteady image machine root path =
+    (read : begins.Begun) → begun_at image machine root path ≡ Ok read → (volume : Volume) → volume_at image read.volume ≡ Ok volume
+    → IsSteady image machine (begun_with read volume)
+
+-- then what is answered is the model's verdict, by the image at the entry: of what settling leaves it takes the room alone
+abbrev pub IsModelled : Image → Machine → Option Device → List ℕ → ℕ → Left → Type 0
+IsModelled image machine root path time found =
+    found.answered ≡ true → ReadsSteady image machine root path
+    → (install_effect image machine root path time found).verdict ≡ install_verdict image machine root path found.settled time
+
+-- the status, the text, the keys left and what the disks hold go with what is found out, by which the verdict is the model's
+abbrev pub TellsInstall : {D I O : Type 0} → disks.Ghosts D → sources.Ghosts I → Ghosts O → Image → Machine → Option Device → List ℕ → ℕ
+    → List Key → List Key → ℕ → D × I × List ℕ × O → D × I × List ℕ × O → Type 0
 TellsInstall g i o now machine root path time keys left status old new =
-    (found : Left) × Tells g (leaving keys (install_effect now machine root path time found)) status left (scene_of i o old) (scene_of i o new)
+    (found : Left) × (IsModelled now machine root path time found
+    × Tells g (leaving keys (install_effect now machine root path time found)) status left (scene_of i o old) (scene_of i o new))
 
 -- the status of what was done: 12 comes where it is 0 and the text wasn't shown
 abbrev pub done_status : ℕ → ℕ
@@ -33,7 +49,7 @@ done_status status = if status == 12 then 0 else status
 
 -- From a quiet moment, where a volume and a configuration are read, there is an image by which a stop at any moment leaves what the
 -- status says: where the commit began, the image that settling left.
-abbrev pub InstallHolds : Image → Machine → Option Device → List ℕ → Option Past → Option Past → ℕ → Type 0
-InstallHolds image machine root path entry ended status =
+abbrev pub InstallHolds : Image → Machine → Option Device → List ℕ → ℕ → Option Past → Option Past → ℕ → Type 0
+InstallHolds image machine root path time entry ended status =
     (read : begins.Begun) → begun_at image machine root path ≡ Ok read → (volume : Volume) → volume_at image read.volume ≡ Ok volume
-    → IsQuiet entry → (settled : Image) × Leaves machine (begun_with read volume) settled entry ended (done_status status)
+    → IsQuiet entry → (settled : Image) × Leaves machine (begun_with read volume) settled time entry ended (done_status status)

@@ -116,7 +116,7 @@ DoesBeside g o disks memory status old new effect =
 -- says.
 pub record IsLeftBy {D : Type 0} (g : Ghosts D) (found : Installation) (begun : Begun) (own : ℕ) (old new : D) : Type 0 where
   pub settled : found.left.answered ≡ true → IsSettledFrom found.image found.machine begun found.left.settled
-  pub leaves : IsQuiet (g.past old) → Leaves found.machine begun found.left.settled (g.past old) (g.past new) own
+  pub leaves : IsQuiet (g.past old) → Leaves found.machine begun found.left.settled found.time (g.past old) (g.past new) own
 
 -- An installation ended with this status. Where what it begins with is refused, it did nothing.
 pub record EndsAs {D : Type 0} (g : Ghosts D) (found : Installation) (own : ℕ) (old new : D) : Type 0 where

@@ -1,6 +1,5 @@
 -- The file is read first, and then its text.
 use Rattle.std.specs.Prelude.{option_map}
-use Rattle.conf_file.specs.View as files
 use Rattle.disk_trait.proofs.ToldLemmas.{told_map}
 use Rattle.lilo_model.specs.ConfVerdict.{conf_file}
 use Rattle.mbr_table.specs.View.{device_view}

@@ -1,6 +1,6 @@
 use Rattle.std.proofs.Common.{sym, ◌∙◌}
 use Rattle.minix_zones.specs.Volume.{faults_of}
-use Rattle.install_preview.proofs.RefusedLemmas.{answers_refusal, rose_by, status_known}
+use Rattle.install_preview.proofs.RefusedLemmas.{answers_refusal, lost_rose, status_known}
 use Rattle.install_preview.proofs.answer.refuse.Goals as goal
 
 pub returns-clause-refused : goal.returns-clause-refused
@@ -10,7 +10,7 @@ returns-clause-refused g c before cause =
 
 pub returns-clause-cause : goal.returns-clause-cause
 returns-clause-cause g c before cause is =
-    rose_by c.args.halt.fault before (faults_of c.args.halt.volume) cause (sym (rw c.requires.before at c.say_halt.ensures.status) ∙ is)
+    lost_rose c.args.halt.fault before (faults_of c.args.halt.volume) cause (sym (rw c.requires.before at c.say_halt.ensures.status) ∙ is)
 
 pub returns-clause-known : goal.returns-clause-known
 returns-clause-known g c = status_known c.args.halt.fault c.say_halt.result.0 (rw c.requires.before at c.say_halt.ensures.status)

@@ -1,8 +1,8 @@
 -- It answers by what is planned, and leaves by how far it came.
-use Rattle.std.proofs.Common.{ap}
+use Rattle.std.proofs.Common.{ap, arith}
 use Rattle.disk_trait.proofs.CallLemmas.{goes_on_join}
 use Rattle.minix_zones.specs.Volume.{faults_of}
-use Rattle.install_run.proofs.CarriedLemmas.{rose_after, rose_in, status_in}
+use Rattle.install_run.proofs.CarriedLemmas.{rose_in, status_in}
 use Rattle.install_run.proofs.InstalledLemmas.{planned_installs, refused_installs}
 use Rattle.install_run.proofs.install.install.Goals as goal
 
@@ -15,7 +15,8 @@ returns-in-Ok-clause-installs g c =
     (rw (c.skipped.ensures, c.names.ensures, c.default_entry.ensures) at c.show.ensures.shown) c.finish.ensures.finishes
 
 pub returns-in-Ok-clause-cause : goal.returns-in-Ok-clause-cause
-returns-in-Ok-clause-cause g c lost = rose_after _ _ _ c.in-Ok.ensures.goes_on.later (c.finish.ensures.cause lost)
+returns-in-Ok-clause-cause g c lost full =
+    let later = c.in-Ok.ensures.goes_on.later in let risen = c.finish.ensures.cause lost full in omega (arith, later, risen)
 
 pub returns-in-Ok-clause-goes_on : goal.returns-in-Ok-clause-goes_on
 returns-in-Ok-clause-goes_on g c = goes_on_join g.D.Disks _ _ _ c.in-Ok.ensures.goes_on c.finish.ensures.goes_on

@@ -9,7 +9,8 @@ use Rattle.loader_core.proofs.LeavesLemmas.{goes_on_after, rose_after}
 use Rattle.mbr_table.specs.View.{device_view}
 use Rattle.sector_address.specs.Machine.{machine_of}
 use Rattle.lilo_run.proofs.InstallLemmas.{begun_there, begun_found, refused_found}
-use Rattle.lilo_run.proofs.RunLemmas.{conf_part_lost, told_from}
+use Rattle.install_preview.proofs.StateLemmas.{told_from}
+use Rattle.lilo_run.proofs.RunLemmas.{conf_part_lost}
 use Rattle.lilo_run.proofs.TestLemmas.{begin_lost, begin_refuses, install_refusal_known}
 use Rattle.lilo_run.proofs.install_part.install.Goals as goal
 

@@ -175,6 +175,11 @@ def system(kernel, text=CONFIGURATION, kind='v1-30', sectors=4032, before=(), in
     return volume
 
 
+def boot_folder(volume):
+    """The inode of its folder `boot`."""
+    return next(number for number, name in volume.listings[1] if name == b'boot')
+
+
 def disk(volume, **changed):
     """A disk whose first partition, from sector 64 on to its end, is a volume: 4096 sectors with one of 4032."""
     data = volume.bytes(**changed)

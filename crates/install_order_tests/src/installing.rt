@@ -38,7 +38,7 @@ struct Scene {
     lines: (u8, u8),
 }
 
-const SCENES: [Scene; 2] = [
+const SCENES: [Scene; 4] = [
     // Over a map of which the zones 31, 32 and 37 to 40 are looked at by a boot. A flush; a bit of the inode, the bits
     // of four zones and a flush; eight sectors, the inode and a flush; the entry and a flush. The boot sector and a
     // flush. Then the map is tidied by 14 events. The new map's first zone is 6.
@@ -74,6 +74,51 @@ const SCENES: [Scene; 2] = [
             ],
         },
         lines: (0x5E, 0x22),
+    },
+    // Over another system's boot sector and an older backup, after a stop before the commit: 8 events remove `map~`. A
+    // flush; the forced backup under its name with `~` by nine events, and 13 put it in the old one's place. The new map
+    // needs four events more, since the last free place of the directory was the backup's: zeros are put past its size and
+    // flushed, and then the new size.
+    Scene {
+        edits: &[
+            (0, 2, b"MSDO"),
+            (30, 128, b"\x05\0map~"),
+            (30, 160, b"\x03\0old"),
+        ],
+        text: b"boot=/dev/hda\nmap=/map\nforce-backup=/old\nlba32\nimage=/kernel\nlabel=linux\n",
+        staged: 50,
+        events: 66,
+        way: Way {
+            before: [2, 5, 4, 3, 0],
+            turns: &[
+                (2, [2, 0, 4, 3, 0]),
+                (17, [2, 0, 4, 3, 5]),
+                (21, [2, 0, 4, 5, 5]),
+                (23, [2, 0, 4, 5, 0]),
+                (49, [2, 6, 4, 5, 0]),
+                (55, [6, 6, 4, 5, 0]),
+                (57, [6, 0, 4, 5, 0]),
+            ],
+        },
+        lines: (0x5E, 0x22),
+    },
+    // After a stop between the commit and the tidying: 14 events finish the rename, which frees inode 3.
+    Scene {
+        edits: &[(30, 64, b"\x03\0map"), (30, 128, b"\x02\0map~")],
+        text: b"boot=/dev/hda\nmap=/map\nlba32\nimage=/kernel\nlabel=linux\n",
+        staged: 30,
+        events: 46,
+        way: Way {
+            before: [3, 2, 4, 0, 0],
+            turns: &[
+                (4, [2, 2, 4, 0, 0]),
+                (6, [2, 0, 4, 0, 0]),
+                (29, [2, 3, 4, 0, 0]),
+                (35, [3, 3, 4, 0, 0]),
+                (37, [3, 0, 4, 0, 0]),
+            ],
+        },
+        lines: (0x5E, 0x20),
     },
 ];
 
@@ -163,7 +208,7 @@ fn look_at_boot(
 fn play(rt: &impl Abort, alloc: Global, scene: &Scene) -> Result<(), Fail> {
     let start = start_of(alloc, scene)?;
     let mut disks = Untold {
-        disks: made_again(alloc, &start, 60, &[])?,
+        disks: made_again(alloc, &start, 80, &[])?,
     };
     assert_eq!(rt; install(rt, alloc, &mut disks, scene.text).is_ok(), true);
     let Untold { disks } = disks;
@@ -200,7 +245,7 @@ fn phase_at(scene: &Scene, events: u32) -> Phase {
 fn fail(rt: &impl Abort, alloc: Global, scene: &Scene, failing: Failing) -> Result<bool, Fail> {
     let start = start_of(alloc, scene)?;
     let mut disks = Untold {
-        disks: made_again(alloc, &start, 60, &[failing])?,
+        disks: made_again(alloc, &start, 80, &[failing])?,
     };
     let answer = install(rt, alloc, &mut disks, scene.text);
     let Untold { disks } = disks;

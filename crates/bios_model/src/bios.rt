@@ -1,5 +1,6 @@
 // The BIOS: disks that are read and written by slots, and keys.
-ghost use Rattle.std.specs.Prelude.{◌≡◌, ◌<◌, ◌≤◌, ◌↔◌, length, map, All, Ok, IsOk, IsErr, IsErrOf, IfErr, IsTrue, OnOk, OnErr};
+ghost use Rattle.std.specs.Prelude.{◌≡◌, ◌<◌, ◌≤◌, ◌↔◌, length, map, All, Ok, IsOk, IsErr, IsErrOf, IfErr, IsTrue};
+ghost use Rattle.std.specs.Prelude.{OnOk, OnErr};
 ghost use Rattle.disk_trait.specs.Past.{SameDisks};
 ghost use Rattle.lilo_model.specs.Faults.{Rose};
 ghost use Rattle.lilo_model.specs.Checks.{with_fault};

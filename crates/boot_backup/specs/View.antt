@@ -78,7 +78,8 @@ pub record LostIn {D : Type 0} (disks : Ghosts D) (old new : D) (place : DiskSec
 
 -- A call wrote the bytes that were found into a sector and made them durable, or was refused, as nothing was found and
 -- then it did nothing, or as a disk failed.
-pub record Restores {D : Type 0} (disks : Ghosts D) (old new : D) (place : DiskSector) (found : Result (List ℕ) Refusal) (result : Result (Unit {0}) RestoreFault) : Type 0 where
+pub record Restores {D : Type 0} (disks : Ghosts D) (old new : D) (place : DiskSector) (found : Result (List ℕ) Refusal)
+    (result : Result (Unit {0}) RestoreFault) : Type 0 where
   pub answer : Answers result found
   pub writes : WritesBytes disks old new place found result
   pub lost : result ≡ Err (Device Commit) → LostIn disks old new place found

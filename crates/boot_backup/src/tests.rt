@@ -37,8 +37,8 @@ const DIRECTORY: u32 = 12;
 const BACKUP: u32 = 14;
 
 // A disk of 64 sectors, by hand, with some changes: a Minix volume of version 1 with names of 14 bytes, 16 inodes and
-// 32 zones, of which the first data zone is 5. Its block 0 has a boot sector of one name. Inode 2 is `/boot`, and inode 3
-// the backup of disk 0, whose bytes are all 0xB7.
+// 32 zones, of which the first data zone is 5. Its block 0 has a boot sector of one name. Inode 2 is `/boot`, and inode
+// 3 the backup of disk 0, whose bytes are all 0xB7.
 fn volume_disk(
     alloc: Global,
     edits: &[Edit<'_>],
@@ -205,8 +205,8 @@ fn refusals_come_in_order(rt: HostRuntime) -> Result<(), Fail> {
     Ok(())
 }
 
-// A read fails, the write or the flush; a write that failed was made or wasn't. Call 0 reads the boot sector, call 1 finds
-// the volume, and calls 2 to 11 read its superblock, three inodes, two directories and the backup.
+// A read fails, the write or the flush; a write that failed was made or wasn't. Call 0 reads the boot sector, call 1
+// finds the volume, and calls 2 to 11 read its superblock, three inodes, two directories and the backup.
 #[test]
 fn a_failing_disk_has_a_phase(rt: HostRuntime) -> Result<(), Fail> {
     for (call, made, phase, sector) in [

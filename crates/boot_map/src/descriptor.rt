@@ -1,6 +1,7 @@
 ghost use Rattle.std.specs.Prelude.{◌≡◌, ◌+◌, ◌≤◌, true, length};
 ghost use Rattle.lilo_model.specs.Table.{is_set, entry_name, is_printable, is_name, has_flags, has_video};
-ghost use Rattle.lilo_model.specs.Table.{has_length, has_main, has_initrd, has_extra, is_entry, descriptor_of, descriptor_bytes};
+ghost use Rattle.lilo_model.specs.Table.{has_length, has_main, has_initrd, has_extra, is_entry, descriptor_of};
+ghost use Rattle.lilo_model.specs.Table.{descriptor_bytes};
 ghost use Rattle.lilo_model.specs.Bytes.{with_part};
 ghost use Rattle.boot_map.specs.View.{descriptor_view};
 ghost use Rattle.boot_map.specs.Ranges.{IsNamed, HasSectors, FitsFlags, HasEntrySlots};

@@ -310,8 +310,8 @@ fn removes_a_name(rt: HostRuntime) -> Result<(), Fail> {
 
 #[test]
 fn each_call_that_fails_in_a_removal(rt: HostRuntime) -> Result<(), Fail> {
-    // Each call up to the last one that is made, of which there are more than ten: a read for each inode, each bitmap and
-    // the names, and writes and flushes.
+    // Each call up to the last one that is made, of which there are more than ten: a read for each inode, each bitmap
+    // and the names, and writes and flushes.
     let mut failed = 0_u64;
     for call in 0..80 {
         let failing = [Failing { call, made: false }];

@@ -1,6 +1,7 @@
 -- The one order in which what is wrong with a lilo.conf is looked for (this project's own): stages, in a stage its
 -- options or sections in turn, and at each of these its tests. The answer is the first test that fails.
-use Rattle.std.specs.Prelude.{◌≡◌, ◌⊎◌, ◌↔◌, ◌<◌, ℕ, zero, suc, Bool, true, false, List, [], ◌∷◌, ◌++◌, length, flat_map, is_some, unwrap_or, IsOk, None, Some, Err}
+use Rattle.std.specs.Prelude.{◌≡◌, ◌⊎◌, ◌↔◌, ◌<◌, ℕ, zero, suc, Bool, true, false, List, [], ◌∷◌, ◌++◌, length, flat_map, is_some, unwrap_or, IsOk, None, Some}
+use Rattle.std.specs.Prelude.{Err}
 use Rattle.lilo_model.specs.ConfOptions as options
 use Rattle.lilo_model.specs.ConfOptions.{Opt, Takes, takes_of, stands_in, opens, is_of_disk, is_of_name, same_option}
 use Rattle.lilo_model.specs.ConfValues.{is_value, is_name, last_part, name_limit, names_limit}
@@ -8,7 +9,8 @@ use Rattle.lilo_model.specs.ConfRefusal as reasons
 use Rattle.lilo_model.specs.ConfRefusal.{ConfReason, ConfRefusal}
 use Rattle.lilo_model.specs.ConfSettings.{Bare, Sign, Value, Setting, text_settings}
 use Rattle.lilo_model.specs.ConfJudge.{part_after, part_kind, has_option, setting_disk, is_same_disk, details_of, group_disk, excluded_in, takes_nothing}
-use Rattle.lilo_model.specs.Conf.{parts_of, value_of, section_path, section_label, section_names, opener_of, opening_line, line_of, excludes_line, is_locked_fallback, is_open_restricted, has_name, conf_limit, too_long, conf_at}
+use Rattle.lilo_model.specs.Conf.{parts_of, value_of, section_path, section_label, section_names, opener_of, opening_line, line_of, excludes_line}
+use Rattle.lilo_model.specs.Conf.{is_locked_fallback, is_open_restricted, has_name, conf_limit, too_long, conf_at}
 use Rattle.std.specs.List.{list_any}
 
 -- An item of a list, counted from 0, fails a test. What the test looks at besides goes from item to item.

@@ -1,9 +1,12 @@
 // How far blanks, words and quoted texts reach, and what is at a place.
-ghost use Rattle.std.specs.Prelude.{◌≡◌, ℕ, List, ◌∷◌, ◌+◌, ◌-◌, ◌^◌, ◌≤◌, ◌<◌, ◌==◌, false, length, take, position, count_by, slice_index, IfSome, IfOk};
+ghost use Rattle.std.specs.Prelude.{◌≡◌, ℕ, List, ◌∷◌, ◌+◌, ◌-◌, ◌^◌, ◌≤◌, ◌<◌, ◌==◌, false, length, take, position};
+ghost use Rattle.std.specs.Prelude.{count_by, slice_index, IfSome, IfOk};
 ghost use Rattle.std.specs.Option.{option_map};
 ghost use Rattle.std.specs.List.{prefix_len};
 ghost use Rattle.lilo_model.specs.Checks.{seen};
-ghost use Rattle.lilo_model.specs.ConfTokens.{is_separator, is_bad_byte, in_comment, is_blank, blank_length, is_of_word, is_escape, ends_quoted, quoted_length, sound_token, word_at, quoted_at, equals_at, piece_at, token_end, line_at, next_piece};
+ghost use Rattle.lilo_model.specs.ConfTokens.{is_separator, is_bad_byte, in_comment, is_blank, blank_length};
+ghost use Rattle.lilo_model.specs.ConfTokens.{is_of_word, is_escape, ends_quoted, quoted_length, sound_token, word_at};
+ghost use Rattle.lilo_model.specs.ConfTokens.{quoted_at, equals_at, piece_at, token_end, line_at, next_piece};
 ghost use Rattle.conf_text.specs.View.{kind_view, token_view, text_fault_view, piece_view};
 
 use crate::token::{TextFault, Token, TokenKind};

@@ -1,5 +1,6 @@
 -- What disks in memory are: what they held at first, what was done since, and which calls fail.
-use Rattle.std.specs.Prelude.{◌≡◌, ◌^◌, All, ⊤, ◌&&◌, ◌==◌, ◌<◌, ◌≤◌, ℕ, Bool, false, nat_lt, List, [], ◌∷◌, length, map, find, replicate, slice_index_or, Option, Some, Result, Ok, Err, if◌then◌else◌}
+use Rattle.std.specs.Prelude.{◌≡◌, ◌^◌, All, ⊤, ◌&&◌, ◌==◌, ◌<◌, ◌≤◌, ℕ, Bool, false, nat_lt, List, [], ◌∷◌, length, map, find, replicate, slice_index_or}
+use Rattle.std.specs.Prelude.{Option, Some, Result, Ok, Err, if◌then◌else◌}
 use Rattle.std.specs.Option.{option_map_or}
 use Rattle.std.specs.VecDeque.{deque_len, deque_capacity}
 use Rattle.std.specs.declared.collections.VecDeque.{VecDeque}

@@ -1,6 +1,9 @@
 // What the words of moments say: laws, which no code needs to call.
 ghost use Rattle.disk_trait.specs.Past.{Image};
-ghost use Rattle.disk_trait.specs.Laws.{MayHoldLaw, LastMomentLaw, NowAndBegunLaw, QuietLaw, JoiningLaw, LeavesOnlyLaw, RunsJoinLaw, WeakerLaw, EndOfRunLaw, WholeLaw, UntoldLaw, LeftImagesLaw, NotWrittenLaw, NotWrittenByOneLaw, NotWrittenByRangeLaw, NotWrittenJoinsLaw, NotWrittenStaysLaw};
+ghost use Rattle.disk_trait.specs.Laws.{MayHoldLaw, LastMomentLaw, NowAndBegunLaw, QuietLaw, JoiningLaw, LeavesOnlyLaw};
+ghost use Rattle.disk_trait.specs.Laws.{RunsJoinLaw, WeakerLaw, EndOfRunLaw, WholeLaw, UntoldLaw, LeftImagesLaw};
+ghost use Rattle.disk_trait.specs.Laws.{NotWrittenLaw, NotWrittenByOneLaw, NotWrittenByRangeLaw, NotWrittenJoinsLaw};
+ghost use Rattle.disk_trait.specs.Laws.{NotWrittenStaysLaw};
 
 use std::marker::Brand;
 

@@ -1,10 +1,14 @@
 // Disks in memory.
-ghost use Rattle.std.specs.Prelude.{◌≡◌, ◌↔◌, ◌⊎◌, ◌<◌, ◌≤◌, ◌==◌, find, [], ℕ, length, map, unwrap_or, IfOk, IsSome, OnOk, OnErr, IsErr, IsErrOf, IsTrue, All, slice_get};
+ghost use Rattle.std.specs.Prelude.{◌≡◌, ◌↔◌, ◌⊎◌, ◌<◌, ◌≤◌, ◌==◌, find, [], ℕ, length, map, unwrap_or, IfOk, IsSome};
+ghost use Rattle.std.specs.Prelude.{OnOk, OnErr, IsErr, IsErrOf, IsTrue, All, slice_get};
 ghost use Rattle.std.specs.Option.{option_map_or};
 ghost use Rattle.disk_trait.specs.Absent.{absent_geometry};
 ghost use Rattle.disk_trait.specs.declared.event.Event.TheVariants.{Write, Flush};
 ghost use Rattle.disk_trait.specs.Cause.{HasCause, HasFlushCause};
-ghost use Rattle.disk_trait.specs.MemDisks.{MemState, IsHeld, HasWholeSectors, WritesWholeSector, zero_disk, zero_sector, sizes_of, geometries_of, image_of, past_of, now_in, past_in, IsInRange, fresh_state, zero_state, planned, IsFull, counted, with_event, after_read, after_write, after_flush};
+ghost use Rattle.disk_trait.specs.MemDisks.{MemState, IsHeld, HasWholeSectors, WritesWholeSector, zero_disk};
+ghost use Rattle.disk_trait.specs.MemDisks.{zero_sector, sizes_of, geometries_of, image_of, past_of, now_in, past_in};
+ghost use Rattle.disk_trait.specs.MemDisks.{IsInRange, fresh_state, zero_state, planned, IsFull, counted, with_event};
+ghost use Rattle.disk_trait.specs.MemDisks.{after_read, after_write, after_flush};
 ghost use Rattle.disk_trait.specs.Count.{risen};
 ghost use Rattle.disk_trait.specs.Past.{Image, Leaves, Told, appended, with_sector, now_after, first_events};
 ghost use Rattle.disk_trait.specs.Left.{unflushed_count, left_image};

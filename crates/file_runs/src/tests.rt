@@ -39,8 +39,8 @@ fn put_file(sector: &mut Sector, number: usize, size: u32, zones: &[u32; 10]) {
     }
 }
 
-// The root, in zone 13, and files: 2 has a hole, 3 is empty, 4 goes on through the indirect zone 20, 5 names a zone that
-// isn't there, 6 ends in a hole, 7 has two bytes past a sector.
+// The root, in zone 13, and files: 2 has a hole, 3 is empty, 4 goes on through the indirect zone 20, 5 names a zone
+// that isn't there, 6 ends in a hole, 7 has two bytes past a sector.
 fn inodes() -> Sector {
     let mut sector: Sector = [0; 512];
     put_u16(&mut sector, 0, 0o040755);

@@ -5,8 +5,8 @@ ghost use Rattle.install_apart_laws.specs.Plans.{PassingLaw, SettledPlanLaw};
 ghost use Rattle.install_apart_laws.specs.Surveyed.{BegunPlansLaw, SurveyedApartLaw};
 ghost use Rattle.install_apart_laws.specs.Tables.{OutsideTablesLaw, TablesLaw};
 
-/// A configuration that was apart is apart still once the names that an installation replaces are settled, where the devices
-/// that it names lie where they lay.
+/// A configuration that was apart is apart still once the names that an installation replaces are settled, where the
+/// devices that it names lie where they lay.
 pub fn settled_configuration_is_apart()
     ensures { SettledApartLaw }
 {}
@@ -26,8 +26,8 @@ pub fn device_lies_where_its_tables_are_outside()
     ensures { OutsideTablesLaw }
 {}
 
-/// Where a configuration is apart, no file that its plan maps is at a name that an installation replaces, nor at a forced
-/// backup's.
+/// Where a configuration is apart, no file that its plan maps is at a name that an installation replaces, nor at a
+/// forced backup's.
 pub fn mapped_files_are_not_replaced()
     ensures { MappedApartLaw }
 {}

@@ -83,7 +83,8 @@ pub record StagesFile {D : Type 0} {disks : Ghosts D} (start new : Volume D disk
   pub done : IsTold (past_of start) → OnOk result
       (HasNames (volume_view start) (now (past_of new)) (with_backup forced path present (names_in (volume_view start) (now (past_of start)))))
   -- what is written
-  pub others : IsTold (past_of start) → (place : DiskSector) → IsKept start (is_chosen chosen) place → NotWritten (past_of start) (past_of new) place.disk place.sector
+  pub others : IsTold (past_of start) → (place : DiskSector) → IsKept start (is_chosen chosen) place
+      → NotWritten (past_of start) (past_of new) place.disk place.sector
   pub only : WritesOnly (volume_view start) (is_chosen chosen) (past_of start) (past_of new)
   pub apart : IsTold (past_of start) → (d s : ℕ) → IsApartSector (volume_view start) d s → NotWritten (past_of start) (past_of new) d s
   pub joins : IsTold (past_of start) → OnOk result (WritesJoin start new chosen)
@@ -99,6 +100,7 @@ pub record StagesNothing {D : Type 0} {disks : Ghosts D} (start new : Volume D d
   pub ok : IsOk result
   pub same : new ≡ start
 
-abbrev pub StagesBackup : {D : Type 0} {disks : Ghosts D} → Volume D disks → Volume D disks → List (List ℕ) → Bool → List ℕ → Option Chosen → Result (Unit {0}) WriteFault → Type 0
+abbrev pub StagesBackup : {D : Type 0} {disks : Ghosts D} → Volume D disks → Volume D disks → List (List ℕ) → Bool → List ℕ → Option Chosen
+    → Result (Unit {0}) WriteFault → Type 0
 StagesBackup start new path forced present None result = StagesNothing start new result
 StagesBackup start new path forced present (Some chosen) result = StagesFile start new path forced present chosen result

@@ -1,5 +1,6 @@
 // How an installation begins.
-ghost use Rattle.install_begin_laws.specs.Laws.{ApartBackupLaw, ApartBootLaw, OutsideStaysLaw, SparedLaw, ClearAgainLaw, BeginsLaw};
+ghost use Rattle.install_begin_laws.specs.Laws.{ApartBackupLaw, ApartBootLaw, OutsideStaysLaw, SparedLaw};
+ghost use Rattle.install_begin_laws.specs.Laws.{ClearAgainLaw, BeginsLaw};
 
 /// The names of a backup, with `~` and without, are none of the map's, where a configuration is apart.
 pub fn apart_backup_is_none_of_the_map()

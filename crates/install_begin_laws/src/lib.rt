@@ -1,5 +1,5 @@
-//! Laws of how an installation begins: what is apart where a configuration is, and what a run that settles leaves of the
-//! present map. Public functions with empty bodies, which no code needs to call.
+//! Laws of how an installation begins: what is apart where a configuration is, and what a run that settles leaves of
+//! the present map. Public functions with empty bodies, which no code needs to call.
 #![tactic(auto)]
 
 mod laws;

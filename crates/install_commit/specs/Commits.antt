@@ -20,7 +20,8 @@ use Rattle.install_laws.specs.Writes.{IsApartSector}
 
 -- A call wrote these bytes into the first sector of a span and flushed. One that was refused, as the disk failed, has
 -- written them or hasn't.
-pub record Commits {D : Type 0} {disks : Ghosts D} (old new : Volume D disks) (boot : Span) (bytes : List ℕ) (result : Result (Unit {0}) DiskFault) : Type 0 where
+pub record Commits {D : Type 0} {disks : Ghosts D} (old new : Volume D disks) (boot : Span) (bytes : List ℕ)
+    (result : Result (Unit {0}) DiskFault) : Type 0 where
   -- whatever a stop leaves, at any moment of it, is what was held before, or has the sector too
   pub any_moment : IsQuiet (past_of old) → LeavesOnly (past_of old) (past_of new) (IsWithOrWithout (now (past_of old)) (span_view boot) bytes)
   -- what the disks hold now

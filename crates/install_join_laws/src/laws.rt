@@ -90,8 +90,8 @@ pub fn done_installation_has_its_map<D: Disks>()
     ensures { InstalledLaw D.Disks }
 {}
 
-/// From the commit on, also where tidying was refused, the map lies as it was planned, in the file at the path of `map` or
-/// at that with `~`, and what stays of the boot sector that was there is there.
+/// From the commit on, also where tidying was refused, the map lies as it was planned, in the file at the path of `map`
+/// or at that with `~`, and what stays of the boot sector that was there is there.
 pub fn committed_map_lies_as_planned<D: Disks>()
     ensures { CommittedLaysLaw D.Disks }
 {}

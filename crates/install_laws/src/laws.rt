@@ -17,7 +17,8 @@ pub fn stop_before_the_commit_leaves_what_boots_as_before()
     ensures { PreparesLaw }
 {}
 
-/// One that ends in its commit leaves what boots as before or as is meant, the same of the two for all keys and any memory.
+/// One that ends in its commit leaves what boots as before or as is meant, the same of the two for all keys and any
+/// memory.
 pub fn stop_in_the_commit_leaves_one_of_the_two()
     ensures { CommitEndsLaw }
 {}

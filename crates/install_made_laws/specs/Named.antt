@@ -31,9 +31,12 @@ pub record HasOldOrNew (volume : model.Volume) (old : Image) (path : List (List 
 
 -- What a stop leaves of a file that is made, at any moment, is sound, with Names as before or with the whole file at its path;
 -- once it is done it is there.
-pub record NamesFile {D : Type 0} {disks : Ghosts D} (start volume : Volume D disks) (outer : List (List ℕ)) (chosen : Chosen) (given : ℕ → List ℕ) (result : Result (Unit {0}) WriteFault) : Type 0 where
-  pub any_moment : LeavesOnly (past_of start) (past_of volume) (HasOldOrNew (volume_view start) (now (past_of start)) (chosen.name ∷ outer) (Some (thing_with chosen given)))
-  pub done : IsTold (past_of start) → OnOk result (HasNamesBut (volume_view start) (now (past_of start)) (now (past_of volume)) (chosen.name ∷ outer) (Some (thing_with chosen given)))
+pub record NamesFile {D : Type 0} {disks : Ghosts D} (start volume : Volume D disks) (outer : List (List ℕ)) (chosen : Chosen) (given : ℕ → List ℕ)
+    (result : Result (Unit {0}) WriteFault) : Type 0 where
+  pub any_moment : LeavesOnly (past_of start) (past_of volume)
+      (HasOldOrNew (volume_view start) (now (past_of start)) (chosen.name ∷ outer) (Some (thing_with chosen given)))
+  pub done : IsTold (past_of start) → OnOk result (HasNamesBut (volume_view start) (now (past_of start)) (now (past_of volume)) (chosen.name ∷ outer)
+      (Some (thing_with chosen given)))
 
 -- so it is of each that is made, or refused
 abbrev pub NamesFiles : {D : Type 0} {disks : Ghosts D} → Volume D disks → Volume D disks → Chosen → Type 0

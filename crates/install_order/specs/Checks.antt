@@ -48,7 +48,8 @@ pub record IsApartOn (image : Image) (machine : Machine) (volume : Volume) (conf
 abbrev pub GivesApart : Image → Machine → Volume → Config → Device → Result Findings InstallFault → Type 0
 GivesApart image machine volume config boot (Ok found) = IsApartOn image machine volume config boot found
 GivesApart image machine volume config boot (Err fault) =
-    Refuses fault (with_fault NotSound (survey volume.layout (parts_of volume image)) >>= λ met. with_fault NotApart (apart_checks image machine volume config boot))
+    Refuses fault (with_fault NotSound (survey volume.layout (parts_of volume image))
+    >>= λ met. with_fault NotApart (apart_checks image machine volume config boot))
 
 -- the names that are replaced, and the present map
 pub record IsPresent (image : Image) (machine : Machine) (volume : Volume) (config : Config) (boot : Device) (span : Span) (found : Present) : Type 0 where
@@ -63,7 +64,8 @@ GivesPresent image machine volume config boot span (Err fault) =
     Refuses fault (with_fault BadName (own_names (names_in volume image) config boot (is_foreign (image span.disk span.start))))
 
 -- what there is to settle, and whether the map is Clear
-pub record IsRest (image : Image) (machine : Machine) (volume : Volume) (span : Span) (names : model.OwnNames) (met : List Met) (forced : Bool) (found : Examined) : Type 0 where
+pub record IsRest (image : Image) (machine : Machine) (volume : Volume) (span : Span) (names : model.OwnNames) (met : List Met) (forced : Bool)
+    (found : Examined) : Type 0 where
   pub settling : IsToSettle image machine volume span names forced found.settling
   pub may : may_settle image machine volume (visits volume.layout (parts_of volume image)) span names.map ≡ true
   pub clear : found.clear ≡ clear_answer (is_foreign (image span.disk span.start)) (is_clear volume image met machine span)

@@ -114,11 +114,13 @@ pub record IsOfPlan (plan : MapPlan) (sectors : ℕ) (room : Room) : Type 0 wher
 -- ---- the whole
 
 -- the map, its room and the boot sector as it is
-pub record AreChosen (image : Image) (machine : Machine) (volume : Volume) (config : Config) (span : Span) (time : ℕ) (settled : Bool) (found : Examined) (choices : Choices) : Type 0 where
+pub record AreChosen (image : Image) (machine : Machine) (volume : Volume) (config : Config) (span : Span) (time : ℕ) (settled : Bool)
+    (found : Examined) (choices : Choices) : Type 0 where
   pub map : IsMap image machine volume config span time choices.plan
   pub own : AreOwnPlaces machine choices.plan choices.room.places.items
   pub places : (names : model.OwnNames) (places : List DiskSector) → IsAsFound image volume places names found
-      → ArePlaces machine config (room_for volume (parts_of volume image) places names (wish_of machine config (not settled) time (plan_view choices.plan))) choices.room
+      → ArePlaces machine config (room_for volume (parts_of volume image) places names
+      (wish_of machine config (not settled) time (plan_view choices.plan))) choices.room
   pub present : choices.present ≡ image span.disk span.start
 
 abbrev pub RefusesChecks : Image → Machine → Volume → Config → Span → ℕ → Bool → Examined → InstallFault → Type 0
@@ -131,14 +133,17 @@ GivesChoices image machine volume config span time settled found (Ok choices) = 
 GivesChoices image machine volume config span time settled found (Err fault) = RefusesChecks image machine volume config span time settled found fault
 
 -- so for what was surveyed
-pub record IsPlanned {D : Type 0} {disks : Ghosts D} (image : Image) (machine : Machine) (surveyed : Surveyed D disks) (planned : Planned D disks) : Type 0 where
-  pub chosen : AreChosen image machine (volume_view surveyed.volume) (config_view surveyed.config) (span_view surveyed.boot) surveyed.time surveyed.settled surveyed.found
+pub record IsPlanned {D : Type 0} {disks : Ghosts D} (image : Image) (machine : Machine) (surveyed : Surveyed D disks)
+    (planned : Planned D disks) : Type 0 where
+  pub chosen : AreChosen image machine (volume_view surveyed.volume) (config_view surveyed.config)
+      (span_view surveyed.boot) surveyed.time surveyed.settled surveyed.found
       (record { plan = planned.plan; room = planned.room; present = planned.present })
 
 abbrev pub GivesPlanned : {D : Type 0} {disks : Ghosts D} → Image → Machine → Surveyed D disks → Result (Planned D disks) (Halt D disks) → Type 0
 GivesPlanned image machine surveyed (Ok planned) = IsPlanned image machine surveyed planned
 GivesPlanned image machine surveyed (Err halt) =
-    RefusesChecks image machine (volume_view surveyed.volume) (config_view surveyed.config) (span_view surveyed.boot) surveyed.time surveyed.settled surveyed.found halt.fault
+    RefusesChecks image machine (volume_view surveyed.volume) (config_view surveyed.config)
+    (span_view surveyed.boot) surveyed.time surveyed.settled surveyed.found halt.fault
 
 -- the volume that is held, or handed back
 abbrev pub planned_volume : {D : Type 0} {disks : Ghosts D} → Result (Planned D disks) (Halt D disks) → volumes.Volume D disks
@@ -187,20 +192,24 @@ pub record ArePlaced (super : Super) (parts : Parts) (names : model.OwnNames) (o
   pub backup : IsBackupPlaced super parts names.backup own.backup
 
 -- the model's checks of what was surveyed
-abbrev pub checks_of : {D : Type 0} {disks : Ghosts D} → Image → Machine → Surveyed D disks → model.OwnNames → List DiskSector → Result (List DiskSector) InstallRefusal
+abbrev pub checks_of : {D : Type 0} {disks : Ghosts D} → Image → Machine → Surveyed D disks → model.OwnNames → List DiskSector
+    → Result (List DiskSector) InstallRefusal
 checks_of image machine surveyed names places =
-    plan_checks image machine (volume_view surveyed.volume) (config_view surveyed.config) (span_view surveyed.boot) places names (not surveyed.settled) surveyed.time
+    plan_checks image machine (volume_view surveyed.volume) (config_view surveyed.config) (span_view surveyed.boot) places names
+    (not surveyed.settled) surveyed.time
 
 -- they pass: the plan and the places of its room are the model's, and each name is in its directory still
 pub record IsPlanOf {D : Type 0} {disks : Ghosts D} (image : Image) (machine : Machine) (surveyed : Surveyed D disks) (names : model.OwnNames)
     (places : List DiskSector) (planned : Planned D disks) : Type 0 where
-  pub map : plan_at image machine (volume_view surveyed.volume) (span_view surveyed.boot) (config_view surveyed.config) surveyed.time ≡ Ok (plan_view planned.plan)
+  pub map : plan_at image machine (volume_view surveyed.volume) (span_view surveyed.boot) (config_view surveyed.config) surveyed.time
+      ≡ Ok (plan_view planned.plan)
   pub room : room_for (volume_view surveyed.volume) (parts_of (volume_view surveyed.volume) image) places names
       (wish_of machine (config_view surveyed.config) (not surveyed.settled) surveyed.time (plan_view planned.plan)) ≡ Ok (places_view planned.room)
   pub passes : checks_of image machine surveyed names places ≡ Ok (places_view planned.room)
   pub placed : ArePlaced (volume_view surveyed.volume).layout (parts_of (volume_view surveyed.volume) image) names planned.own
 
 -- or the first refusal of them
-abbrev pub GivesPlanOf : {D : Type 0} {disks : Ghosts D} → Image → Machine → Surveyed D disks → model.OwnNames → List DiskSector → Result (Planned D disks) (Halt D disks) → Type 0
+abbrev pub GivesPlanOf : {D : Type 0} {disks : Ghosts D} → Image → Machine → Surveyed D disks → model.OwnNames → List DiskSector
+    → Result (Planned D disks) (Halt D disks) → Type 0
 GivesPlanOf image machine surveyed names places (Ok planned) = IsPlanOf image machine surveyed names places planned
 GivesPlanOf image machine surveyed names places (Err halt) = Refuses halt.fault (checks_of image machine surveyed names places)

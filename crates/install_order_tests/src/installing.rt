@@ -26,9 +26,9 @@ const KERNEL: &[Edit] = &[
     (126, 0, b"HELLO"),
 ];
 
-// An installation: what was done to the disk by hand, how many events it takes to stage and in the whole, what the names
-// lead to, and the low byte of the number of the sector with the default line, which byte 0x1C of the boot sector has,
-// before and after.
+// An installation: what was done to the disk by hand, how many events it takes to stage and in the whole, what the
+// names lead to, and the low byte of the number of the sector with the default line, which byte 0x1C of the boot sector
+// has, before and after.
 struct Scene {
     edits: &'static [Edit],
     text: &'static [u8],
@@ -76,9 +76,9 @@ const SCENES: [Scene; 4] = [
         lines: (0x5E, 0x22),
     },
     // Over another system's boot sector and an older backup, after a stop before the commit: 8 events remove `map~`. A
-    // flush; the forced backup under its name with `~` by nine events, and 13 put it in the old one's place. The new map
-    // needs four events more, since the last free place of the directory was the backup's: zeros are put past its size and
-    // flushed, and then the new size.
+    // flush; the forced backup under its name with `~` by nine events, and 13 put it in the old one's place. The new
+    // map needs four events more, since the last free place of the directory was the backup's: zeros are put past its
+    // size and flushed, and then the new size.
     Scene {
         edits: &[
             (0, 2, b"MSDO"),

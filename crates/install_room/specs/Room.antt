@@ -1,5 +1,6 @@
 -- The room that an installation takes, as it is found (this project's own).
-use Rattle.std.specs.Prelude.{◌≡◌, ◌≢◌, ◌≤◌, ◌<◌, ◌*◌, ℕ, Bool, true, false, if◌then◌else◌, IfSome, map, length, slice_index, List, [], Option, Some, None, Result, Ok, Err}
+use Rattle.std.specs.Prelude.{◌≡◌, ◌≢◌, ◌≤◌, ◌<◌, ◌*◌, ℕ, Bool, true, false, if◌then◌else◌, IfSome, map, length, slice_index, List, [], Option, Some, None}
+use Rattle.std.specs.Prelude.{Result, Ok, Err}
 use Rattle.disk_trait.specs.declared.disks.Disks.{Ghosts}
 use Rattle.disk_trait.specs.declared.disks.Span.{Span}
 use Rattle.disk_trait.specs.Moments.{IsTold}
@@ -145,7 +146,8 @@ pub record AreTaken {D : Type 0} {disks : Ghosts D} (volume : volumes.Volume D d
 
 -- What is chosen is free beside what was kept out at first, the map's beside the backup's too, and they have nothing in
 -- common. What is promised to the backup is free, and so is what is promised to both.
-pub record AreFree {D : Type 0} {disks : Ghosts D} (volume : volumes.Volume D disks) (first : rooms.Taken) (backup : Option Chosen) (map : Chosen) : Type 0 where
+pub record AreFree {D : Type 0} {disks : Ghosts D} (volume : volumes.Volume D disks) (first : rooms.Taken) (backup : Option Chosen)
+    (map : Chosen) : Type 0 where
   pub backup_free : IfSome backup (λ chosen. IsFreeWhereSound volume first chosen × LinksWhereSound volume first chosen)
   pub map_free : IsFreeWhereSound volume (taken_beside first backup) map
   pub map_name : LinksWhereSound volume (taken_beside first backup) map

@@ -15,7 +15,8 @@ ghost use Rattle.write_model.specs.Choice.{choose};
 ghost use Rattle.install_apart.specs.Names.{IsInside};
 ghost use Rattle.install_apart.specs.Own.{IsBackupInside};
 ghost use Rattle.install_room.specs.Names.{IsCalled, IsBackupCalled, own_wish, backup_at, backup_of};
-ghost use Rattle.install_room.specs.Room.{HasRoomFor, HasNoHole, IsFree, IsForName, IsForBackup, GivesBackup, with_backup};
+ghost use Rattle.install_room.specs.Room.{HasRoomFor, HasNoHole, IsFree, IsForName, IsForBackup, GivesBackup};
+ghost use Rattle.install_room.specs.Room.{with_backup};
 
 use disk_trait::Disks;
 use install_apart::{NamePair, OwnName};

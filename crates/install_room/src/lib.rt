@@ -1,5 +1,5 @@
-//! The room that an installation takes: what is chosen for its backup and for its map, outside what a boot of the present
-//! map may look at, and where the sectors of the map will lie.
+//! The room that an installation takes: what is chosen for its backup and for its map, outside what a boot of the
+//! present map may look at, and where the sectors of the map will lie.
 #![tactic(auto)]
 
 mod avoid;

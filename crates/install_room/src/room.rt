@@ -15,7 +15,8 @@ ghost use Rattle.write_model.specs.Places.{most_size};
 ghost use Rattle.install_laws.specs.InstallVerdict.{sectors_of_blocks};
 ghost use Rattle.install_apart.specs.Own.{AreInside};
 ghost use Rattle.install_room.specs.Names.{AreCalled, AreNamesOf};
-ghost use Rattle.install_room.specs.Room.{HasRoomFor, HasNoHoles, IsRoomFor, IsRoomFree, AvoidPlaces, KeepsOut, SuitRoom, first_of, places_view, room_for};
+ghost use Rattle.install_room.specs.Room.{HasRoomFor, HasNoHoles, IsRoomFor, IsRoomFree, AvoidPlaces, KeepsOut};
+ghost use Rattle.install_room.specs.Room.{SuitRoom, first_of, places_view, room_for};
 
 use crate::avoid::{overlook_stale, taken_first};
 use crate::choices::{choose_backup, choose_for};
@@ -72,9 +73,9 @@ fn first_taken<D: Disks>(
     Ok(taken)
 }
 
-/// Finds room for the files that an installation makes, by the names that were found: first for the backup, where one is
-/// made, then for the map, both outside the zones in which a boot of the present map may look at a sector. All memory
-/// for them is taken. Nothing is written.
+/// Finds room for the files that an installation makes, by the names that were found: first for the backup, where one
+/// is made, then for the map, both outside the zones in which a boot of the present map may look at a sector. All
+/// memory for them is taken. Nothing is written.
 ///
 /// # Errors
 ///

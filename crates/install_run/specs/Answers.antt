@@ -24,7 +24,8 @@ use Rattle.minix_zones.specs.Volume.{past_of}
 use Rattle.install_answers.specs.Texts.{device_line, device_status}
 use Rattle.install_begin.specs.Begin as begins
 use Rattle.install_begin.specs.Begin.{begun_with}
-use Rattle.install_laws.specs.InstallVerdict.{Answer, Begun, InstallRefusal, Reading, NotSound, NotApart, BadName, NoLink, NoPlan, NoRoom, answer_text, install_room, is_clear, may_settle, skipped_path, verdict_by}
+use Rattle.install_laws.specs.InstallVerdict.{Answer, Begun, InstallRefusal, Reading, NotSound, NotApart, BadName, NoLink, NoPlan, NoRoom, answer_text}
+use Rattle.install_laws.specs.InstallVerdict.{install_room, is_clear, may_settle, skipped_path, verdict_by}
 use Rattle.install_order.specs.Begins.{IsBegun}
 use Rattle.install_order.specs.Checks.{begin_checks}
 use Rattle.install_order.specs.Faults.{Refuses, IsStopped}
@@ -106,7 +107,8 @@ pub record IsLostIn (given : Result Answer InstallRefusal) (status : ℕ) (old n
 -- The model's verdict is answered, by the image that settling left; or a disk failed or memory ended before that; or a disk failed once
 -- it was reported.
 pub data AnswersInstall (image : Image) (machine : Machine) (settled : Image) (begun : Begun) (time status : ℕ) (old new : SinkState) : Type 0 where
-  Answered : IsSettledFrom image machine begun settled → AnswersVerdict (verdict_by answer_text (settled_answer image machine settled begun time)) status old new
+  Answered : IsSettledFrom image machine begun settled → AnswersVerdict
+      (verdict_by answer_text (settled_answer image machine settled begun time)) status old new
       → AnswersInstall image machine settled begun time status old new
   LostEarly : status ≡ 8 → Shows old (lost_line Before) new → AnswersInstall image machine settled begun time status old new
   Starved : status ≡ 13 → Shows old starved_line new → AnswersInstall image machine settled begun time status old new

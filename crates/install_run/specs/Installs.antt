@@ -67,7 +67,8 @@ pub record Installs (image : Image) (machine : Machine) (begun : Begun) (time : 
   pub leaves : IsQuiet entry → LiesThere (now entry) machine begun → Leaves machine begun settled time entry ended status
 
 -- So it does by what was read, where a volume lies there; else that is answered, and nothing is done.
-pub data InstallsBegun (image : Image) (machine : Machine) (time : ℕ) (begun : begins.Begun) (entry ended : Option Past) (status : ℕ) (old new : SinkState) : Type 0 where
+pub data InstallsBegun (image : Image) (machine : Machine) (time : ℕ) (begun : begins.Begun) (entry ended : Option Past) (status : ℕ)
+    (old new : SinkState) : Type 0 where
   OnVolume : (volume : model.Volume) → volume_at image begun.volume ≡ Ok volume
       → Installs image machine (begun_with begun volume) time entry ended status old new → InstallsBegun image machine time begun entry ended status old new
   NoVolume : (fault : ZoneFault) → volume_at image begun.volume ≡ Err fault → AnswersVerdict (verdict_of (Err refusals.Layout)) status old new

@@ -30,7 +30,8 @@ use Rattle.install_run.specs.Keeps.{KeepsMost}
 -- ---- before the plan is carried out
 
 -- what was begun with at a quiet moment is planned
-pub record IsPrepared {D : Type 0} {disks : Ghosts D} (entry : Volume D disks) (config : Config) (boot : Span) (time : ℕ) (planned : Planned D disks) : Type 0 where
+pub record IsPrepared {D : Type 0} {disks : Ghosts D} (entry : Volume D disks) (config : Config) (boot : Span) (time : ℕ)
+    (planned : Planned D disks) : Type 0 where
   pub surveyed : Surveyed D disks
   pub begun : IsTold (past_of entry) → IsQuiet (past_of entry) → IsBegunWith entry config boot time surveyed
   pub has : HasPlanned surveyed planned

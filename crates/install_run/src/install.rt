@@ -91,9 +91,9 @@ fn install<'d, D: Disks, O: Sink>(
     }
 }
 
-/// Installs at a time, in seconds since 1970, by what was read, and gives the exit status: 0 where it is done; 3, 4 and 5
-/// for a refusal, after which what boots is as before; 8, 9 and 10 where a disk failed before the commit, in it and after
-/// it; 13 where memory didn't suffice, which it does once the installation is planned and reported.
+/// Installs at a time, in seconds since 1970, by what was read, and gives the exit status: 0 where it is done; 3, 4 and
+/// 5 for a refusal, after which what boots is as before; 8, 9 and 10 where a disk failed before the commit, in it and
+/// after it; 13 where memory didn't suffice, which it does once the installation is planned and reported.
 pub fn install_begun<D: Disks, O: Sink>(
     alloc: Global,
     disks: &mut D,

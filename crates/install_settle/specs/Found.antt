@@ -68,7 +68,8 @@ is_copy_there image volume None = false
 is_copy_there image volume (Some path) = is_some (inode_of image volume (with_tilde path))
 
 -- what is to be settled is what the model's tests say
-pub record IsToSettle (image : Image) (machine : Machine) (volume : volumes.Volume) (span : Span) (names : model.OwnNames) (forced : Bool) (settling : Settling) : Type 0 where
+pub record IsToSettle (image : Image) (machine : Machine) (volume : volumes.Volume) (span : Span) (names : model.OwnNames) (forced : Bool)
+    (settling : Settling) : Type 0 where
   pub map : settling.map ≡ left_map
       (is_to_finish image machine volume (visits volume.layout (parts_of volume image)) span names.map)
       (is_some (inode_of image volume (with_tilde names.map)))
@@ -100,7 +101,8 @@ abbrev pub IsApartCopy : model.OwnNames → Type 0
 IsApartCopy names = IfSome names.backup (λ backup. (with_tilde backup ≢ with_tilde names.map) × (with_tilde backup ≢ names.map))
 
 -- the volume is sound now, and these names were found on it
-pub record MaySettle {D : Type 0} {disks : Ghosts D} (volume : Volume D disks) (names : model.OwnNames) (forced : Bool) (own : OwnNames) (settling : Settling) : Type 0 where
+pub record MaySettle {D : Type 0} {disks : Ghosts D} (volume : Volume D disks) (names : model.OwnNames) (forced : Bool) (own : OwnNames)
+    (settling : Settling) : Type 0 where
   pub sound : IsSound (volume_view volume) (now (past_of volume))
   pub found : AreFound (super_view volume.layout) (parts_now volume) names own
   pub apart : IsApartCopy names

@@ -121,7 +121,8 @@ pub record IsSettledIn (volume : parts.Volume) (old : Image) (names : model.OwnN
 -- ---- the call
 
 -- A call settled what was left behind. One that was refused, as the disk failed, has done a part of it.
-pub record Settles {D : Type 0} {disks : Ghosts D} (old new : Volume D disks) (names : model.OwnNames) (forced : Bool) (settling : Settling) (result : Result (Unit {0}) WriteFault) : Type 0 where
+pub record Settles {D : Type 0} {disks : Ghosts D} (old new : Volume D disks) (names : model.OwnNames) (forced : Bool) (settling : Settling)
+    (result : Result (Unit {0}) WriteFault) : Type 0 where
   -- whatever a stop leaves, at any moment of it from a quiet one on, and what the disks hold now
   pub any_moment : IsQuiet (past_of old) → LeavesOnly (past_of old) (past_of new) (IsSettling (volume_view old) (now (past_of old)) names forced settling)
   pub left : IsTold (past_of old) → IsSettling (volume_view old) (now (past_of old)) names forced settling (now (past_of new))

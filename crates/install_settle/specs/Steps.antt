@@ -75,4 +75,5 @@ DoesMap old new path left result =
 -- a name is removed
 abbrev pub DoesRemove : {D : Type 0} {disks : Ghosts D} → Volume D disks → Volume D disks → List (List ℕ) → Result (Unit {0}) WriteFault → Type 0
 DoesRemove old new path result =
-    Does old new (SeenOrWith (volume_view old) (now (past_of old)) path None None) (λ c. HasTreeWith (volume_view old) (now (past_of old)) c path None None) result
+    Does old new (SeenOrWith (volume_view old) (now (past_of old)) path None None)
+    (λ c. HasTreeWith (volume_view old) (now (past_of old)) c path None None) result

@@ -19,8 +19,8 @@ pub fn made_map_is_staged<D: Disks>(
     ensures { StagedLaw start.now volume.now chosen.now plan.now places.now }
 {}
 
-/// Once both files of what a plan's checks accepted were staged, all is staged for the boot sector that was planned, and the map
-/// is under its name with `~`.
+/// Once both files of what a plan's checks accepted were staged, all is staged for the boot sector that was planned,
+/// and the map is under its name with `~`.
 pub fn room_is_staged<D: Disks>(
     start: &Volume<'_, D>,
     volume: &Volume<'_, D>,

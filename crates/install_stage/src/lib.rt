@@ -1,5 +1,5 @@
-//! The files of an installation are made before its commit, whole and durable: the backup of the boot sector, then the new
-//! map under its name with `~`. Nothing that boots is touched.
+//! The files of an installation are made before its commit, whole and durable: the backup of the boot sector, then the
+//! new map under its name with `~`. Nothing that boots is touched.
 #![tactic(auto)]
 
 mod block;

@@ -55,8 +55,8 @@ fn write_map<'d, D: Disks>(
     Ok(volume)
 }
 
-/// Makes a map's file of its plan at the path of `map` with `~`, a block at a time: each of its sectors is written once,
-/// and none is kept in memory.
+/// Makes a map's file of its plan at the path of `map` with `~`, a block at a time: each of its sectors is written
+/// once, and none is kept in memory.
 ///
 /// # Errors
 ///

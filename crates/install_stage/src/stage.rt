@@ -20,8 +20,9 @@ use minix_write::WriteHalt;
 use minix_zones::Volume;
 use sector_parts::Sector;
 
-/// Makes what an installation needs before its commit, on a sound volume: first the backup of the present boot sector, where
-/// one was chosen, then the new map under its name with `~`, each whole and durable before the next. What boots is left alone.
+/// Makes what an installation needs before its commit, on a sound volume: first the backup of the present boot sector,
+/// where one was chosen, then the new map under its name with `~`, each whole and durable before the next. What boots
+/// is left alone.
 ///
 /// # Errors
 ///

@@ -40,8 +40,8 @@ pub fn apart_sectors_are_not_written()
     ensures { ApartKeptLaw }
 {}
 
-/// A run that writes only what a writer of files may leaves all else as it was, in whatever a stop leaves and in what is
-/// held.
+/// A run that writes only what a writer of files may leaves all else as it was, in whatever a stop leaves and in what
+/// is held.
 pub fn unwritten_rest_is_kept()
     ensures { KeepsRestLaw }
 {}
@@ -56,8 +56,8 @@ pub fn apart_configuration_has_apart_devices()
     ensures { ApartDevicesLaw }
 {}
 
-/// Once the boot sector is written over what was staged, what a plan's checks accepted is written, with an empty default
-/// line.
+/// Once the boot sector is written over what was staged, what a plan's checks accepted is written, with an empty
+/// default line.
 pub fn staged_map_is_written()
     ensures { StagedWrittenLaw }
 {}
@@ -127,8 +127,8 @@ pub fn mapped_files_are_kept_in_a_row()
     ensures { MappedJoinedLaw }
 {}
 
-/// There the sectors that a planned map lies in, and those that it was planned from, are Clear, where its own are those of
-/// a file of its own.
+/// There the sectors that a planned map lies in, and those that it was planned from, are Clear, where its own are those
+/// of a file of its own.
 pub fn staged_map_is_clear()
     ensures { StagedClearLaw }
 {}
@@ -153,13 +153,14 @@ pub fn committed_map_is_held()
     ensures { CommitHoldsLaw }
 {}
 
-/// So with the boot sector written the disks have Lays of what was planned, where the map was staged in a file of its own.
+/// So with the boot sector written the disks have Lays of what was planned, where the map was staged in a file of its
+/// own.
 pub fn staged_map_has_lays()
     ensures { StagedLaysLaw }
 {}
 
-/// And a run from there that writes only what a writer of files may, in no new zone, leaves at every moment what means the
-/// configuration.
+/// And a run from there that writes only what a writer of files may, in no new zone, leaves at every moment what means
+/// the configuration.
 pub fn tidying_of_a_staged_map_leaves_what_is_meant()
     ensures { StagedTidiesLaw }
 {}

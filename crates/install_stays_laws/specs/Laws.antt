@@ -18,7 +18,8 @@ use Rattle.install_laws.specs.Headline.{Means}
 use Rattle.install_laws.specs.Writes.{WritesOnly}
 
 -- the sectors that a planned map, its boot sector, its default line and its files lie in
-abbrev pub planned_places : Image → Machine → Volume → Span → Config → ℕ → DiskSector → DiskSector → DiskSector → DiskSector → DiskSector → List DiskSector → List DiskSector
+abbrev pub planned_places : Image → Machine → Volume → Span → Config → ℕ → DiskSector → DiskSector → DiskSector → DiskSector → DiskSector
+    → List DiskSector → List DiskSector
 planned_places before machine volume span config time p0 p1 p2 p3 p4 rest =
     p0 ∷ fixed_places span (planned before machine volume config time) p4 (p1 ∷ (p2 ∷ (p3 ∷ (p4 ∷ rest))))
 

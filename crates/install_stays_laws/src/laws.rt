@@ -1,8 +1,8 @@
 // What stays where nothing is written.
 ghost use Rattle.install_stays_laws.specs.Laws.{ClearStaysLaw, MeansStaysLaw, TidyLaw};
 
-/// Where what a configuration plans lies in one image, another one with the same bytes in its boot sector, in the map and
-/// in all that is mapped means what the configuration does.
+/// Where what a configuration plans lies in one image, another one with the same bytes in its boot sector, in the map
+/// and in all that is mapped means what the configuration does.
 pub fn planned_map_means_what_it_did()
     ensures { MeansStaysLaw }
 {}

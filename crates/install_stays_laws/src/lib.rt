@@ -1,5 +1,5 @@
-//! Laws of what is written after the commit: where it is only what a writer of files may write, what the new map, its boot
-//! sector and its files lie in stays, and means what it did. Public functions with empty bodies.
+//! Laws of what is written after the commit: where it is only what a writer of files may write, what the new map, its
+//! boot sector and its files lie in stays, and means what it did. Public functions with empty bodies.
 #![tactic(auto)]
 
 mod laws;

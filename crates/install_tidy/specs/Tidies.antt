@@ -76,7 +76,8 @@ pub record IsTidied (volume : parts.Volume) (old : Image) (path : List (List ℕ
 
 -- A call put the new map in the place of the old one, which it freed. One that was refused, as the disk failed, has done a part of
 -- it.
-pub record Tidies {D : Type 0} {disks : Ghosts D} (old new : Volume D disks) (path : List (List ℕ)) (directory : ℕ) (result : Result (Unit {0}) WriteFault) : Type 0 where
+pub record Tidies {D : Type 0} {disks : Ghosts D} (old new : Volume D disks) (path : List (List ℕ)) (directory : ℕ)
+    (result : Result (Unit {0}) WriteFault) : Type 0 where
   -- whatever a stop leaves, at any moment of it, and what the disks hold now
   pub any_moment : LeavesOnly (past_of old) (past_of new) (IsTidying (volume_view old) (now (past_of old)) path)
   pub left : IsTold (past_of old) → IsTidying (volume_view old) (now (past_of old)) path (now (past_of new))

@@ -15,8 +15,8 @@ use minix_zones::Volume;
 
 /// Puts the new map, at the second of a pair of names, in the place of what is at the first, on a sound volume and from
 /// a quiet moment on: after the commit. What was there, the old map, is freed with its zones, or has a link less where
-/// it had more than one. At each moment one of the two names leads to the new map, whole. Everything is made durable. No
-/// memory is taken.
+/// it had more than one. At each moment one of the two names leads to the new map, whole. Everything is made durable.
+/// No memory is taken.
 ///
 /// # Errors
 ///

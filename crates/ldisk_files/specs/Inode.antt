@@ -49,5 +49,6 @@ MakesInodeAt old new text making result =
     IsTold (past_of old) → OnOk result (HasInodeAt (volume_view old) (now (past_of old)) text making (now (past_of new)))
 
 -- and by its path
-abbrev pub MakesInodeBy : {D : Type 0} {disks : Ghosts D} → held.Volume D disks → held.Volume D disks → List (List ℕ) → Making → Result (Unit {0}) FileFault → Type 0
+abbrev pub MakesInodeBy : {D : Type 0} {disks : Ghosts D} → held.Volume D disks → held.Volume D disks → List (List ℕ) → Making
+    → Result (Unit {0}) FileFault → Type 0
 MakesInodeBy old new path making result = IsTold (past_of old) → OnOk result (HasInode (volume_view old) (now (past_of new)) path making)

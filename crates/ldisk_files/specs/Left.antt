@@ -61,7 +61,8 @@ pub record IsEither (span : Span) (old : Image) (text : List ℕ) (what : Option
 -- ---- the whole
 
 -- What a change of the name at a text's path leaves, by its answer.
-pub record LeavesNames {D : Type 0} (disks : Ghosts D) (old new : D) (span : Span) (text : List ℕ) (what : Option Thing) (result : Result (Unit {0}) FileFault) : Type 0 where
+pub record LeavesNames {D : Type 0} (disks : Ghosts D) (old new : D) (span : Span) (text : List ℕ) (what : Option Thing)
+    (result : Result (Unit {0}) FileFault) : Type 0 where
   -- from a quiet moment and a sound volume on, each image that a stop leaves has the Names before or after
   pub any_moment : IsQuiet (disks.past old) → HasSoundVolume span (now (disks.past old))
       → LeavesOnly (disks.past old) (disks.past new) (IsEither span (now (disks.past old)) text what)
@@ -78,7 +79,8 @@ pub record LeavesNames {D : Type 0} (disks : Ghosts D) (old new : D) (span : Spa
 -- ---- on the way there
 
 -- The same of a volume that is held.
-pub record LeavesOn {D : Type 0} {disks : Ghosts D} (old new : held.Volume D disks) (text : List ℕ) (what : Option Thing) (result : Result (Unit {0}) FileFault) : Type 0 where
+pub record LeavesOn {D : Type 0} {disks : Ghosts D} (old new : held.Volume D disks) (text : List ℕ) (what : Option Thing)
+    (result : Result (Unit {0}) FileFault) : Type 0 where
   pub any_moment : IsQuiet (past_of old) → IsSound (volume_view old) (now (past_of old))
       → LeavesOnly (past_of old) (past_of new) (HasEither (volume_view old) (now (past_of old)) text what)
   pub done : IsTold (past_of old) → OnOk result (HasNamed (volume_view old) (now (past_of old)) text what (now (past_of new)))
@@ -89,7 +91,8 @@ pub record LeavesOn {D : Type 0} {disks : Ghosts D} (old new : held.Volume D dis
   pub cause : IfErr result (HasFileCause (faults_of old) (faults_of new))
 
 -- What a change of the name at a path of a sound volume leaves; it is refused as the disk failed.
-pub record ChangesName {D : Type 0} {disks : Ghosts D} (old new : held.Volume D disks) (path : List (List ℕ)) (what : Option Thing) (result : Result (Unit {0}) FileFault) : Type 0 where
+pub record ChangesName {D : Type 0} {disks : Ghosts D} (old new : held.Volume D disks) (path : List (List ℕ)) (what : Option Thing)
+    (result : Result (Unit {0}) FileFault) : Type 0 where
   pub any_moment : IsQuiet (past_of old) → LeavesOnly (past_of old) (past_of new) (HasNamesBetween (volume_view old) (now (past_of old)) path what)
   pub done : IsTold (past_of old) → OnOk result (HasNamesWith (volume_view old) (now (past_of old)) (now (past_of new)) path what)
   pub device : IsTold (past_of old) → IfErr result (λ fault. fault ≡ Device)

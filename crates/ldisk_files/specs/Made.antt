@@ -12,7 +12,8 @@ use Rattle.lilo_model.specs.MinixParts as model
 use Rattle.lilo_model.specs.MinixParts.{parts_of}
 use Rattle.lilo_model.specs.NamePlaces.{name_path, plain_path}
 use Rattle.ldisk_model.specs.FileVerdict as makings
-use Rattle.ldisk_model.specs.FileVerdict.{NewDirectory, NewLink, NewFile, NoSpace, new_check, making_check, checked_status, size_made, nothing_taken, thing_made}
+use Rattle.ldisk_model.specs.FileVerdict.{NewDirectory, NewLink, NewFile, NoSpace, new_check, making_check, checked_status, size_made, nothing_taken}
+use Rattle.ldisk_model.specs.FileVerdict.{thing_made}
 use Rattle.minix_create.specs.Chosen.{Suits, HasDots, IsFreeNow, MayLinkNow, MayNest, MayBeMade, block_of, thing_with}
 use Rattle.minix_create.specs.declared.chosen.Chosen.{Chosen}
 use Rattle.minix_layout.specs.View.{kind_view}
@@ -97,7 +98,9 @@ abbrev pub GivesChoice : model.Volume → Image → Wish → Result Chosen FileF
 GivesChoice volume image wish (Ok chosen) =
     choose_blocks volume.layout (parts_of volume image) nothing_taken wish.directory wish.name.now (data_blocks wish.length wish.holes.now) ≡ Ok chosen.choice
 GivesChoice volume image wish (Err fault) =
-    Answers {B = Chosen} (with_fault NoSpace (choose_blocks volume.layout (parts_of volume image) nothing_taken wish.directory wish.name.now (data_blocks wish.length wish.holes.now))) (Err fault)
+    Answers {B = Chosen}
+    (with_fault NoSpace (choose_blocks volume.layout (parts_of volume image) nothing_taken wish.directory wish.name.now
+    (data_blocks wish.length wish.holes.now))) (Err fault)
 
 -- it is wished for something new by a name
 pub record IsWishFor (kind : Kind) (place : NamePlace) (making : makings.Making) (wish : Wish) : Type 0 where
@@ -122,7 +125,8 @@ abbrev pub IsSoundNow : {D : Type 0} {disks : Ghosts D} → Volume D disks → T
 IsSoundNow volume = IsSound (volume_view volume) (now (past_of volume))
 
 -- on a volume it may be made now of these blocks, in the directory that a path leads to
-pub record MayMake {D : Type 0} {disks : Ghosts D} (volume : Volume D disks) (outer : List (List ℕ)) (making : makings.Making) (chosen : Chosen) (blocks : List (List ℕ)) : Type 0 where
+pub record MayMake {D : Type 0} {disks : Ghosts D} (volume : Volume D disks) (outer : List (List ℕ)) (making : makings.Making) (chosen : Chosen)
+    (blocks : List (List ℕ)) : Type 0 where
   pub free : IsFreeNow volume chosen
   pub links : MayLinkNow volume outer chosen
   pub nests : MayNest outer chosen
@@ -137,12 +141,14 @@ pub record MayMakeSome {D : Type 0} {disks : Ghosts D} (volume : Volume D disks)
   pub may : MayMake volume outer making chosen blocks
 
 -- so it is by its name, where nothing is there
-pub record MayMakeNamed {D : Type 0} {disks : Ghosts D} (volume : Volume D disks) (outer : List (List ℕ)) (name : List ℕ) (making : makings.Making) (chosen : Chosen) (blocks : List (List ℕ)) : Type 0 where
+pub record MayMakeNamed {D : Type 0} {disks : Ghosts D} (volume : Volume D disks) (outer : List (List ℕ)) (name : List ℕ) (making : makings.Making)
+    (chosen : Chosen) (blocks : List (List ℕ)) : Type 0 where
   pub named : chosen.name ≡ name
   pub may : MayMake volume outer making chosen blocks
 
 -- so it is at the path of a text
-pub record MayMakeAt {D : Type 0} {disks : Ghosts D} (volume : Volume D disks) (text : List ℕ) (making : makings.Making) (chosen : Chosen) (blocks : List (List ℕ)) : Type 0 where
+pub record MayMakeAt {D : Type 0} {disks : Ghosts D} (volume : Volume D disks) (text : List ℕ) (making : makings.Making) (chosen : Chosen)
+    (blocks : List (List ℕ)) : Type 0 where
   pub outer : List (List ℕ)
   pub is : name_path (names_in (volume_view volume) (now (past_of volume))) text ≡ Ok (chosen.name ∷ outer)
   pub may : MayMake volume outer making chosen blocks

@@ -17,7 +17,8 @@ use Rattle.minix_names.specs.declared.place.NamePlace.{NamePlace}
 use Rattle.minix_write.specs.declared.wish.Wish.{Wish}
 use Rattle.minix_zones.specs.Volume.{volume_view, past_of}
 use Rattle.minix_zones.specs.declared.volume.Volume.{Volume}
-use Rattle.ldisk_model.specs.FileVerdict.{NewFile, stored_block, most_stored, zero_blocks, checked_status, volume_check, sound_check, new_check, room_check, made_check}
+use Rattle.ldisk_model.specs.FileVerdict.{NewFile, stored_block, most_stored, zero_blocks, checked_status, volume_check, sound_check, new_check, room_check}
+use Rattle.ldisk_model.specs.FileVerdict.{made_check}
 use Rattle.ldisk_files.specs.Answer.{Answers, HasFileCause, IsSurveyed, fault_status}
 use Rattle.ldisk_files.specs.Inode.{MakesInode, MakesInodeAt}
 use Rattle.ldisk_files.specs.Left.{LeavesOn, LeavesNames}
@@ -108,7 +109,8 @@ pub record IsFileWish (place : NamePlace) (bytes : List ℕ) (wish : Wish) : Typ
 -- bytes may be stored by a name, and there is room, or a check refuses
 abbrev pub GivesRoom : {B : Type 0} → Option Past → model.Volume → NamePlace → List ℕ → Result B FileFault → Type 0
 GivesRoom past volume place given result =
-    Told past (λ now. IsSound volume now → (outer : List (List ℕ)) → IsNewPlace volume now outer place → Answers (room_check (NewFile given) volume now (place.name.now ∷ outer)) result)
+    Told past (λ now. IsSound volume now → (outer : List (List ℕ)) → IsNewPlace volume now outer place
+    → Answers (room_check (NewFile given) volume now (place.name.now ∷ outer)) result)
 
 -- the same of the bytes of a source
 abbrev pub TakesRoom : Option Past → model.Volume → NamePlace → Option (List ℕ) → Result Stored PutFault → Type 0

@@ -8,7 +8,8 @@
 -- byte. A kind is v1-14, v1-30, v2-14 or v2-30: the version, and the bytes of a name. Sectors (1 to 4,294,967,295),
 -- inodes (1 to 65,535), starts and counts (up to 4,294,967,295) are decimal digits, zeros before them allowed; a type is
 -- two hexadecimal digits. There are four parts at most.
-use Rattle.std.specs.Prelude.{◌≡◌, ◌↔◌, ◌≤◌, ℕ, ◌==◌, nat_lt, nat_le, Bool, ◌&&◌, if◌then◌else◌, IsTrue, List, [], ◌∷◌, ◌++◌, length, bytes_eq, codes, Option, None, Some}
+use Rattle.std.specs.Prelude.{◌≡◌, ◌↔◌, ◌≤◌, ℕ, ◌==◌, nat_lt, nat_le, Bool, ◌&&◌, if◌then◌else◌, IsTrue, List, [], ◌∷◌, ◌++◌, length, bytes_eq, codes, Option}
+use Rattle.std.specs.Prelude.{None, Some}
 use Rattle.std.specs.List.{position_or_len, before_first, after_first}
 use Rattle.std.specs.Option.{option_and_then}
 use Rattle.std.specs.Str.Parse.{IsNumeral, digits_value}

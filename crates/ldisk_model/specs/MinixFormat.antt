@@ -1,11 +1,13 @@
 -- An empty Minix volume: its superblock, and the bytes of each sector that is written to make it (Minix file system,
 -- versions 1 and 2; the numbers that are chosen are this project's own). Sectors are counted from the start of the
 -- volume, zones and blocks too.
-use Rattle.std.specs.Prelude.{ℕ, ◌+◌, ◌-◌, ◌*◌, ◌/◌, ◌^◌, ◌==◌, min, bit_or, nat_le, nat_lt, Bool, ◌&&◌, if◌then◌else◌, List, ◌∷◌, ◌++◌, map, replicate, option_map, Option, Some, None}
+use Rattle.std.specs.Prelude.{ℕ, ◌+◌, ◌-◌, ◌*◌, ◌/◌, ◌^◌, ◌==◌, min, bit_or, nat_le, nat_lt, Bool, ◌&&◌, if◌then◌else◌, List, ◌∷◌, ◌++◌, map, replicate}
+use Rattle.std.specs.Prelude.{option_map, Option, Some, None}
 use Rattle.std.specs.List.{range_with_len}
 use Rattle.lilo_model.specs.Bytes.{bytes16, filled_bytes, is_between}
 use Rattle.lilo_model.specs.Disks.{Image, Span}
-use Rattle.lilo_model.specs.MinixLayout.{Kind, Super, Inode, is_v1, entry_size, name_size, v1_limit, table_start, table_blocks, super_bytes, inode_bytes, zone_sector, super_sector}
+use Rattle.lilo_model.specs.MinixLayout.{Kind, Super, Inode, is_v1, entry_size, name_size, v1_limit, table_start, table_blocks, super_bytes, inode_bytes}
+use Rattle.lilo_model.specs.MinixLayout.{zone_sector, super_sector}
 use Rattle.lilo_model.specs.MinixEntries.{here_name, above_name}
 
 -- ---- the superblock

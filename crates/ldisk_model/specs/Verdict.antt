@@ -14,7 +14,8 @@ use Rattle.lilo_model.specs.LdiskVerdict as reads_verdict
 use Rattle.ldisk_model.specs.Arguments.{PartWish, Command, Make, Mkfs, Put, Get, Ls, Rm, Mkdir, Ln, Asked, asked_at}
 use Rattle.ldisk_model.specs.DiskTable.{are_placed, table_sector}
 use Rattle.ldisk_model.specs.MinixFormat.{format_layout, format_at}
-use Rattle.ldisk_model.specs.FileVerdict.{NameChange, NewDirectory, NewLink, NewFile, removal, addition, checked_status, device_check, gone_check, new_check, made_check}
+use Rattle.ldisk_model.specs.FileVerdict.{NameChange, NewDirectory, NewLink, NewFile, removal, addition, checked_status, device_check, gone_check, new_check}
+use Rattle.ldisk_model.specs.FileVerdict.{made_check}
 
 -- why a table or a volume isn't made
 pub data Refusal : Type 0 where

@@ -86,7 +86,8 @@ LeavesChanging disks old new image machine None = Unit {0}
 -- What the disks hold after a command at a time, where a source gives these bytes.
 pub record LeavesBy {D : Type 0} (disks : Ghosts D) (old new : D) (time : ℕ) (given : List ℕ) (command : Command) (status : ℕ) : Type 0 where
   pub done : OnDisks disks old (λ image machine. status ≡ 0 → IsAfter image machine time given command (now (disks.past new)))
-  pub empty : OnDisks disks old (λ image machine. status ≡ 0 → IsWholeImage (disks.size_of old) image → HasVolumeOf image machine command (now (disks.past new)))
+  pub empty : OnDisks disks old (λ image machine. status ≡ 0 → IsWholeImage (disks.size_of old) image
+      → HasVolumeOf image machine command (now (disks.past new)))
   pub any_moment : IsQuiet (disks.past old) → OnDisks disks old (λ image machine. LeavesChanging disks old new image machine (name_change given command))
   pub quiet : status ≡ 0 → only_reads command ≡ false → IsQuiet (disks.past new)
   pub refused : is_refusal status ≡ true → disks.past new ≡ disks.past old

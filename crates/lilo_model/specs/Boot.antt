@@ -1,7 +1,8 @@
 -- What a boot does, as a function of what the disks hold, the keys and the size of the memory. The order of
 -- its steps, the texts and the codes are this project's own, after LILO's manners; a boot sector lies at
 -- 0x7C00 and a partition table at 0x7BE, as the IBM PC has them.
-use Rattle.std.specs.Prelude.{ℕ, ◌+◌, nat_lt, min, Bool, true, false, if◌then◌else◌, List, [], ◌∷◌, ◌++◌, map, length, slice_get, zip, codes, Option, Some, None, option_map, option_and_then, Result, Ok, Err}
+use Rattle.std.specs.Prelude.{ℕ, ◌+◌, nat_lt, min, Bool, true, false, if◌then◌else◌, List, [], ◌∷◌, ◌++◌, map, length, slice_get, zip, codes, Option, Some}
+use Rattle.std.specs.Prelude.{None, option_map, option_and_then, Result, Ok, Err}
 use Rattle.std.specs.Option.{option_or}
 use Rattle.std.specs.Result.{result_ok}
 use Rattle.lilo_model.specs.Bytes.{part_of}
@@ -11,7 +12,8 @@ use Rattle.lilo_model.specs.Slots as slots
 use Rattle.lilo_model.specs.Slots.{Slot, place_at}
 use Rattle.lilo_model.specs.BootSector as maps
 use Rattle.lilo_model.specs.BootSector.{BootSector, boot_at, is_bootable}
-use Rattle.lilo_model.specs.Table.{Descriptor, has_flag, other_flag, password_flag, restricted_flag, lock_flag, fallback_flag, video_flag, initrd_flag, table_flag, table_at}
+use Rattle.lilo_model.specs.Table.{Descriptor, has_flag, other_flag, password_flag, restricted_flag, lock_flag, fallback_flag, video_flag, initrd_flag}
+use Rattle.lilo_model.specs.Table.{table_flag, table_at}
 use Rattle.lilo_model.specs.Options.{options_at, extra_at}
 use Rattle.lilo_model.specs.LineSector.{line_at, line_bytes, line_capacity, is_same_line}
 use Rattle.lilo_model.specs.DefaultLine.{DefaultLine}

@@ -1,6 +1,7 @@
 -- The boot sector of a map, in its version 1. The layout of its 512 bytes is this project's own; the last
 -- two bytes are those that a BIOS looks for (IBM PC).
-use Rattle.std.specs.Prelude.{ℕ, ◌==◌, nat_le, nat_lt, Bool, true, not, ◌&&◌, if◌then◌else◌, List, [], ◌∷◌, ◌++◌, map, replicate, bytes_eq, codes, Option, Some, None, Result, Ok, Err}
+use Rattle.std.specs.Prelude.{ℕ, ◌==◌, nat_le, nat_lt, Bool, true, not, ◌&&◌, if◌then◌else◌, List, [], ◌∷◌, ◌++◌, map, replicate, bytes_eq, codes, Option, Some}
+use Rattle.std.specs.Prelude.{None, Result, Ok, Err}
 use Rattle.std.specs.List.{concat}
 use Rattle.lilo_model.specs.Bytes.{part_of, number16, number32, bytes16, bytes32, is_zero, is_between}
 use Rattle.lilo_model.specs.Slots.{Slot, is_one_slot, slot_of, some_slot, slot_bytes, optional_bytes}

@@ -1,14 +1,17 @@
 -- What is chosen, from the whole list of keys. The list is cut into a wait, lines and answers, and
 -- each part says what it shows and what comes of it. The rules of the prompt are this project's own;
 -- the texts, as `boot: `, and the keys that edit a line follow LILO's manners.
-use Rattle.std.specs.Prelude.{ℕ, zero, suc, List, [], ◌∷◌, ◌++◌, length, flat_map, slice_get, Bool, true, false, not, ◌&&◌, ◌||◌, if◌then◌else◌, Option, None, Some, is_none, unwrap_or, codes}
+use Rattle.std.specs.Prelude.{ℕ, zero, suc, List, [], ◌∷◌, ◌++◌, length, flat_map, slice_get, Bool, true, false, not, ◌&&◌, ◌||◌, if◌then◌else◌, Option, None}
+use Rattle.std.specs.Prelude.{Some, is_none, unwrap_or, codes}
 use Rattle.std.specs.Option.{option_map, option_and_then}
 use Rattle.std.specs.Str.{bytes_eq}
 use Rattle.lilo_model.specs.DefaultLine.{DefaultLine, line_text, line_after}
 use Rattle.lilo_model.specs.Prompt.{Key, Byte, Settings, ListedEntry, Picked, Decision, Opening}
-use Rattle.lilo_model.specs.KeyCuts.{WaitCut, Elapsed, Interrupted, cut_wait, LineCut, Unended, Ended, cut_line, is_enter_key, is_erase_key, AnswerCut, Missing, Given, cut_answer}
+use Rattle.lilo_model.specs.KeyCuts.{WaitCut, Elapsed, Interrupted, cut_wait, LineCut, Unended, Ended, cut_line, is_enter_key, is_erase_key, AnswerCut, Missing}
+use Rattle.lilo_model.specs.KeyCuts.{Given, cut_answer}
 use Rattle.lilo_model.specs.LineEdits.{text_after, echoes, answer_after}
-use Rattle.lilo_model.specs.LineWords.{is_empty_list, joined_words, passed_words, kept_words, has_lock_word, words_video_mode, Meaning, Nothing, Names, NoSuch, meaning}
+use Rattle.lilo_model.specs.LineWords.{is_empty_list, joined_words, passed_words, kept_words, has_lock_word, words_video_mode, Meaning, Nothing, Names, NoSuch}
+use Rattle.lilo_model.specs.LineWords.{meaning}
 
 -- ---- what can be chosen
 

@@ -1,7 +1,8 @@
 -- lilo.conf: what a configuration says, or the first thing that refuses it. The names and the sense of the options
 -- are those of lilo.conf(5); the ranges, the order of refusals and what is in effect where a section and the
 -- global part both speak is this project's own.
-use Rattle.std.specs.Prelude.{◌≡◌, ◌≤◌, ℕ, ◌+◌, ◌==◌, nat_lt, nat_le, min, max, Bool, true, false, not, ◌&&◌, ◌||◌, if◌then◌else◌, List, [], ◌∷◌, ◌++◌, length, map, flat_map, filter_map, bytes_eq, codes, unwrap_or, is_some, is_none, Option, None, Some, Result, Ok, Err}
+use Rattle.std.specs.Prelude.{◌≡◌, ◌≤◌, ℕ, ◌+◌, ◌==◌, nat_lt, nat_le, min, max, Bool, true, false, not, ◌&&◌, ◌||◌, if◌then◌else◌, List, [], ◌∷◌, ◌++◌, length}
+use Rattle.std.specs.Prelude.{map, flat_map, filter_map, bytes_eq, codes, unwrap_or, is_some, is_none, Option, None, Some, Result, Ok, Err}
 use Rattle.std.specs.List.{list_any, list_all, take_while}
 use Rattle.std.specs.Option.{option_map, option_and_then}
 use Rattle.lilo_model.specs.Checks.{◌>>=◌, require, no_fault}

@@ -1,10 +1,12 @@
 -- Which settings of a lilo.conf are refused where they are, by those before them in their part. The order of
 -- what is tested is this project's own.
-use Rattle.std.specs.Prelude.{ℕ, ◌+◌, ◌-◌, ◌==◌, nat_lt, Bool, true, false, not, ◌&&◌, ◌||◌, if◌then◌else◌, List, [], ◌∷◌, ◌++◌, length, drop, find, slice_get, is_some, Option, None, Some}
+use Rattle.std.specs.Prelude.{ℕ, ◌+◌, ◌-◌, ◌==◌, nat_lt, Bool, true, false, not, ◌&&◌, ◌||◌, if◌then◌else◌, List, [], ◌∷◌, ◌++◌, length, drop, find, slice_get}
+use Rattle.std.specs.Prelude.{is_some, Option, None, Some}
 use Rattle.std.specs.List.{list_any, suffix_len}
 use Rattle.std.specs.Option.{option_and_then}
 use Rattle.lilo_model.specs.ConfOptions as options
-use Rattle.lilo_model.specs.ConfOptions.{Opt, Disk, Image, OtherDevice, Takes, takes_of, Part, GlobalPart, ImagePart, OtherPart, stands_in, opens, is_of_disk, is_of_name, excluded_by, same_option}
+use Rattle.lilo_model.specs.ConfOptions.{Opt, Disk, Image, OtherDevice, Takes, takes_of, Part, GlobalPart, ImagePart, OtherPart, stands_in, opens, is_of_disk}
+use Rattle.lilo_model.specs.ConfOptions.{is_of_name, excluded_by, same_option}
 use Rattle.lilo_model.specs.ConfValues.{is_value, whole_disk_at, name_limit}
 use Rattle.lilo_model.specs.ConfRefusal as reasons
 use Rattle.lilo_model.specs.ConfRefusal.{ConfReason, ConfRefusal}

@@ -1,7 +1,8 @@
 -- The text of lilo.conf as tokens: words, quoted texts and equals signs. That a line has an option, an equals
 -- sign and a value, that a number sign begins a comment and that quotes hold blanks is lilo.conf(5)'s; the exact
 -- rules here are this project's own. A place counts bytes from 0, a line from 1.
-use Rattle.std.specs.Prelude.{ℕ, zero, suc, ◌+◌, Bool, true, false, not, ◌&&◌, ◌||◌, ◌==◌, nat_lt, if◌then◌else◌, List, [], ◌∷◌, ◌++◌, take, drop, length, position, count_by, Option, None, Some, Result, Ok, Err}
+use Rattle.std.specs.Prelude.{ℕ, zero, suc, ◌+◌, Bool, true, false, not, ◌&&◌, ◌||◌, ◌==◌, nat_lt, if◌then◌else◌, List, [], ◌∷◌, ◌++◌, take, drop, length}
+use Rattle.std.specs.Prelude.{position, count_by, Option, None, Some, Result, Ok, Err}
 use Rattle.std.specs.List.{take_while}
 
 pub data TokenKind : Type 0 where

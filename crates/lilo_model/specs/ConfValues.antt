@@ -1,5 +1,6 @@
 -- The values of options in lilo.conf. What a value means is lilo.conf(5)'s; the ranges are this project's own.
-use Rattle.std.specs.Prelude.{ℕ, ◌+◌, ◌-◌, ◌==◌, drop, nat_le, nat_lt, nat_eq, Bool, true, false, not, ◌&&◌, ◌||◌, if◌then◌else◌, List, [], ◌∷◌, length, codes, is_some, Option, None, Some}
+use Rattle.std.specs.Prelude.{ℕ, ◌+◌, ◌-◌, ◌==◌, drop, nat_le, nat_lt, nat_eq, Bool, true, false, not, ◌&&◌, ◌||◌, if◌then◌else◌, List, [], ◌∷◌, length, codes}
+use Rattle.std.specs.Prelude.{is_some, Option, None, Some}
 use Rattle.std.specs.List.{list_all, starts_with, suffix_len}
 use Rattle.std.specs.Option.{option_map, option_and_then}
 use Rattle.lilo_model.specs.Bytes.{is_between}

@@ -1,6 +1,7 @@
 -- The header of a Linux kernel, the layout of memory, and the header's fields that a loader replaces
 -- (Linux/x86 boot protocol, 2.00 to 2.06 and the form before it).
-use Rattle.std.specs.Prelude.{ℕ, ◌+◌, ◌-◌, ◌*◌, ◌/◌, ◌%◌, ◌==◌, nat_le, min, Bool, true, false, not, ◌&&◌, ◌||◌, if◌then◌else◌, bit_or, List, [], ◌∷◌, ◌++◌, bytes_eq, codes, slice_index, Option, Some, None, is_some, is_none, Result, Ok}
+use Rattle.std.specs.Prelude.{ℕ, ◌+◌, ◌-◌, ◌*◌, ◌/◌, ◌%◌, ◌==◌, nat_le, min, Bool, true, false, not, ◌&&◌, ◌||◌, if◌then◌else◌, bit_or, List, [], ◌∷◌, ◌++◌}
+use Rattle.std.specs.Prelude.{bytes_eq, codes, slice_index, Option, Some, None, is_some, is_none, Result, Ok}
 use Rattle.lilo_model.specs.Bytes.{part_of, with_part, number16, number32, bytes16, bytes32}
 use Rattle.lilo_model.specs.Checks.{◌>>=◌, require}
 

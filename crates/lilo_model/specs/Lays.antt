@@ -1,6 +1,7 @@
 -- Lays: the file that holds the map, and the boot sector, are what was planned, and each section lists the sectors of
 -- its file (these formats are this project's own).
-use Rattle.std.specs.Prelude.{◌≡◌, ◌<◌, ◌⊎◌, ℕ, zero, suc, ◌+◌, ◌*◌, ◌/◌, ◌%◌, Bool, true, false, List, [], ◌∷◌, ◌++◌, length, map, take, drop, slice_index_or, replicate, All, Option, Some, None, Result, Ok, Err}
+use Rattle.std.specs.Prelude.{◌≡◌, ◌<◌, ◌⊎◌, ℕ, zero, suc, ◌+◌, ◌*◌, ◌/◌, ◌%◌, Bool, true, false, List, [], ◌∷◌, ◌++◌, length, map, take, drop, slice_index_or}
+use Rattle.std.specs.Prelude.{replicate, All, Option, Some, None, Result, Ok, Err}
 use Rattle.lilo_model.specs.Bytes.{part_of, filled_bytes}
 use Rattle.lilo_model.specs.Checks.{◌>>=◌, each}
 use Rattle.lilo_model.specs.Boot.{slot_bytes_at}

@@ -1,7 +1,8 @@
 -- What `ldisk` answers and prints, as if nothing failed: for each command a list of checks in order, of which the first
 -- refusal decides, and then pieces of text, up to the first that is refused. They speak of what the disks hold, and read
 -- no device. (This project's own; the volume: Minix file system.)
-use Rattle.std.specs.Prelude.{ℕ, zero, suc, ◌==◌, nat_le, Bool, not, ◌||◌, if◌then◌else◌, List, [], ◌∷◌, ◌++◌, codes, decimal, Option, None, Some, Result, Ok, Err}
+use Rattle.std.specs.Prelude.{ℕ, zero, suc, ◌==◌, nat_le, Bool, not, ◌||◌, if◌then◌else◌, List, [], ◌∷◌, ◌++◌, codes, decimal, Option, None, Some, Result, Ok}
+use Rattle.std.specs.Prelude.{Err}
 use Rattle.lilo_model.specs.Checks.{◌>>=◌, require, with_fault}
 use Rattle.lilo_model.specs.Devices.{Device}
 use Rattle.lilo_model.specs.Disks.{Image, Machine, Span}

@@ -1,7 +1,8 @@
 -- The words of a line and what they mean. That the first word names an entry, and the words `lock`
 -- and `vga=`, follow LILO's manners; how words count that are repeated or wrong is a rule of this
 -- project's own.
-use Rattle.std.specs.Prelude.{ℕ, List, [], ◌∷◌, drop, filter, filter_map, position, Bool, true, false, not, ◌||◌, ◌==◌, nat_eq, if◌then◌else◌, Option, None, Some, codes}
+use Rattle.std.specs.Prelude.{ℕ, List, [], ◌∷◌, drop, filter, filter_map, position, Bool, true, false, not, ◌||◌, ◌==◌, nat_eq, if◌then◌else◌, Option, None}
+use Rattle.std.specs.Prelude.{Some, codes}
 use Rattle.std.specs.List.{list_any, last_or, starts_with, slice_split, join_with_byte}
 use Rattle.std.specs.Str.{bytes_eq}
 use Rattle.lilo_model.specs.Prompt.{ListedEntry}

@@ -1,7 +1,8 @@
 -- Meant: what a boot does as a configuration and its files say, in words that mention no sector. A configuration makes
 -- a menu, and a menu a boot. (This project's own; texts and options follow LILO's manners, a kernel in memory the
 -- Linux/x86 boot protocol, and where another system's boot sector is put the IBM PC.)
-use Rattle.std.specs.Prelude.{ℕ, zero, suc, ◌/◌, ◌%◌, ◌==◌, true, if◌then◌else◌, List, [], ◌∷◌, ◌++◌, map, flat_map, position, slice_get, codes, Option, Some, None, option_map, option_and_then, unwrap_or, bytes_eq, Result, Ok, Err}
+use Rattle.std.specs.Prelude.{ℕ, zero, suc, ◌/◌, ◌%◌, ◌==◌, true, if◌then◌else◌, List, [], ◌∷◌, ◌++◌, map, flat_map, position, slice_get, codes, Option, Some}
+use Rattle.std.specs.Prelude.{None, option_map, option_and_then, unwrap_or, bytes_eq, Result, Ok, Err}
 use Rattle.std.specs.Result.{result_ok}
 use Rattle.std.specs.Option.{option_or}
 use Rattle.lilo_model.specs.Bytes.{part_of, hex_digit}

@@ -1,7 +1,8 @@
 -- The entries of a directory (Minix file system): an inode's number and a name of 14 or 30 bytes, one after
 -- the other. An entry with the number 0 is free. Entries that don't lie whole below the directory's size aren't
 -- looked at.
-use Rattle.std.specs.Prelude.{ℕ, zero, suc, ◌*◌, ◌/◌, ◌%◌, ◌==◌, Bool, not, ◌&&◌, ◌||◌, if◌then◌else◌, List, [], ◌∷◌, ◌++◌, map, filter, bytes_eq, Option, Some, None, Result, Ok}
+use Rattle.std.specs.Prelude.{ℕ, zero, suc, ◌*◌, ◌/◌, ◌%◌, ◌==◌, Bool, not, ◌&&◌, ◌||◌, if◌then◌else◌, List, [], ◌∷◌, ◌++◌, map, filter, bytes_eq, Option, Some}
+use Rattle.std.specs.Prelude.{None, Result, Ok}
 use Rattle.std.specs.List.{range_with_len}
 use Rattle.lilo_model.specs.Bytes.{part_of, number16, name_in}
 use Rattle.lilo_model.specs.Checks.{◌>>=◌}

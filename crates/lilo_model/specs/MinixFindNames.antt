@@ -1,11 +1,13 @@
 -- What Find leads to on a sound volume, as a function of Names alone (directories and symbolic links: Minix file
 -- system; the limits and the refusals are those of Find). A path is a list of components, the last one first.
-use Rattle.std.specs.Prelude.{◌≡◌, ℕ, zero, suc, ◌+◌, nat_le, Bool, true, false, not, ◌||◌, if◌then◌else◌, List, [], ◌∷◌, ◌++◌, length, bytes_eq, Option, Some, None, Result, Ok, Err}
+use Rattle.std.specs.Prelude.{◌≡◌, ℕ, zero, suc, ◌+◌, nat_le, Bool, true, false, not, ◌||◌, if◌then◌else◌, List, [], ◌∷◌, ◌++◌, length, bytes_eq, Option, Some}
+use Rattle.std.specs.Prelude.{None, Result, Ok, Err}
 use Rattle.lilo_model.specs.Checks.{◌>>=◌, require}
 use Rattle.lilo_model.specs.MinixLayout.{Super}
 use Rattle.lilo_model.specs.MinixParts.{Parts}
 use Rattle.lilo_model.specs.MinixEntries.{here_name, above_name}
-use Rattle.lilo_model.specs.MinixFind.{TreeFault, NotFound, NotDirectory, TooManyLinks, PathTooLong, Component, components, is_last, begins_with_slash, text_limit, link_limit}
+use Rattle.lilo_model.specs.MinixFind.{TreeFault, NotFound, NotDirectory, TooManyLinks, PathTooLong, Component, components, is_last, begins_with_slash}
+use Rattle.lilo_model.specs.MinixFind.{text_limit, link_limit}
 use Rattle.lilo_model.specs.MinixNames.{Thing, File, Link, Directory, Other, reached}
 
 -- what each path leads to

@@ -2,7 +2,8 @@
 -- checks and the limit on a file's size in version 1 are this project's own. A block has 1024 bytes: block 0
 -- is the boot block, block 1 the superblock, then come the bitmaps of inodes and zones, the table of inodes
 -- and the data zones. Sectors are counted from the start of the volume, zones and blocks too.
-use Rattle.std.specs.Prelude.{◌≡◌, ◌≤◌, ◌<◌, ◌^◌, ℕ, zero, suc, ◌+◌, ◌-◌, ◌*◌, ◌/◌, ◌%◌, ◌==◌, nat_le, nat_lt, Bool, true, false, not, ◌&&◌, ◌||◌, if◌then◌else◌, List, [], ◌∷◌, ◌++◌, map, length, take, replicate, slice_index, All, Option, Some, None, Result, Ok, Err}
+use Rattle.std.specs.Prelude.{◌≡◌, ◌≤◌, ◌<◌, ◌^◌, ℕ, zero, suc, ◌+◌, ◌-◌, ◌*◌, ◌/◌, ◌%◌, ◌==◌, nat_le, nat_lt, Bool, true, false, not, ◌&&◌, ◌||◌}
+use Rattle.std.specs.Prelude.{if◌then◌else◌, List, [], ◌∷◌, ◌++◌, map, length, take, replicate, slice_index, All, Option, Some, None, Result, Ok, Err}
 use Rattle.std.specs.List.{concat}
 use Rattle.lilo_model.specs.Bytes.{with_part, number16, number32, bytes16, bytes32}
 use Rattle.lilo_model.specs.Checks.{◌>>=◌, require}

@@ -1,10 +1,12 @@
 -- Names and Sound: what a sound Minix volume says (Minix file system; what counts as sound, and the limit on
 -- the depth, are this project's own). A path is a list of components, the last one first.
-use Rattle.std.specs.Prelude.{◌≡◌, ◌≢◌, ◌<◌, ◌≤◌, ℕ, zero, suc, ◌*◌, ◌/◌, ◌%◌, true, not, ◌&&◌, if◌then◌else◌, List, [], ◌∷◌, ◌++◌, length, take, option_map, Option, Some, None, Ok}
+use Rattle.std.specs.Prelude.{◌≡◌, ◌≢◌, ◌<◌, ◌≤◌, ℕ, zero, suc, ◌*◌, ◌/◌, ◌%◌, true, not, ◌&&◌, if◌then◌else◌, List, [], ◌∷◌, ◌++◌, length, take, option_map}
+use Rattle.std.specs.Prelude.{Option, Some, None, Ok}
 use Rattle.std.specs.Option.{option_or}
 use Rattle.lilo_model.specs.Disks.{Image}
 use Rattle.lilo_model.specs.MinixLayout.{Super, is_size, super_at, super_sector}
-use Rattle.lilo_model.specs.MinixParts.{Parts, Volume, Pointer, IsPointer, sector_of, parts_of, is_directory, is_file, is_link, has_zones, zone_at_pointer, block_pointer, zone_bytes, blocks_for}
+use Rattle.lilo_model.specs.MinixParts.{Parts, Volume, Pointer, IsPointer, sector_of, parts_of, is_directory, is_file, is_link, has_zones, zone_at_pointer}
+use Rattle.lilo_model.specs.MinixParts.{block_pointer, zone_bytes, blocks_for}
 use Rattle.lilo_model.specs.MinixEntries.{Entry, entry_with, entry_in, entries_per_block, places, named_inode, here_name, above_name, is_dots}
 
 -- ---- blocks, contents and entries by an inode's number, where no zone is refused

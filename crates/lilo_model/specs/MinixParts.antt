@@ -1,11 +1,13 @@
 -- What a Minix volume holds, part by part: inodes, zones and bitmap bits, and the zone at each index of a
 -- file (Minix file system, versions 1 and 2). A refusal of a zone's number is this project's own. Inodes are
 -- counted from 1, zones and the blocks of a file from 0.
-use Rattle.std.specs.Prelude.{◌<◌, ◌≤◌, ℕ, zero, suc, ◌+◌, ◌-◌, ◌*◌, ◌/◌, ◌%◌, ◌^◌, ◌==◌, nat_le, nat_lt, bit_and, bit_or, Bool, true, false, ◌&&◌, ◌||◌, if◌then◌else◌, List, [], ◌∷◌, ◌++◌, length, take, replicate, slice_index, slice_set, All, Result, Ok, Err}
+use Rattle.std.specs.Prelude.{◌<◌, ◌≤◌, ℕ, zero, suc, ◌+◌, ◌-◌, ◌*◌, ◌/◌, ◌%◌, ◌^◌, ◌==◌, nat_le, nat_lt, bit_and, bit_or, Bool, true, false, ◌&&◌, ◌||◌}
+use Rattle.std.specs.Prelude.{if◌then◌else◌, List, [], ◌∷◌, ◌++◌, length, take, replicate, slice_index, slice_set, All, Result, Ok, Err}
 use Rattle.lilo_model.specs.Bytes.{part_of, number16, number32}
 use Rattle.lilo_model.specs.Checks.{◌>>=◌, with_fault}
 use Rattle.lilo_model.specs.Disks.{Image, Span}
-use Rattle.lilo_model.specs.MinixLayout.{Kind, Super, Inode, Place, LayoutFault, is_v1, inode_size, numbers_in_zone, super_at, inode_of, inode_place, zone_sector, super_sector}
+use Rattle.lilo_model.specs.MinixLayout.{Kind, Super, Inode, Place, LayoutFault, is_v1, inode_size, numbers_in_zone, super_at, inode_of, inode_place}
+use Rattle.lilo_model.specs.MinixLayout.{zone_sector, super_sector}
 
 -- ---- the parts
 

@@ -2,7 +2,8 @@
 -- bits: Minix file system; the order, the refusals and what counts as wrong are this project's own). A survey goes over
 -- all names from the root on, depth first, entries in order. What is met is a list, the newest first, and each thing in
 -- it is judged by what was met before.
-use Rattle.std.specs.Prelude.{ℕ, zero, suc, ◌==◌, nat_le, nat_lt, Bool, true, false, not, ◌&&◌, ◌||◌, if◌then◌else◌, List, [], ◌∷◌, length, filter, bytes_eq, Option, None, Some, Result, Ok, Err}
+use Rattle.std.specs.Prelude.{ℕ, zero, suc, ◌==◌, nat_le, nat_lt, Bool, true, false, not, ◌&&◌, ◌||◌, if◌then◌else◌, List, [], ◌∷◌, length, filter, bytes_eq}
+use Rattle.std.specs.Prelude.{Option, None, Some, Result, Ok, Err}
 use Rattle.std.specs.List.{list_any}
 use Rattle.std.specs.Option.{option_or}
 use Rattle.lilo_model.specs.Checks.{◌>>=◌, require}

@@ -1,6 +1,7 @@
 -- Where the names are that an installation makes, replaces or takes away: those that a configured path ends with, and
 -- the same with `~` (a rule of this project's own). A path is a list of components, the last one first.
-use Rattle.std.specs.Prelude.{ℕ, ◌-◌, ◌/◌, ◌%◌, Bool, true, false, ◌&&◌, if◌then◌else◌, List, [], ◌∷◌, ◌++◌, length, take, bytes_eq, codes, unwrap_or, is_some, Option, None, Some, Result, Ok, Err}
+use Rattle.std.specs.Prelude.{ℕ, ◌-◌, ◌/◌, ◌%◌, Bool, true, false, ◌&&◌, if◌then◌else◌, List, [], ◌∷◌, ◌++◌, length, take, bytes_eq, codes, unwrap_or, is_some}
+use Rattle.std.specs.Prelude.{Option, None, Some, Result, Ok, Err}
 use Rattle.lilo_model.specs.Bytes.{hex_byte}
 use Rattle.lilo_model.specs.Checks.{◌>>=◌, require}
 use Rattle.lilo_model.specs.Devices.{Device, device_number}

@@ -1,6 +1,7 @@
 -- Partition tables, and where on a disk a device lies (IBM PC partition table, with the chain of tables inside an
 -- extended partition). Sectors are counted from 0, entries and partitions from 1.
-use Rattle.std.specs.Prelude.{ℕ, zero, suc, ◌+◌, ◌==◌, nat_eq, nat_le, nat_lt, Bool, not, ◌&&◌, ◌||◌, if◌then◌else◌, List, [], ◌∷◌, ◌++◌, length, find, slice_index, Option, None, Some, option_map, option_to_list, ok_or, Result, Ok}
+use Rattle.std.specs.Prelude.{ℕ, zero, suc, ◌+◌, ◌==◌, nat_eq, nat_le, nat_lt, Bool, not, ◌&&◌, ◌||◌, if◌then◌else◌, List, [], ◌∷◌, ◌++◌, length, find}
+use Rattle.std.specs.Prelude.{slice_index, Option, None, Some, option_map, option_to_list, ok_or, Result, Ok}
 use Rattle.std.specs.List.{list_any}
 use Rattle.lilo_model.specs.Bytes.{number32}
 use Rattle.lilo_model.specs.Checks.{◌>>=◌, require}

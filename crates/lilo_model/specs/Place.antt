@@ -1,6 +1,7 @@
 -- What a boot puts into memory: the command line, and a kernel with its fields replaced, its initrd and
 -- that line (Linux/x86 boot protocol; the line's text follows LILO's manners).
-use Rattle.std.specs.Prelude.{ℕ, ◌+◌, ◌-◌, nat_le, nat_lt, ◌&&◌, Bool, if◌then◌else◌, List, [], ◌∷◌, ◌++◌, length, take, drop, slice_index, codes, Option, Some, None, option_map, Result, Ok, IsOk}
+use Rattle.std.specs.Prelude.{ℕ, ◌+◌, ◌-◌, nat_le, nat_lt, ◌&&◌, Bool, if◌then◌else◌, List, [], ◌∷◌, ◌++◌, length, take, drop, slice_index, codes, Option, Some}
+use Rattle.std.specs.Prelude.{None, option_map, Result, Ok, IsOk}
 use Rattle.lilo_model.specs.Bytes.{filled_bytes}
 use Rattle.lilo_model.specs.Checks.{◌>>=◌}
 use Rattle.lilo_model.specs.Header.{Header, Region, Layout, SetupFault, header_at, fit_checks, plan_memory, patch}

@@ -1,7 +1,8 @@
 -- The map that an installation plans: its sectors and its boot sector, as a function of what is mapped and of the
 -- places where the sectors are to lie. Each part takes its places from the head of a list, so that no index is
 -- reckoned. (These formats are this project's own.)
-use Rattle.std.specs.Prelude.{ℕ, zero, suc, ◌+◌, ◌*◌, ◌/◌, Bool, ◌||◌, if◌then◌else◌, List, [], ◌∷◌, ◌++◌, map, flat_map, length, take, drop, sum, slice_index_or, replicate, Option, Some, None, is_some, option_map, unwrap_or}
+use Rattle.std.specs.Prelude.{ℕ, zero, suc, ◌+◌, ◌*◌, ◌/◌, Bool, ◌||◌, if◌then◌else◌, List, [], ◌∷◌, ◌++◌, map, flat_map, length, take, drop, sum}
+use Rattle.std.specs.Prelude.{slice_index_or, replicate, Option, Some, None, is_some, option_map, unwrap_or}
 use Rattle.std.specs.List.{range_with_len}
 use Rattle.std.specs.Result.{result_ok}
 use Rattle.lilo_model.specs.Bytes.{part_of, filled_bytes}
@@ -9,7 +10,8 @@ use Rattle.lilo_model.specs.Disks.{Machine, DiskSector}
 use Rattle.lilo_model.specs.Conf.{Config, ConfSection}
 use Rattle.lilo_model.specs.Slots.{Slot, Mode, Lba32, slot_make, could_be_one}
 use Rattle.lilo_model.specs.Section.{section_bytes}
-use Rattle.lilo_model.specs.Table.{Descriptor, descriptor_bytes, other_flag, password_flag, restricted_flag, lock_flag, fallback_flag, video_flag, initrd_flag, table_flag}
+use Rattle.lilo_model.specs.Table.{Descriptor, descriptor_bytes, other_flag, password_flag, restricted_flag, lock_flag, fallback_flag, video_flag, initrd_flag}
+use Rattle.lilo_model.specs.Table.{table_flag}
 use Rattle.lilo_model.specs.Options.{Extra, options_bytes, extra_bytes}
 use Rattle.lilo_model.specs.LineSector.{line_bytes}
 use Rattle.lilo_model.specs.DefaultLine.{Empty}

@@ -1,7 +1,8 @@
 -- Why no map is planned: one list of checks in order, of which the first refusal decides. They speak of a sound volume
 -- and of a configuration that may be carried out. (The rules are this project's own; a kernel's header: Linux/x86 boot
 -- protocol; a boot sector's signature: IBM PC.)
-use Rattle.std.specs.Prelude.{ℕ, ◌==◌, nat_le, Bool, true, not, ◌&&◌, if◌then◌else◌, List, [], ◌∷◌, ◌++◌, codes, decimal, is_some, unwrap_or, Option, Some, None, Result, Ok, Err}
+use Rattle.std.specs.Prelude.{ℕ, ◌==◌, nat_le, Bool, true, not, ◌&&◌, if◌then◌else◌, List, [], ◌∷◌, ◌++◌, codes, decimal, is_some, unwrap_or, Option, Some}
+use Rattle.std.specs.Prelude.{None, Result, Ok, Err}
 use Rattle.lilo_model.specs.Checks.{◌>>=◌, require, with_fault}
 use Rattle.lilo_model.specs.Disks.{Image, Geometry, Machine, Span, DiskSector, bytes_at}
 use Rattle.lilo_model.specs.Devices.{Device}

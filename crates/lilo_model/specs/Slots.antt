@@ -1,7 +1,8 @@
 -- A slot names up to 127 neighbouring sectors of a disk in eight bytes: the mode, the BIOS device, the
 -- count, a zero byte and four address bytes. The eight bytes are this project's own; the address in mode 1,
 -- and what a cylinder, head and sector are, come from INT 13h.
-use Rattle.std.specs.Prelude.{ℕ, ◌+◌, ◌-◌, ◌*◌, ◌/◌, ◌%◌, ◌==◌, nat_le, nat_lt, Bool, true, false, not, ◌&&◌, ◌||◌, if◌then◌else◌, List, [], ◌∷◌, ◌++◌, map, slice_index, Option, Some, None, Result, Ok, Err}
+use Rattle.std.specs.Prelude.{ℕ, ◌+◌, ◌-◌, ◌*◌, ◌/◌, ◌%◌, ◌==◌, nat_le, nat_lt, Bool, true, false, not, ◌&&◌, ◌||◌, if◌then◌else◌, List, [], ◌∷◌, ◌++◌, map}
+use Rattle.std.specs.Prelude.{slice_index, Option, Some, None, Result, Ok, Err}
 use Rattle.std.specs.List.{range_with_len}
 use Rattle.lilo_model.specs.Bytes.{number32, bytes32, is_zero, is_between}
 use Rattle.lilo_model.specs.Disks.{Geometry, Machine, DiskSector}

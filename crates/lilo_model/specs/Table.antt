@@ -1,6 +1,7 @@
 -- The table of a map: descriptors of 64 bytes, eight in each sector. The layout of a descriptor is this
 -- project's own. An entry is counted from 0.
-use Rattle.std.specs.Prelude.{ℕ, zero, suc, ◌-◌, ◌*◌, ◌/◌, ◌%◌, ◌==◌, nat_lt, Bool, not, ◌&&◌, ◌||◌, if◌then◌else◌, bit_and, List, [], ◌∷◌, ◌++◌, length, bytes_eq, slice_index_or, Option, Some, None, is_some, Result, Ok, Err}
+use Rattle.std.specs.Prelude.{ℕ, zero, suc, ◌-◌, ◌*◌, ◌/◌, ◌%◌, ◌==◌, nat_lt, Bool, not, ◌&&◌, ◌||◌, if◌then◌else◌, bit_and, List, [], ◌∷◌, ◌++◌, length}
+use Rattle.std.specs.Prelude.{bytes_eq, slice_index_or, Option, Some, None, is_some, Result, Ok, Err}
 use Rattle.std.specs.List.{list_all}
 use Rattle.lilo_model.specs.Bytes.{part_of, number16, number32, bytes16, bytes32, filled_bytes, is_zero, is_between, name_in}
 use Rattle.lilo_model.specs.Slots.{Slot, is_one_slot, slot_of, some_slot, slot_bytes, optional_bytes}

@@ -1,7 +1,8 @@
 -- What the commands `-q DEVICE` and `boot DEVICE [--dump]` answer and print, as if nothing failed: one list of
 -- checks a command, in order, of which the first refusal decides. They speak of what the disks hold, and read
 -- no device. (This project's own.)
-use Rattle.std.specs.Prelude.{ℕ, zero, suc, ◌+◌, ◌/◌, ◌==◌, Bool, if◌then◌else◌, List, [], ◌∷◌, ◌++◌, length, take, drop, map, flat_map, filter, codes, decimal, Result, Ok, Err}
+use Rattle.std.specs.Prelude.{ℕ, zero, suc, ◌+◌, ◌/◌, ◌==◌, Bool, if◌then◌else◌, List, [], ◌∷◌, ◌++◌, length, take, drop, map, flat_map, filter, codes, decimal}
+use Rattle.std.specs.Prelude.{Result, Ok, Err}
 use Rattle.std.specs.Int.{w32, to_be_bytes}
 use Rattle.lilo_model.specs.Bytes.{hex_byte}
 use Rattle.lilo_model.specs.Checks.{◌>>=◌, with_fault, each}

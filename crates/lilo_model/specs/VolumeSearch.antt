@@ -1,7 +1,8 @@
 -- Where a run's volume lies: on the device that is named for it, or else on the first device whose block 1 has a
 -- magic number of a Minix superblock. (The magic numbers: Minix file system. What is searched, and in which order, is
 -- this project's own.)
-use Rattle.std.specs.Prelude.{ℕ, zero, ◌+◌, ◌==◌, nat_le, Bool, true, ◌&&◌, if◌then◌else◌, List, [], ◌∷◌, map, flat_map, filter, find, is_some, Option, None, Some, Result, Ok, Err}
+use Rattle.std.specs.Prelude.{ℕ, zero, ◌+◌, ◌==◌, nat_le, Bool, true, ◌&&◌, if◌then◌else◌, List, [], ◌∷◌, map, flat_map, filter, find, is_some, Option, None}
+use Rattle.std.specs.Prelude.{Some, Result, Ok, Err}
 use Rattle.lilo_model.specs.Bytes.{number16}
 use Rattle.lilo_model.specs.Checks.{◌>>=◌, require, with_fault}
 use Rattle.lilo_model.specs.Devices.{Device, last_partition}

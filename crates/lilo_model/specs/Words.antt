@@ -6,7 +6,8 @@
 --
 -- An option appears at most once in a part. A path begins with `/`. The arguments of `-R` run to `--then` or the end,
 -- and have bytes of 0x20 to 0x7E alone, at least one each.
-use Rattle.std.specs.Prelude.{◌≡◌, ◌<◌, ℕ, ◌+◌, ◌==◌, nat_lt, Bool, true, false, not, ◌&&◌, ◌||◌, if◌then◌else◌, IsTrue, All, List, [], ◌∷◌, ◌++◌, length, take, drop, bytes_eq, is_none, codes, Option, None, Some, Result, Ok, Err, slice_get, unwrap_or}
+use Rattle.std.specs.Prelude.{◌≡◌, ◌<◌, ℕ, ◌+◌, ◌==◌, nat_lt, Bool, true, false, not, ◌&&◌, ◌||◌, if◌then◌else◌, IsTrue, All, List, [], ◌∷◌, ◌++◌, length, take}
+use Rattle.std.specs.Prelude.{drop, bytes_eq, is_none, codes, Option, None, Some, Result, Ok, Err, slice_get, unwrap_or}
 use Rattle.std.specs.List.{list_all, position_from, slice_split}
 use Rattle.lilo_model.specs.Bytes.{is_between}
 use Rattle.lilo_model.specs.Checks.{◌>>=◌, with_fault}

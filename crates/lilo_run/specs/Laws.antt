@@ -38,13 +38,15 @@ model_effect now machine memory place dump keys =
     }
 
 -- the status, the text, the keys left and what was written go with the model's boot by these keys
-abbrev pub TellsBoot : {D I O : Type 0} → disks.Ghosts D → sources.Ghosts I → Ghosts O → Image → Machine → ℕ → Result Span DeviceFault → Bool → List Key → List Key → ℕ → D × I × List ℕ × O → D × I × List ℕ × O → Type 0
+abbrev pub TellsBoot : {D I O : Type 0} → disks.Ghosts D → sources.Ghosts I → Ghosts O → Image → Machine → ℕ → Result Span DeviceFault → Bool
+    → List Key → List Key → ℕ → D × I × List ℕ × O → D × I × List ℕ × O → Type 0
 TellsBoot g i o now machine memory place dump keys left status old new =
     Tells g (model_effect now machine memory place dump keys) status left (scene_of i o old) (scene_of i o new)
 
 -- where no part boots, what arguments do is the same in a memory of any size
 abbrev pub NoMemoryLaw : Type 0
-NoMemoryLaw = (now : Image) (machine : Machine) (memory other time : ℕ) (words : List (List ℕ)) (lefts : List Left) (keys : List Key) → run_boots (run_at words) ≡ false
+NoMemoryLaw = (now : Image) (machine : Machine) (memory other time : ℕ) (words : List (List ℕ)) (lefts : List Left) (keys : List Key)
+    → run_boots (run_at words) ≡ false
     → effects_of now machine memory time words lefts keys ≡ effects_of now machine other time words lefts keys
 
 -- where no part boots, all keys are left

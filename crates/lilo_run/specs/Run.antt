@@ -101,9 +101,11 @@ Does effect status memory memory' old new =
     IsDone effect status memory memory' old new ⊎ (IsFailed 8 effect.failures status old new ⊎ IsFailed 13 effect.starved status old new)
 
 -- the same of what disks hold, where they report their past: by the memory and the sink before it and after it
-abbrev pub DoesOn : {D O : Type 0} → Ghosts D → sinks.Ghosts O → D → ℕ → List ℕ × Shown O → List ℕ × Shown O → (disks.Image → disks.Machine → ℕ → Effect) → Type 0
+abbrev pub DoesOn : {D O : Type 0} → Ghosts D → sinks.Ghosts O → D → ℕ → List ℕ × Shown O → List ℕ × Shown O
+    → (disks.Image → disks.Machine → ℕ → Effect) → Type 0
 DoesOn g o disks status old new effect =
-    Told (g.past disks) (λ now. Does (effect now (machine_of g disks) (length old.0)) status (memory_of old.0) (memory_of new.0) (sink_of o old.1) (sink_of o new.1))
+    Told (g.past disks) (λ now. Does (effect now (machine_of g disks) (length old.0)) status (memory_of old.0) (memory_of new.0) (sink_of o old.1)
+    (sink_of o new.1))
 
 -- the same of a command that leaves this memory alone
 abbrev pub DoesBeside : {D O : Type 0} → Ghosts D → sinks.Ghosts O → D → Memory → ℕ → Shown O → Shown O → (disks.Image → disks.Machine → Effect) → Type 0
@@ -186,17 +188,20 @@ state_of i o (disks, keys, ram, out) =
 
 -- The same of disks, a source, the memory and the sink before and after: whichever keys the source leaves, those that it
 -- left before were carried out so.
-abbrev pub CarriesBy : {D I O : Type 0} → Ghosts D → sources.Ghosts I → sinks.Ghosts O → ℕ → (List Key → Effect) → D × I × List ℕ × Shown O → D × I × List ℕ × Shown O → Type 0
+abbrev pub CarriesBy : {D I O : Type 0} → Ghosts D → sources.Ghosts I → sinks.Ghosts O → ℕ → (List Key → Effect) → D × I × List ℕ × Shown O
+    → D × I × List ℕ × Shown O → Type 0
 CarriesBy g i o status effect old new =
     OnKeys i (old.1, new.1) (λ all left. Carries g (effect all) status left (state_of i o old) (state_of i o new))
 
 -- the same of what the disks held, where they report their past
-abbrev pub CarriesOn : {D I O : Type 0} → Ghosts D → sources.Ghosts I → sinks.Ghosts O → ℕ → D × I × List ℕ × Shown O → D × I × List ℕ × Shown O → (disks.Image → disks.Machine → ℕ → List Key → Effect) → Type 0
+abbrev pub CarriesOn : {D I O : Type 0} → Ghosts D → sources.Ghosts I → sinks.Ghosts O → ℕ → D × I × List ℕ × Shown O → D × I × List ℕ × Shown O
+    → (disks.Image → disks.Machine → ℕ → List Key → Effect) → Type 0
 CarriesOn g i o status old new effect =
     OnDisks g old.0 (λ now machine. CarriesBy g i o status (effect now machine (length old.2)) old new)
 
 -- the same of a part, by what is found out
-abbrev pub CarriesPart : {D I O : Type 0} → Ghosts D → sources.Ghosts I → sinks.Ghosts O → ℕ → D × I × List ℕ × Shown O → D × I × List ℕ × Shown O → (disks.Image → disks.Machine → ℕ → Left → List Key → Effect) → Type 0
+abbrev pub CarriesPart : {D I O : Type 0} → Ghosts D → sources.Ghosts I → sinks.Ghosts O → ℕ → D × I × List ℕ × Shown O → D × I × List ℕ × Shown O
+    → (disks.Image → disks.Machine → ℕ → Left → List Key → Effect) → Type 0
 CarriesPart g i o status old new effect =
     OnDisks g old.0 (λ now machine. OnKeys i (old.1, new.1) (λ all left. (found : Left)
     × Carries g (effect now machine (length old.2) found all) status left (state_of i o old) (state_of i o new)))
@@ -209,7 +214,8 @@ CarriesBeside g o memory status old new effect =
     (record { disks = new.0; memory = memory; sink = sink_of o new.1; key_faults = key_faults }))
 
 -- the same by what is found out
-abbrev pub CarriesFound : {D O : Type 0} → Ghosts D → sinks.Ghosts O → Memory → ℕ → D × Shown O → D × Shown O → (disks.Image → disks.Machine → Left → Effect) → Type 0
+abbrev pub CarriesFound : {D O : Type 0} → Ghosts D → sinks.Ghosts O → Memory → ℕ → D × Shown O → D × Shown O
+    → (disks.Image → disks.Machine → Left → Effect) → Type 0
 CarriesFound g o memory status old new effect =
     OnDisks g old.0 (λ now machine. (found : Left) × ((keys : List Key) (key_faults : ℕ) → Carries g (leaving keys (effect now machine found)) status keys
     (record { disks = old.0; memory = memory; sink = sink_of o old.1; key_faults = key_faults })
@@ -259,7 +265,8 @@ Runs {D} g (part ∷ parts) status keys left old new =
     ⊎ ((mid : State D) × IsPassed g part old mid × Runs g parts status part.left left mid new)
 
 -- the same, by the disks, the source, the memory and the sink before them and after them
-abbrev pub RunsAll : {D I O : Type 0} → Ghosts D → sources.Ghosts I → sinks.Ghosts O → List Effect → ℕ → List Key → List Key → D × I × List ℕ × Shown O → D × I × List ℕ × Shown O → Type 0
+abbrev pub RunsAll : {D I O : Type 0} → Ghosts D → sources.Ghosts I → sinks.Ghosts O → List Effect → ℕ → List Key → List Key
+    → D × I × List ℕ × Shown O → D × I × List ℕ × Shown O → Type 0
 RunsAll g i o parts status keys left old new = Runs g parts status keys left (state_of i o old) (state_of i o new)
 
 -- a fact about what the parts of arguments do by keys over what disks hold, with a memory of so many bytes and at a time,
@@ -358,7 +365,8 @@ scene_of i o (disks, keys, ram, out) =
     record { disks = disks; memory = memory_of ram; taken = o.taken out; faults = o.faults out; key_faults = i.faults keys }
 
 -- the same, by the disks, the source, the memory and the sink before them and after them
-abbrev pub TellsAll : {D I O : Type 0} → Ghosts D → sources.Ghosts I → sinks.Ghosts O → List Effect → ℕ → List Key → List Key → D × I × List ℕ × O → D × I × List ℕ × O → Type 0
+abbrev pub TellsAll : {D I O : Type 0} → Ghosts D → sources.Ghosts I → sinks.Ghosts O → List Effect → ℕ → List Key → List Key → D × I × List ℕ × O
+    → D × I × List ℕ × O → Type 0
 TellsAll g i o parts status keys left old new = TellsRun g parts status keys left (scene_of i o old) (scene_of i o new)
 
 -- ---- what is left of the disks

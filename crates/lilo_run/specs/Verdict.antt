@@ -70,7 +70,19 @@ pub record Effect : Type 0 where
 -- a command that only answers and prints
 abbrev pub plain_effect : Verdict → List (List ℕ) → Effect
 plain_effect verdict failures =
-    record { verdict = verdict; failures = failures; at_commit = []; after_commit = []; starved = []; unheard = []; written = []; left = []; write = None; installs = None; boots = false }
+    record {
+      verdict = verdict;
+      failures = failures;
+      at_commit = [];
+      after_commit = [];
+      starved = [];
+      unheard = [];
+      written = [];
+      left = [];
+      write = None;
+      installs = None;
+      boots = false;
+    }
 
 -- one that reads a configuration first, which takes memory
 abbrev pub conf_effect : Verdict → Effect
@@ -241,7 +253,8 @@ command_effect now machine memory time root path words.Install left keys = leavi
 command_effect now machine memory time root path words.Test left keys = keeping keys (test_effect now machine time root path)
 command_effect now machine memory time root path (words.Query device) left keys = keeping keys (query_command now machine root path device)
 command_effect now machine memory time root path (words.SetLine line) left keys = leaving keys (line_effect now machine root path (joined_words line))
-command_effect now machine memory time root path (words.Restore device) left keys = leaving keys (restore_effect now machine root device (place_at now machine device))
+command_effect now machine memory time root path (words.Restore device) left keys =
+    leaving keys (restore_effect now machine root device (place_at now machine device))
 
 -- a part
 abbrev pub part_effect : Machine → ℕ → ℕ → Image → Part → Left → List Key → Effect
@@ -277,7 +290,8 @@ parts_effects effect now (part ∷ parts) lefts keys =
     (effect now part (first_left now lefts) keys).left
 
 -- what the parts of a run do; words that are none are as one part, which shows the usage
-abbrev pub words_effects : (Image → Part → Left → List Key → Effect) → Image → List (List ℕ) → List Left → List Key → Result (List Part) (Option ℕ) → List Effect
+abbrev pub words_effects : (Image → Part → Left → List Key → Effect) → Image → List (List ℕ) → List Left → List Key → Result (List Part) (Option ℕ)
+    → List Effect
 words_effects effect now words lefts keys (Ok parts) = parts_effects effect now parts lefts keys
 words_effects effect now words lefts keys (Err wrong) = keeping keys (plain_effect (record { status = 1; text = usage_text words }) []) ∷ []
 

@@ -123,8 +123,8 @@ pub fn lilo<D: Disks, I: Source, O: Sink>(
         (place_at now machine device) dump all left result
         (disks.old, keys.old, ram.old, out.old) (disks.new, keys.new, ram.new, out.new))) }
 
-    // An installation by itself, by what is found out: the image that its settling leaves, and the one at its end. Where
-    // nothing that is read rests on what settling changes, its verdict is the model's, by the image at the entry.
+    // An installation by itself, by what is found out: the image that its settling leaves, and the one at its end.
+    // Where nothing that is read rests on what settling changes, its verdict is the model's, by the image at the entry.
     ensures install { (root : Option Device) (path : List ℕ) → IsInstallRun words.now root path
         → OnDisks D.Disks disks.old (λ image machine. OnKeys I.Source (keys.old, keys.new) (λ all left.
         TellsInstall D.Disks I.Source O.Sink image machine root path now all left result

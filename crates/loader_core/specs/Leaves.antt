@@ -94,7 +94,8 @@ pub record WritesAndShows {D O : Type 0} (g : Ghosts D) (o : sinks.Ghosts O) (ol
   pub same_reference : new.1.out.ghost_name ≡ old.1.out.ghost_name
 
 -- The same of a call that takes keys too; where no key was heard, the source's count of faults rose.
-pub record WritesAndAsks {D I O : Type 0} (g : Ghosts D) (i : sources.Ghosts I) (o : sinks.Ghosts O) (old new : Bios D I × Shown O) (Lost Unheard : Type 0) : Type 0 where
+pub record WritesAndAsks {D I O : Type 0} (g : Ghosts D) (i : sources.Ghosts I) (o : sinks.Ghosts O) (old new : Bios D I × Shown O)
+    (Lost Unheard : Type 0) : Type 0 where
   pub keeps : GoesOn g old.0.disks.now new.0.disks.now
   pub lost : Lost → Rose (g.faults old.0.disks.now) (g.faults new.0.disks.now)
   pub later : i.faults old.0.keys.now ≤ i.faults new.0.keys.now

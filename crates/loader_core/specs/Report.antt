@@ -20,7 +20,9 @@ use Rattle.lilo_model.specs.Reason.{Reason, NotBootable, BadTable, NotFound, Idl
 use Rattle.lilo_model.specs.Section.{file_content}
 use Rattle.lilo_model.specs.Slots as slots
 use Rattle.lilo_model.specs.Slots.{place_at}
-use Rattle.lilo_model.specs.Boot.{Loaded, Handed, Ending, MapSectors, GoodMap, boot_address, table_address, error_text, entry_has, present_line, map_sectors, good_map, listed_entries, settings_of, opening_at, fallback_of, middle_of, initrd_size, main_of, initrd_of, picked_entry, picked_line, video_of}
+use Rattle.lilo_model.specs.Boot.{Loaded, Handed, Ending, MapSectors, GoodMap, boot_address, table_address, error_text, entry_has, present_line, map_sectors}
+use Rattle.lilo_model.specs.Boot.{good_map, listed_entries, settings_of, opening_at, fallback_of, middle_of, initrd_size, main_of, initrd_of, picked_entry}
+use Rattle.lilo_model.specs.Boot.{picked_line, video_of}
 use Rattle.section_loader.specs.Reading.{FileRest, content_rest}
 use Rattle.prompt_loop.specs.Message.{no_rest}
 

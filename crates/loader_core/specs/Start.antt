@@ -76,7 +76,8 @@ abbrev pub ReportsAs : {O : Type 0} → sinks.Ghosts O → Report → Result Sta
 ReportsAs o report result old new = Reports report result (memory_of old.0) new.0 (sink_of o old.1) (sink_of o new.1)
 
 -- the same of what disks hold, where they report their past: the report for this image, machine and size of memory
-abbrev pub ReportsOn : {D O : Type 0} → Ghosts D → sinks.Ghosts O → D → Result Started Halt → List ℕ × Shown O → List ℕ × Shown O → (disks.Image → disks.Machine → ℕ → Report) → Type 0
+abbrev pub ReportsOn : {D O : Type 0} → Ghosts D → sinks.Ghosts O → D → Result Started Halt → List ℕ × Shown O → List ℕ × Shown O
+    → (disks.Image → disks.Machine → ℕ → Report) → Type 0
 ReportsOn g o disks result old new report =
     OnDisks g disks (λ now machine. ReportsAs o (report now machine (length old.0)) result old new)
 
@@ -97,7 +98,8 @@ Went (Err (stops.Halt (Refused reason))) report memory ram left old new =
     (report.left ≡ left) × Reports report (Err (Refused reason)) memory ram old new
 
 -- A part of a boot that takes no key went as a report says, and left of the disks what that says.
-pub record ReportsBy {D O : Type 0} (g : Ghosts D) (o : sinks.Ghosts O) (report : Report) (result : Result Started Halt) (phase : Phase) (old new : D × List ℕ × Shown O) : Type 0 where
+pub record ReportsBy {D O : Type 0} (g : Ghosts D) (o : sinks.Ghosts O) (report : Report) (result : Result Started Halt) (phase : Phase)
+    (old new : D × List ℕ × Shown O) : Type 0 where
   pub reports : ReportsAs o report result (old.1, old.2) (new.1, new.2)
   pub leaves : Leaves g old.0 new.0 report.write (unasked result) phase
 
@@ -108,13 +110,15 @@ OnKeys i keys P = (left : List Key) → MayLeave i keys.1 left → (all : List K
 
 -- The same of disks, a source, the memory and the sink before and after it: it left of the disks what the report says, by
 -- the phase in which a device failed.
-abbrev pub WentBy : {D I O : Type 0} → Ghosts D → sources.Ghosts I → sinks.Ghosts O → Result Started Stop → Phase → (List Key → Report) → D × I × List ℕ × Shown O → D × I × List ℕ × Shown O → Type 0
+abbrev pub WentBy : {D I O : Type 0} → Ghosts D → sources.Ghosts I → sinks.Ghosts O → Result Started Stop → Phase → (List Key → Report)
+    → D × I × List ℕ × Shown O → D × I × List ℕ × Shown O → Type 0
 WentBy g i o result phase report (disks, keys, ram, out) (disks', keys', ram', out') =
     OnKeys i (keys, keys') (λ all left. Leaves g disks disks' (report all).write result phase
     × Went result (report all) (memory_of ram) ram' left (sink_of o out) (sink_of o out'))
 
 -- the same of what disks hold, where they tell their past: the report for this image, machine, size of memory and keys
-abbrev pub WentOn : {D I O : Type 0} → Ghosts D → sources.Ghosts I → sinks.Ghosts O → Result Started Stop → Phase → D × I × List ℕ × Shown O → D × I × List ℕ × Shown O → (disks.Image → disks.Machine → ℕ → List Key → Report) → Type 0
+abbrev pub WentOn : {D I O : Type 0} → Ghosts D → sources.Ghosts I → sinks.Ghosts O → Result Started Stop → Phase → D × I × List ℕ × Shown O
+    → D × I × List ℕ × Shown O → (disks.Image → disks.Machine → ℕ → List Key → Report) → Type 0
 WentOn g i o result phase old new report =
     OnDisks g old.0 (λ now machine. WentBy g i o result phase (report now machine (length old.2)) old new)
 
@@ -174,13 +178,15 @@ EndsAs (Err (stops.Halt Device)) boot memory memory' left old new = Unit {0}
 EndsAs (Err (stops.Halt (Refused reason))) boot memory memory' left old new = RefusesBoot reason boot left old new
 
 -- what was done is this boot, and this was written for its default line
-pub record IsBoot {D : Type 0} (g : Ghosts D) (disks disks' : D) (write : Option DefaultLine → Option LineWrite) (outcome : Outcome) (boot : boots.Boot) (memory memory' : Memory) (left : List Key) (old new : SinkState) : Type 0 where
+pub record IsBoot {D : Type 0} (g : Ghosts D) (disks disks' : D) (write : Option DefaultLine → Option LineWrite) (outcome : Outcome)
+    (boot : boots.Boot) (memory memory' : Memory) (left : List Key) (old new : SinkState) : Type 0 where
   pub ends : EndsAs (result_of outcome) boot memory memory' left old new
   pub leaves : Leaves g disks disks' (write boot.line) (result_of outcome) (phase_of outcome)
 
 -- What was done is the model's boot from a span by the keys that the source had, unless a disk or the source failed; and
 -- of the disks the sector of the default line was written, where that is another from then on, and no other sector.
-abbrev pub BootsAsModel : {D I O : Type 0} → Ghosts D → sources.Ghosts I → sinks.Ghosts O → disks.Image → disks.Machine → Span → Outcome → D × I × List ℕ × Shown O → D × I × List ℕ × Shown O → Type 0
+abbrev pub BootsAsModel : {D I O : Type 0} → Ghosts D → sources.Ghosts I → sinks.Ghosts O → disks.Image → disks.Machine → Span → Outcome
+    → D × I × List ℕ × Shown O → D × I × List ℕ × Shown O → Type 0
 BootsAsModel g i o now machine device outcome (disks, keys, ram, out) (disks', keys', ram', out') =
     OnKeys i (keys, keys') (λ all left. IsBoot g disks disks' (boot_write now machine (span_view device)) outcome
     (boots.whole_boot now machine (span_view device) all (length ram)) (memory_of ram) (memory_of ram') left (sink_of o out) (sink_of o out'))

@@ -11,8 +11,8 @@ use stream_trait::{MemSink, MemSource};
 // Bytes of a sector from an offset on.
 pub type Edit<'a> = (usize, usize, &'a [u8]);
 
-// A boot of the plain installation with some changes, from a sector on, by keys, where some calls of a disk, keys and texts
-// fail.
+// A boot of the plain installation with some changes, from a sector on, by keys, where some calls of a disk, keys and
+// texts fail.
 #[derive(Clone, Copy)]
 pub struct Case<'a> {
     pub edits: &'a [Edit<'a>],
@@ -227,8 +227,8 @@ fn put_kernel(sectors: &mut [Sector]) {
     put(sectors, 84, 0, b"HELLO");
 }
 
-// The rest of a kernel of 256 sectors: each sector from 128 on is full of its number's low byte. The sectors from 110 on
-// are this kernel's section with a slot for each sector, 63 in each of them before the slot of the next.
+// The rest of a kernel of 256 sectors: each sector from 128 on is full of its number's low byte. The sectors from 110
+// on are this kernel's section with a slot for each sector, 63 in each of them before the slot of the next.
 fn put_long_kernel(sectors: &mut [Sector]) {
     for index in 0..256_usize {
         let number = if index < 2 { 82 + index } else { 126 + index };

@@ -1,8 +1,10 @@
 -- Which boot sectors, entries and lines the sectors of a map can hold.
-use Rattle.std.specs.Prelude.{◌≡◌, ◌≤◌, ◌<◌, ℕ, ◌^◌, ◌==◌, true, false, not, ◌&&◌, ◌||◌, if◌then◌else◌, List, [], ◌∷◌, length, bytes_eq, IfSome, Option, None, Some, is_some}
+use Rattle.std.specs.Prelude.{◌≡◌, ◌≤◌, ◌<◌, ℕ, ◌^◌, ◌==◌, true, false, not, ◌&&◌, ◌||◌, if◌then◌else◌, List, [], ◌∷◌, length, bytes_eq, IfSome, Option, None}
+use Rattle.std.specs.Prelude.{Some, is_some}
 use Rattle.lilo_model.specs.Slots.{Slot}
 use Rattle.lilo_model.specs.BootSector.{BootSector}
-use Rattle.lilo_model.specs.Table.{Descriptor, is_printable, has_flag, other_flag, password_flag, restricted_flag, lock_flag, fallback_flag, video_flag, initrd_flag, table_flag}
+use Rattle.lilo_model.specs.Table.{Descriptor, is_printable, has_flag, other_flag, password_flag, restricted_flag, lock_flag, fallback_flag, video_flag}
+use Rattle.lilo_model.specs.Table.{initrd_flag, table_flag}
 use Rattle.lilo_model.specs.DefaultLine.{DefaultLine, Empty, Once, Kept}
 use Rattle.sector_address.specs.Whole.{IsSlot}
 

@@ -14,7 +14,8 @@ use Rattle.lilo_model.specs.Verdict.{Verdict}
 use Rattle.write_model.specs.Wish.{Refusal}
 use Rattle.model_cases.specs.Sparse.{Patch, disks_of}
 use Rattle.model_cases.specs.Surveys.{walk_of}
-use Rattle.install_laws.specs.InstallVerdict.{InstallRefusal, Reading, BadName, NoRoom, Begun, Answer, begun_by, install_checks, install_room, test_room, answer_text, test_text, verdict_by}
+use Rattle.install_laws.specs.InstallVerdict.{InstallRefusal, Reading, BadName, NoRoom, Begun, Answer, begun_by, install_checks, install_room, test_room}
+use Rattle.install_laws.specs.InstallVerdict.{answer_text, test_text, verdict_by}
 
 -- what is answered, by the device that is named for the volume, the path of the configuration, and the places of the map
 -- or why there is no room
@@ -28,10 +29,12 @@ abbrev pub both_verdicts : Result Answer InstallRefusal → Verdict × Verdict
 both_verdicts answer = (verdict_by answer_text answer, verdict_by test_text answer)
 
 -- the room for what is planned
-abbrev pub case_room : List Patch → Machine → Option Device → Option (List ℕ) → (Begun → OwnNames → Plan → Result (List DiskSector) Refusal) → Result (List DiskSector) InstallRefusal
+abbrev pub case_room : List Patch → Machine → Option Device → Option (List ℕ) → (Begun → OwnNames → Plan → Result (List DiskSector) Refusal)
+    → Result (List DiskSector) InstallRefusal
 case_room patches machine root path room = do
   begun ← with_fault Reading (begun_by (disks_of patches) machine root (conf_path path))
-  names ← with_fault BadName (own_names (names_in begun.volume (disks_of patches)) begun.config begun.boot (is_foreign (disks_of patches begun.span.disk begun.span.start)))
+  names ← with_fault BadName (own_names (names_in begun.volume (disks_of patches)) begun.config begun.boot
+      (is_foreign (disks_of patches begun.span.disk begun.span.start)))
   with_fault NoRoom (room begun names (planned (disks_of patches) machine begun.volume begun.config 0))
 
 -- that of an installation whose settling changes the disks so, and that of `-t`

@@ -1,5 +1,6 @@
 -- Disks on which a planned map lies: what its contract says of the places, the files and the configuration.
-use Rattle.std.specs.Prelude.{◌≡◌, ◌≢◌, ◌≤◌, ◌<◌, ℕ, ◌^◌, true, false, not, ◌&&◌, ◌||◌, if◌then◌else◌, List, [], ◌∷◌, ◌++◌, map, length, take, drop, bytes_eq, IfSome, Option, None, Some, is_some, Ok}
+use Rattle.std.specs.Prelude.{◌≡◌, ◌≢◌, ◌≤◌, ◌<◌, ℕ, ◌^◌, true, false, not, ◌&&◌, ◌||◌, if◌then◌else◌, List, [], ◌∷◌, ◌++◌, map, length, take, drop, bytes_eq}
+use Rattle.std.specs.Prelude.{IfSome, Option, None, Some, is_some, Ok}
 use Rattle.std.specs.List.{concat}
 use Rattle.lilo_model.specs.Bytes.{part_of}
 use Rattle.lilo_model.specs.Disks.{Image, Machine, Span, DiskSector, bytes_at}

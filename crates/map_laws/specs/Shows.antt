@@ -9,7 +9,8 @@ use Rattle.lilo_model.specs.LineSector.{line_bytes}
 use Rattle.lilo_model.specs.DefaultLine.{DefaultLine}
 use Rattle.lilo_model.specs.Prompt.{Key}
 use Rattle.lilo_model.specs.Section.{Content}
-use Rattle.lilo_model.specs.Boot.{GoodMap, MapSectors, map_sectors, good_map, settings_of, listed_entries, message_of, middle_of, main_of, initrd_of, initrd_size, entry_has, whole_boot}
+use Rattle.lilo_model.specs.Boot.{GoodMap, MapSectors, map_sectors, good_map, settings_of, listed_entries, message_of, middle_of, main_of, initrd_of}
+use Rattle.lilo_model.specs.Boot.{initrd_size, entry_has, whole_boot}
 use Rattle.lilo_model.specs.Meant.{Target, Kernel, System, MenuEntry, Menu, menu_boot}
 
 -- a file that is there as a whole

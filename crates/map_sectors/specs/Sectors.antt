@@ -2,7 +2,8 @@
 use Rattle.std.specs.Prelude.{ℕ, List, ◌∷◌, ◌++◌, drop, length, replicate, Option}
 use Rattle.lilo_model.specs.Conf.{Config}
 use Rattle.lilo_model.specs.Disks.{DiskSector, Machine}
-use Rattle.lilo_model.specs.Plan.{MappedFile, MappedSection, Plan, chain_for, extra_sectors, file_sectors, optional_sectors, plan_entries, sectors_after, sectors_of_table}
+use Rattle.lilo_model.specs.Plan.{MappedFile, MappedSection, Plan, chain_for, extra_sectors, file_sectors, optional_sectors, plan_entries, sectors_after}
+use Rattle.lilo_model.specs.Plan.{sectors_of_table}
 
 -- those of its main file and of its initial ramdisk, at their places
 abbrev pub sectors_of_files : Config → Machine → DiskSector → MappedFile → Option MappedFile → List DiskSector → List (List ℕ)

@@ -2,7 +2,8 @@
 use Rattle.std.specs.Prelude.{◌≡◌, ℕ, ◌==◌, Bool, true, false, Result, Ok, Err}
 use Rattle.lilo_model.specs.Partitions as model
 use Rattle.mbr_table.specs.declared.table_fault.TableFault.{TableFault}
-use Rattle.mbr_table.specs.declared.table_fault.TableFault.TheVariants.{NoSignature, OutsideDisk, LoopedChain, TooMany, UnknownDevice, NoPartition, NoDisk, Device}
+use Rattle.mbr_table.specs.declared.table_fault.TableFault.TheVariants.{NoSignature, OutsideDisk, LoopedChain, TooMany, UnknownDevice, NoPartition, NoDisk}
+use Rattle.mbr_table.specs.declared.table_fault.TableFault.TheVariants.{Device}
 
 -- a refusal is what the model gives, unless the disk failed
 abbrev pub Refuses : {B : Type 0} → TableFault → Result B model.TableFault → Type 0

@@ -1,5 +1,6 @@
 -- Free zones and inodes: those that aren't marked and aren't avoided.
-use Rattle.std.specs.Prelude.{◌≡◌, ◌≤◌, ◌<◌, ℕ, ◌-◌, Bool, true, false, not, ◌&&◌, nat_le, List, filter, find, length, take, Option, None, Some, Result, Ok, Err}
+use Rattle.std.specs.Prelude.{◌≡◌, ◌≤◌, ◌<◌, ℕ, ◌-◌, Bool, true, false, not, ◌&&◌, nat_le, List, filter, find, length, take, Option, None, Some, Result, Ok}
+use Rattle.std.specs.Prelude.{Err}
 use Rattle.std.specs.List.{range_with_len}
 use Rattle.lilo_model.specs.Disks.{Image}
 use Rattle.lilo_model.specs.MinixLayout.{Super}

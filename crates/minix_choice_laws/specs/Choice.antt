@@ -57,7 +57,8 @@ pub record MayHavePlace (volume : Volume) (image : Image) (outer : List (List �
   pub reaches : blocks_for ((parts_of volume image).node directory).size ≤ reach volume.layout.kind
   pub plain : is_dots name ≡ false
   pub absent : lookup volume.layout (parts_of volume image) name directory ≡ None
-  pub free : place < places volume.layout.kind ((parts_of volume image).node directory).size → (entry volume.layout (parts_of volume image) directory place).inode ≡ 0
+  pub free : place < places volume.layout.kind ((parts_of volume image).node directory).size
+      → (entry volume.layout (parts_of volume image) directory place).inode ≡ 0
   pub near : places volume.layout.kind ((parts_of volume image).node directory).size ≤ place → place < most_places volume.layout.kind
 
 -- it lies there

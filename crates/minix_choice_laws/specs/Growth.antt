@@ -21,7 +21,8 @@ pub record IsPromisedZone (super : Super) (parts : Parts) (taken : Taken) (zone 
 pub record IsSameStep (kind : Kind) (one other : Promise) (level there : ℕ) : Type 0 where
   pub directory : one.directory ≡ other.directory
   pub at : level ≡ there
-  pub blocks : first_beside (numbers_in_zone kind) (one.place / entries_per_block kind) level ≡ first_beside (numbers_in_zone kind) (other.place / entries_per_block kind) there
+  pub blocks : first_beside (numbers_in_zone kind) (one.place / entries_per_block kind) level
+      ≡ first_beside (numbers_in_zone kind) (other.place / entries_per_block kind) there
 
 -- What was promised to files on a volume, of which none was made yet: their zones of growth are free, and one that was
 -- promised to several files is that of the same step for each.

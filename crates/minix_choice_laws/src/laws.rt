@@ -1,7 +1,8 @@
 // What holds of a choice.
 ghost use Rattle.minix_choice_laws.specs.Apart.{HeldLaw, HeldStaysLaw, ApartLaw};
 ghost use Rattle.minix_choice_laws.specs.Growth.{FreeGrowthLaw, PromisesLaw};
-ghost use Rattle.minix_choice_laws.specs.Laws.{ChoiceLaw, FileLaw, PlaceLaw, PlaceStaysLaw, MayHaveStaysLaw, PlaceLiesLaw};
+ghost use Rattle.minix_choice_laws.specs.Laws.{ChoiceLaw, FileLaw, PlaceLaw, PlaceStaysLaw, MayHaveStaysLaw};
+ghost use Rattle.minix_choice_laws.specs.Laws.{PlaceLiesLaw};
 
 /// What is chosen is free, and it is enough.
 pub fn choice_is_free()

@@ -73,7 +73,8 @@ pub record IsNextAt {D : Type 0} {disks : Ghosts D} (volume : Volume D disks) (d
 -- a sector of a disk isn't the one with a directory's inode, nor of a zone that the directory has
 pub record IsOffDirectory {D : Type 0} {disks : Ghosts D} (volume : Volume D disks) (directory d s : ℕ) : Type 0 where
   pub inode : IsOffInode volume directory d s
-  pub zones : (at : Pointer) (zone : ℕ) → PointsTo (super_view volume.layout) (parts_now volume) directory at zone → IsOutside volume.span.disk (volume.span.start + zone_sector zone) 2 d s
+  pub zones : (at : Pointer) (zone : ℕ) → PointsTo (super_view volume.layout) (parts_now volume) directory at zone
+      → IsOutside volume.span.disk (volume.span.start + zone_sector zone) 2 d s
 
 -- so many places of a directory lie below its size, its links are as before, and so are all other inodes
 pub record IsBrought (super : Super) (old new : Parts) (directory count : ℕ) : Type 0 where
@@ -84,6 +85,7 @@ pub record IsBrought (super : Super) (old new : Parts) (directory count : ℕ) :
 -- directory's own was written; it was refused where the disk failed.
 pub record Brings {D E : Type 0} {disks : Ghosts D} (old new : Volume D disks) (directory count : ℕ) (error : E) (result : Result (Unit {0}) E) : Type 0 where
   pub unseen : Unseen old new
-  pub brought : IsTold (past_of old) → OnOk result (IsBrought (super_view old.layout) (parts_now old) (model.parts_of (volume_view old) (now (past_of new))) directory count)
+  pub brought : IsTold (past_of old) → OnOk result (IsBrought (super_view old.layout) (parts_now old)
+      (model.parts_of (volume_view old) (now (past_of new))) directory count)
   pub others : IsTold (past_of old) → (d s : ℕ) → IsOffDirectory old directory d s → NotWritten (past_of old) (past_of new) d s
   pub device : IsTold (past_of old) → IfErr result (λ fault. (fault ≡ error) × Rose (faults_of old) (faults_of new))

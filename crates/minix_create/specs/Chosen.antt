@@ -1,5 +1,6 @@
 -- What is chosen for a file (a rule of this project's own). A file's blocks and its sectors are counted from 0.
-use Rattle.std.specs.Prelude.{◌≡◌, ◌≢◌, ◌≤◌, ◌<◌, ◌+◌, ◌*◌, ◌/◌, ◌%◌, ◌==◌, ◌^◌, ◌⊎◌, ℕ, true, false, Bool, if◌then◌else◌, List, [], Some, length, take, replicate, slice_index, slice_index_or, All}
+use Rattle.std.specs.Prelude.{◌≡◌, ◌≢◌, ◌≤◌, ◌<◌, ◌+◌, ◌*◌, ◌/◌, ◌%◌, ◌==◌, ◌^◌, ◌⊎◌, ℕ, true, false, Bool, if◌then◌else◌, List, [], Some, length, take}
+use Rattle.std.specs.Prelude.{replicate, slice_index, slice_index_or, All}
 use Rattle.disk_trait.specs.declared.disks.Disks.{Ghosts}
 use Rattle.disk_trait.specs.declared.disks.Span.{Span}
 use Rattle.disk_trait.specs.Moments.{IsTold, now}

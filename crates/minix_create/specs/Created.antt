@@ -87,12 +87,14 @@ pub record IsReserved {D : Type 0} {disks : Ghosts D} (start volume : Volume D d
 -- each block lies whole in the zone that was chosen
 pub record IsFilledWith {D : Type 0} {disks : Ghosts D} (volume : Volume D disks) (chosen : Chosen) (given : ℕ → List ℕ) : Type 0 where
   pub node : IsNewInode chosen ((parts_now volume).node chosen.choice.inode)
-  pub named : (outer : List (List ℕ)) → MayNest outer chosen → MayBeNamed (super_view volume.layout) (parts_now volume) outer chosen.directory chosen.choice.inode
+  pub named : (outer : List (List ℕ)) → MayNest outer chosen → MayBeNamed (super_view volume.layout)
+      (parts_now volume) outer chosen.directory chosen.choice.inode
   pub own : (at : Pointer) (zone : ℕ) → PointsTo (super_view volume.layout) (parts_now volume) chosen.choice.inode at zone
       → (source : Source) × (zone_from (file_of chosen.choice) source ≡ zone)
   pub clear : IsClearOf (super_view volume.layout) (parts_now volume) chosen.choice.inode chosen.choice.growth
   pub is : thing (super_view volume.layout) (parts_now volume) chosen.choice.inode ≡ thing_with chosen given
-  pub lies : (index : ℕ) → index < reach (kind_view volume.layout.kind) → zone_number (super_view volume.layout) (parts_now volume) chosen.choice.inode index ≡ slice_index chosen.choice.blocks index
+  pub lies : (index : ℕ) → index < reach (kind_view volume.layout.kind)
+      → zone_number (super_view volume.layout) (parts_now volume) chosen.choice.inode index ≡ slice_index chosen.choice.blocks index
   pub blocks : (index : ℕ) → slice_index chosen.choice.blocks index ≢ 0 → (parts_now volume).zone (slice_index chosen.choice.blocks index) ≡ given index
 
 pub record IsFilled {D : Type 0} {disks : Ghosts D} (start volume : Volume D disks) (chosen : Chosen) (given : ℕ → List ℕ) : Type 0 where

@@ -61,7 +61,8 @@ HasLinksOrRaised volume directory c =
 pub record RaisesLinks {D E : Type 0} {disks : Ghosts D} (old new : Volume D disks) (directory : ℕ) (error : E) (result : Result (Unit {0}) E) : Type 0 where
   pub unseen : Unseen old new
   pub any_moment : LeavesOnly (past_of old) (past_of new) (HasLinksOrRaised old directory)
-  pub raised : IsTold (past_of old) → OnOk result (ChangesNode (super_view old.layout) (parts_now old) (model.parts_of (volume_view old) (now (past_of new))) directory
+  pub raised : IsTold (past_of old) → OnOk result (ChangesNode (super_view old.layout) (parts_now old)
+      (model.parts_of (volume_view old) (now (past_of new))) directory
       (with_links ((parts_now old).node directory) (raised_links (kind_view old.layout.kind) ((parts_now old).node directory).links)))
   pub others : IsTold (past_of old) → (d s : ℕ) → IsOffInode old directory d s → NotWritten (past_of old) (past_of new) d s
   pub device : IsTold (past_of old) → IfErr result (λ fault. (fault ≡ error) × Rose (faults_of old) (faults_of new))
@@ -74,7 +75,8 @@ links_above kind chosen links = if chosen.mode / 4096 == 4 then raised_links kin
 abbrev pub HasLinksOrAbove : {D : Type 0} {disks : Ghosts D} → Volume D disks → Chosen → Image → Type 0
 HasLinksOrAbove volume chosen c =
     (((model.parts_of (volume_view volume) c).node chosen.directory).links ≡ ((parts_now volume).node chosen.directory).links)
-    ⊎ (((model.parts_of (volume_view volume) c).node chosen.directory).links ≡ links_above (kind_view volume.layout.kind) chosen ((parts_now volume).node chosen.directory).links)
+    ⊎ (((model.parts_of (volume_view volume) c).node chosen.directory).links
+    ≡ links_above (kind_view volume.layout.kind) chosen ((parts_now volume).node chosen.directory).links)
 
 -- A call made the links of the directory above those once the name is made, and what has no name yet is as before. No name
 -- sees it at any moment.
@@ -83,9 +85,11 @@ pub record Readies {D : Type 0} {disks : Ghosts D} (old new : Volume D disks) (c
   pub any_moment : LeavesOnly (past_of old) (past_of new) (HasLinksOrAbove old chosen)
   pub links : IsTold (past_of old) → OnOk result (((model.parts_of (volume_view old) (now (past_of new))).node chosen.directory).links
       ≡ links_above (kind_view old.layout.kind) chosen ((parts_now old).node chosen.directory).links)
-  pub keeps : IsTold (past_of old) → OnOk result (KeepsFiles (super_view old.layout) (parts_now old) (model.parts_of (volume_view old) (now (past_of new))) chosen.directory)
+  pub keeps : IsTold (past_of old) → OnOk result (KeepsFiles (super_view old.layout) (parts_now old)
+      (model.parts_of (volume_view old) (now (past_of new))) chosen.directory)
   pub marks : IsTold (past_of old) → OnOk result (SameMarks (super_view old.layout) (parts_now old) (model.parts_of (volume_view old) (now (past_of new))))
-  pub others : IsTold (past_of old) → (d s : ℕ) → (is_directory (new_inode chosen) ≡ true → IsOffInode old chosen.directory d s) → NotWritten (past_of old) (past_of new) d s
+  pub others : IsTold (past_of old) → (d s : ℕ) → (is_directory (new_inode chosen) ≡ true → IsOffInode old chosen.directory d s)
+      → NotWritten (past_of old) (past_of new) d s
   pub device : IsTold (past_of old) → IfErr result (λ fault. (fault ≡ Device) × Rose (faults_of old) (faults_of new))
 
 -- ---- the name
@@ -108,7 +112,8 @@ pub record IsOffEntered {D : Type 0} {disks : Ghosts D} (volume : Volume D disks
 -- in an image the links of the directory above are as they are once the name is made, or as before, and then it isn't made
 abbrev pub IsRaisedFirst : {D : Type 0} {disks : Ghosts D} → Volume D disks → List (List ℕ) → Chosen → Image → Type 0
 IsRaisedFirst volume outer chosen c =
-    (((model.parts_of (volume_view volume) c).node chosen.directory).links ≡ links_above (kind_view volume.layout.kind) chosen ((parts_now volume).node chosen.directory).links)
+    (((model.parts_of (volume_view volume) c).node chosen.directory).links
+    ≡ links_above (kind_view volume.layout.kind) chosen ((parts_now volume).node chosen.directory).links)
     ⊎ ((((model.parts_of (volume_view volume) c).node chosen.directory).links ≡ ((parts_now volume).node chosen.directory).links)
     × (reached (super_view volume.layout) (model.parts_of (volume_view volume) c) (chosen.name ∷ outer) ≡ None))
 
@@ -122,14 +127,18 @@ pub record KeepsDirectories (super : Super) (old new : Parts) (chosen : Chosen) 
 -- A call made the name whole or not at all, and raised the links of the directory above before that where it is that of a
 -- directory. Once it is done what is named stays with its zones, and so do each bitmap bit and all other places of directories. No
 -- other sector was written, and it was refused where the disk failed.
-pub record Enters {D : Type 0} {disks : Ghosts D} (old new : Volume D disks) (outer : List (List ℕ)) (chosen : Chosen) (zone : ℕ) (result : Result (Unit {0}) WriteFault) : Type 0 where
-  pub leads : LeadsPath old new (chosen.name ∷ outer) (Some chosen.choice.inode) (Some (thing (super_view old.layout) (parts_now old) chosen.choice.inode)) result
+pub record Enters {D : Type 0} {disks : Ghosts D} (old new : Volume D disks) (outer : List (List ℕ)) (chosen : Chosen) (zone : ℕ)
+    (result : Result (Unit {0}) WriteFault) : Type 0 where
+  pub leads : LeadsPath old new (chosen.name ∷ outer) (Some chosen.choice.inode)
+      (Some (thing (super_view old.layout) (parts_now old) chosen.choice.inode)) result
   pub links : LeavesOnly (past_of old) (past_of new) (IsRaisedFirst old outer chosen)
   pub above : IsTold (past_of old) → OnOk result (((model.parts_of (volume_view old) (now (past_of new))).node chosen.directory).links
       ≡ links_above (kind_view old.layout.kind) chosen ((parts_now old).node chosen.directory).links)
   pub marks : IsTold (past_of old) → OnOk result (SameMarks (super_view old.layout) (parts_now old) (model.parts_of (volume_view old) (now (past_of new))))
-  pub stays : IsTold (past_of old) → OnOk result (KeepsInode (super_view old.layout) (parts_now old) (model.parts_of (volume_view old) (now (past_of new))) chosen.choice.inode)
-  pub directories : IsTold (past_of old) → OnOk result (KeepsDirectories (super_view old.layout) (parts_now old) (model.parts_of (volume_view old) (now (past_of new))) chosen)
+  pub stays : IsTold (past_of old) → OnOk result (KeepsInode (super_view old.layout) (parts_now old)
+      (model.parts_of (volume_view old) (now (past_of new))) chosen.choice.inode)
+  pub directories : IsTold (past_of old) → OnOk result (KeepsDirectories (super_view old.layout) (parts_now old)
+      (model.parts_of (volume_view old) (now (past_of new))) chosen)
   pub others : IsTold (past_of old) → (d s : ℕ) → IsOffEntered old chosen zone d s → NotWritten (past_of old) (past_of new) d s
   pub device : IsTold (past_of old) → IfErr result (λ fault. (fault ≡ Device) × Rose (faults_of old) (faults_of new))
 

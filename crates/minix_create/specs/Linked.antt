@@ -34,7 +34,8 @@ use Rattle.minix_create.specs.declared.chosen.Chosen.{Chosen}
 pub record IsOffName {D : Type 0} {disks : Ghosts D} (volume : Volume D disks) (chosen : Chosen) (d s : ℕ) : Type 0 where
   pub file : IsOffFile volume chosen d s
   pub name : zone_of_entry (super_view volume.layout) (parts_now volume) chosen.directory chosen.choice.place ≢ 0
-      → IsOutside volume.span.disk (volume.span.start + zone_sector (zone_of_entry (super_view volume.layout) (parts_now volume) chosen.directory chosen.choice.place)) 2 d s
+      → IsOutside volume.span.disk (volume.span.start + zone_sector
+      (zone_of_entry (super_view volume.layout) (parts_now volume) chosen.directory chosen.choice.place)) 2 d s
   pub above : is_directory (new_inode chosen) ≡ true → IsOffInode volume chosen.directory d s
   pub growth : (LiesNow volume chosen → ⊥) → IsOffGrowth volume chosen d s
 
@@ -42,12 +43,14 @@ pub record IsOffName {D : Type 0} {disks : Ghosts D} (volume : Volume D disks) (
 abbrev pub IsRaisedBefore : {D : Type 0} {disks : Ghosts D} → Volume D disks → List (List ℕ) → Chosen → Image → Type 0
 IsRaisedBefore volume outer chosen c =
     (reached (super_view volume.layout) (model.parts_of (volume_view volume) c) (chosen.name ∷ outer) ≡ None)
-    ⊎ (((model.parts_of (volume_view volume) c).node chosen.directory).links ≡ links_above (kind_view volume.layout.kind) chosen ((parts_now volume).node chosen.directory).links)
+    ⊎ (((model.parts_of (volume_view volume) c).node chosen.directory).links
+    ≡ links_above (kind_view volume.layout.kind) chosen ((parts_now volume).node chosen.directory).links)
 
 -- its bit is set and those of the zones that were chosen, and no other but for zones of growth, of which none is cleared
 pub record MarksLinked (super : Super) (old new : Parts) (chosen : Chosen) : Type 0 where
   pub inodes : (number : ℕ) → IsInode super number → new.has_inode number ≡ (old.has_inode number || (number == chosen.choice.inode))
-  pub zones : (zone : ℕ) → IsDataZone super zone → IsNoneOf chosen.choice.growth zone → new.has_zone zone ≡ (old.has_zone zone || has_number chosen.choice.zones zone)
+  pub zones : (zone : ℕ) → IsDataZone super zone → IsNoneOf chosen.choice.growth zone
+      → new.has_zone zone ≡ (old.has_zone zone || has_number chosen.choice.zones zone)
   pub stay_marked : (zone : ℕ) → IsDataZone super zone → old.has_zone zone ≡ true → new.has_zone zone ≡ true
 
 -- each of its blocks that isn't a hole lies in the zone that was chosen for it
@@ -67,16 +70,20 @@ HoldsGiven super parts chosen given =
 -- link more, if it can have, and once it is done both are there, the inode has the new mode, owner, links, times and size, each block
 -- lies whole where it was chosen, all other places of directories are kept, and no bitmap bit is set but those that were chosen. No
 -- other sector was written, and it was refused where the disk failed alone.
-pub record Creates {D : Type 0} {disks : Ghosts D} (start volume : Volume D disks) (outer : List (List ℕ)) (chosen : Chosen) (given : ℕ → List ℕ) (result : Result (Unit {0}) WriteFault) : Type 0 where
+pub record Creates {D : Type 0} {disks : Ghosts D} (start volume : Volume D disks) (outer : List (List ℕ)) (chosen : Chosen) (given : ℕ → List ℕ)
+    (result : Result (Unit {0}) WriteFault) : Type 0 where
   pub leads : LeadsPath start volume (chosen.name ∷ outer) (Some chosen.choice.inode) (Some (thing_with chosen given)) result
   pub before : LeavesOnly (past_of start) (past_of volume) (IsRaisedBefore start outer chosen)
   pub above : IsTold (past_of start) → OnOk result (((model.parts_of (volume_view start) (now (past_of volume))).node chosen.directory).links
       ≡ links_above (kind_view start.layout.kind) chosen ((parts_now start).node chosen.directory).links)
-  pub marks : IsTold (past_of start) → OnOk result (MarksLinked (super_view start.layout) (parts_now start) (model.parts_of (volume_view start) (now (past_of volume))) chosen)
-  pub made : IsTold (past_of start) → OnOk result (HasMade (super_view start.layout) (parts_now start) (model.parts_of (volume_view start) (now (past_of volume))) chosen.directory chosen.choice)
+  pub marks : IsTold (past_of start) → OnOk result (MarksLinked (super_view start.layout) (parts_now start)
+      (model.parts_of (volume_view start) (now (past_of volume))) chosen)
+  pub made : IsTold (past_of start) → OnOk result (HasMade (super_view start.layout) (parts_now start)
+      (model.parts_of (volume_view start) (now (past_of volume))) chosen.directory chosen.choice)
   pub node : IsTold (past_of start) → OnOk result (IsNewInode chosen ((model.parts_of (volume_view start) (now (past_of volume))).node chosen.choice.inode))
   pub lies : IsTold (past_of start) → OnOk result (LiesAsChosen (super_view start.layout) (model.parts_of (volume_view start) (now (past_of volume))) chosen)
-  pub holds : IsTold (past_of start) → OnOk result (HoldsGiven (super_view start.layout) (model.parts_of (volume_view start) (now (past_of volume))) chosen given)
+  pub holds : IsTold (past_of start) → OnOk result (HoldsGiven (super_view start.layout)
+      (model.parts_of (volume_view start) (now (past_of volume))) chosen given)
   pub others : IsTold (past_of start) → (d s : ℕ) → IsOffName start chosen d s → NotWritten (past_of start) (past_of volume) d s
   pub device : IsTold (past_of start) → IfErr result (λ fault. (fault ≡ Device) × Rose (faults_of start) (faults_of volume))
 

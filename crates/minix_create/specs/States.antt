@@ -86,7 +86,8 @@ CreatesOn start volume chosen given result =
     (outer : List (List ℕ)) → MayNest outer chosen → (IsTold (past_of start) → MayLinkNow start outer chosen) → Creates start volume outer chosen given result
 
 -- it is there
-pub record CreatesFile {D : Type 0} {disks : Ghosts D} (start : Volume D disks) (chosen : Chosen) (given : ℕ → List ℕ) (linked : Volume D disks × Linked) : Type 0 where
+pub record CreatesFile {D : Type 0} {disks : Ghosts D} (start : Volume D disks) (chosen : Chosen) (given : ℕ → List ℕ)
+    (linked : Volume D disks × Linked) : Type 0 where
   pub inode : linked.1.inode ≡ chosen.choice.inode
   pub quiet : IsQuiet (past_of linked.0)
   pub creates : CreatesOn start linked.0 chosen given (Ok tt)

@@ -4,7 +4,8 @@ use Rattle.std.specs.Prelude.{◌≡◌, ◌≢◌, ◌<◌, ◌≤◌, ℕ, ◌
 use Rattle.lilo_model.specs.MinixLayout.{Super, is_size}
 use Rattle.lilo_model.specs.MinixParts.{Parts, Pointer, is_directory}
 use Rattle.lilo_model.specs.MinixEntries.{Entry, entry_with, named_inode, places, here_name, above_name, is_dots}
-use Rattle.lilo_model.specs.MinixNames.{entry, lookup, reached, thing, Named, PointsTo, Refers, HasEntry, HasSomeEntry, AllLead, IsNew, AreDistinct, depth_limit, Sound}
+use Rattle.lilo_model.specs.MinixNames.{entry, lookup, reached, thing, Named, PointsTo, Refers, HasEntry, HasSomeEntry, AllLead, IsNew, AreDistinct}
+use Rattle.lilo_model.specs.MinixNames.{depth_limit, Sound}
 use Rattle.minix_beside_laws.specs.Change.{IsLeaf, FindsBy, PathsFrom}
 use Rattle.minix_sees_laws.specs.Tree.{KeepsNamed}
 use Rattle.minix_entry_laws.specs.Only.{ChangesOnlyEntry, KeepsInode}

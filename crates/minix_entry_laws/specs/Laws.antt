@@ -7,7 +7,8 @@ use Rattle.lilo_model.specs.MinixNames.{Directory, reached, thing, Named, depth_
 use Rattle.minix_sees_laws.specs.Tree.{KeepsNamed, TreeWith, TreeMoved}
 use Rattle.minix_entry_laws.specs.Only.{ChangesOnlyEntry, KeepsInode}
 use Rattle.minix_entry_laws.specs.Comes.{IsFit, IsNewDirectory, HasOnlyDots, MayChange, SoundAfter}
-use Rattle.minix_entry_laws.specs.Enter.{MayStand, IsNewFile, DirectoryMayStand, MayEnter, MayRemove, MayRename, Becomes, BecomesFree, HasLinkMore, IsOnlyName, IsLeft}
+use Rattle.minix_entry_laws.specs.Enter.{MayStand, IsNewFile, DirectoryMayStand, MayEnter, MayRemove, MayRename, Becomes, BecomesFree, HasLinkMore, IsOnlyName}
+use Rattle.minix_entry_laws.specs.Enter.{IsLeft}
 use Rattle.minix_entry_laws.specs.Replaces.{Replaces, Replaced}
 
 -- where an entry that may go becomes one that may come, a sound volume stays sound

@@ -31,7 +31,8 @@ pub record MayHoldFile {D : Type 0} {disks : Ghosts D} (volume : Volume D disks)
 
 -- the indirect zones from a place on and below another have their numbers, and all else is as before
 pub record NumbersWritten (volume : model.Volume) (old new : Parts) (zones : FileZones) (low high : ℕ) : Type 0 where
-  pub numbers : (place : ℕ) → low ≤ place → place < high → slice_index zones.indirect place ≢ 0 → HasNumbers volume.layout.kind zones place (new.zone (slice_index zones.indirect place))
+  pub numbers : (place : ℕ) → low ≤ place → place < high → slice_index zones.indirect place ≢ 0
+      → HasNumbers volume.layout.kind zones place (new.zone (slice_index zones.indirect place))
   pub others : (zone : ℕ) → ((place : ℕ) → low ≤ place → place < high → slice_index zones.indirect place ≢ zone) → new.zone zone ≡ old.zone zone
   pub nodes : (number : ℕ) → 1 ≤ number → number ≤ volume.layout.inodes → new.node number ≡ old.node number
   pub marks : (number : ℕ) → number ≤ volume.layout.inodes → new.has_inode number ≡ old.has_inode number
@@ -44,7 +45,8 @@ IsOffIndirect volume zones d s =
     → IsOutside volume.span.disk (volume.span.start + zone_sector (slice_index zones.indirect place)) 2 d s
 
 -- A call writes these indirect zones and no other sector, and doesn't flush.
-pub record WritesNumbers {D : Type 0} {disks : Ghosts D} (old new : Volume D disks) (zones : FileZones) (low high : ℕ) (result : Result (Unit {0}) ZoneFault) : Type 0 where
+pub record WritesNumbers {D : Type 0} {disks : Ghosts D} (old new : Volume D disks) (zones : FileZones) (low high : ℕ)
+    (result : Result (Unit {0}) ZoneFault) : Type 0 where
   pub steps : Steps old new
   pub written : IsTold (past_of old) → OnOk result (NumbersWritten (volume_view old) (parts_now old) (parts_now new) zones low high)
   pub same_begun : begun (past_of new) ≡ begun (past_of old)
@@ -58,12 +60,14 @@ pub record IsFilled {D : Type 0} {disks : Ghosts D} (old new : Volume D disks) (
   pub node : (parts_now new).node number ≡ kept_inode (kind_view old.layout.kind) (record inode { zones = tops_of (kind_view old.layout.kind) zones })
   pub has : HasZones (super_view old.layout) (parts_now new) number zones
   pub nodes : (other : ℕ) → 1 ≤ other → other ≤ old.layout.inodes → other ≢ number → (parts_now new).node other ≡ (parts_now old).node other
-  pub bytes : (zone : ℕ) → old.layout.first ≤ zone → ((place : ℕ) → slice_index zones.indirect place ≢ zone) → (parts_now new).zone zone ≡ (parts_now old).zone zone
+  pub bytes : (zone : ℕ) → old.layout.first ≤ zone → ((place : ℕ) → slice_index zones.indirect place ≢ zone)
+      → (parts_now new).zone zone ≡ (parts_now old).zone zone
   pub marks : (other : ℕ) → other ≤ old.layout.inodes → (parts_now new).has_inode other ≡ (parts_now old).has_inode other
   pub zone_marks : (zone : ℕ) → zone < old.layout.zones → (parts_now new).has_zone zone ≡ (parts_now old).has_zone zone
 
 -- A call writes a file's indirect zones and its inode, and no other sector, and flushes.
-pub record FillsFile {D : Type 0} {disks : Ghosts D} (old new : Volume D disks) (number : ℕ) (inode : Inode) (zones : FileZones) (result : Result (Unit {0}) ZoneFault) : Type 0 where
+pub record FillsFile {D : Type 0} {disks : Ghosts D} (old new : Volume D disks) (number : ℕ) (inode : Inode) (zones : FileZones)
+    (result : Result (Unit {0}) ZoneFault) : Type 0 where
   pub steps : Steps old new
   pub filled : IsTold (past_of old) → OnOk result (IsFilled old new number inode zones)
   pub quiet : OnOk result (IsQuiet (past_of new))

@@ -95,7 +95,8 @@ pub(crate) fn put_numbers(kind: FsKind, zones: &FileZones<'_>, place: usize, int
 
 /// An inode with the numbers of a file's zones.
 pub(crate) fn with_zones(inode: &Inode, kind: FsKind, zones: &FileZones<'_>) -> Inode
-    ensures { inode_view result ≡ record (inode_view inode.now) { zones = tops_of (kind_view kind) (zones_view zones.now) } }
+    ensures { inode_view result
+        ≡ record (inode_view inode.now) { zones = tops_of (kind_view kind) (zones_view zones.now) } }
 {
     let Inode {
         mode,

@@ -61,7 +61,8 @@ HooksFreeBlock old new block growth zone result =
 abbrev pub IsOffNumber : {D : Type 0} {disks : Ghosts D} → Volume D disks → ℕ → ℕ → ℕ → ℕ → ℕ → Type 0
 IsOffNumber volume block count zone d s =
     IsOther volume.span.disk
-    (volume.span.start + (zone_sector zone + offset_of_number (kind_view volume.layout.kind) (index_above (kind_view volume.layout.kind) block (count - 1)) / 512)) d s
+    (volume.span.start + (zone_sector zone + offset_of_number (kind_view volume.layout.kind)
+    (index_above (kind_view volume.layout.kind) block (count - 1)) / 512)) d s
 
 -- a call wrote nothing but new zones, the sectors with their bits, the one with the number of the highest, and the one with
 -- the directory's inode

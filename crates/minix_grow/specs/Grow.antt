@@ -107,7 +107,8 @@ GrowsByAlone old new directory block growth zone =
 -- A place of a directory was brought below its size. No name sees it at any moment, also where it was refused; once it is
 -- done the place is free and lies in a zone of the directory, and all other inodes stay. It wrote nothing but what growth
 -- needs, and was refused where the disk failed alone.
-pub record GrowsTo {D : Type 0} {disks : Ghosts D} (old new : Volume D disks) (directory place : ℕ) (growth : List ℕ) (result : Result (Unit {0}) ZoneFault) : Type 0 where
+pub record GrowsTo {D : Type 0} {disks : Ghosts D} (old new : Volume D disks) (directory place : ℕ) (growth : List ℕ)
+    (result : Result (Unit {0}) ZoneFault) : Type 0 where
   pub unseen : Unseen old new
   pub free : IsTold (past_of old) → OnOk result (IsFreePlaceNow new directory place)
   pub keeps : IsTold (past_of old) → OnOk result (KeepsOthersNow old new directory growth)

@@ -44,7 +44,8 @@ pub record ReachesDown (super : Super) (parts : Parts) (node : Inode) (block lev
 -- those below the one of a level
 abbrev pub zones_below : Kind → ℕ → List ℕ → ℕ → List Deeper
 zones_below kind block growth zero = []
-zones_below kind block growth (suc level) = record { index = index_above kind block level; zone = slice_index growth level } ∷ zones_below kind block growth level
+zones_below kind block growth (suc level) =
+    record { index = index_above kind block level; zone = slice_index growth level } ∷ zones_below kind block growth level
 
 -- what the one of a level holds: zeros, but for the number of the next one below
 unfoldable pub grown_bytes : Kind → ℕ → List ℕ → ℕ → List ℕ

@@ -2,7 +2,9 @@
 ghost use Rattle.std.specs.Prelude.{◌≡◌, ◌+◌, ◌*◌, ◌<◌, ◌≤◌, ◌^◌, [], ◌∷◌, ◌++◌, length, All, IfOk};
 ghost use Rattle.lilo_model.specs.Checks.{seen};
 ghost use Rattle.lilo_model.specs.Bytes.{number16, number32, with_part};
-ghost use Rattle.lilo_model.specs.MinixLayout.{inode_size, inode_at, inode_of, inode_bytes, v1_inode, v2_inode, v1_inode_bytes, v2_inode_bytes, numbers16, numbers32, bytes16_of, bytes32_of, most_links, number_size, is_v1, is_size, V2Short, FitsInode};
+ghost use Rattle.lilo_model.specs.MinixLayout.{inode_size, inode_at, inode_of, inode_bytes, v1_inode, v2_inode};
+ghost use Rattle.lilo_model.specs.MinixLayout.{v1_inode_bytes, v2_inode_bytes, numbers16, numbers32, bytes16_of};
+ghost use Rattle.lilo_model.specs.MinixLayout.{bytes32_of, most_links, number_size, is_v1, is_size, V2Short, FitsInode};
 ghost use Rattle.minix_layout.specs.View.{kind_view, layout_fault_view, inode_view};
 
 use crate::kind::FsKind;

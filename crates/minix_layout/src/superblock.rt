@@ -2,7 +2,8 @@
 ghost use Rattle.std.specs.Prelude.{◌≡◌, ◌+◌, ◌*◌, ◌<◌, ◌≤◌, ◌^◌, if◌then◌else◌, IfOk};
 ghost use Rattle.lilo_model.specs.Bytes.{number16, number32};
 ghost use Rattle.lilo_model.specs.Checks.{seen};
-ghost use Rattle.lilo_model.specs.MinixLayout.{super_of, super_checks, super_at, super_bytes, with_counts, table_start, table_blocks, number_size, is_v1, IsSuper};
+ghost use Rattle.lilo_model.specs.MinixLayout.{super_of, super_checks, super_at, super_bytes, with_counts, table_start};
+ghost use Rattle.lilo_model.specs.MinixLayout.{table_blocks, number_size, is_v1, IsSuper};
 ghost use Rattle.minix_layout.specs.View.{kind_view, layout_fault_view, super_view};
 
 use crate::kind::FsKind;

@@ -1,5 +1,6 @@
 // What a file that is made leaves of what was chosen for another.
-ghost use Rattle.minix_made_laws.specs.Laws.{SeenPlacesLaw, EntryPlacesLaw, JoinPlacesLaw, OtherPlaceLaw, OtherGrowthLaw};
+ghost use Rattle.minix_made_laws.specs.Laws.{SeenPlacesLaw, EntryPlacesLaw, JoinPlacesLaw, OtherPlaceLaw};
+ghost use Rattle.minix_made_laws.specs.Laws.{OtherGrowthLaw};
 
 /// What no name sees keeps all places of directories.
 pub fn unseen_change_keeps_places()

@@ -4,7 +4,8 @@ use Rattle.std.specs.Prelude.{ℕ, zero, suc, ◌+◌, nat_le, Bool, true, false
 use Rattle.lilo_model.specs.Checks.{◌>>=◌, require}
 use Rattle.lilo_model.specs.MinixLayout.{Super}
 use Rattle.lilo_model.specs.MinixParts.{Parts, is_link}
-use Rattle.lilo_model.specs.MinixFind.{TreeFault, NotFound, NotDirectory, NotFile, TooManyLinks, BadEntry, PathTooLong, Zone, Component, components, begins_with_slash, readable, child, is_last, text_limit, link_limit}
+use Rattle.lilo_model.specs.MinixFind.{TreeFault, NotFound, NotDirectory, NotFile, TooManyLinks, BadEntry, PathTooLong, Zone, Component, components}
+use Rattle.lilo_model.specs.MinixFind.{begins_with_slash, readable, child, is_last, text_limit, link_limit}
 use Rattle.minix_tree.specs.LinkText.{LinkText, link_text}
 
 -- where the walk of a path ends

@@ -181,7 +181,8 @@ pub fn look_up<D: Disks>(
 
     // What is answered.
     ensures there { Told (past_of volume.old) (λ now. IsSound (volume_view volume.old) now → (above : List (List ℕ))
-        → LeadsToDirectory (super_view volume.old.layout) (parts_of (volume_view volume.old) now) above directory.now.inode
+        → LeadsToDirectory (super_view volume.old.layout) (parts_of (volume_view volume.old) now) above
+        directory.now.inode
         → GivesThere (super_view volume.old.layout) (parts_of (volume_view volume.old) now) (name.now ∷ above) result) }
     ensures node { IfOk result (λ found. IfSome found (IsNode volume.old)) }
     ensures fits { IfOk result (λ found. IfSome found (IsStat volume.old.layout)) }

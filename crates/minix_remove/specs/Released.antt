@@ -39,7 +39,8 @@ pub record LetsGo (number : ℕ) (inode : Inode) (volume : model.Volume) (old ne
 
 -- No name sees it, and no sector but those of the bitmaps and the one with the inode was written; it was refused as the
 -- disk failed.
-pub record Releases {D : Type 0} {disks : Ghosts D} (old new : Volume D disks) (number : ℕ) (inode : Inode) (result : Result (Unit {0}) ZoneFault) : Type 0 where
+pub record Releases {D : Type 0} {disks : Ghosts D} (old new : Volume D disks) (number : ℕ) (inode : Inode)
+    (result : Result (Unit {0}) ZoneFault) : Type 0 where
   pub unseen : Unseen old new
   pub changed : IsTold (past_of old) → OnOk result (LetsGo number inode (volume_view old) (parts_now old) (parts_now new))
   pub others : (d s : ℕ) → IsOffFile old number d s → NotWritten (past_of old) (past_of new) d s

@@ -79,7 +79,8 @@ pub record IsSomeTarget {D : Type 0} {disks : Ghosts D} (volume : Volume D disks
 
 -- An entry was cleared, and its inode let go: whatever a stop leaves, at any moment, is seen as before or has all names but
 -- this one; once it is done the name is gone. No other sector was written, and it was refused as the disk failed.
-pub record Takes {D : Type 0} {disks : Ghosts D} (old new : Volume D disks) (directory : ℕ) (name : List ℕ) (target : Target) (result : Result (Unit {0}) ZoneFault) : Type 0 where
+pub record Takes {D : Type 0} {disks : Ghosts D} (old new : Volume D disks) (directory : ℕ) (name : List ℕ) (target : Target)
+    (result : Result (Unit {0}) ZoneFault) : Type 0 where
   pub leads : (outer : List (List ℕ)) → (IsTold (past_of old) → reached (super_view old.layout) (parts_now old) outer ≡ Some directory)
       → LeadsPath old new (name ∷ outer) None None result
   pub file : IsTold (past_of old) → OnOk result (RemovesFile (super_view old.layout) (parts_now old) (parts_now new) directory target.inode)
@@ -115,7 +116,8 @@ AnswersRight start new directory name (Err fault) =
 
 -- A name of a directory was removed: whatever a stop leaves, at any moment, is seen as before or has all names but this
 -- one; once it is done the name is gone, and its inode is let go. No other sector was written.
-pub record Removes {D : Type 0} {disks : Ghosts D} (start new : Volume D disks) (directory : ℕ) (name : List ℕ) (result : Result (Unit {0}) WriteFault) : Type 0 where
+pub record Removes {D : Type 0} {disks : Ghosts D} (start new : Volume D disks) (directory : ℕ) (name : List ℕ)
+    (result : Result (Unit {0}) WriteFault) : Type 0 where
   pub leads : (outer : List (List ℕ)) → (IsTold (past_of start) → reached (super_view start.layout) (parts_now start) outer ≡ Some directory)
       → LeadsPath start new (name ∷ outer) None None result
   pub file : IsTold (past_of start) → OnOk result ((number : ℕ) → held_name (super_view start.layout) (parts_now start) directory name ≡ Some number

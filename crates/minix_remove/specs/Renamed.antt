@@ -1,5 +1,6 @@
 -- What a renaming leaves, and when it is refused (a rule of this project's own).
-use Rattle.std.specs.Prelude.{◌≡◌, ◌≢◌, ◌+◌, ◌⊎◌, ◌==◌, nat_lt, ◌&&◌, not, ℕ, Bool, false, if◌then◌else◌, List, ◌∷◌, length, Option, Some, None, Result, Ok, Err, OnOk}
+use Rattle.std.specs.Prelude.{◌≡◌, ◌≢◌, ◌+◌, ◌⊎◌, ◌==◌, nat_lt, ◌&&◌, not, ℕ, Bool, false, if◌then◌else◌, List, ◌∷◌, length, Option, Some, None, Result, Ok}
+use Rattle.std.specs.Prelude.{Err, OnOk}
 use Rattle.std.specs.Option.{option_or}
 use Rattle.disk_trait.specs.declared.disks.Disks.{Ghosts}
 use Rattle.disk_trait.specs.Calls.{GoesOn}
@@ -121,7 +122,8 @@ IsFormer volume directory to None = held_name (super_view volume.layout) (parts_
 IsFormer volume directory to (Some former) = IsTarget volume directory to former
 
 -- the directory has the entry of the name, and that of another that it may have, where it is there
-pub record IsRenaming {D : Type 0} {disks : Ghosts D} (volume : Volume D disks) (directory : ℕ) (from to : List ℕ) (moved : Target) (former : Option Target) : Type 0 where
+pub record IsRenaming {D : Type 0} {disks : Ghosts D} (volume : Volume D disks) (directory : ℕ) (from to : List ℕ) (moved : Target)
+    (former : Option Target) : Type 0 where
   pub leads : IsTarget volume directory from moved
   pub over : IsFormer volume directory to former
   pub names : from ≢ to
@@ -134,12 +136,14 @@ pub record IsSomeRenaming {D : Type 0} {disks : Ghosts D} (volume : Volume D dis
   pub is : IsRenaming volume directory from to moved former
 
 -- it was carried out, or the disk failed
-pub record Carries {D : Type 0} {disks : Ghosts D} (old new : Volume D disks) (directory : ℕ) (from to : List ℕ) (result : Result (Unit {0}) ZoneFault) : Type 0 where
+pub record Carries {D : Type 0} {disks : Ghosts D} (old new : Volume D disks) (directory : ℕ) (from to : List ℕ)
+    (result : Result (Unit {0}) ZoneFault) : Type 0 where
   pub moves : Moves old new directory from to result
   pub device : IsTold (past_of old) → HasDeviceCause old new zones.Device result
 
 -- in each directory and from each name that have it
-abbrev pub CarriesOut : {D : Type 0} {disks : Ghosts D} → Volume D disks → Volume D disks → List ℕ → Target → Option Target → Result (Unit {0}) ZoneFault → Type 0
+abbrev pub CarriesOut : {D : Type 0} {disks : Ghosts D} → Volume D disks → Volume D disks → List ℕ → Target → Option Target
+    → Result (Unit {0}) ZoneFault → Type 0
 CarriesOut old new to moved former result =
     (directory : ℕ) (from : List ℕ) → (IsTold (past_of old) → IsRenaming old directory from to moved former) → Carries old new directory from to result
 
@@ -159,7 +163,8 @@ RenameAnswersRight start new directory from to (Err fault) =
 -- ---- the whole
 
 -- A name of a directory took the place of another, or what it was refused for.
-pub record Renames {D : Type 0} {disks : Ghosts D} (start new : Volume D disks) (directory : ℕ) (from to : List ℕ) (result : Result (Unit {0}) WriteFault) : Type 0 where
+pub record Renames {D : Type 0} {disks : Ghosts D} (start new : Volume D disks) (directory : ℕ) (from to : List ℕ)
+    (result : Result (Unit {0}) WriteFault) : Type 0 where
   pub moves : Moves start new directory from to result
   pub answers : IsTold (past_of start) → RenameAnswersRight start new directory from to result
 
@@ -171,7 +176,8 @@ FindsMoved volume directory from to (Ok moved) =
     IsTarget volume directory from moved
     × (moved_refusal (kind_view volume.layout.kind) (parts_now volume) to (held_name (super_view volume.layout) (parts_now volume) directory from) ≡ None)
 FindsMoved volume directory from to (Err fault) =
-    (fault ≡ Device) ⊎ (moved_refusal (kind_view volume.layout.kind) (parts_now volume) to (held_name (super_view volume.layout) (parts_now volume) directory from) ≡ Some fault)
+    (fault ≡ Device) ⊎ (moved_refusal (kind_view volume.layout.kind) (parts_now volume) to
+    (held_name (super_view volume.layout) (parts_now volume) directory from) ≡ Some fault)
 
 abbrev pub GivesMoved : {D : Type 0} {disks : Ghosts D} → Volume D disks → ℕ → List ℕ → List ℕ → Result Target WriteFault → Type 0
 GivesMoved volume directory from to result = IsTold (past_of volume) → IsDirectoryNow volume directory → FindsMoved volume directory from to result

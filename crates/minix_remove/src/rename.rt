@@ -20,9 +20,9 @@ use minix_zones::Volume;
 /// # Errors
 ///
 /// In this order: `Tree(NotFound(0))` where the name isn't there; `NameTooLong` where the new one has more bytes than
-/// the names of the volume; `Tree(NotFile)` where either is there and no regular file; `Links` where the new one is that
-/// of another inode, and the inode of the name has as many links as it can have. Then nothing was done. Else `Device`:
-/// then the name is the old one, both are there, or the new one.
+/// the names of the volume; `Tree(NotFile)` where either is there and no regular file; `Links` where the new one is
+/// that of another inode, and the inode of the name has as many links as it can have. Then nothing was done. Else
+/// `Device`: then the name is the old one, both are there, or the new one.
 pub fn replace_name<'d, D: Disks>(
     volume: Volume<'d, D>,
     directory: u32,

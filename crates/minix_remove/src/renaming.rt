@@ -2,7 +2,8 @@
 ghost use Rattle.std.specs.Prelude.{◌≡◌, ◌≤◌, length, IfOk, IfErr, OnOk};
 ghost use Rattle.lilo_model.specs.MinixLayout.{name_size};
 ghost use Rattle.minix_layout.specs.View.{kind_view};
-ghost use Rattle.minix_remove.specs.Renamed.{FitsFormer, FitsRenaming, GivesMoved, GivesFormer, GivesRenaming, lacks_link};
+ghost use Rattle.minix_remove.specs.Renamed.{FitsFormer, FitsRenaming, GivesMoved, GivesFormer, GivesRenaming};
+ghost use Rattle.minix_remove.specs.Renamed.{lacks_link};
 ghost use Rattle.minix_remove.specs.Target.{FitsTarget};
 ghost use Rattle.minix_write.specs.View.{HasWriteCause};
 ghost use Rattle.minix_zones.specs.Volume.{faults_of, SameVolume};

@@ -27,8 +27,8 @@ pub fn links_may_change_without_a_name()
     ensures { AnyLinksLaw }
 {}
 
-/// Each inode with a name but a directory is as before, and points where it pointed, where only bytes of the directory's
-/// zones are others.
+/// Each inode with a name but a directory is as before, and points where it pointed, where only bytes of the
+/// directory's zones are others.
 pub fn files_stay_beside_a_directory()
     ensures { KeptFilesLaw }
 {}

@@ -50,7 +50,8 @@ Meets result before after step volume =
     (met : List Met) → Tells before met → judged volume met ≡ Ok tt → Answers result after volume (step met)
 
 -- what a step of a survey does
-pub record Steps {D : Type 0} {disks : Ghosts D} (old new : Volume D disks) (before after : Tables) (result : Result (Unit {0}) SurveyFault) (step : Surveyable → List Met → List Met) : Type 0 where
+pub record Steps {D : Type 0} {disks : Ghosts D} (old new : Volume D disks) (before after : Tables) (result : Result (Unit {0}) SurveyFault)
+    (step : Surveyable → List Met → List Met) : Type 0 where
   pub meets : Told (past_of old) (λ now. Meets result before after (step (seen_in old now)) (seen_in old now))
   pub cause : IfErr result (HasSurveyCause (faults_of old) (faults_of new))
   pub later : faults_of old ≤ faults_of new

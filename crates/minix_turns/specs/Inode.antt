@@ -47,7 +47,8 @@ pub record MayHaveSize {D : Type 0} {disks : Ghosts D} (volume : Volume D disks)
   pub sized : MaySize (super_view volume.layout) (parts_now volume) number size
 
 -- it is a directory that may get a zone by one of the inode's own numbers, with those further down, and this size
-pub record MayHaveTop {D : Type 0} {disks : Ghosts D} (volume : Volume D disks) (number : ℕ) (inode : Inode) (top zone size : ℕ) (more : List Deeper) : Type 0 where
+pub record MayHaveTop {D : Type 0} {disks : Ghosts D} (volume : Volume D disks) (number : ℕ) (inode : Inode) (top zone size : ℕ)
+    (more : List Deeper) : Type 0 where
   pub lies : IsNamedNow volume number inode
   pub hooks : MayHook (super_view volume.layout) (parts_now volume) number (pointer_at top []) zone more
   pub sized : MaySize (super_view volume.layout) (parts_now volume) number size

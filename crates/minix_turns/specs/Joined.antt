@@ -27,7 +27,8 @@ SeenOrWith volume old path found what c = SeenAsIn volume old c ⊎ HasTreeWith 
 
 -- A call changes what one path leads to: what it leaves, at any moment of it and after it, is seen as before or has the
 -- change whole, and once it is done it has it.
-pub record LeadsPath {D E : Type 0} {disks : Ghosts D} (old new : Volume D disks) (path : List (List ℕ)) (found : Option ℕ) (what : Option Thing) (result : Result (Unit {0}) E) : Type 0 where
+pub record LeadsPath {D E : Type 0} {disks : Ghosts D} (old new : Volume D disks) (path : List (List ℕ)) (found : Option ℕ) (what : Option Thing)
+    (result : Result (Unit {0}) E) : Type 0 where
   pub any_moment : LeavesOnly (past_of old) (past_of new) (SeenOrWith (volume_view old) (now (past_of old)) path found what)
   pub held : IsTold (past_of old) → SeenOrWith (volume_view old) (now (past_of old)) path found what (now (past_of new))
   pub done : IsTold (past_of old) → OnOk result (HasTreeWith (volume_view old) (now (past_of old)) (now (past_of new)) path found what)

@@ -22,7 +22,8 @@ use Rattle.minix_zones.specs.declared.volume.Volume.{Volume}
 -- ---- a number
 
 -- the volume is sound now, and a directory may get zones by a number at an index of one of its indirect zones
-pub record MayHookAt {D : Type 0} {disks : Ghosts D} (volume : Volume D disks) (directory : ℕ) (outer : Pointer) (zone index number : ℕ) (more : List Deeper) : Type 0 where
+pub record MayHookAt {D : Type 0} {disks : Ghosts D} (volume : Volume D disks) (directory : ℕ) (outer : Pointer) (zone index number : ℕ)
+    (more : List Deeper) : Type 0 where
   pub sound : IsSound (volume_view volume) (now (past_of volume))
   pub lies : pointer (super_view volume.layout) (parts_now volume) directory outer ≡ zone
   pub hooks : MayHook (super_view volume.layout) (parts_now volume) directory (below outer index) number more
@@ -64,28 +65,32 @@ pub record IsEntryAt {D : Type 0} {disks : Ghosts D} (volume : Volume D disks) (
   pub placed : IsPlaced (volume_view volume) (now (past_of volume)) directory place
 
 -- there a name may be made that leads to an inode that is no directory
-pub record MayMakeAt {D : Type 0} {disks : Ghosts D} (volume : Volume D disks) (outer : List (List ℕ)) (directory place zone index number : ℕ) (name : List ℕ) : Type 0 where
+pub record MayMakeAt {D : Type 0} {disks : Ghosts D} (volume : Volume D disks) (outer : List (List ℕ)) (directory place zone index number : ℕ)
+    (name : List ℕ) : Type 0 where
   pub lies : IsEntryAt volume directory place zone index
   pub fits : FitsEntry (kind_view volume.layout.kind) name
   pub enters : MayEnter (super_view volume.layout) (parts_now volume) outer directory place name
   pub stands : MayStand (super_view volume.layout) (parts_now volume) number
 
 -- or to a new directory
-pub record MayMakeDirectoryAt {D : Type 0} {disks : Ghosts D} (volume : Volume D disks) (outer : List (List ℕ)) (directory place zone index number : ℕ) (name : List ℕ) : Type 0 where
+pub record MayMakeDirectoryAt {D : Type 0} {disks : Ghosts D} (volume : Volume D disks) (outer : List (List ℕ))
+    (directory place zone index number : ℕ) (name : List ℕ) : Type 0 where
   pub lies : IsEntryAt volume directory place zone index
   pub fits : FitsEntry (kind_view volume.layout.kind) name
   pub enters : MayEnter (super_view volume.layout) (parts_now volume) outer directory place name
   pub stands : DirectoryMayStand (super_view volume.layout) (parts_now volume) outer directory number
 
 -- the name there may lead to another inode, neither being a directory
-pub record MayRedirectAt {D : Type 0} {disks : Ghosts D} (volume : Volume D disks) (outer : List (List ℕ)) (directory place zone index former number : ℕ) (name : List ℕ) : Type 0 where
+pub record MayRedirectAt {D : Type 0} {disks : Ghosts D} (volume : Volume D disks) (outer : List (List ℕ))
+    (directory place zone index former number : ℕ) (name : List ℕ) : Type 0 where
   pub lies : IsEntryAt volume directory place zone index
   pub fits : FitsEntry (kind_view volume.layout.kind) name
   pub removes : MayRemove (super_view volume.layout) (parts_now volume) outer directory place former name
   pub stands : MayStand (super_view volume.layout) (parts_now volume) number
 
 -- it may go
-pub record MayRemoveAt {D : Type 0} {disks : Ghosts D} (volume : Volume D disks) (outer : List (List ℕ)) (directory place zone index number : ℕ) (name : List ℕ) : Type 0 where
+pub record MayRemoveAt {D : Type 0} {disks : Ghosts D} (volume : Volume D disks) (outer : List (List ℕ)) (directory place zone index number : ℕ)
+    (name : List ℕ) : Type 0 where
   pub lies : IsEntryAt volume directory place zone index
   pub removes : MayRemove (super_view volume.layout) (parts_now volume) outer directory place number name
 

@@ -32,7 +32,8 @@ pub record IsEntryPlace (layout : Super) (place : EntryPlace) : Type 0 where
 
 -- the names are those of two inodes in one directory, neither of them a directory, and the one that stays has a link more
 -- than names
-pub record MayReplaceAt {D : Type 0} {disks : Ghosts D} (volume : Volume D disks) (outer : List (List ℕ)) (directory to_place from_place former number : ℕ) (to from : EntryPlace) (name gone : List ℕ) : Type 0 where
+pub record MayReplaceAt {D : Type 0} {disks : Ghosts D} (volume : Volume D disks) (outer : List (List ℕ))
+    (directory to_place from_place former number : ℕ) (to from : EntryPlace) (name gone : List ℕ) : Type 0 where
   pub to_lies : IsEntryAt volume directory to_place to.zone to.index
   pub from_lies : IsEntryAt volume directory from_place from.zone from.index
   pub fits : FitsEntry (kind_view volume.layout.kind) name
@@ -54,7 +55,8 @@ IsReplacing volume old outer former number name gone c =
     ⊎ IsReplaced volume old outer former number name gone c)
 
 -- A call puts one name in the place of another: what it leaves at any moment of it and after it, and once it is done.
-pub record Replaces {D E : Type 0} {disks : Ghosts D} (old new : Volume D disks) (outer : List (List ℕ)) (former number : ℕ) (name gone : List ℕ) (result : Result (Unit {0}) E) : Type 0 where
+pub record Replaces {D E : Type 0} {disks : Ghosts D} (old new : Volume D disks) (outer : List (List ℕ)) (former number : ℕ) (name gone : List ℕ)
+    (result : Result (Unit {0}) E) : Type 0 where
   pub any_moment : LeavesOnly (past_of old) (past_of new) (IsReplacing (volume_view old) (now (past_of old)) outer former number name gone)
   pub held : IsTold (past_of old) → IsReplacing (volume_view old) (now (past_of old)) outer former number name gone (now (past_of new))
   pub done : IsTold (past_of old) → OnOk result (IsReplaced (volume_view old) (now (past_of old)) outer former number name gone (now (past_of new)))
@@ -62,7 +64,8 @@ pub record Replaces {D E : Type 0} {disks : Ghosts D} (old new : Volume D disks)
   pub goes_on : GoesOn disks old.disks.now new.disks.now
   pub kept : KeepsVolume old new
 
-abbrev pub ReplacesName : {D E : Type 0} {disks : Ghosts D} → Volume D disks → Volume D disks → EntryPlace → EntryPlace → ℕ → List ℕ → Result (Unit {0}) E → Type 0
+abbrev pub ReplacesName : {D E : Type 0} {disks : Ghosts D} → Volume D disks → Volume D disks → EntryPlace → EntryPlace → ℕ → List ℕ
+    → Result (Unit {0}) E → Type 0
 ReplacesName old new to from number name result =
     (outer : List (List ℕ)) (directory to_place from_place former : ℕ) (gone : List ℕ)
     → (IsTold (past_of old) → MayReplaceAt old outer directory to_place from_place former number to from name gone)
@@ -71,10 +74,12 @@ ReplacesName old new to from number name result =
 -- ---- what the two entries say
 
 -- one entry has an inode and a name in an image, and then the other is free: all other bytes are as they are now
-pub record HasBothEntries {D : Type 0} {disks : Ghosts D} (volume : Volume D disks) (image : Image) (to from : EntryPlace) (number : ℕ) (name : List ℕ) : Type 0 where
+pub record HasBothEntries {D : Type 0} {disks : Ghosts D} (volume : Volume D disks) (image : Image) (to from : EntryPlace) (number : ℕ)
+    (name : List ℕ) : Type 0 where
   pub mid : Image
   pub led : HasEntryPart volume mid to.zone to.index (entry_bytes (kind_view volume.layout.kind) number name)
-  pub freed : HasZonePart (volume_view volume) mid image from.zone (entry_size (kind_view volume.layout.kind) * from.index) (free_bytes (kind_view volume.layout.kind))
+  pub freed : HasZonePart (volume_view volume) mid image from.zone (entry_size (kind_view volume.layout.kind) * from.index)
+      (free_bytes (kind_view volume.layout.kind))
 
 -- ---- what isn't written
 

@@ -16,12 +16,14 @@ abbrev pub WithOrWithout : model.Volume → Image → ℕ → List ℕ → Image
 WithOrWithout volume old sector bytes c = (c ≡ old) ⊎ (c ≡ with_sector_of volume old sector bytes)
 
 -- A call wrote these bytes into one sector and flushed. One that was refused with this error has written them or hasn't.
-pub record Turns {D E : Type 0} {disks : Ghosts D} (old new : Volume D disks) (sector : ℕ) (bytes : List ℕ) (error : E) (result : Result (Unit {0}) E) : Type 0 where
+pub record Turns {D E : Type 0} {disks : Ghosts D} (old new : Volume D disks) (sector : ℕ) (bytes : List ℕ) (error : E)
+    (result : Result (Unit {0}) E) : Type 0 where
   -- whatever a stop leaves, at any moment of it, is what was held before, or has the sector too
   pub any_moment : LeavesOnly (past_of old) (past_of new) (WithOrWithout (volume_view old) (now (past_of old)) sector bytes)
   -- what the disks hold now
   pub written : IsTold (past_of old) → OnOk result (now (past_of new) ≡ with_sector_of (volume_view old) (now (past_of old)) sector bytes)
-  pub made : IsTold (past_of old) → (now (past_of new) ≡ with_sector_of (volume_view old) (now (past_of old)) sector bytes) ⊎ (now (past_of new) ≡ now (past_of old))
+  pub made : IsTold (past_of old) → (now (past_of new) ≡ with_sector_of (volume_view old) (now (past_of old)) sector bytes)
+      ⊎ (now (past_of new) ≡ now (past_of old))
   -- and what a stop leaves then
   pub quiet : OnOk result (IsQuiet (past_of new))
   pub durable : OnOk result (begun (past_of new) ≡ now (past_of new))

@@ -48,7 +48,9 @@ zones_with promised zones = record { promised = promised; zones = zones }
 unfoldable pub zones_for : Super → Parts → Taken → ℕ → ℕ → ℕ → Result PromisedZones Refusal
 zones_for super parts taken directory need place =
     in_zone (missing_on_way super parts (parts.node directory) (place / entries_per_block super.kind))
-    >>= λ missing. first_zones (need + count_fresh (promised_zones super.kind taken.promises directory (place / entries_per_block super.kind) missing)) (left_zones super parts taken.has_zone)
+    >>= λ missing. first_zones
+    (need + count_fresh (promised_zones super.kind taken.promises directory (place / entries_per_block super.kind) missing))
+    (left_zones super parts taken.has_zone)
     >>= λ zones. Ok (zones_with (promised_zones super.kind taken.promises directory (place / entries_per_block super.kind) missing) zones)
 
 abbrev pub found_view : Found → PromisedZones

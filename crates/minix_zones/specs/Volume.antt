@@ -57,7 +57,8 @@ HasDeviceCause old new error result = IfErr result (λ fault. (fault ≡ error) 
 
 -- A call wrote these bytes into one sector of a volume, counted from its start, without a flush: until the next one a
 -- stop may leave it written or not. A call that was refused with this error has written it or hasn't.
-pub record WritesSector {D E : Type 0} {disks : Ghosts D} (old new : Volume D disks) (sector : ℕ) (bytes : List ℕ) (error : E) (result : Result (Unit {0}) E) : Type 0 where
+pub record WritesSector {D E : Type 0} {disks : Ghosts D} (old new : Volume D disks) (sector : ℕ) (bytes : List ℕ) (error : E)
+    (result : Result (Unit {0}) E) : Type 0 where
   pub writes : Writes disks old.disks.now new.disks.now old.span.disk (old.span.start + sector) bytes result
   pub same_begun : begun (past_of new) ≡ begun (past_of old)
   pub device : HasDeviceCause old new error result

@@ -3,7 +3,8 @@ ghost use Rattle.std.specs.Prelude.{◌≡◌, ◌+◌, ◌<◌, ◌≤◌, slic
 ghost use Rattle.lilo_model.specs.Faults.{Rose};
 ghost use Rattle.disk_trait.specs.Past.{Told};
 ghost use Rattle.lilo_model.specs.MinixLayout.{numbers_in_zone, reach};
-ghost use Rattle.lilo_model.specs.MinixParts.{parts_of, number_below, follow_at, trail_of, inside, zone_at, block_at, at_pointer};
+ghost use Rattle.lilo_model.specs.MinixParts.{parts_of, number_below, follow_at, trail_of, inside, zone_at, block_at};
+ghost use Rattle.lilo_model.specs.MinixParts.{at_pointer};
 ghost use Rattle.lilo_model.specs.MinixWalk.{stop_pointer};
 ghost use Rattle.minix_layout.specs.View.{kind_view, super_view, inode_view};
 ghost use Rattle.minix_zones.specs.View.{Gives, HasZoneCause, zone_number, IsZoneAt, IsInside};

@@ -38,7 +38,8 @@ impl<'d, D: Disks> Volume<'d, D> {
     ghost use Rattle.lilo_model.specs.MinixParts.{volume_at, sector_of, parts_of};
     ghost use Rattle.minix_layout.specs.View.{super_view};
     ghost use Rattle.minix_zones.specs.View.{span_view, Gives};
-    ghost use Rattle.minix_zones.specs.Volume.{volume_view, past_of, faults_of, KeepsVolume, SameVolume, HasDeviceCause, WritesSector, Syncs, attached, disks_in};
+    ghost use Rattle.minix_zones.specs.Volume.{volume_view, past_of, faults_of, KeepsVolume, SameVolume};
+    ghost use Rattle.minix_zones.specs.Volume.{HasDeviceCause, WritesSector, Syncs, attached, disks_in};
 
     /// Reads the superblock of the volume in a span of a disk, and takes the disks.
     ///
@@ -123,7 +124,8 @@ impl<'d, D: Disks> Volume<'d, D> {
     /// volume, as a partition table.
     pub fn ask_disks<T, F: FnOnce(&mut D) -> T>(&mut self, work: F) -> T
         requires may { F.IsAlwaysCallable work }
-        requires reads { (old new : D) (answer : T) → FnOnceReturnsAtMut F.FnOnce work old answer new → SameOf D.Disks old new }
+        requires reads { (old new : D) (answer : T)
+            → FnOnceReturnsAtMut F.FnOnce work old answer new → SameOf D.Disks old new }
         ensures answer { FnOnceReturnsAtMut F.FnOnce work self.old.disks.now result self.new.disks.now }
         ensures same { SameVolume self.old self.new }
     {
@@ -200,8 +202,9 @@ impl<'d, D: Disks> Volume<'d, D> {
         }
     }
 
-    /// Writes a sector of any disk, which may lie outside the volume, and makes it durable with all writes before it, as
-    /// `disk_trait::write_and_flush` does. Where it is the superblock's, the volume goes on with the one that it read.
+    /// Writes a sector of any disk, which may lie outside the volume, and makes it durable with all writes before it,
+    /// as `disk_trait::write_and_flush` does. Where it is the superblock's, the volume goes on with the one that it
+    /// read.
     ///
     /// # Errors
     ///

@@ -27,7 +27,8 @@ pub struct Walk {
 }
 
 impl Walk {
-    ghost use Rattle.std.specs.Prelude.{◌≡◌, ◌+◌, ◌-◌, ◌<◌, ◌≤◌, true, None, Ok, IfOk, IfErr, IfSome, IfNone, OnOk, OnErr, OnSome};
+    ghost use Rattle.std.specs.Prelude.{◌≡◌, ◌+◌, ◌-◌, ◌<◌, ◌≤◌, true, None, Ok, IfOk, IfErr, IfSome, IfNone, OnOk};
+    ghost use Rattle.std.specs.Prelude.{OnErr, OnSome};
     ghost use Rattle.disk_trait.specs.Past.{Told};
     ghost use Rattle.lilo_model.specs.MinixLayout.{Super as SuperOf, numbers_in_zone};
     ghost use Rattle.lilo_model.specs.MinixParts.{Parts, parts_of};

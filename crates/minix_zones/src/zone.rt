@@ -2,7 +2,8 @@
 ghost use Rattle.std.specs.Prelude.{◌≡◌, ◌+◌, ◌*◌, ◌-◌, ◌^◌, ◌<◌, ◌≤◌, ℕ, replicate, slice_index, IfOk, IfErr, OnErr};
 ghost use Rattle.disk_trait.specs.Past.{Told};
 ghost use Rattle.lilo_model.specs.MinixLayout.{numbers_in_zone, reach};
-ghost use Rattle.lilo_model.specs.MinixParts.{parts_of, number_in, number_below, follow_at, trail_of, inside, pointer_with, block_pointer, zone_at, block_at};
+ghost use Rattle.lilo_model.specs.MinixParts.{parts_of, number_in, number_below, follow_at, trail_of, inside};
+ghost use Rattle.lilo_model.specs.MinixParts.{pointer_with, block_pointer, zone_at, block_at};
 ghost use Rattle.lilo_model.specs.MinixWalk.{branch_of, begins};
 ghost use Rattle.minix_layout.specs.View.{kind_view, super_view, inode_view};
 ghost use Rattle.minix_zones.specs.View.{Gives, HasZoneCause, zone_number, IsZoneAt, IsInside};

@@ -57,7 +57,8 @@ pub record LostIn {D : Type 0} (disks : Ghosts D) (old new : D) (bytes : List �
 
 -- A call wrote these bytes into the sector that was found and made them durable, or was refused, as nothing was found
 -- and then it did nothing, or as a disk failed.
-pub record Puts {D : Type 0} (disks : Ghosts D) (old new : D) (bytes : List ℕ) (found : Result DiskSector model.ShotFault) (result : Result (Unit {0}) ShotFault) : Type 0 where
+pub record Puts {D : Type 0} (disks : Ghosts D) (old new : D) (bytes : List ℕ) (found : Result DiskSector model.ShotFault)
+    (result : Result (Unit {0}) ShotFault) : Type 0 where
   pub answer : Answers result found
   pub writes : WritesFound disks old new found bytes result
   pub lost : result ≡ Err (Device Commit) → LostIn disks old new bytes found

@@ -1,6 +1,7 @@
-//! `preview_install IMAGE DEVICE CONF`: what an installation by a configuration would do on the Minix volume on a device of
-//! a disk image, or why it is refused, as `lilo -t` reports it. The image is the disk hda, and the configuration a file. The
-//! exit status is that of the preview, or 2 where the configuration, the image or a device can't be used.
+//! `preview_install IMAGE DEVICE CONF`: what an installation by a configuration would do on the Minix volume on a
+//! device of a disk image, or why it is refused, as `lilo -t` reports it. The image is the disk hda, and the
+//! configuration a file. The exit status is that of the preview, or 2 where the configuration, the image or a device
+//! can't be used.
 #![tactic(auto)]
 
 ghost use Rattle.std.specs.Prelude.{◌<◌, IfSome};

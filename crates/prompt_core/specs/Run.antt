@@ -1,5 +1,6 @@
 -- What a prompt shows and comes to where it is given a list of keys, one by one. (This project's own.)
-use Rattle.std.specs.Prelude.{◌≡◌, ℕ, zero, suc, List, [], ◌∷◌, ◌++◌, length, take, drop, map, flat_map, Bool, true, false, if◌then◌else◌, Option, None, Some, unwrap_or, nat_eq}
+use Rattle.std.specs.Prelude.{◌≡◌, ℕ, zero, suc, List, [], ◌∷◌, ◌++◌, length, take, drop, map, flat_map, Bool, true, false, if◌then◌else◌, Option, None, Some}
+use Rattle.std.specs.Prelude.{unwrap_or, nat_eq}
 use Rattle.std.specs.Option.{option_map}
 use Rattle.std.specs.List.{starts_with}
 use Rattle.lilo_model.specs.Prompt.{Key, Byte, Tick, ListedEntry}

@@ -1,12 +1,14 @@
 -- How the prompt goes on with one key. The rules are this project's own; the texts, and the keys that edit a line,
 -- follow LILO's manners.
-use Rattle.std.specs.Prelude.{◌≡◌, ℕ, suc, ◌-◌, List, [], ◌∷◌, ◌++◌, Bool, true, false, not, ◌&&◌, ◌||◌, ◌==◌, nat_le, if◌then◌else◌, Option, None, Some, unwrap_or, slice_get, codes}
+use Rattle.std.specs.Prelude.{◌≡◌, ℕ, suc, ◌-◌, List, [], ◌∷◌, ◌++◌, Bool, true, false, not, ◌&&◌, ◌||◌, ◌==◌, nat_le, if◌then◌else◌, Option, None, Some}
+use Rattle.std.specs.Prelude.{unwrap_or, slice_get, codes}
 use Rattle.std.specs.Option.{option_map, option_and_then}
 use Rattle.lilo_model.specs.DefaultLine.{line_text}
 use Rattle.lilo_model.specs.Prompt.{ListedEntry}
 use Rattle.lilo_model.specs.KeyCuts.{is_enter_key, is_erase_key, is_list_key, most_quiet_ticks}
 use Rattle.lilo_model.specs.LineEdits.{text_after_byte, echo_of, answer_after_byte}
-use Rattle.lilo_model.specs.LineWords.{Meaning, Nothing, Names, NoSuch, meaning, is_empty_list, joined_words, passed_words, kept_words, has_lock_word, words_video_mode}
+use Rattle.lilo_model.specs.LineWords.{Meaning, Nothing, Names, NoSuch, meaning, is_empty_list, joined_words, passed_words, kept_words, has_lock_word}
+use Rattle.lilo_model.specs.LineWords.{words_video_mode}
 use Rattle.lilo_model.specs.Choice.{Setup, Candidate, newline, is_right}
 use Rattle.bios_model.specs.declared.key.Key as heard
 use Rattle.bios_model.specs.declared.key.Key.TheVariants as keys

@@ -47,7 +47,8 @@ abbrev pub IsKeysStop : Result (Unit {0}) Stop → Type 0
 IsKeysStop result = result ≡ Err Keys
 
 -- A call only read disks, took keys and showed texts; where a disk was lost or no key was heard, that is counted.
-pub record Asks {D I O : Type 0} (g : disks.Ghosts D) (i : sources.Ghosts I) (o : sinks.Ghosts O) (old new : Bios D I × Shown O) (Lost Unheard : Type 0) : Type 0 where
+pub record Asks {D I O : Type 0} (g : disks.Ghosts D) (i : sources.Ghosts I) (o : sinks.Ghosts O) (old new : Bios D I × Shown O)
+    (Lost Unheard : Type 0) : Type 0 where
   pub reads : OnlyReads g old.0.disks.now new.0.disks.now Lost
   pub later : i.faults old.0.keys.now ≤ i.faults new.0.keys.now
   pub keys : Unheard → Rose (i.faults old.0.keys.now) (i.faults new.0.keys.now)

@@ -22,7 +22,8 @@ FileSlotsLaw =
 -- a section sector of it has 63 of them, and a link to the next one, if there is one
 abbrev pub FileSectorLaw : Type 0
 FileSectorLaw =
-    (config : Config) (machine : Machine) (geometry : Geometry) (zero_place : DiskSector) (file : MappedFile) (slots : List Slot) (places : List DiskSector) (index : ℕ)
+    (config : Config) (machine : Machine) (geometry : Geometry) (zero_place : DiskSector) (file : MappedFile) (slots : List Slot)
+    (places : List DiskSector) (index : ℕ)
     → HasSlots config machine geometry zero_place file slots → index < chain_for config machine file
     → slice_index_or (file_sectors config machine zero_place file places) index []
     ≡ section_bytes (take 63 (drop (63 * index) slots))

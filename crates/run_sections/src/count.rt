@@ -1,5 +1,6 @@
 // How many slots runs take.
-ghost use Rattle.std.specs.Prelude.{◌≡◌, ◌+◌, ◌^◌, ◌<◌, ◌≤◌, ◌∷◌, ◌++◌, All, Err, IfErr, IfSome, List, OnOk, Some, length};
+ghost use Rattle.std.specs.Prelude.{◌≡◌, ◌+◌, ◌^◌, ◌<◌, ◌≤◌, ◌∷◌, ◌++◌, All, Err, IfErr, IfSome, List, OnOk, Some};
+ghost use Rattle.std.specs.Prelude.{length};
 ghost use Rattle.lilo_model.specs.Checks.{seen};
 ghost use Rattle.std.specs.Option.{option_map};
 ghost use Rattle.sector_address.specs.View.{mode_view, geometry_view, slot_view, address_fault_view};
@@ -54,8 +55,10 @@ fn add_run(naming: Naming, run: &Run, counted: &mut Counted) -> Result<(), Addre
     requires run { IsRun run.now }
     requires room { counted.old.count + run_count run.now < 2 ^ 32 }
     requires held { IfSome counted.old.held IsWritable }
-    ensures counted { OnOk result ((rest : List _) → count_left naming counted.old (run_places run.now ++ rest) ≡ count_left naming counted.new rest) }
-    ensures refused { IfErr result (λ fault. (rest : List _) → count_left naming counted.old (run_places run.now ++ rest) ≡ Err (address_fault_view fault)) }
+    ensures counted { OnOk result ((rest : List _)
+        → count_left naming counted.old (run_places run.now ++ rest) ≡ count_left naming counted.new rest) }
+    ensures refused { IfErr result (λ fault. (rest : List _)
+        → count_left naming counted.old (run_places run.now ++ rest) ≡ Err (address_fault_view fault)) }
     ensures held { IfSome counted.new.held IsWritable }
     ensures room { counted.new.count ≤ counted.old.count + run_count run.now }
 {
@@ -84,7 +87,8 @@ fn add_stretch(
     requires room { counted.old.count + count < 2 ^ 32 }
     requires held { IfSome counted.old.held IsWritable }
     ensures counted { OnOk result ((rest : List _)
-        → count_left naming counted.old (stretch_places disk start count ++ rest) ≡ count_left naming counted.new rest) }
+        → count_left naming counted.old (stretch_places disk start count ++ rest)
+        ≡ count_left naming counted.new rest) }
     ensures refused { IfErr result (λ fault. (rest : List _)
         → count_left naming counted.old (stretch_places disk start count ++ rest) ≡ Err (address_fault_view fault)) }
     ensures held { IfSome counted.new.held IsWritable }
@@ -110,9 +114,11 @@ fn add_sector(
     requires room { counted.old.count + 1 < 2 ^ 32 }
     requires held { IfSome counted.old.held IsWritable }
     ensures counted { OnOk result ((rest : List _)
-        → count_left naming counted.old (Some (record { disk = disk; sector = sector }) ∷ rest) ≡ count_left naming counted.new rest) }
+        → count_left naming counted.old (Some (record { disk = disk; sector = sector }) ∷ rest)
+        ≡ count_left naming counted.new rest) }
     ensures refused { IfErr result (λ fault. (rest : List _)
-        → count_left naming counted.old (Some (record { disk = disk; sector = sector }) ∷ rest) ≡ Err (address_fault_view fault)) }
+        → count_left naming counted.old (Some (record { disk = disk; sector = sector }) ∷ rest)
+        ≡ Err (address_fault_view fault)) }
     ensures held { IfSome counted.new.held IsWritable }
     ensures room { counted.new.count ≤ counted.old.count + 1 }
 {

@@ -1,5 +1,5 @@
-//! The section of a file's runs, a section sector at a time: its slots are made when they are asked for, and no memory is
-//! taken.
+//! The section of a file's runs, a section sector at a time: its slots are made when they are asked for, and no memory
+//! is taken.
 #![tactic(auto)]
 
 mod count;

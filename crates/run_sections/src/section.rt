@@ -38,7 +38,8 @@ pub fn write_section_at(
     requires runs { All IsRun runs.now }
     requires zero { zero.disk ≤ 3 }
     requires link { IfSome link (λ link. IsWritable link.now) }
-    ensures { (slots : List slots.Slot) → slots_made (mode_view naming.mode) (geometry_view naming.geometry) naming.compact
+    ensures { (slots : List slots.Slot)
+        → slots_made (mode_view naming.mode) (geometry_view naming.geometry) naming.compact
         (filled_places (place_view zero) (places_in runs.now)) ≡ Ok slots
         → into.new ≡ section_bytes (take 63 (drop (63 * index) slots)) (lent_view link.entry) }
 {

@@ -1,7 +1,8 @@
 // The header's fields that a loader replaces.
 ghost use Rattle.std.specs.Prelude.{◌≡◌, ◌++◌, true, false};
 ghost use Rattle.std.specs.Option.{option_map};
-ghost use Rattle.lilo_model.specs.Header.{is_from, with_fields, video_fields, initrd_fields, loader_fields, heap_fields, line_fields, patch};
+ghost use Rattle.lilo_model.specs.Header.{is_from, with_fields, video_fields, initrd_fields, loader_fields};
+ghost use Rattle.lilo_model.specs.Header.{heap_fields, line_fields, patch};
 ghost use Rattle.setup_header.specs.Halves.{in_second};
 ghost use Rattle.setup_header.specs.View.{header_view, region_view, layout_view};
 

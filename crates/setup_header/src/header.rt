@@ -1,5 +1,6 @@
 // The header, read from a kernel's first two sectors.
-ghost use Rattle.std.specs.Prelude.{◌≡◌, ◌+◌, ◌*◌, ◌≤◌, ◌==◌, ◌%◌, if◌then◌else◌, min, bytes_eq, codes, is_some, ◌&&◌, slice_index, IfOk, ◌++◌};
+ghost use Rattle.std.specs.Prelude.{◌≡◌, ◌+◌, ◌*◌, ◌≤◌, ◌==◌, ◌%◌, if◌then◌else◌, min, bytes_eq, codes, is_some, ◌&&◌};
+ghost use Rattle.std.specs.Prelude.{slice_index, IfOk, ◌++◌};
 ghost use Rattle.lilo_model.specs.Bytes.{part_of, number16, number32};
 ghost use Rattle.lilo_model.specs.Checks.{seen};
 ghost use Rattle.lilo_model.specs.Header.{setup_of, is_from, header_of, header_at};

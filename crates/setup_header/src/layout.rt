@@ -1,8 +1,11 @@
 // Where a kernel and what goes with it lie in memory.
-ghost use Rattle.std.specs.Prelude.{◌≡◌, ◌+◌, ◌-◌, ◌*◌, ◌/◌, ◌≤◌, ◌<◌, ◌^◌, ◌||◌, not, nat_le, if◌then◌else◌, true, false, min, IfOk, OnOk, IfSome};
+ghost use Rattle.std.specs.Prelude.{◌≡◌, ◌+◌, ◌-◌, ◌*◌, ◌/◌, ◌≤◌, ◌<◌, ◌^◌, ◌||◌, not, nat_le, if◌then◌else◌, true};
+ghost use Rattle.std.specs.Prelude.{false, min, IfOk, OnOk, IfSome};
 ghost use Rattle.std.specs.Option.{option_map};
 ghost use Rattle.lilo_model.specs.Checks.{seen, require};
-ghost use Rattle.lilo_model.specs.Header.{NoRoom, fit_checks, plan_memory, protected_size, protected_address, protected_end, page_above, page_below, initrd_least, initrd_end, initrd_between, initrd_region};
+ghost use Rattle.lilo_model.specs.Header.{NoRoom, fit_checks, plan_memory, protected_size, protected_address};
+ghost use Rattle.lilo_model.specs.Header.{protected_end, page_above, page_below, initrd_least, initrd_end};
+ghost use Rattle.lilo_model.specs.Header.{initrd_between, initrd_region};
 ghost use Rattle.setup_header.specs.View.{header_view, region_view, layout_view, setup_fault_view};
 ghost use Rattle.setup_header.specs.Words.{IsHeaderFor, StandsBetween, HasLengths, LiesIn, AreApart};
 

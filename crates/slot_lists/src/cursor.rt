@@ -31,7 +31,8 @@ impl SlotCursor {
         ensures mode { result.mode ≡ mode }
         ensures geometry { result.geometry ≡ geometry }
         ensures compact { result.compact ≡ compact }
-        ensures left { (runs : List _) (zero : disks.DiskSector) → left_of result runs zero ≡ filled_places zero (places_in runs) }
+        ensures left { (runs : List _) (zero : disks.DiskSector)
+            → left_of result runs zero ≡ filled_places zero (places_in runs) }
     {
         SlotCursor {
             mode,
@@ -71,7 +72,8 @@ impl SlotCursor {
     /// Goes past the next sectors, so many, or all that are left, and makes no slots. It takes as many steps as runs
     /// are passed.
     pub fn skip(&mut self, runs: &RunList, count: u64)
-        ensures left { (zero : disks.DiskSector) → left_of self.new runs.now zero ≡ drop count (left_of self.old runs.now zero) }
+        ensures left { (zero : disks.DiskSector)
+            → left_of self.new runs.now zero ≡ drop count (left_of self.old runs.now zero) }
         ensures same { SameKind self.old self.new }
     {
         self.skip_in(runs.items(), count);
@@ -79,7 +81,8 @@ impl SlotCursor {
 
     // The same of some runs.
     fn skip_in(&mut self, runs: &[Run], count: u64)
-        ensures left { (zero : disks.DiskSector) → left_of self.new runs.now zero ≡ drop count (left_of self.old runs.now zero) }
+        ensures left { (zero : disks.DiskSector)
+            → left_of self.new runs.now zero ≡ drop count (left_of self.old runs.now zero) }
         ensures same { SameKind self.old self.new }
     {
         let mut left = count;
@@ -139,9 +142,11 @@ impl SlotCursor {
         requires zero { zero.disk ≤ 3 }
         requires writable { IsWritable slot }
         ensures slot { slot_view result
-            ≡ (grown (mode_view self.old.mode) (geometry_view self.old.geometry) (slot_view slot) (left_of self.old runs.now (place_view zero))).slot }
+            ≡ (grown (mode_view self.old.mode) (geometry_view self.old.geometry) (slot_view slot)
+            (left_of self.old runs.now (place_view zero))).slot }
         ensures left { left_of self.new runs.now (place_view zero)
-            ≡ (grown (mode_view self.old.mode) (geometry_view self.old.geometry) (slot_view slot) (left_of self.old runs.now (place_view zero))).left }
+            ≡ (grown (mode_view self.old.mode) (geometry_view self.old.geometry) (slot_view slot)
+            (left_of self.old runs.now (place_view zero))).left }
         ensures writable { IsWritable result }
         ensures same { SameKind self.old self.new }
     {
@@ -164,7 +169,8 @@ impl SlotCursor {
         requires runs { All IsRun runs.now }
         requires zero { zero.disk ≤ 3 }
         ensures slot { option_map slot_view result
-            ≡ first_slot (mode_view self.old.mode) (geometry_view self.old.geometry) (left_of self.old runs.now (place_view zero)) }
+            ≡ first_slot (mode_view self.old.mode) (geometry_view self.old.geometry)
+            (left_of self.old runs.now (place_view zero)) }
         ensures writable { IfSome result IsWritable }
         ensures left { left_of self.new runs.now (place_view zero) ≡ left_of self.old runs.now (place_view zero) }
         ensures room { IsSome result → self.new.offset + 1 < 2 ^ 32 }

@@ -4,7 +4,8 @@ ghost use Rattle.lilo_model.specs.Slots.{could_be_one, follows};
 ghost use Rattle.lilo_model.specs.Plan.{compact_slots};
 ghost use Rattle.lilo_model.specs.Checks.{seen};
 ghost use Rattle.sector_address.specs.View.{geometry_view, mode_view, slot_view, address_view, address_fault_view};
-ghost use Rattle.slot_lists.specs.Made.{place_view, IsWritable, IsFaultOf, made_slots, compact_made, places_check, one_geometry};
+ghost use Rattle.slot_lists.specs.Made.{place_view, IsWritable, IsFaultOf, made_slots, compact_made, places_check};
+ghost use Rattle.slot_lists.specs.Made.{one_geometry};
 
 use disk_trait::Geometry;
 use sector_address::{Address, AddressFault, Mode, Slot};

@@ -41,9 +41,9 @@ fn kept(alloc: Global, choice: u32, count: u32) -> Result<Vec<bool>, AllocError>
     Ok(keep)
 }
 
-/// How many images are looked at of those that a stop leaves after the first `prefix` events: all of them where at most five
-/// writes aren't flushed, else six: none of the writes, all, every second one, the others, the last one, and all but the
-/// last.
+/// How many images are looked at of those that a stop leaves after the first `prefix` events: all of them where at most
+/// five writes aren't flushed, else six: none of the writes, all, every second one, the others, the last one, and all
+/// but the last.
 pub fn choices(disks: &MemDisks, prefix: u32) -> u32
     requires { prefix ≤ length disks.now.events }
     ensures { result ≡ choices (unflushed_count (first_events prefix disks.now.events)) }

@@ -2,8 +2,8 @@
 use disk_trait::{DiskFault, Disks, Geometry, MemDisks};
 use sector_parts::Sector;
 
-/// Disks in memory that report no past: so what a call asks of a past that is told holds of them, whatever they hold. What
-/// is found on them is looked at, and not proved.
+/// Disks in memory that report no past: so what a call asks of a past that is told holds of them, whatever they hold.
+/// What is found on them is looked at, and not proved.
 #[derive(Drop)]
 pub struct Untold {
     pub disks: MemDisks,

@@ -1,7 +1,8 @@
 -- By which zones a directory grows so that one of its blocks is there (pointers and indirect zones: Minix file system;
 -- the order is this project's own: that of the block first, then those of the indirect zones above it, the lowest
 -- first). A zone that was promised to a file before isn't chosen again.
-use Rattle.std.specs.Prelude.{ℕ, ◌+◌, ◌-◌, ◌/◌, ◌%◌, ◌^◌, ◌==◌, nat_lt, Bool, ◌&&◌, if◌then◌else◌, List, [], ◌∷◌, length, filter, find, map, slice_index, is_none, Option, None, Some, option_map, Result, Ok}
+use Rattle.std.specs.Prelude.{ℕ, ◌+◌, ◌-◌, ◌/◌, ◌%◌, ◌^◌, ◌==◌, nat_lt, Bool, ◌&&◌, if◌then◌else◌, List, [], ◌∷◌, length, filter, find, map, slice_index}
+use Rattle.std.specs.Prelude.{is_none, Option, None, Some, option_map, Result, Ok}
 use Rattle.std.specs.List.{range_with_len}
 use Rattle.lilo_model.specs.Checks.{◌>>=◌}
 use Rattle.lilo_model.specs.MinixLayout.{Kind, Super, Inode, numbers_in_zone}

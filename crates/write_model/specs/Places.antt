@@ -1,7 +1,8 @@
 -- Where a new entry lies in a directory (entries: Minix file system; the rule is this project's own): at the first free
 -- place below the directory's size that isn't promised, a place in a hole being free; else at the first one after it
 -- that isn't promised, where the directory can have so many.
-use Rattle.std.specs.Prelude.{ℕ, zero, suc, ◌/◌, ◌==◌, nat_lt, Bool, not, ◌&&◌, if◌then◌else◌, List, [], ◌∷◌, ◌++◌, length, bytes_eq, Option, None, Some, Result, Ok}
+use Rattle.std.specs.Prelude.{ℕ, zero, suc, ◌/◌, ◌==◌, nat_lt, Bool, not, ◌&&◌, if◌then◌else◌, List, [], ◌∷◌, ◌++◌, length, bytes_eq, Option, None, Some}
+use Rattle.std.specs.Prelude.{Result, Ok}
 use Rattle.std.specs.List.{list_any}
 use Rattle.lilo_model.specs.Checks.{◌>>=◌}
 use Rattle.lilo_model.specs.MinixLayout.{Kind, Super, Inode, is_v1, v1_limit, entry_size}

@@ -24,9 +24,6 @@ use Rattle.ldisk_run.proofs.HaltLemmas.{halts_behind, halts_told, zone_halts}
 pub held_of : {A : Type 0} (P : A → Type 0) (one : A) {other : A} → P one → one ≡ other → P other
 held_of P one held same = subst P same held
 
-pub rose_before : (a b c : ℕ) → a ≤ b → Rose b c → Rose a c
-rose_before a b c later rose = λ below. let r = rose below in omega (arith, later, r)
-
 -- ---- a command
 
 -- no room was found

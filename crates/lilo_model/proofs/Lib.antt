@@ -1,4 +1,5 @@
 pub mod LeftLemmas
 pub mod PlaceLaws
+pub mod RoseLemmas
 pub mod SectionLaws
 pub mod TurnLemmas

@@ -23,7 +23,8 @@ use Rattle.loader_core.specs.Start.{OnKeys}
 use Rattle.loader_core.specs.Report.{LineWrite, image_with}
 use Rattle.bios_model.specs.Reads.{OnlyReads}
 use Rattle.loader_core.specs.Leaves.{HasPut}
-use Rattle.loader_core.proofs.LeavesLemmas.{same_self, same_join, leaves_after, rose_after, goes_on_after}
+use Rattle.lilo_model.proofs.RoseLemmas.{rose_after}
+use Rattle.loader_core.proofs.LeavesLemmas.{same_self, same_join, leaves_after, goes_on_after}
 use Rattle.disk_trait.specs.Moments.{IsQuiet}
 use Rattle.disk_trait.specs.declared.disks.Phase.{Phase}
 use Rattle.install_begin.specs.Begin.{begun_with}

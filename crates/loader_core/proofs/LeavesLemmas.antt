@@ -3,6 +3,7 @@ use Rattle.std.proofs.Common.{◌≡◌, ◌≤◌, ◌⊎◌, refl, sym, ◌∙
 use Rattle.std.specs.Prelude.{IsErr, IsErrOf, true, false}
 use Rattle.std.specs.Option.{option_map}
 use Rattle.std.specs.Result.{result_ok}
+use Rattle.lilo_model.proofs.RoseLemmas.{rose_after}
 use Rattle.lilo_model.specs.DefaultLine.{DefaultLine}
 use Rattle.lilo_model.specs.Disks.{Machine, DiskSector}
 use Rattle.lilo_model.specs.Faults.{Rose}
@@ -32,10 +33,6 @@ use Rattle.loader_core.specs.declared.outcome.Started.{Started}
 use Rattle.loader_core.specs.Report.{LineWrite, line_write, image_with}
 use Rattle.loader_core.specs.Leaves.{Puts, HasPut, LostIn, LostAfter, CameTo, Leaves, IsPast, LineWritten, WritesLine}
 use Rattle.loader_core.specs.Start.{unasked, result_of, phase_of, IsLost}
-
--- a count that rose after it stayed or rose
-pub rose_after : (a b c : ℕ) → a ≤ b → Rose b c → Rose a c
-rose_after a b c before rose below = let risen = rose below in omega (arith, before, risen)
 
 module _ {D : Type 0} (g : Ghosts D) where
   pub same_self : (disks : D) → SameOf g disks disks

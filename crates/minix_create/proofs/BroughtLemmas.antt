@@ -1,6 +1,7 @@
 -- What calls leave by which places of a directory get below its size.
 use Rattle.std.proofs.Common.{◌≡◌, ◌≢◌, ◌≤◌, ◌<◌, ◌+◌, ◌*◌, ◌/◌, ◌%◌, ◌^◌, ℕ, true, [], Option, Result, Ok, Err, OnOk, refl, sym, ap, ◌∙◌, subst, arith, ◌⊎◌, inl, inr}
 use Rattle.std.specs.Prelude.{IfErr}
+use Rattle.lilo_model.proofs.RoseLemmas.{rose_after}
 use Rattle.disk_trait.specs.declared.disks.Disks.{Ghosts}
 use Rattle.disk_trait.specs.declared.disks.Span.{Span}
 use Rattle.disk_trait.specs.Past.{Image, Past}
@@ -77,13 +78,10 @@ near_most V2Long place low = omega (arith, low)
 
 -- ---- faults
 
-pub rises : (before mid after : ℕ) → before ≤ mid → Rose mid after → Rose before after
-rises before mid after later rose below = let so = rose below in omega (arith, later, so)
-
 pub device_of : {D E : Type 0} {disks : Ghosts D} (start mid new : Volume D disks) (error : E) (result : Result (Unit {0}) E) → faults_of start ≤ faults_of mid
     → IfErr result (λ fault. (fault ≡ error) × Rose (faults_of mid) (faults_of new)) → IfErr result (λ fault. (fault ≡ error) × Rose (faults_of start) (faults_of new))
 device_of start mid new error (Ok done) later cause = tt
-device_of start mid new error (Err fault) later cause = (cause.0, rises (faults_of start) (faults_of mid) (faults_of new) later cause.1)
+device_of start mid new error (Err fault) later cause = (cause.0, rose_after (faults_of start) (faults_of mid) (faults_of new) later cause.1)
 
 -- a pointer that isn't to one of no zones is one that was there
 pub points_was : {A : Type 0} (zone : ℕ) → A ⊎ IsOneOf [] zone → A

@@ -1,6 +1,7 @@
 -- What the call leaves that makes the name of what is filled.
 use Rattle.std.proofs.Common.{◌≡◌, ◌≢◌, ◌≤◌, ◌<◌, ◌+◌, ◌*◌, ◌/◌, ◌%◌, ◌==◌, ℕ, Bool, true, false, List, [], ◌∷◌, Option, Some, None, Result, Ok, Err, OnOk, refl, sym, ap, ◌∙◌, subst, arith, inl, inr, ⊎_elim}
 use Rattle.std.proofs.Math.Path.{subst₂}
+use Rattle.lilo_model.proofs.RoseLemmas.{rose_after}
 use Rattle.disk_trait.specs.declared.disks.Disks.{Ghosts}
 use Rattle.disk_trait.specs.declared.disks.Span.{Span}
 use Rattle.disk_trait.specs.Past.{Image, Past}
@@ -52,7 +53,7 @@ use Rattle.minix_create.specs.Chosen.{Suits, MayLinkNow}
 use Rattle.minix_create.specs.Entered.{MayBeNamed, raised_links, IsDirectoryNow, RaisesLinks, links_above, HasLinksOrAbove, Readies, MayEnterNow, IsOffEntered, IsRaisedFirst, KeepsDirectories, Enters}
 use Rattle.minix_create.specs.Linked.{IsRaisedBefore}
 use Rattle.minix_create.specs.declared.chosen.Chosen.{Chosen}
-use Rattle.minix_create.proofs.BroughtLemmas.{rises, same_unseen, same_self}
+use Rattle.minix_create.proofs.BroughtLemmas.{same_unseen, same_self}
 use Rattle.minix_create.proofs.NamedLemmas.{kept_join, thing_kept, named_kept, not_named, fit_named}
 use Rattle.minix_create.proofs.StandLemmas.{keeps_none, keeps_changed}
 
@@ -401,5 +402,5 @@ module _ {D : Type 0} {disks : Ghosts D} (old : Volume D disks) (outer : List (L
         stays = λ told. tt;
         directories = λ told. tt;
         others = others suits from below index slot new (Err fault) turns any (λ told. tt) makes makes_directory;
-        device = λ told. (refl, rises (faults_of old) (faults_of mid) (faults_of new) ready.unseen.goes_on.later turns.device.1);
+        device = λ told. (refl, rose_after (faults_of old) (faults_of mid) (faults_of new) ready.unseen.goes_on.later turns.device.1);
       }

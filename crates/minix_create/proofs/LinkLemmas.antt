@@ -3,6 +3,7 @@ use Rattle.std.proofs.Common.{◌≡◌, ◌≢◌, ◌≤◌, ◌<◌, ◌+◌,
 use Rattle.std.proofs.lemmas.Bool.{cases_eq, cases_lt}
 use Rattle.std.specs.Prelude.{slice_index}
 use Rattle.std.proofs.Math.Path.{subst₂}
+use Rattle.lilo_model.proofs.RoseLemmas.{rose_after}
 use Rattle.disk_trait.specs.declared.disks.Disks.{Ghosts}
 use Rattle.disk_trait.specs.declared.disks.Span.{Span}
 use Rattle.disk_trait.specs.Past.{Image, Past}
@@ -62,7 +63,7 @@ use Rattle.minix_create.specs.Grown.{MayGrowNow, LiesNow, IsOffGrowth, GrowsChos
 use Rattle.minix_create.specs.Linked.{IsOffName, IsRaisedBefore, MarksLinked, LiesAsChosen, HoldsGiven, Creates}
 use Rattle.minix_create.specs.declared.chosen.Chosen.{Chosen}
 use Rattle.minix_create.specs.declared.place_at.PlaceAt.{PlaceAt}
-use Rattle.minix_create.proofs.BroughtLemmas.{off_later, rises, device_of, same_unseen}
+use Rattle.minix_create.proofs.BroughtLemmas.{off_later, device_of, same_unseen}
 use Rattle.minix_create.proofs.EnterLemmas.{leads_is, unseen_refused, unseen_before}
 use Rattle.minix_create.proofs.GrownLemmas.{same_at}
 use Rattle.minix_create.proofs.NamedLemmas.{points_kept, thing_kept, named_kept, not_named, fit_named}
@@ -235,7 +236,7 @@ links_not_grown start old next outer chosen given filled fault grows none may =
     refused_creates start old next outer chosen given filled (Err fault) grows none may next fault (unseen_next start old next outer chosen given filled (Err fault) grows none) (others_next start old next outer chosen given filled (Err fault) grows none)
     (λ told.
     let cause = grows.device (filled.steps.goes_on.told told) in
-    (cause.0, rises (faults_of start) (faults_of old) (faults_of next) filled.steps.goes_on.later cause.1))
+    (cause.0, rose_after (faults_of start) (faults_of old) (faults_of next) filled.steps.goes_on.later cause.1))
 
 module _ {D : Type 0} {disks : Ghosts D} (start old next read : Volume D disks) (outer : List (List ℕ)) (chosen : Chosen) (given : ℕ → List ℕ) (filled : IsFilled start old chosen given)
     (grows : GrowsChosen old next chosen (Ok tt)) (none : IsTold (past_of old) → LiesNow old chosen → SameVolume old next) (same : SameVolume next read) (later : faults_of next ≤ faults_of read)
@@ -355,7 +356,7 @@ module _ {D : Type 0} {disks : Ghosts D} (start old next read : Volume D disks) 
       refused_creates start old next outer chosen given filled (Ok tt) grows none may read fault unseen_read others_read (λ told.
       let is : fault ≡ refusals.Device = gives (told_next told) (readable_place told) in
       let C : WriteFault → Type 0 = λ f. HasWriteCause (faults_of next) (faults_of read) f in
-      (is, rises (faults_of start) (faults_of next) (faults_of read) unseen_then.goes_on.later (subst C is cause)))
+      (is, rose_after (faults_of start) (faults_of next) (faults_of read) unseen_then.goes_on.later (subst C is cause)))
 
   module _ (at : PlaceAt) (gives : GivesPlace next chosen.directory chosen.choice.place (Ok at)) where
     zone_is : IsTold (past_of start) → zone_of_entry (super_view next.layout) (parts_now next) chosen.directory chosen.choice.place ≡ at.zone

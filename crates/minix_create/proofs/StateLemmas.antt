@@ -3,6 +3,7 @@ use Rattle.std.proofs.Common.{◌≡◌, ◌≤◌, ◌<◌, ◌+◌, ◌*◌, �
 use Rattle.std.specs.Prelude.{if◌then◌else◌, IfOk, IfErr}
 use Rattle.std.proofs.Math.Path.{subst₂}
 use Rattle.std.specs.Prelude.{slice_index}
+use Rattle.lilo_model.proofs.RoseLemmas.{rose_after}
 use Rattle.disk_trait.specs.declared.disks.Disks.{Ghosts}
 use Rattle.disk_trait.specs.declared.disks.Span.{Span}
 use Rattle.disk_trait.specs.Moments.{IsTold, IsQuiet}
@@ -43,7 +44,6 @@ use Rattle.minix_create.proofs.ChosenLemmas.{few_blocks}
 use Rattle.minix_create.proofs.FillLemmas.{filled_with, fill_done, off_indirect_of}
 use Rattle.minix_create.proofs.FromLemmas.{file_zone, has_one}
 use Rattle.minix_create.proofs.GrownLemmas.{may_grow_steps, may_grow_begun}
-use Rattle.minix_create.proofs.BroughtLemmas.{rises}
 use Rattle.minix_create.proofs.EnterLemmas.{unseen_refused, unseen_before}
 use Rattle.minix_create.proofs.OpenLemmas.{suits_kept, suits_was, marked_open, marked_reserved, block_open, block_reserved}
 
@@ -153,7 +153,7 @@ module _ {D : Type 0} {disks : Ghosts D} (start : Volume D disks) (chosen : Chos
     steps = steps_join start old new (quiet_ready start quiet (λ told. (free told).sound)) steps wrong.steps;
     others = λ d s off. not_written_join (past_of start) (past_of old) (past_of new) d s (others d s off) (wrong.others d s (off_kept start old chosen steps.kept d s off));
     device = wrong.device;
-    rose = rises (faults_of start) (faults_of old) (faults_of new) steps.goes_on.later wrong.rose;
+    rose = rose_after (faults_of start) (faults_of old) (faults_of new) steps.goes_on.later wrong.rose;
   }
 
 -- ---- all of it
@@ -166,7 +166,7 @@ cause_since before mid after later faults.NameTooLong cause = tt
 cause_since before mid after later faults.Exists cause = tt
 cause_since before mid after later faults.Links cause = tt
 cause_since before mid after later (faults.Tree fault) cause = tt
-cause_since before mid after later faults.Device cause = rises before mid after later cause
+cause_since before mid after later faults.Device cause = rose_after before mid after later cause
 cause_since before mid after later faults.Memory cause = tt
 
 -- the next block, by what was answered

@@ -1,5 +1,6 @@
 -- Steps of a survey, one after the other.
 use Rattle.std.proofs.Common.{◌≡◌, ◌≤◌, ℕ, List, Option, Some, None, Result, Ok, Err, IfErr, refl, sym, ◌∙◌, subst, arith}
+use Rattle.lilo_model.proofs.RoseLemmas.{rose_after}
 use Rattle.disk_trait.specs.declared.disks.Disks.{Ghosts}
 use Rattle.lilo_model.specs.Faults.{Rose}
 use Rattle.disk_trait.specs.Past.{Past, Image, Told, SameDisks}
@@ -42,9 +43,6 @@ if_err : {A F : Type 0} {P Q : F → Type 0} (result : Result A F) → ((fault :
 if_err (Ok value) gives given = tt
 if_err (Err fault) gives given = gives fault given
 
-rose_later : (before mid now : ℕ) → before ≤ mid → Rose mid now → Rose before now
-rose_later before mid now later rose below = let so = rose below in omega (arith, later, so)
-
 tree_later : (before mid now : ℕ) → before ≤ mid → (fault : TreeFault) → HasTreeCause mid now fault → HasTreeCause before now fault
 tree_later before mid now later (trees.NotFound position) cause = tt
 tree_later before mid now later (trees.NotDirectory position) cause = tt
@@ -54,7 +52,7 @@ tree_later before mid now later (trees.BadEntry directory) cause = tt
 tree_later before mid now later trees.PathTooLong cause = tt
 tree_later before mid now later (trees.Zone (zones.Layout fault)) cause = tt
 tree_later before mid now later (trees.Zone (zones.ZoneOutside zone)) cause = tt
-tree_later before mid now later (trees.Zone zones.Device) cause = rose_later before mid now later cause
+tree_later before mid now later (trees.Zone zones.Device) cause = rose_after before mid now later cause
 tree_later before mid now later trees.Memory cause = cause
 
 pub cause_later : (before mid now : ℕ) → before ≤ mid → (fault : SurveyFault) → HasSurveyCause mid now fault → HasSurveyCause before now fault

@@ -45,9 +45,6 @@ module _ (machine : Machine) (bytes text : List ℕ) where
 
 -- ---- what is left
 
-pub rose_later : (a b c : ℕ) → a ≤ b → Rose b c → Rose a c
-rose_later a b c le rose = λ below. let less = rose below in omega (arith, le, less)
-
 module _ {D : Type 0} (disks : Ghosts D) (old mid : D) (same : SameOf disks old mid) (later : disks.faults old ≤ disks.faults mid) (bytes : List ℕ) (found : Result DiskSector model.ShotFault) where
   pub puts_none : (fault : ShotFault) → IsFault fault found → (fault ≡ Device Commit → ⊥) → Puts disks old mid bytes found (Err fault)
   puts_none fault is before = record {

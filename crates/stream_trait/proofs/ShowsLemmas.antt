@@ -1,6 +1,7 @@
 -- Texts that are shown one after another.
 use Rattle.std.proofs.Common.{◌≡◌, ◌≤◌, ◌==◌, ◌⊎◌, ◌∙◌, Bool, ℕ, inl, inr, true, false, List, [], ◌∷◌, ◌++◌, map, Option, None, Some, refl, sym, ap, subst, arith, append-nil}
 use Rattle.std.proofs.lemmas.Bool.{cases_Bool, both_ways, eqb-true}
+use Rattle.lilo_model.proofs.RoseLemmas.{rose_after, rose_still}
 use Rattle.lilo_model.specs.Faults.{Rose}
 use Rattle.stream_trait.specs.Sink.{Takes, TakesFront}
 use Rattle.stream_trait.proofs.SinkLemmas.{Takes-trans, TakesFront-before, TakesFront-after}
@@ -84,17 +85,11 @@ shows_same a b one other same shown = subst (λ text. Shows a text b) same shown
 
 -- ---- failures
 
-rose_before : (a b c : ℕ) → a ≤ b → Rose b c → b ≤ c → Rose a c
-rose_before a b c before rose later = λ below. omega (arith, rose)
-
-rose_behind : (a b c : ℕ) → Rose a b → b ≤ c → Rose a c
-rose_behind a b c rose later = λ below. omega (arith, rose)
-
 failed_by : (a b c : SinkState) → HasFailed a b → b.faults ≤ c.faults → b.failed ≡ true → (a.failed ≡ true) ⊎ Rose a.faults c.faults
 failed_by a b c first later failed =
     elim (first.failed failed) [
       | inl old ↦ inl old
-      | inr rose ↦ inr (rose_behind a.faults b.faults c.faults rose later)
+      | inr rose ↦ inr (rose_still a.faults b.faults c.faults rose later)
     ]
 
 pub has_failed_twice : (a b c : SinkState) → HasFailed a b → HasFailed b c → HasFailed a c
@@ -102,7 +97,7 @@ has_failed_twice a b c first second = record {
   later = let one = first.later in let other = second.later in omega (arith, one, other);
   failed = λ failed. elim (second.failed failed) [
     | inl before ↦ failed_by a b c first second.later before
-    | inr rose ↦ inr (rose_before a.faults b.faults c.faults first.later rose second.later)
+    | inr rose ↦ inr (rose_after a.faults b.faults c.faults first.later rose)
   ];
 }
 

@@ -1,5 +1,6 @@
 -- A refusal of the device or of its superblock is one of the command.
 use Rattle.std.proofs.Common.{◌≡◌, ◌≤◌, Ok, Err, rules, arith, refl}
+use Rattle.lilo_model.proofs.RoseLemmas.{rose_after}
 use Rattle.disk_trait.specs.Calls.{SameOf}
 use Rattle.lilo_model.specs.LdiskVerdict.{room_of, command_verdict}
 use Rattle.lilo_model.specs.MinixParts.{volume_at}
@@ -9,7 +10,7 @@ use Rattle.minix_zones.specs.View.{Refuses}
 use Rattle.ldisk_run.specs.Pieces.{held_by}
 use Rattle.ldisk_run.specs.Run.{Halts, HasCause, Does}
 use Rattle.ldisk_run.specs.View.{reading_view}
-use Rattle.ldisk_run.proofs.CommandLemmas.{held_of, rose_before, room_halted, volume_halted}
+use Rattle.ldisk_run.proofs.CommandLemmas.{held_of, room_halted, volume_halted}
 use Rattle.ldisk_run.proofs.HaltLemmas.{zone_cause}
 use Rattle.disk_trait.proofs.ToldLemmas.{told_map, told_both}
 use Rattle.sector_address.specs.Machine.{machine_of}
@@ -51,7 +52,7 @@ returns-in-Err-clause-cause g c =
     let found = c.in-Err.disks.now in
     held_of (λ disks. HasCause (faults c.args.disks.now) (faults disks) c.refused.result) found
     (zone_cause (faults c.args.disks.now) (faults found) c.in-Err.fault c.refused.result
-    (λ is. rose_before (faults c.args.disks.now) (faults c.find_room.new.disks) (faults found) c.in_ok-span.ensures.later (c.in-Err.ensures.device (rw is refl))) c.refused.ensures.told)
+    (λ is. rose_after (faults c.args.disks.now) (faults c.find_room.new.disks) (faults found) c.in_ok-span.ensures.later (c.in-Err.ensures.device (rw is refl))) c.refused.ensures.told)
     (search rules)
 
 pub returns-in-Err-clause-later : goal.returns-in-Err-clause-later

@@ -7,7 +7,8 @@ use Rattle.sector_address.specs.Machine.{machine_of}
 use Rattle.disk_trait.proofs.ToldLemmas.{told_map, told_both}
 use Rattle.lilo_run.proofs.BackupLemmas.{back_unplaced, back_placed}
 use Rattle.bios_model.proofs.WriteLemmas.{goes_on_read}
-use Rattle.loader_core.proofs.LeavesLemmas.{goes_on_after, rose_after}
+use Rattle.lilo_model.proofs.RoseLemmas.{rose_after}
+use Rattle.loader_core.proofs.LeavesLemmas.{goes_on_after}
 use Rattle.std.proofs.Common.{rules}
 use Rattle.lilo_run.proofs.RunLemmas.{plain_lost}
 use Rattle.lilo_run.proofs.backup.put_back.Goals as goal

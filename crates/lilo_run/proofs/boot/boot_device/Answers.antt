@@ -7,7 +7,8 @@ use Rattle.loader_core.proofs.BootLemmas.{keys_still}
 use Rattle.lilo_run.specs.Run.{state_of}
 use Rattle.lilo_run.proofs.EffectLemmas.{place_booted, place_failed}
 use Rattle.bios_model.proofs.WriteLemmas.{goes_on_read}
-use Rattle.loader_core.proofs.LeavesLemmas.{goes_on_after, rose_after}
+use Rattle.lilo_model.proofs.RoseLemmas.{rose_after}
+use Rattle.loader_core.proofs.LeavesLemmas.{goes_on_after}
 use Rattle.std.proofs.Common.{arith, rules}
 use Rattle.lilo_run.proofs.RunLemmas.{plain_lost, plain_heard}
 use Rattle.lilo_run.proofs.boot.boot_device.Goals as goal

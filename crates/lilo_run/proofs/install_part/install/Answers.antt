@@ -5,7 +5,8 @@ use Rattle.bios_model.proofs.WriteLemmas.{goes_on_read}
 use Rattle.disk_trait.proofs.MomentLemmas.{told_now}
 use Rattle.disk_trait.proofs.ToldLemmas.{told_map}
 use Rattle.install_begin.specs.View.{begun_view}
-use Rattle.loader_core.proofs.LeavesLemmas.{goes_on_after, rose_after}
+use Rattle.lilo_model.proofs.RoseLemmas.{rose_after}
+use Rattle.loader_core.proofs.LeavesLemmas.{goes_on_after}
 use Rattle.mbr_table.specs.View.{device_view}
 use Rattle.sector_address.specs.Machine.{machine_of}
 use Rattle.lilo_run.proofs.InstallLemmas.{begun_there, begun_found, refused_found}

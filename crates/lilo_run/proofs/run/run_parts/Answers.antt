@@ -17,7 +17,8 @@ use Rattle.lilo_model.specs.ConfVerdict.{conf_path}
 use Rattle.lilo_run.proofs.MemoryLemmas.{boots_by}
 use Rattle.install_preview.proofs.StateLemmas.{told_from}
 use Rattle.lilo_run.proofs.RunLemmas.{Begun, place_within, continues_more, continues_end, continues_last, own_status, own_lost, own_write_lost, long_first, long_more, write_first, write_more, begun_more, begun_last, stays_more, unwritten_more, told_here, continues_start}
-use Rattle.loader_core.proofs.LeavesLemmas.{rose_after, goes_on_self, same_self}
+use Rattle.lilo_model.proofs.RoseLemmas.{rose_after}
+use Rattle.loader_core.proofs.LeavesLemmas.{goes_on_self, same_self}
 use Rattle.lilo_run.proofs.run.run_parts.Goals as goal
 
 pub returns-in_default-answer-clause-does : goal.returns-in_default-answer-clause-does

@@ -10,7 +10,8 @@ use Rattle.loader_core.specs.Start.{unasked}
 use Rattle.loader_core.proofs.BootLemmas.{keys_map}
 use Rattle.bios_model.proofs.WriteLemmas.{goes_on_read}
 use Rattle.std.proofs.Common.{◌∙◌, arith, rules}
-use Rattle.loader_core.proofs.LeavesLemmas.{goes_on_after, rose_after, lost_unasked, heard_unasked}
+use Rattle.lilo_model.proofs.RoseLemmas.{rose_after}
+use Rattle.loader_core.proofs.LeavesLemmas.{goes_on_after, lost_unasked, heard_unasked}
 use Rattle.stream_trait.proofs.ShowsLemmas.{has_failed_twice}
 use Rattle.loader_core.proofs.loader.boot_asked.Goals as goal
 

@@ -12,7 +12,8 @@ use Rattle.disk_trait.specs.Calls.{SameOf}
 use Rattle.section_loader.specs.declared.reason.Halt.TheVariants.{Device}
 use Rattle.bios_model.proofs.WriteLemmas.{goes_on_read}
 use Rattle.std.proofs.Common.{refl, arith, rules}
-use Rattle.loader_core.proofs.LeavesLemmas.{goes_on_after, rose_after, lost_unasked, heard_unasked}
+use Rattle.lilo_model.proofs.RoseLemmas.{rose_after}
+use Rattle.loader_core.proofs.LeavesLemmas.{goes_on_after, lost_unasked, heard_unasked}
 use Rattle.loader_core.proofs.loader.boot_by.Goals as goal
 
 pub returns-then-is_err-clause-went : goal.returns-then-is_err-clause-went

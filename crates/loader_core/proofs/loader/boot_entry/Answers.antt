@@ -13,7 +13,8 @@ use Rattle.loader_core.proofs.LeavesLemmas.{read_leaves}
 use Rattle.bios_model.proofs.WriteLemmas.{goes_on_read}
 use Rattle.std.proofs.Common.{◌≡◌, rules}
 use Rattle.section_loader.specs.declared.reason.Halt.TheVariants.{Device}
-use Rattle.loader_core.proofs.LeavesLemmas.{goes_on_after, rose_after}
+use Rattle.lilo_model.proofs.RoseLemmas.{rose_after}
+use Rattle.loader_core.proofs.LeavesLemmas.{goes_on_after}
 use Rattle.loader_core.proofs.loader.boot_entry.Goals as goal
 
 pub returns-in-Ok-clause-report : goal.returns-in-Ok-clause-report

@@ -9,7 +9,8 @@ use Rattle.loader_core.proofs.LeavesLemmas.{leaves_as, leaves_after, read_leaves
 use Rattle.bios_model.proofs.WriteLemmas.{goes_on_read}
 use Rattle.std.proofs.Common.{◌≡◌, refl, arith, rules}
 use Rattle.section_loader.specs.declared.reason.Halt.TheVariants.{Device}
-use Rattle.loader_core.proofs.LeavesLemmas.{goes_on_after, rose_after}
+use Rattle.lilo_model.proofs.RoseLemmas.{rose_after}
+use Rattle.loader_core.proofs.LeavesLemmas.{goes_on_after}
 use Rattle.loader_core.proofs.loader.boot_map.Goals as goal
 
 pub returns-in-Ok-clause-went : goal.returns-in-Ok-clause-went

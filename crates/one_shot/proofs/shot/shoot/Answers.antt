@@ -1,5 +1,6 @@
 -- The boot sector is read, and what follows goes by it.
 use Rattle.std.proofs.Common.{◌≡◌}
+use Rattle.lilo_model.proofs.RoseLemmas.{rose_after}
 use Rattle.lilo_model.specs.LineSector.{line_bytes}
 use Rattle.lilo_model.specs.LineShots.{shot_line, shot_place}
 use Rattle.disk_trait.specs.Calls.{SameOf}
@@ -10,7 +11,7 @@ use Rattle.sector_address.specs.Machine.{machine_of}
 use Rattle.mbr_table.specs.View.{span_view}
 use Rattle.bios_model.proofs.WriteLemmas.{goes_on_read}
 use Rattle.one_shot.specs.declared.shot.ShotFault.TheVariants.{Device}
-use Rattle.one_shot.proofs.ShotLemmas.{shot_is, rose_later, puts_none, puts_after}
+use Rattle.one_shot.proofs.ShotLemmas.{shot_is, puts_none, puts_after}
 use Rattle.one_shot.proofs.shot.shoot.Goals as goal
 
 pub returns-in-Err-clause-line : goal.returns-in-Err-clause-line
@@ -36,7 +37,7 @@ returns-in-Ok-clause-line g c =
     c.in-Ok.ensures.bytes
 
 pub returns-in-Ok-clause-failed : goal.returns-in-Ok-clause-failed
-returns-in-Ok-clause-failed g c = λ phase is. rose_later _ _ _ c.read.ensures.cause.later (c.shoot_by.ensures.failed phase is)
+returns-in-Ok-clause-failed g c = λ phase is. rose_after _ _ _ c.read.ensures.cause.later (c.shoot_by.ensures.failed phase is)
 
 pub returns-in-Ok-clause-goes_on : goal.returns-in-Ok-clause-goes_on
 returns-in-Ok-clause-goes_on g c =

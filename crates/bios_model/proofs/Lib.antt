@@ -1,3 +1,4 @@
+pub mod HeldLemmas
 pub mod MemoryLemmas
 pub mod Reading
 pub mod WriteLemmas

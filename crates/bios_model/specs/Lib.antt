@@ -1,3 +1,4 @@
+pub mod Held
 pub mod Keys
 pub mod Machine
 pub mod Memory

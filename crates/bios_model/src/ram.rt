@@ -1,28 +1,36 @@
 // Memory, from address 0 on.
-ghost use Rattle.std.specs.Prelude.{◌≡◌, ◌+◌, ◌<◌, ◌≤◌, ◌↔◌, length, take, drop, replicate, IfOk, IfErr, IsErrOf, OnOk};
-ghost use Rattle.std.specs.Prelude.{OnErr};
+ghost use Rattle.std.specs.Prelude.{◌≡◌, ◌+◌, ◌-◌, ◌++◌, ◌<◌, ◌≤◌, ◌↔◌, length, take, drop, replicate, IfOk, IfErr};
+ghost use Rattle.std.specs.Prelude.{IsErrOf, OnOk, OnErr, vec_capacity, ⊤};
+ghost use Rattle.std.specs.Borrow.{sem, follows_so};
+ghost use mathlib.Core.Option.{none};
 ghost use Rattle.lilo_model.specs.Bytes.{with_part};
 ghost use Rattle.lilo_model.specs.Place.{with_bytes};
 ghost use Rattle.bios_model.specs.Memory.{memory_of};
+ghost use Rattle.bios_model.specs.contracts.ram.Ram.{the_row};
 
 use crate::BiosFault;
 use std::alloc::{AllocError, Global};
 use std::marker::Model;
 
-/// A memory of 1,048,576 to 1,073,741,824 bytes, as a machine has it from address 0 on.
+/// A memory of 1,048,576 to 1,073,741,824 bytes, as a machine has it from address 0 on. Only the bytes up to the last
+/// one that was put or asked for are held: those after them are zero, and the room for them is taken, but never
+/// touched.
 #[derive(Drop)]
 pub struct Ram {
+    size: u32,
     bytes: Vec<u8>,
 }
 
 impl Model for Ram {
-    ghost use Rattle.std.specs.Prelude.{ℕ, ◌≤◌, List, length};
+    ghost use Rattle.std.specs.Prelude.{ℕ, ◌≤◌, List, length, vec_capacity};
+    ghost use Rattle.bios_model.specs.Held.{whole_memory};
 
     ghost Value = { List ℕ };
 
-    ghost view = { λ ram. ram.bytes.items };
+    ghost view = { λ ram. whole_memory ram.size ram.bytes.items };
 
-    ghost invariant = { λ ram. (1048576 ≤ length ram.bytes.items) × (length ram.bytes.items ≤ 1073741824) };
+    ghost invariant = { λ ram. (1048576 ≤ ram.size) × (ram.size ≤ 1073741824)
+        × (length ram.bytes.items ≤ ram.size) × (ram.size ≤ vec_capacity ram.bytes) };
 }
 
 impl Ram {
@@ -36,8 +44,8 @@ impl Ram {
         requires high { size ≤ 1073741824 }
         ensures { IfOk result (λ ram. ram ≡ replicate size 0) }
     {
-        let bytes = vec![in alloc; 0; size as usize]?;
-        Ok(Ram { bytes })
+        let bytes = Vec::with_capacity(alloc, size as usize)?;
+        Ok(Ram { size, bytes })
     }
 
     /// How many bytes there are, 1,048,576 to 1,073,741,824.
@@ -45,15 +53,19 @@ impl Ram {
         ensures value { result ≡ length self.now }
         ensures range { (1048576 ≤ result) × (result ≤ 1073741824) }
     {
-        self.bytes.len() as u32
+        self.size
     }
 
-    /// The `len` bytes from address `at` on.
-    pub fn bytes(&self, at: u32, len: u32) -> &[u8]
-        requires { at + len ≤ length self.now }
-        ensures { result.now ≡ take len (drop at self.now) }
+    /// The `len` bytes from address `at` on. The memory stays as it is: zeros that weren't held are put into it.
+    pub fn bytes(&mut self, at: u32, len: u32) -> &[u8]
+        requires { at + len ≤ length self.old }
+        ensures bytes { result.now ≡ take len (drop at self.old) }
+        ensures* same { sem 𝓛 (follows_so the_row the_row self.entry.ghost_name none (λ _ _. ⊤) (λ v. v ≡ self.old)) }
     {
-        &self.bytes[at as usize..at as usize + len as usize]
+        let start = at as usize;
+        let end = start + len as usize;
+        hold(&mut self.bytes, end);
+        &self.bytes[start..end]
     }
 
     /// Puts bytes from address `at` on. All others stay. `OutsideRam` is for bytes that reach past the
@@ -70,11 +82,34 @@ impl Ram {
         ensures only { IfErr result (λ fault. fault ≡ BiosFault.OutsideRam) }
     {
         let start = at as usize;
-        let end = start + bytes.len();
-        if end > self.bytes.len() {
+        if start + bytes.len() > self.size as usize {
             return Err(BiosFault::OutsideRam);
         }
-        self.bytes[start..end].copy_from_slice(bytes);
+        hold(&mut self.bytes, start);
+        put(&mut self.bytes, start, bytes);
         Ok(())
     }
+}
+
+// Holds the bytes up to an end, which there is room for: zeros where none are held.
+fn hold(bytes: &mut Vec<u8>, end: usize)
+    requires room { end ≤ vec_capacity bytes.old }
+    ensures held { bytes.new.items ≡ bytes.old.items ++ replicate (end - length bytes.old.items) 0 }
+    ensures capacity { vec_capacity bytes.old ≤ vec_capacity bytes.new }
+{
+    if bytes.len() < end {
+        let _ = bytes.resize(end, 0);
+    }
+}
+
+// Puts bytes from a place on, which there is room for: over those that are held, and after them.
+fn put(bytes: &mut Vec<u8>, start: usize, new: &[u8])
+    requires begins { start ≤ length bytes.old.items }
+    requires room { start + length new.now ≤ vec_capacity bytes.old }
+    ensures placed { bytes.new.items ≡ with_part bytes.old.items start new.now }
+    ensures capacity { vec_capacity bytes.old ≤ vec_capacity bytes.new }
+{
+    let over = new.len().min(bytes.len() - start);
+    bytes[start..start + over].copy_from_slice(&new[..over]);
+    let _ = bytes.extend_from_slice(&new[over..]);
 }

@@ -11,16 +11,13 @@ mod image;
 use disk_trait::{Disks, FileDisks, untold};
 use host_parts::{StartFault, arguments, now_seconds};
 use image::open_image;
-use lilo_run::{Ram, boots, lilo};
+use lilo_run::{Ram, lilo};
 use std::fs::File;
 use std::process::ExitCode;
 use stream_trait::{StdSink, StdSource, Words};
 
-/// The memory of the modelled PC where a part boots, in bytes.
+/// The memory of the modelled PC, in bytes.
 const MEMORY: u32 = 16_777_216;
-
-/// Its memory where none does: the least that there is, since it is written with zeros and nothing looks at it.
-const LEAST_MEMORY: u32 = 1_048_576;
 
 /// The most disks that a BIOS numbers here.
 const DISKS: u8 = 4;
@@ -42,8 +39,7 @@ fn run(rt: &HostRuntime) -> Result<u8, StartFault> {
     sort_arguments(rt, &mut disks, &mut words)?;
     let mut keys = StdSource::new(rt.stdin());
     let mut out = StdSink::new(rt.stdout());
-    let memory = if boots(&words) { MEMORY } else { LEAST_MEMORY };
-    let mut ram = Ram::new(alloc, memory)?;
+    let mut ram = Ram::new(alloc, MEMORY)?;
     let now = now_seconds(rt);
     untold();
     Ok(lilo(

@@ -122,10 +122,11 @@ fn phase_line(phase: Phase) -> &'static [u8]
 }
 
 /// Tells what a kernel's loading has put into memory, where that is asked for.
-fn tell_kernel<O: Sink>(dump: bool, out: &mut Shown<'_, O>, ram: &Ram, layout: &Layout)
-    requires { LiesIn (length ram.now) layout.now }
+fn tell_kernel<O: Sink>(dump: bool, out: &mut Shown<'_, O>, ram: &mut Ram, layout: &Layout)
+    requires { LiesIn (length ram.old) layout.now }
     ensures shown { Shows (sink_of O.Sink out.old)
-        (regions_text dump (regions_of layout.now ram.now)) (sink_of O.Sink out.new) }
+        (regions_text dump (regions_of layout.now ram.old)) (sink_of O.Sink out.new) }
+    ensures same { ram.new ≡ ram.old }
     ensures same_reference { out.new.out.ghost_name ≡ out.old.out.ghost_name }
 {
     if dump {
@@ -134,9 +135,10 @@ fn tell_kernel<O: Sink>(dump: bool, out: &mut Shown<'_, O>, ram: &Ram, layout: &
 }
 
 /// Reports the boot sector that was started, where that is asked for.
-fn tell_sector<O: Sink>(dump: bool, out: &mut Shown<'_, O>, ram: &Ram)
+fn tell_sector<O: Sink>(dump: bool, out: &mut Shown<'_, O>, ram: &mut Ram)
     ensures shown { Shows (sink_of O.Sink out.old)
-        (regions_text dump (boot_sector_in ram.now ∷ [])) (sink_of O.Sink out.new) }
+        (regions_text dump (boot_sector_in ram.old ∷ [])) (sink_of O.Sink out.new) }
+    ensures same { ram.new ≡ ram.old }
     ensures same_reference { out.new.out.ghost_name ≡ out.old.out.ghost_name }
 {
     if dump {

@@ -201,7 +201,7 @@ fn put_sector(disks: &mut MemDisks, case: &Case<'_>, number: u32, bytes: &Sector
     }
 }
 
-pub fn words_of(alloc: Global, line: &[&str]) -> Result<Words, AllocError> {
+fn words_of(alloc: Global, line: &[&str]) -> Result<Words, AllocError> {
     let mut words = Words::new(alloc);
     for word in line {
         words.push(alloc, word)?;

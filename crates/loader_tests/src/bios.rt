@@ -212,15 +212,16 @@ fn keys_are_heard(rt: HostRuntime) -> Result<(), Fail> {
 
 #[test]
 fn memory_begins_as_zeros(rt: HostRuntime) -> Result<(), Fail> {
-    let ram = Ram::new(rt.alloc(), 1_048_576)?;
+    let mut ram = Ram::new(rt.alloc(), 1_048_576)?;
     assert_eq!(rt; ram.size(), 1_048_576);
     assert_eq!(rt; ram.bytes(1_048_574, 2), [0, 0].as_slice());
     Ok(())
 }
 
 // The last five bytes.
-fn end_of(ram: &Ram) -> &[u8] {
-    ram.bytes(ram.size() - 5, 5)
+fn end_of(ram: &mut Ram) -> &[u8] {
+    let size = ram.size();
+    ram.bytes(size - 5, 5)
 }
 
 #[test]
@@ -230,8 +231,8 @@ fn bytes_are_placed_up_to_the_end(rt: HostRuntime) -> Result<(), Fail> {
     assert_eq!(rt; ram.place(1_048_573, b"wxyz"), Err(BiosFault::OutsideRam));
     assert_eq!(rt; ram.place(1_048_577, b""), Err(BiosFault::OutsideRam));
     assert_eq!(rt; ram.place(1_048_576, b""), Ok(()));
-    assert_eq!(rt; end_of(&ram), b"\0\0abc".as_slice());
+    assert_eq!(rt; end_of(&mut ram), b"\0\0abc".as_slice());
     assert_eq!(rt; ram.place(1_048_572, b"Z"), Ok(()));
-    assert_eq!(rt; end_of(&ram), b"\0Zabc".as_slice());
+    assert_eq!(rt; end_of(&mut ram), b"\0Zabc".as_slice());
     Ok(())
 }

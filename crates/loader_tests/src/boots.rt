@@ -51,13 +51,13 @@ fn expect_end(rt: &impl Abort, booted: &Booted, outcome: Outcome, shown: &[u8]) 
     assert_eq!(rt; booted.sink.bytes(), shown, "at {outcome:?}");
 }
 
-fn expect_bytes(rt: &impl Abort, booted: &Booted, at: u32, bytes: &[u8]) {
+fn expect_bytes(rt: &impl Abort, booted: &mut Booted, at: u32, bytes: &[u8]) {
     assert!(rt; bytes.len() <= 1024);
     assert_eq!(rt; booted.bytes(at, bytes.len() as u32), bytes, "at {at}");
 }
 
 // The kernel's parts are alone in memory, the real-mode part with these bytes from 0x210 on.
-fn expect_kernel(rt: &impl Abort, booted: &Booted, fields: &[u8]) {
+fn expect_kernel(rt: &impl Abort, booted: &mut Booted, fields: &[u8]) {
     let mut real = [0; 1024];
     put(&mut real, 0x1F1, b"\x01");
     put(&mut real, 0x1FE, b"\x55\xAA");
@@ -72,7 +72,7 @@ fn expect_kernel(rt: &impl Abort, booted: &Booted, fields: &[u8]) {
 }
 
 // The command line is alone in memory, with its zero byte.
-fn expect_line(rt: &impl Abort, booted: &Booted) {
+fn expect_line(rt: &impl Abort, booted: &mut Booted) {
     expect_bytes(
         rt,
         booted,
@@ -97,7 +97,7 @@ fn a_plain_boot(rt: HostRuntime) -> Result<(), Fail> {
         b"\x01\x80\x03\0\x14\0\x01\0\0\0\0\0\0\0\0\0\0\0\0\0\0\0\0\0",
         b"\x02\x80\x02\0\x52\0\0\0\x03\x80\x7F\0\x54\0\0\0\0\0\0\0\0\0\0\0",
     ] {
-        let booted = boot_case(rt.alloc(), &changed(&[(100, 0, section)]))?;
+        let mut booted = boot_case(rt.alloc(), &changed(&[(100, 0, section)]))?;
         expect_end(
             &rt,
             &booted,
@@ -107,10 +107,10 @@ fn a_plain_boot(rt: HostRuntime) -> Result<(), Fail> {
         assert!(rt; !booted.has_failed);
         expect_kernel(
             &rt,
-            &booted,
+            &mut booted,
             b"\x02\x81\0\0\0\0\0\0\0\0\0\0\0\0\0\0\0\0\0\0\0\x96\0\0\0\x98\x09\0",
         );
-        expect_line(&rt, &booted);
+        expect_line(&rt, &mut booted);
     }
     Ok(())
 }
@@ -140,15 +140,15 @@ fn holes_and_slots_of_all_modes(rt: HostRuntime) -> Result<(), Fail> {
         ),
     ] {
         let edits = [(95, 20, b"\x05\x06".as_slice()), (100, 0, section)];
-        let booted = boot_case(rt.alloc(), &changed(&edits))?;
+        let mut booted = boot_case(rt.alloc(), &changed(&edits))?;
         expect_end(&rt, &booted, outcome, shown);
-        expect_bytes(&rt, &booted, 0x10_0000, &protected);
+        expect_bytes(&rt, &mut booted, 0x10_0000, &protected);
     }
     Ok(())
 }
 
 // The memory's bytes are those of another boot.
-fn expect_same(rt: &impl Abort, booted: &Booted, other: &Booted) {
+fn expect_same(rt: &impl Abort, booted: &mut Booted, other: &mut Booted) {
     assert_eq!(rt; booted.ram.size(), 2_097_152);
     assert_eq!(rt; other.ram.size(), 2_097_152);
     assert!(rt; booted.bytes(0, 2_097_152) == other.bytes(0, 2_097_152));
@@ -172,9 +172,9 @@ fn slots_of_more_sectors(rt: HostRuntime) -> Result<(), Fail> {
             geometry: (3, 14),
             ..changed(&[])
         };
-        let booted = boot_case(rt.alloc(), &compact)?;
-        let other = boot_case(rt.alloc(), &single)?;
-        for it in [&booted, &other] {
+        let mut booted = boot_case(rt.alloc(), &compact)?;
+        let mut other = boot_case(rt.alloc(), &single)?;
+        for it in [&mut booted, &mut other] {
             expect_end(&rt, it, Outcome::Loaded(layout(0x10_0000, None)), LOADING);
             expect_kernel(
                 &rt,
@@ -183,7 +183,7 @@ fn slots_of_more_sectors(rt: HostRuntime) -> Result<(), Fail> {
             );
             expect_line(&rt, it);
         }
-        expect_same(&rt, &booted, &other);
+        expect_same(&rt, &mut booted, &mut other);
     }
     Ok(())
 }
@@ -207,13 +207,13 @@ fn slots_of_127_sectors(rt: HostRuntime) -> Result<(), Fail> {
         is_long: true,
         ..changed(&single)
     };
-    let booted = boot_case(rt.alloc(), &compact)?;
-    let other = boot_case(rt.alloc(), &single)?;
+    let mut booted = boot_case(rt.alloc(), &compact)?;
+    let mut other = boot_case(rt.alloc(), &single)?;
     let long = Layout {
         protected: region(0x10_0000, 130_048),
         ..layout(0x10_0000, None)
     };
-    for it in [&booted, &other] {
+    for it in [&mut booted, &mut other] {
         expect_end(&rt, it, Outcome::Loaded(long), LOADING);
         expect_bytes(&rt, it, 0xF_FFFF, b"\xEE\x80");
         for index in 0..254_u32 {
@@ -223,7 +223,7 @@ fn slots_of_127_sectors(rt: HostRuntime) -> Result<(), Fail> {
         expect_bytes(&rt, it, 0x11_FBFF, b"\x7D\xEE");
         expect_line(&rt, it);
     }
-    expect_same(&rt, &booted, &other);
+    expect_same(&rt, &mut booted, &mut other);
     Ok(())
 }
 
@@ -251,7 +251,7 @@ fn an_initrd(rt: HostRuntime) -> Result<(), Fail> {
             b"\x02\x81\0\0\0\0\0\0\0\xF0\x17\0\xBC\x02\0\0",
         ),
     ] {
-        let booted = boot_case(
+        let mut booted = boot_case(
             rt.alloc(),
             &Case {
                 memory,
@@ -272,11 +272,11 @@ fn an_initrd(rt: HostRuntime) -> Result<(), Fail> {
             Outcome::Loaded(layout(0x10_0000, Some(region(address, 700)))),
             LOADING,
         );
-        expect_bytes(&rt, &booted, 0x9_0210, fields);
-        expect_bytes(&rt, &booted, address - 1, b"\xEE\xA5");
-        expect_bytes(&rt, &booted, address, &[0xA5; 700]);
-        expect_bytes(&rt, &booted, address + 699, b"\xA5\xEE");
-        expect_line(&rt, &booted);
+        expect_bytes(&rt, &mut booted, 0x9_0210, fields);
+        expect_bytes(&rt, &mut booted, address - 1, b"\xEE\xA5");
+        expect_bytes(&rt, &mut booted, address, &[0xA5; 700]);
+        expect_bytes(&rt, &mut booted, address + 699, b"\xA5\xEE");
+        expect_line(&rt, &mut booted);
     }
     Ok(())
 }
@@ -284,7 +284,7 @@ fn an_initrd(rt: HostRuntime) -> Result<(), Fail> {
 // A kernel without a version: the protected-mode part lies low, and the line is given by its offset.
 #[test]
 fn a_low_kernel(rt: HostRuntime) -> Result<(), Fail> {
-    let booted = boot_case(rt.alloc(), &changed(&[(83, 2, &[0; 16])]))?;
+    let mut booted = boot_case(rt.alloc(), &changed(&[(83, 2, &[0; 16])]))?;
     expect_end(
         &rt,
         &booted,
@@ -297,10 +297,10 @@ fn a_low_kernel(rt: HostRuntime) -> Result<(), Fail> {
     put(&mut real, 0x1FE, b"\x55\xAA");
     put(&mut real, 0x22C, b"\xFF\xFF\xFF\x37");
     put(&mut real, 0x238, b"\xFF\0\0\0");
-    expect_bytes(&rt, &booted, 0x9_0000, &real);
-    expect_bytes(&rt, &booted, 0xFFFF, b"\xEEHELLO\xEE");
-    expect_bytes(&rt, &booted, 0x10_0000, b"\xEE");
-    expect_line(&rt, &booted);
+    expect_bytes(&rt, &mut booted, 0x9_0000, &real);
+    expect_bytes(&rt, &mut booted, 0xFFFF, b"\xEEHELLO\xEE");
+    expect_bytes(&rt, &mut booted, 0x10_0000, b"\xEE");
+    expect_line(&rt, &mut booted);
     Ok(())
 }
 
@@ -572,14 +572,14 @@ fn a_line_in_a_file(rt: HostRuntime) -> Result<(), Fail> {
         (0, 0x1C, b"\x54".as_slice()),
         (84, 0, b"LINE\x01\0\x05\0linux".as_slice()),
     ];
-    let booted = boot_case(rt.alloc(), &changed(&edits))?;
+    let mut booted = boot_case(rt.alloc(), &changed(&edits))?;
     expect_end(
         &rt,
         &booted,
         Outcome::Loaded(layout(0x10_0000, None)),
         LOADING,
     );
-    expect_bytes(&rt, &booted, 0x10_0000, b"LINE\0\xEE");
+    expect_bytes(&rt, &mut booted, 0x10_0000, b"LINE\0\xEE");
     Ok(())
 }
 
@@ -709,14 +709,14 @@ fn another_system(rt: HostRuntime) -> Result<(), Fail> {
             (82, 0, [0x66; 512].as_slice()),
             (83, 446, [0x77; 64].as_slice()),
         ];
-        let booted = boot_case(rt.alloc(), &changed(&edits))?;
+        let mut booted = boot_case(rt.alloc(), &changed(&edits))?;
         expect_end(&rt, &booted, Outcome::Handed, LOADING);
-        expect_bytes(&rt, &booted, 0x7BD, b"\xEE");
-        expect_bytes(&rt, &booted, 0x7BE, &table);
-        expect_bytes(&rt, &booted, 0x7FE, b"\xEE");
-        expect_bytes(&rt, &booted, 0x7BFF, b"\xEE");
-        expect_bytes(&rt, &booted, 0x7C00, &[0x66; 512]);
-        expect_bytes(&rt, &booted, 0x7E00, b"\xEE");
+        expect_bytes(&rt, &mut booted, 0x7BD, b"\xEE");
+        expect_bytes(&rt, &mut booted, 0x7BE, &table);
+        expect_bytes(&rt, &mut booted, 0x7FE, b"\xEE");
+        expect_bytes(&rt, &mut booted, 0x7BFF, b"\xEE");
+        expect_bytes(&rt, &mut booted, 0x7C00, &[0x66; 512]);
+        expect_bytes(&rt, &mut booted, 0x7E00, b"\xEE");
     }
     Ok(())
 }
@@ -738,12 +738,12 @@ fn first_sectors_of_others(rt: HostRuntime) -> Result<(), Fail> {
             start: start as u64,
             ..changed(&edits)
         };
-        let booted = boot_case(rt.alloc(), &case)?;
+        let mut booted = boot_case(rt.alloc(), &case)?;
         expect_end(&rt, &booted, outcome, b"");
         if outcome == Outcome::Handed {
-            expect_bytes(&rt, &booted, 0x7BFF, b"\xEE");
-            expect_bytes(&rt, &booted, 0x7C00, &[0; 510]);
-            expect_bytes(&rt, &booted, 0x7DFE, b"\x55\xAA\xEE");
+            expect_bytes(&rt, &mut booted, 0x7BFF, b"\xEE");
+            expect_bytes(&rt, &mut booted, 0x7C00, &[0; 510]);
+            expect_bytes(&rt, &mut booted, 0x7DFE, b"\x55\xAA\xEE");
         }
     }
     Ok(())

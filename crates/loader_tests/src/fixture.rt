@@ -59,7 +59,7 @@ pub struct Booted {
 
 impl Booted {
     // What is in memory, or nothing where memory ends before.
-    pub fn bytes(&self, at: u32, len: u32) -> &[u8] {
+    pub fn bytes(&mut self, at: u32, len: u32) -> &[u8] {
         let size = self.ram.size();
         if len <= size && at <= size - len {
             self.ram.bytes(at, len)

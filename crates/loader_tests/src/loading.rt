@@ -48,7 +48,7 @@ fn section_slot() -> Option<Slot> {
 }
 
 // The byte at an address, 0 past the end.
-fn byte(ram: &Ram, at: u32) -> u8 {
+fn byte(ram: &mut Ram, at: u32) -> u8 {
     if at < ram.size() {
         return ram.bytes(at, 1).first().copied().unwrap_or(0);
     }
@@ -72,10 +72,10 @@ fn load(
     let mut file = FileReader::new(&slot, 700, 1);
     let answer = load_bytes(&mut file, &mut disks, &mut ram, 0x1000, 700);
     let ends = [
-        byte(&ram, 0x1000),
-        byte(&ram, 0x11FF),
-        byte(&ram, 0x12BB),
-        byte(&ram, 0x12BC),
+        byte(&mut ram, 0x1000),
+        byte(&mut ram, 0x11FF),
+        byte(&mut ram, 0x12BB),
+        byte(&mut ram, 0x12BC),
     ];
     Ok((answer, ends))
 }

@@ -96,13 +96,13 @@ pub fn region(address: u32, length: u32) -> Region {
 }
 
 /// Memory has these bytes from an address on.
-pub fn expect_bytes(rt: &impl Abort, ram: &Ram, at: u32, bytes: &[u8]) {
+pub fn expect_bytes(rt: &impl Abort, ram: &mut Ram, at: u32, bytes: &[u8]) {
     assert!(rt; bytes.len() <= 1024 && ram.size() == 2_097_152 && at <= 2_096_128);
     assert_eq!(rt; ram.bytes(at, bytes.len() as u32), bytes, "at {at}");
 }
 
 // The kernel is loaded with zeros for its hole, and the initial ramdisk at the memory's end.
-fn expect_loaded(rt: &impl Abort, outcome: Outcome, ram: &Ram) {
+fn expect_loaded(rt: &impl Abort, outcome: Outcome, ram: &mut Ram) {
     let layout = Layout {
         real: region(0x9_0000, 1024),
         protected: region(0x10_0000, 3077),
@@ -134,7 +134,7 @@ fn a_planned_map_boots(rt: HostRuntime) -> Result<(), Fail> {
         let mut ram = full_memory(rt.alloc())?;
         let mut sink = MemSink::new(rt.alloc(), 256, &[])?;
         let outcome = booted(&rt, rt.alloc(), &mut disks, b"", &mut ram, &mut sink)?;
-        expect_loaded(&rt, outcome, &ram);
+        expect_loaded(&rt, outcome, &mut ram);
     }
     Ok(())
 }

@@ -58,7 +58,7 @@ fn a_kernel_without_a_number_of_setup_sectors_boots(rt: HostRuntime) -> Result<(
     let text = b"lba32\nimage=/least\nlabel=linux\n";
     let (outcome, _) = ended(&rt, rt.alloc(), text, b"", &mut ram, &mut sink)?;
     assert_eq!(rt; outcome, Outcome::Loaded(layout(2560, 5, 22)));
-    expect_bytes(&rt, &ram, 0x10_0000, b"HELLO\xEE");
+    expect_bytes(&rt, &mut ram, 0x10_0000, b"HELLO\xEE");
     Ok(())
 }
 
@@ -77,8 +77,8 @@ fn a_boot_with_a_password(rt: HostRuntime) -> Result<(), Fail> {
         b"LILO\nHey!\nboot: linux\nPassword: \nLoading linux\n".as_slice()
     );
     assert!(rt; holds(&line, 0, b"LINE\x02\0\x07\0linux 1", 512));
-    expect_bytes(&rt, &ram, 0x9_9800, b"BOOT_IMAGE=linux\0\xEE");
-    expect_bytes(&rt, &ram, 0x10_0000, b"HELLO\0");
+    expect_bytes(&rt, &mut ram, 0x9_9800, b"BOOT_IMAGE=linux\0\xEE");
+    expect_bytes(&rt, &mut ram, 0x10_0000, b"HELLO\0");
     Ok(())
 }
 
@@ -90,9 +90,9 @@ fn another_system_boots(rt: HostRuntime) -> Result<(), Fail> {
     let text = b"lba32\nother=/dev/hdb1\nlabel=dos\ntable=/dev/hda\n";
     let (outcome, _) = ended(&rt, rt.alloc(), text, b"", &mut ram, &mut sink)?;
     assert_eq!(rt; outcome, Outcome::Handed);
-    expect_bytes(&rt, &ram, 0x7BE, &[0xDD; 64]);
-    expect_bytes(&rt, &ram, 0x7C00, &[0; 510]);
-    expect_bytes(&rt, &ram, 0x7DFE, b"\x55\xAA\xEE");
+    expect_bytes(&rt, &mut ram, 0x7BE, &[0xDD; 64]);
+    expect_bytes(&rt, &mut ram, 0x7C00, &[0; 510]);
+    expect_bytes(&rt, &mut ram, 0x7DFE, b"\x55\xAA\xEE");
     Ok(())
 }
 
@@ -106,6 +106,6 @@ fn the_last_of_19_names_boots(rt: HostRuntime) -> Result<(), Fail> {
     let (outcome, _) = ended(&rt, rt.alloc(), text, b"", &mut ram, &mut sink)?;
     assert_eq!(rt; outcome, Outcome::Loaded(layout(2560, 5, 18)));
     assert_eq!(rt; sink.bytes(), b"LILO\nLoading s\n".as_slice());
-    expect_bytes(&rt, &ram, 0x9_9800, b"auto BOOT_IMAGE=s\0\xEE");
+    expect_bytes(&rt, &mut ram, 0x9_9800, b"auto BOOT_IMAGE=s\0\xEE");
     Ok(())
 }

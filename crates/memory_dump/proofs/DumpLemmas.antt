@@ -153,3 +153,9 @@ regions_shown layout memory a b c d e real protected initrd line =
     regions_join memory (layout.real ∷ []) (layout.protected ∷ last) a b e (region_alone memory layout.real a b real)
     (regions_join memory (layout.protected ∷ []) last b c e (region_alone memory layout.protected b c protected)
     (regions_join memory (option_to_list layout.initrd) (layout.line ∷ []) c d e initrd (region_alone memory layout.line d e line)))
+
+-- a region of one memory is that of another with the same bytes
+pub shown_in :
+    {one : List ℕ} (other : List ℕ) (region : Region) (a b : SinkState) → one ≡ other
+    → Shows a (region_text (written_in one region)) b → Shows a (region_text (written_in other region)) b
+shown_in other region a b same shown = subst (λ memory. Shows a (region_text (written_in memory region)) b) same shown

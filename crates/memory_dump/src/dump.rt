@@ -27,10 +27,11 @@ type Line = ArrayVec<u8, 128>;
 type Lines = ArrayVec<u8, 4160>;
 
 /// Shows what a kernel's loading has put into memory.
-pub fn dump_memory<O: Sink>(out: &mut Shown<'_, O>, ram: &Ram, layout: &Layout)
-    requires { LiesIn (length ram.now) layout.now }
+pub fn dump_memory<O: Sink>(out: &mut Shown<'_, O>, ram: &mut Ram, layout: &Layout)
+    requires { LiesIn (length ram.old) layout.now }
     ensures shown { Shows (sink_of O.Sink out.old)
-        (flat_map region_text (regions_of layout.now ram.now)) (sink_of O.Sink out.new) }
+        (flat_map region_text (regions_of layout.now ram.old)) (sink_of O.Sink out.new) }
+    ensures same { ram.new ≡ ram.old }
     ensures same_reference { out.new.out.ghost_name ≡ out.old.out.ghost_name }
 {
     dump_part(out, ram, layout.real);
@@ -42,8 +43,9 @@ pub fn dump_memory<O: Sink>(out: &mut Shown<'_, O>, ram: &Ram, layout: &Layout)
 }
 
 /// Shows the boot sector that memory has at 0x7C00.
-pub fn dump_sector<O: Sink>(out: &mut Shown<'_, O>, ram: &Ram)
-    ensures shown { Shows (sink_of O.Sink out.old) (region_text (boot_sector_in ram.now)) (sink_of O.Sink out.new) }
+pub fn dump_sector<O: Sink>(out: &mut Shown<'_, O>, ram: &mut Ram)
+    ensures shown { Shows (sink_of O.Sink out.old) (region_text (boot_sector_in ram.old)) (sink_of O.Sink out.new) }
+    ensures same { ram.new ≡ ram.old }
     ensures same_reference { out.new.out.ghost_name ≡ out.old.out.ghost_name }
 {
     prove!(ram.size() >= 0x7E00);
@@ -51,9 +53,10 @@ pub fn dump_sector<O: Sink>(out: &mut Shown<'_, O>, ram: &Ram)
 }
 
 // Shows a region of memory.
-fn dump_part<O: Sink>(out: &mut Shown<'_, O>, ram: &Ram, region: Region)
-    requires { EndsBy (length ram.now) region }
-    ensures shown { Shows (sink_of O.Sink out.old) (region_text (written_in ram.now region)) (sink_of O.Sink out.new) }
+fn dump_part<O: Sink>(out: &mut Shown<'_, O>, ram: &mut Ram, region: Region)
+    requires { EndsBy (length ram.old) region }
+    ensures shown { Shows (sink_of O.Sink out.old) (region_text (written_in ram.old region)) (sink_of O.Sink out.new) }
+    ensures same { ram.new ≡ ram.old }
     ensures same_reference { out.new.out.ghost_name ≡ out.old.out.ghost_name }
 {
     dump_region(

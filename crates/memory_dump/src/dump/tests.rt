@@ -122,8 +122,9 @@ fn regions_of_a_kernel(rt: HostRuntime) -> Result<(), Fail> {
     };
     let mut sink = MemSink::new(alloc, 256, &[])?;
     let mut out = Shown::new(&mut sink);
-    dump_memory(&mut out, &ram, &layout);
-    dump_memory(&mut out, &ram, &no_more);
+    dump_memory(&mut out, &mut ram, &layout);
+    assert_eq!(rt; ram.size(), 1_049_600);
+    dump_memory(&mut out, &mut ram, &no_more);
     let text: &[u8] = b"\
 00090000 2\nebfe\n00100000 5\n48454c4c4f\n00100200 3\n616263\n00099800 5\n6175746f00\n\
 00090000 2\nebfe\n00100000 0\n00099800 5\n6175746f00\n";
@@ -139,7 +140,7 @@ fn boot_sector_in_memory(rt: HostRuntime) -> Result<(), Fail> {
     let _ = ram.place(0x7DFE, b"\x55\xAA");
     let mut sink = MemSink::new(alloc, 2048, &[])?;
     let mut out = Shown::new(&mut sink);
-    dump_sector(&mut out, &ram);
+    dump_sector(&mut out, &mut ram);
     assert_eq!(rt; sink.bytes().len(), 1053);
     assert!(rt;
         sink.bytes()

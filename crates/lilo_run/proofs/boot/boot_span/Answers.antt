@@ -11,19 +11,19 @@ pub returns-in-Loaded-clause-does : goal.returns-in-Loaded-clause-does
 returns-in-Loaded-clause-does g c =
     let old = state_of g.I.Source g.O.Sink (c.args.bios.now.disks.now, c.args.bios.now.keys.now, c.args.ram.now, c.args.out.now) in
     let new = state_of g.I.Source g.O.Sink (c.boot.new.bios.disks.now, c.boot.new.bios.keys.now, c.boot.new.ram, c.tell_kernel.new.out) in
-    told_map (g.D.Disks.past c.args.bios.now.disks.now) _ _
+    rw c.tell_kernel.ensures.same (told_map (g.D.Disks.past c.args.bios.now.disks.now) _ _
     (λ now goes. keys_map g.I.Source _ _ _
     (λ all left went. boot_loaded g.D.Disks c.args.dump _ left old new (sink_of g.O.Sink c.boot.new.out) c.in-Loaded.layout c.boot.new.ram refl went.1 c.tell_kernel.ensures.shown went.0) goes)
-    c.in-Loaded.ensures.report
+    c.in-Loaded.ensures.report)
 
 pub returns-in-Handed-clause-does : goal.returns-in-Handed-clause-does
 returns-in-Handed-clause-does g c =
     let old = state_of g.I.Source g.O.Sink (c.args.bios.now.disks.now, c.args.bios.now.keys.now, c.args.ram.now, c.args.out.now) in
     let new = state_of g.I.Source g.O.Sink (c.boot.new.bios.disks.now, c.boot.new.bios.keys.now, c.boot.new.ram, c.tell_sector.new.out) in
-    told_map (g.D.Disks.past c.args.bios.now.disks.now) _ _
+    rw c.tell_sector.ensures.same (told_map (g.D.Disks.past c.args.bios.now.disks.now) _ _
     (λ now goes. keys_map g.I.Source _ _ _
     (λ all left went. boot_handed g.D.Disks c.args.dump _ left old new (sink_of g.O.Sink c.boot.new.out) c.boot.new.ram refl went.1 c.tell_sector.ensures.shown went.0) goes)
-    c.in-Handed.ensures.report
+    c.in-Handed.ensures.report)
 
 pub returns-in-Refused-clause-does : goal.returns-in-Refused-clause-does
 returns-in-Refused-clause-does g c =

@@ -172,8 +172,8 @@ impl Walk {
         held: &mut HeldZones,
     ) -> Result<(), ZoneFault>
         requires more { self.old.index < self.old.end }
-        requires begun {
-            begins (numbers_in_zone (kind_view volume.old.layout.kind)) self.old.index self.old.level ≡ true }
+        requires begun { begins (numbers_in_zone (kind_view volume.old.layout.kind))
+            self.old.index self.old.level ≡ true }
         requires hole { Told (past_of volume.old) (λ now. number_of (super_view volume.old.layout)
             (parts_of (volume_view volume.old) now) self.old ≡ Ok 0) }
         requires held { AreHeld volume.old held.old }

@@ -22,7 +22,7 @@ DevicesLieOutside image machine begun =
     (c : Image) → ((d s : ℕ) → IsApartSector begun.volume d s → c d s ≡ image d s) → KeepsDevices image c machine begun.config begun.boot
 
 -- Nothing that is read rests on what settling changes: neither where the devices lie, nor which paths of the configuration can't be followed,
--- as none of them goes on after a name that is replaced.
+-- as none of them leads to a name that is replaced, or goes on after it.
 pub record IsSteady (image : Image) (machine : Machine) (begun : Begun) : Type 0 where
   pub devices : DevicesLieOutside image machine begun
   pub paths : (names : model.OwnNames) → AreOwn image begun names → AllPassBy (names_in begun.volume image) names begun.config

@@ -306,7 +306,7 @@ abbrev pub TellsOne : {D : Type 0} → List (List ℕ) → Scene D → Scene D �
 TellsOne texts old new = PrintsOne old.taken texts new.taken old.faults new.faults
 
 -- A part showed its text, as far as the sink took it: the verdict's with its status, a text of a failure with 8 to 11, one
--- of want of memory with 13, and with 12 in the place of 0 a prefix of the verdict's. Where it wasn't a failure's, these
+-- that memory ended with 13, and with 12 in the place of 0 a prefix of the verdict's. Where it wasn't a failure's, these
 -- keys are left, and what is to be written was; a failure before the write left the disks, one in it has written it or
 -- hasn't, and one after it left it written: the disks' count of faults rose from the part's entry, from the write's start
 -- or from its end on. What an installation leaves goes with its status, which is 0 in the place of 12. The source's count

@@ -152,7 +152,7 @@ abbrev pub installed_answer : Image → Machine → Option Device → List ℕ �
 installed_answer image machine root path time left =
     with_fault Reading (begun_at image machine root path) >>= install_on image machine left.settled time
 
--- what is printed of it where a disk failed before the commit: the line alone, or behind the text of the answer
+-- what is printed of it where a disk failed before the commit: the line alone, or after the text of the answer
 abbrev pub lost_text : Verdict → Left → List ℕ
 lost_text verdict left = failed_behind device_failed (if left.answered then verdict.text else [])
 

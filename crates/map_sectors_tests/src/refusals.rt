@@ -53,7 +53,7 @@ fn is_refused(rt: &impl Abort, alloc: Global, text: &[u8], told: Told) -> bool {
     }
 }
 
-// A fault that stands in one place of a configuration.
+// A fault in one place of a configuration.
 #[derive(Clone, Copy)]
 struct Broken {
     place: usize,
@@ -65,7 +65,7 @@ fn fault_at(place: usize, text: &'static [u8], told: Told) -> Broken {
     Broken { place, text, told }
 }
 
-// What stands in a place of a configuration without a fault: in the first four nothing, then a kernel and its initial
+// What is in a place of a configuration without a fault: in the first four nothing, then a kernel and its initial
 // ramdisk, another system and its table, a kernel, and one that may be omitted and is.
 fn sound(place: usize) -> &'static [u8] {
     match place {
@@ -77,7 +77,7 @@ fn sound(place: usize) -> &'static [u8] {
     }
 }
 
-// What stands there where these two have faults.
+// What is there where these two have faults.
 fn part_at(place: usize, first: &Broken, second: &Broken) -> &'static [u8] {
     if place == first.place {
         first.text
@@ -111,7 +111,7 @@ fn comes_first(
     Ok(is_refused(rt, alloc, text.as_slice(), first.told))
 }
 
-// Whether a fault is reported where one of those after it stands too.
+// Whether a fault is reported where one of those after it is there too.
 fn comes_before(
     rt: &impl Abort,
     alloc: Global,

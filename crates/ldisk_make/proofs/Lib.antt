@@ -1,3 +1,4 @@
+pub mod EntryLemmas
 pub mod MakeLemmas
 pub mod TableLemmas
 pub mod VolumeLemmas

@@ -4,11 +4,13 @@
 #![tactic(auto)]
 
 mod fault;
+mod laws;
 mod place;
 mod table;
 mod volume;
 
 pub use fault::MakeFault;
+pub use laws::table_reads_as_asked;
 pub use place::are_placed;
 pub use table::make;
 pub use volume::mkfs;

@@ -81,6 +81,22 @@ fn expect_line(rt: &impl Abort, booted: &mut Booted) {
     );
 }
 
+// The small kernel was loaded, with its line.
+fn expect_hello(rt: &impl Abort, booted: &mut Booted) {
+    expect_end(
+        rt,
+        booted,
+        Outcome::Loaded(layout(0x10_0000, None)),
+        LOADING,
+    );
+    expect_kernel(
+        rt,
+        booted,
+        b"\x02\x81\0\0\0\0\0\0\0\0\0\0\0\0\0\0\0\0\0\0\0\x96\0\0\0\x98\x09\0",
+    );
+    expect_line(rt, booted);
+}
+
 fn put(bytes: &mut [u8; 1024], at: usize, part: &[u8]) {
     if part.len() <= 1024 && at <= 1024 - part.len() {
         bytes[at..at + part.len()].copy_from_slice(part);
@@ -98,19 +114,8 @@ fn a_plain_boot(rt: HostRuntime) -> Result<(), Fail> {
         b"\x02\x80\x02\0\x52\0\0\0\x03\x80\x7F\0\x54\0\0\0\0\0\0\0\0\0\0\0",
     ] {
         let mut booted = boot_case(rt.alloc(), &changed(&[(100, 0, section)]))?;
-        expect_end(
-            &rt,
-            &booted,
-            Outcome::Loaded(layout(0x10_0000, None)),
-            LOADING,
-        );
         assert!(rt; !booted.has_failed);
-        expect_kernel(
-            &rt,
-            &mut booted,
-            b"\x02\x81\0\0\0\0\0\0\0\0\0\0\0\0\0\0\0\0\0\0\0\x96\0\0\0\x98\x09\0",
-        );
-        expect_line(&rt, &mut booted);
+        expect_hello(&rt, &mut booted);
     }
     Ok(())
 }
@@ -154,6 +159,22 @@ fn expect_same(rt: &impl Abort, booted: &mut Booted, other: &mut Booted) {
     assert!(rt; booted.bytes(0, 2_097_152) == other.bytes(0, 2_097_152));
 }
 
+// The kernel of 256 sectors was loaded, with its line.
+fn expect_long(rt: &impl Abort, booted: &mut Booted) {
+    let long = Layout {
+        protected: region(0x10_0000, 130_048),
+        ..layout(0x10_0000, None)
+    };
+    expect_end(rt, booted, Outcome::Loaded(long), LOADING);
+    expect_bytes(rt, booted, 0xF_FFFF, b"\xEE\x80");
+    for index in 0..254_u32 {
+        let sector = [((index + 128) % 256) as u8; 512];
+        expect_bytes(rt, booted, 0x10_0000 + 512 * index, &sector);
+    }
+    expect_bytes(rt, booted, 0x11_FBFF, b"\x7D\xEE");
+    expect_line(rt, booted);
+}
+
 // Slots of more sectors load what slots of one load: with sectors by number, up to a track's end, and over a
 // cylinder's end. A cylinder has 42 sectors, and the kernel's third one begins the next.
 #[test]
@@ -174,15 +195,8 @@ fn slots_of_more_sectors(rt: HostRuntime) -> Result<(), Fail> {
         };
         let mut booted = boot_case(rt.alloc(), &compact)?;
         let mut other = boot_case(rt.alloc(), &single)?;
-        for it in [&mut booted, &mut other] {
-            expect_end(&rt, it, Outcome::Loaded(layout(0x10_0000, None)), LOADING);
-            expect_kernel(
-                &rt,
-                it,
-                b"\x02\x81\0\0\0\0\0\0\0\0\0\0\0\0\0\0\0\0\0\0\0\x96\0\0\0\x98\x09\0",
-            );
-            expect_line(&rt, it);
-        }
+        expect_hello(&rt, &mut booted);
+        expect_hello(&rt, &mut other);
         expect_same(&rt, &mut booted, &mut other);
     }
     Ok(())
@@ -209,20 +223,8 @@ fn slots_of_127_sectors(rt: HostRuntime) -> Result<(), Fail> {
     };
     let mut booted = boot_case(rt.alloc(), &compact)?;
     let mut other = boot_case(rt.alloc(), &single)?;
-    let long = Layout {
-        protected: region(0x10_0000, 130_048),
-        ..layout(0x10_0000, None)
-    };
-    for it in [&mut booted, &mut other] {
-        expect_end(&rt, it, Outcome::Loaded(long), LOADING);
-        expect_bytes(&rt, it, 0xF_FFFF, b"\xEE\x80");
-        for index in 0..254_u32 {
-            let sector = [((index + 128) % 256) as u8; 512];
-            expect_bytes(&rt, it, 0x10_0000 + 512 * index, &sector);
-        }
-        expect_bytes(&rt, it, 0x11_FBFF, b"\x7D\xEE");
-        expect_line(&rt, it);
-    }
+    expect_long(&rt, &mut booted);
+    expect_long(&rt, &mut other);
     expect_same(&rt, &mut booted, &mut other);
     Ok(())
 }

@@ -11,13 +11,16 @@ mod image;
 use disk_trait::{Disks, FileDisks, untold};
 use host_parts::{StartFault, arguments, now_seconds};
 use image::open_image;
-use lilo_run::{Ram, lilo};
+use lilo_run::{Ram, boots, lilo};
 use std::fs::File;
 use std::process::ExitCode;
 use stream_trait::{StdSink, StdSource, Words};
 
-/// The memory of the modelled PC, in bytes.
+/// The memory of the modelled PC where a part boots, in bytes.
 const MEMORY: u32 = 16_777_216;
+
+/// Its memory where none does: the least that there is, since nothing looks at it.
+const LEAST_MEMORY: u32 = 1_048_576;
 
 /// The most disks that a BIOS numbers here.
 const DISKS: u8 = 4;
@@ -39,7 +42,8 @@ fn run(rt: &HostRuntime) -> Result<u8, StartFault> {
     sort_arguments(rt, &mut disks, &mut words)?;
     let mut keys = StdSource::new(rt.stdin());
     let mut out = StdSink::new(rt.stdout());
-    let mut ram = Ram::new(alloc, MEMORY)?;
+    let memory = if boots(&words) { MEMORY } else { LEAST_MEMORY };
+    let mut ram = Ram::new(alloc, memory)?;
     let now = now_seconds(rt);
     untold();
     Ok(lilo(

@@ -94,3 +94,25 @@ pub all_are_left :
     → run_left keys (effects_of now machine memory time words lefts keys) ≡ keys
 unfolding effects_of
 all_are_left now machine memory time words lefts keys none = words_left machine memory time now words lefts keys (run_at words) none
+
+first_by : (first rest : Bool) → first ≡ true → (first || rest) ≡ true
+first_by true rest is = refl
+first_by false rest is = absurd cc
+
+rest_by : (first rest : Bool) → first ≡ false → (first || rest) ≡ rest
+rest_by true rest is = absurd cc
+rest_by false rest is = refl
+
+-- a run whose first part boots
+pub boots_first : (part : Part) (parts all : List Part) → all ≡ part ∷ parts → is_boot part.command ≡ true → has_boot all ≡ true
+unfolding has_boot
+boots_first part parts all is boots = rw is (first_by (is_boot part.command) (has_boot parts) boots)
+
+-- one whose first part doesn't boots where the others do
+pub boots_later : (part : Part) (parts all : List Part) → all ≡ part ∷ parts → is_boot part.command ≡ false → has_boot all ≡ has_boot parts
+unfolding has_boot
+boots_later part parts all is none = rw is (rest_by (is_boot part.command) (has_boot parts) none)
+
+pub none_boots : has_boot [] ≡ false
+unfolding has_boot
+none_boots = refl

@@ -9,6 +9,7 @@ mod conf;
 mod install_part;
 mod laws;
 mod line;
+mod memory;
 mod part;
 mod place;
 mod query;
@@ -20,4 +21,5 @@ pub use bios_model::Ram;
 pub use laws::{
     boots_answer_as_the_model, keys_matter_to_boots_alone, memory_matters_to_boots_alone,
 };
+pub use memory::boots;
 pub use run::lilo;

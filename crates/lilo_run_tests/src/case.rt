@@ -201,7 +201,7 @@ fn put_sector(disks: &mut MemDisks, case: &Case<'_>, number: u32, bytes: &Sector
     }
 }
 
-fn words_of(alloc: Global, line: &[&str]) -> Result<Words, AllocError> {
+pub fn words_of(alloc: Global, line: &[&str]) -> Result<Words, AllocError> {
     let mut words = Words::new(alloc);
     for word in line {
         words.push(alloc, word)?;

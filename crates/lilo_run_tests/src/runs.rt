@@ -1,4 +1,5 @@
-use crate::case::{BOOT, Case, QUERY, WHOLE, answer, run};
+use crate::case::{BOOT, Case, QUERY, WHOLE, answer, run, words_of};
+use lilo_run::boots;
 use std::test::Fail;
 
 const LISTS: [Case<'static>; 11] = [
@@ -458,6 +459,24 @@ fn four_sectors_are_read_and_one_text_is_put(rt: HostRuntime) -> Result<(), Fail
         let (status, as_wanted) = run(rt.alloc(), &case)?;
         assert_eq!(rt; status, case.status, "calls {:?}", case.failing_calls);
         assert!(rt; as_wanted, "calls {:?}", case.failing_calls);
+    }
+    Ok(())
+}
+
+#[test]
+fn words_that_boot(rt: HostRuntime) -> Result<(), Fail> {
+    let lines: [(&[&str], bool); 6] = [
+        (&["boot", "/dev/hda"], true),
+        (&["-q", "--then", "boot", "/dev/hda", "--dump"], true),
+        (&["-q", "/dev/hda"], false),
+        (&[], false),
+        (&["-R", "boot"], false),
+        // No run.
+        (&["boot", "/dev/hda", "--then", "boot"], false),
+    ];
+    for (line, wanted) in lines {
+        let words = words_of(rt.alloc(), line)?;
+        assert_eq!(rt; boots(&words), wanted, "{line:?}");
     }
     Ok(())
 }

@@ -4,14 +4,14 @@ use std::io::Read;
 use std::marker::Model;
 
 // How many bytes one read asks for.
-const BUFFER: usize = 512;
+const BUFFER: usize = 4096;
 
 // How many bytes a source can give in all, 2 ^ 40.
 const CAN_GIVE: u64 = 1_099_511_627_776;
 
 /// Gives the bytes of a reader, of which it reports nothing beforehand.
 ///
-/// It reads up to 512 bytes at a time. It can give 1,099,511,627,776 bytes in all, and then answers
+/// It reads up to 4096 bytes at a time. It can give 1,099,511,627,776 bytes in all, and then answers
 /// `Failed`, which is a fault. A read that fails is a fault too, also one that was interrupted. A
 /// read that gives no byte ends the source for good. The count of faults stays at `u64::MAX`.
 #[derive(Drop)]
@@ -40,7 +40,7 @@ impl<R: Read + Drop> Model for StdSource<R> {
       faults = s.faults;
     } };
 
-    ghost invariant = { λ s. (s.at ≤ s.filled) × (s.filled ≤ 512)
+    ghost invariant = { λ s. (s.at ≤ s.filled) × (s.filled ≤ 4096)
         × (IsTrue s.ended → (s.at ≡ s.filled) × IsAtEnd (R.remaining s.reader)) };
 }
 

@@ -16,6 +16,8 @@ use std::marker::Model;
 #[derive(Drop)]
 pub struct FileDisks<F> {
     disks: Vec<Option<FileDisk<F>>>,
+    // Whether all is durable: each file was synced, and nothing was written since.
+    durable: bool,
     faults: u64,
 }
 
@@ -34,6 +36,7 @@ impl<F> FileDisks<F> {
     {
         FileDisks {
             disks: Vec::new(alloc),
+            durable: false,
             faults: 0,
         }
     }
@@ -55,6 +58,7 @@ impl<F: Drop> FileDisks<F> {
         ensures ok { OnOk result (self.new ≡ record self.old { disks = self.old.disks ++ disk ∷ [] }) }
         ensures err { OnErr result (self.new ≡ self.old) }
     {
+        self.durable = false;
         self.disks.push(disk)?;
         Ok(())
     }
@@ -77,6 +81,7 @@ impl<F: Read + Write + Seek + OpenFile> FileDisks<F> {
         ensures { self.new ≡ self.old }
     {
         self.forget_all();
+        self.durable = false;
         match &mut self.disks[usize::from(disk)] {
             Some(file) => file.write(sector, from),
             None => unreachable!(),
@@ -150,9 +155,13 @@ impl<F: Read + Write + Seek + OpenFile + Drop> Disks for FileDisks<F> {
         }
     }
 
-    /// Syncs each file that is there, also after one has failed.
+    /// Syncs each file that is there, also after one has failed. Where nothing was written since all were synced,
+    /// there is nothing to sync.
     fn flush(&mut self) -> Result<(), DiskFault> {
-        if self.sync_all() {
+        if !self.durable {
+            self.durable = self.sync_all();
+        }
+        if self.durable {
             return Ok(());
         }
         Err(self.failure())

@@ -9,10 +9,9 @@
 mod image;
 
 use disk_trait::{Disks, FileDisks, untold};
-use host_parts::{StartFault, arguments, now_seconds};
+use host_parts::{ImageFile, StartFault, arguments, now_seconds};
 use image::open_image;
 use lilo_run::{Ram, boots, lilo};
-use std::fs::File;
 use std::process::ExitCode;
 use stream_trait::{StdSink, StdSource, Words};
 
@@ -54,7 +53,7 @@ fn run(rt: &HostRuntime) -> Result<u8, StartFault> {
 /// Opens the images, and keeps the arguments after the first `--`.
 fn sort_arguments(
     rt: &HostRuntime,
-    disks: &mut FileDisks<File>,
+    disks: &mut FileDisks<ImageFile>,
     words: &mut Words,
 ) -> Result<(), StartFault> {
     let mut are_words = false;
@@ -73,7 +72,7 @@ fn sort_arguments(
 /// Opens an image as the next disk.
 fn add_image(
     rt: &HostRuntime,
-    disks: &mut FileDisks<File>,
+    disks: &mut FileDisks<ImageFile>,
     word: String,
 ) -> Result<(), StartFault> {
     if disks.count() >= DISKS {

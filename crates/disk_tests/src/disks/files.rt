@@ -300,25 +300,35 @@ fn files_that_are_short_or_fail(rt: HostRuntime) -> Result<(), Fail> {
     Ok(())
 }
 
+// Also after one that failed. Where nothing was written since all were synced, none is synced again.
 #[test]
 fn a_flush_syncs_each_file(rt: HostRuntime) -> Result<(), Fail> {
     let (first, second) = (Calls::new(), Calls::new());
     let mut disks = counted_disks(rt.alloc(), [&first, &second])?;
-    for (first_fails, second_fails) in [
-        (false, false),
-        (true, false),
-        (false, true),
-        (true, true),
+    for (is_written, first_fails, second_fails, is_synced) in [
+        (false, true, false, true),
+        (false, false, true, true),
+        (false, true, true, true),
+        (false, false, false, true),
+        (false, true, true, false),
+        (true, true, false, true),
+        (false, false, false, true),
+        (true, false, false, true),
+        (false, false, false, false),
     ] {
+        if is_written {
+            assert_eq!(rt; make(&mut disks, Call::Write(1, 0, 6)), Ok(0));
+        }
         first.syncs_fail.set(first_fails);
         second.syncs_fail.set(second_fails);
-        let answer = if first_fails || second_fails {
+        let answer = if is_synced && (first_fails || second_fails) {
             Err(DiskFault::Failed)
         } else {
             Ok(())
         };
         assert_eq!(rt; disks.flush(), answer);
-        assert_eq!(rt; [first.syncs.replace(0), second.syncs.replace(0)], [1, 1]);
+        let syncs = [first.syncs.replace(0), second.syncs.replace(0)];
+        assert_eq!(rt; syncs, [u32::from(is_synced); 2]);
     }
     Ok(())
 }

@@ -7,8 +7,6 @@
 mod backup;
 mod boot_sector;
 mod restore_fault;
-#[cfg(test)]
-mod tests;
 
 pub use boot_sector::restore;
 pub use restore_fault::RestoreFault;

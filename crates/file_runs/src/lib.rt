@@ -8,8 +8,6 @@ mod file;
 mod laws;
 mod list;
 mod path;
-#[cfg(test)]
-mod tests;
 
 pub use file::runs_of;
 pub use laws::{no_fewer_runs, sound_files_lie_as_planned, sound_paths_are_mapped_as_planned};

@@ -10,8 +10,6 @@ mod backup;
 mod fault;
 mod name;
 mod own;
-#[cfg(test)]
-mod tests;
 
 pub use apart::check_apart;
 pub use fault::{ApartFault, NameFault};

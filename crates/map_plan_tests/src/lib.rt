@@ -3,3 +3,9 @@
 
 #[cfg(test)]
 mod plans;
+#[cfg(test)]
+mod runs;
+#[cfg(test)]
+mod sections;
+#[cfg(test)]
+mod slots;

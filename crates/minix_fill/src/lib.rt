@@ -7,8 +7,6 @@
 mod fill;
 mod mark;
 mod numbers;
-#[cfg(test)]
-mod tests;
 
 pub use fill::fill_file;
 pub use mark::mark_zones;

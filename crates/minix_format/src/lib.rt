@@ -9,8 +9,6 @@ mod format_fault;
 mod laws;
 mod layout;
 mod sector;
-#[cfg(test)]
-mod tests;
 mod volume;
 
 pub use format_fault::FormatFault;

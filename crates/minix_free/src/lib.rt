@@ -6,7 +6,5 @@
 
 mod clear;
 mod free;
-#[cfg(test)]
-mod tests;
 
 pub use free::free_file;

@@ -9,8 +9,6 @@ mod inode;
 mod laws;
 mod mark;
 mod ready;
-#[cfg(test)]
-mod tests;
 mod write;
 mod zone;
 

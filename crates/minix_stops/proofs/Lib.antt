@@ -1,3 +1,2 @@
 mod OwnLemmas
 mod SmallLemmas
-mod TestLemmas

@@ -3,8 +3,6 @@
 
 mod laws;
 mod small;
-#[cfg(test)]
-mod tests;
 
 pub use laws::{soundness_is_of_own_sectors, whole_disks};
 pub use small::{SMALL_SPAN, open_small, small_disks};

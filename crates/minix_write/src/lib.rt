@@ -10,8 +10,6 @@ mod growth;
 mod halt;
 mod pick;
 mod taken;
-#[cfg(test)]
-mod tests;
 mod wish;
 mod write_fault;
 

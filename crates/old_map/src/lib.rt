@@ -12,8 +12,6 @@ mod map;
 mod met_zones;
 mod old_map;
 mod place;
-#[cfg(test)]
-mod tests;
 
 pub use clear::is_clear;
 pub use holder::holds_table;

@@ -5,7 +5,5 @@
 #![tactic(auto)]
 
 mod shot;
-#[cfg(test)]
-mod tests;
 
 pub use shot::{ShotFault, clear_line, set_line};

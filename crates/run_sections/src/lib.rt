@@ -5,8 +5,6 @@
 mod count;
 mod laws;
 mod section;
-#[cfg(test)]
-mod tests;
 
 pub use count::{both_slots, count_slots};
 pub use laws::{

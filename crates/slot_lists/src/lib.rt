@@ -6,8 +6,6 @@ mod cursor;
 mod laws;
 mod runs;
 mod slots;
-#[cfg(test)]
-mod tests;
 
 pub use cursor::SlotCursor;
 pub use laws::{checked_places_are_the_maps, cursor_gives_all_slots};

@@ -1,5 +1,5 @@
 -- The first of what fails: an answer that is the first of facts at places, of items in turn, and of stages.
-use Rattle.std.proofs.Common.{◌≡◌, ℕ, zero, suc, ◌<◌, ◌≤◌, Bool, true, false, List, [], ◌∷◌, length, Some, None, Option, inl, inr, refl, sym, ◌∙◌, subst, arith}
+use Rattle.std.proofs.Common.{◌≡◌, ℕ, zero, suc, ◌<◌, ◌≤◌, Bool, true, false, List, [], ◌∷◌, ◌++◌, length, Some, None, Option, inl, inr, refl, sym, ◌∙◌, subst, arith}
 use Rattle.std.specs.Prelude.{◌⊎◌}
 use Rattle.std.proofs.lemmas.Bool.{cases_lt}
 use Rattle.lilo_model.specs.ConfRefusal.{ConfRefusal}
@@ -147,6 +147,25 @@ decides-stage k F next xs s o each answers = record {
   answers = answers-stage k (λ item test r. ItemFails F next s xs item test r) o answers;
   one = λ at r r' f g. one-item F next each xs s at.item at.test r r' f.1 g.1;
 }
+
+-- what is decided only where there is no refusal yet
+abbrev pub unless : {R : Type 0} → Option R → Option R → Option R
+unless None o = o
+unless (Some r) o = None
+
+pub decides-unless : (c : Option ConfRefusal) (F : Place → ConfRefusal → Type 0) (o : Option ConfRefusal) → Decides F o → Decides (λ at r. (c ≡ None) × F at r) (unless c o)
+decides-unless None F o d = record {
+  answers = answers-same IsBefore F (λ at r. (None ≡ None) × F at r) o (λ at r f. (refl, f)) (λ at r f. f.1) d.answers;
+  one = λ at r s f g. d.one at r s f.1 g.1;
+}
+decides-unless (Some c) F o d = record { answers = λ at r f. absurd (let e = f.0 in cc); one = λ at r s f g. d.one at r s f.1 g.1 }
+
+-- items before others
+pub items-before : {S X R : Type 0} (F : S → X → ℕ → R → Type 0) (next : S → X → S) (xs ys : List X) (s : S) (item test : ℕ) (r : R)
+    → ItemFails F next s xs item test r → ItemFails F next s (xs ++ ys) item test r
+items-before F next [] ys s item test r f = absurd f
+items-before F next (x ∷ xs) ys s zero test r f = f
+items-before F next (x ∷ xs) ys s (suc item) test r f = items-before F next xs ys (next s x) item test r f
 
 -- one test of a stage
 pub decides-one : (b : Bool) (p : Place) (r : ConfRefusal) → Decides (λ at s. (b ≡ true) × (at ≡ p) × (r ≡ s)) (only b r)

@@ -12,4 +12,5 @@ pub mod Disks
 pub mod Lawful
 pub mod Sample
 pub mod First
+pub mod Reading
 pub mod Order

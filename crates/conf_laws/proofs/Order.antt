@@ -11,17 +11,18 @@ use Rattle.lilo_model.specs.ConfOptions.{Opt, takes_of, stands_in, opens, is_of_
 use Rattle.lilo_model.specs.ConfValues.{is_value, is_name, last_part, name_limit, names_limit}
 use Rattle.lilo_model.specs.ConfRefusal as reasons
 use Rattle.lilo_model.specs.ConfRefusal.{ConfReason, ConfRefusal}
-use Rattle.lilo_model.specs.ConfSettings.{Given, Bare, Sign, Value, Setting, text_settings}
+use Rattle.lilo_model.specs.ConfSettings.{Given, Bare, Sign, Value, Setting, text_refusal, text_settings}
 use Rattle.lilo_model.specs.ConfJudge.{part_after, part_kind, has_option, setting_disk, is_same_disk, details_of, group_disk, excluded_in, takes_nothing, text_reason, given_reason, value_reason, disk_reason, detail_reason, part_reason, setting_reason, settings_refusal}
 use Rattle.lilo_model.specs.Conf.{Config, ConfParts, parts_of, value_of, opener_of, opening_line, excludes_line, section_path, section_label, section_names, label_reason, section_refusal, sections_refusal, is_locked_fallback, is_open_restricted, line_of, has_name, many_refusal, names_reason, names_from, default_refusal, conf_limit, too_long, config_of, whole_of, conf_at}
 use Rattle.lilo_model.specs.Checks.{◌>>=◌, no_fault}
 use Rattle.conf_laws.proofs.Names.{names_from-names}
-use Rattle.conf_laws.specs.Order.{ItemFails, IsOfPart, IsDetail, IsGroup, disk_behind, PlaceFails, misplaced, misplaced_disk, misplaced_detail, repeated, repeated_disk, repeated_detail, excluded, ValueFails, no_value, unwanted, bad_value, long_name, OptionFails, SettingFails, IsNamedByPath, WholeFails, bad_path_name, long_path_name, locked, restricted, NewNameFails, label, alias, many, names_after, Place, place, IsBefore, Fails, is_long, unread, of_option, of_section, of_names, no_section, of_default, FailsFirst, OrderLaw}
-use Rattle.conf_laws.proofs.First.{Answers, first_or, answers-same, answers-join, only, IsItemBefore, first_in, answers-items, IsOne, within-items, Decides, before-apart, decides-join, decides-stage, decides-one, three-ways}
+use Rattle.conf_laws.specs.Order.{ItemFails, IsOfPart, IsDetail, IsGroup, disk_behind, PlaceFails, misplaced, misplaced_disk, misplaced_detail, repeated, repeated_disk, repeated_detail, excluded, ValueFails, no_value, unwanted, bad_value, long_name, OptionFails, SettingFails, IsNamedByPath, WholeFails, bad_path_name, long_path_name, locked, restricted, NewNameFails, label, alias, many, names_after, Place, place, IsBefore, Fails, is_long, faulty, unknown, left_out, of_option, of_section, of_names, no_section, of_default, FailsFirst, OrderLaw}
+use Rattle.conf_laws.proofs.Reading.{reading_test, meets-cut, unknown-cut, left_out-cut, read-before, refused-read, whole-read, all-reached, all-read, read-fails}
+use Rattle.conf_laws.proofs.First.{Answers, first_or, answers-same, answers-join, only, IsItemBefore, first_in, answers-items, IsOne, within-items, Decides, before-apart, decides-join, decides-stage, decides-one, unless, decides-unless, items-before, three-ways}
 
 -- ---- the value of an option
 
-value-late : (disk : ℕ) (setting : Setting) (t : ℕ) (r : ConfReason) → ValueFails disk setting t r → 5 ≤ t
+value-late : (disk : ℕ) (setting : Setting) (t : ℕ) (r : ConfReason) → ValueFails disk setting t r → 6 ≤ t
 value-late disk setting t r (no_value a b) = omega arith
 value-late disk setting t r (unwanted a b) = omega arith
 value-late disk setting t r (bad_value a b c) = omega arith
@@ -37,7 +38,7 @@ module _ (disk : ℕ) (setting : Setting) where
 
       -- a good value fails nothing but its length
       good-fails : is_value (takes_of setting.option) disk text ≡ true → (t : ℕ) (r : ConfReason) → ValueFails disk setting t r
-          → (t ≡ 7) × (is_of_name setting.option ≡ true) × (name_limit < length text)
+          → (t ≡ 8) × (is_of_name setting.option ≡ true) × (name_limit < length text)
       good-fails good t r (no_value takes (inl bare)) = absurd (cc)
       good-fails good t r (no_value takes (inr sign)) = absurd (cc)
       good-fails good t r (unwanted takes sign) = absurd (cc)
@@ -45,7 +46,7 @@ module _ (disk : ℕ) (setting : Setting) where
       good-fails good t r (long_name other same named long) = (refl, named, rw (is-text other same) at long)
 
       -- a bad one fails nothing before
-      bad-fails : (t : ℕ) (r : ConfReason) → ValueFails disk setting t r → 6 ≤ t
+      bad-fails : (t : ℕ) (r : ConfReason) → ValueFails disk setting t r → 7 ≤ t
       bad-fails t r (no_value takes (inl bare)) = absurd (cc)
       bad-fails t r (no_value takes (inr sign)) = absurd (cc)
       bad-fails t r (unwanted takes sign) = absurd (cc)
@@ -57,7 +58,7 @@ module _ (disk : ℕ) (setting : Setting) where
       named good true long =
           let parts = and_parts (is_of_name setting.option) (nat_lt name_limit (length text)) long in
           rw (good, long) (
-            7,
+            8,
             long_name text is parts.0 (ltb-true name_limit (length text) parts.1),
             λ before other less f. let g = good-fails good before other f in omega (arith, less, g.0),
           )
@@ -66,7 +67,7 @@ module _ (disk : ℕ) (setting : Setting) where
           both_ways _ long e)
 
       first : (good : Bool) → is_value (takes_of setting.option) disk text ≡ good → Answers ◌<◌ (ValueFails disk setting) (text_reason setting.option disk text)
-      first false bad = rw bad (6, bad_value text is bad, λ before other less f. let g = bad-fails before other f in omega (arith, less, g))
+      first false bad = rw bad (7, bad_value text is bad, λ before other less f. let g = bad-fails before other f in omega (arith, less, g))
       first true good = named good _ refl
 
   answers-value : Answers ◌<◌ (ValueFails disk setting) (value_reason disk setting)
@@ -75,7 +76,7 @@ module _ (disk : ℕ) (setting : Setting) where
     where
       -- nothing but a value may be bad or long
       without : (setting.given ≡ Bare) ⊎ (setting.given ≡ Sign) → (t : ℕ) (r : ConfReason) → ValueFails disk setting t r
-          → ((t ≡ 5) × (takes_nothing (takes_of setting.option) ≡ false)) ⊎ ((t ≡ 6) × (takes_nothing (takes_of setting.option) ≡ true) × (setting.given ≡ Sign))
+          → ((t ≡ 6) × (takes_nothing (takes_of setting.option) ≡ false)) ⊎ ((t ≡ 7) × (takes_nothing (takes_of setting.option) ≡ true) × (setting.given ≡ Sign))
       without given t r (no_value takes some) = inl (refl, takes)
       without given t r (unwanted takes sign) = inr (refl, takes, sign)
       without (inl bare) t r (bad_value text is bad) = absurd (cc)
@@ -85,11 +86,11 @@ module _ (disk : ℕ) (setting : Setting) where
 
       bare : setting.given ≡ Bare → (nothing : Bool) → takes_nothing (takes_of setting.option) ≡ nothing → Answers ◌<◌ (ValueFails disk setting) (given_reason setting.option disk Bare)
       bare is true nothing = rw nothing (λ at r f. elim (without (inl is) at r f) [ inl g ↦ both_ways _ g.1 nothing | inr g ↦ absurd (let e = g.2 in cc) ])
-      bare is false nothing = rw nothing (5, no_value nothing (inl is), λ before other less f. let g = value-late disk setting before other f in omega (arith, less, g))
+      bare is false nothing = rw nothing (6, no_value nothing (inl is), λ before other less f. let g = value-late disk setting before other f in omega (arith, less, g))
 
       sign : setting.given ≡ Sign → (nothing : Bool) → takes_nothing (takes_of setting.option) ≡ nothing → Answers ◌<◌ (ValueFails disk setting) (given_reason setting.option disk Sign)
-      sign is true nothing = rw nothing (6, unwanted nothing is, λ before other less f. elim (without (inr is) before other f) [ inl g ↦ both_ways _ g.1 nothing | inr g ↦ omega (arith, less, g.0) ])
-      sign is false nothing = rw nothing (5, no_value nothing (inr is), λ before other less f. let g = value-late disk setting before other f in omega (arith, less, g))
+      sign is true nothing = rw nothing (7, unwanted nothing is, λ before other less f. elim (without (inr is) before other f) [ inl g ↦ both_ways _ g.1 nothing | inr g ↦ omega (arith, less, g.0) ])
+      sign is false nothing = rw nothing (6, no_value nothing (inr is), λ before other less f. let g = value-late disk setting before other f in omega (arith, less, g))
 
       by : (given : Given) → setting.given ≡ given → Answers ◌<◌ (ValueFails disk setting) (given_reason setting.option disk setting.given)
       by Bare is = subst (λ g. Answers ◌<◌ (ValueFails disk setting) (given_reason setting.option disk g)) (sym is) (bare is _ refl)
@@ -98,14 +99,14 @@ module _ (disk : ℕ) (setting : Setting) where
 
 -- ---- an option
 
-place-early : (own : List Setting) (setting : Setting) (t : ℕ) (r : ConfReason) → PlaceFails own setting t r → t ≤ 4
+place-early : (own : List Setting) (setting : Setting) (t : ℕ) (r : ConfReason) → PlaceFails own setting t r → t ≤ 5
 place-early own setting t r (misplaced a b) = omega arith
 place-early own setting t r (misplaced_disk a b) = omega arith
 place-early own setting t r (misplaced_detail a b) = omega arith
 place-early own setting t r (repeated a b) = omega arith
 place-early own setting t r (repeated_disk a b) = omega arith
 place-early own setting t r (repeated_detail a b) = omega arith
-place-early own setting t r (excluded beside a b) = omega arith
+place-early own setting t r (excluded beside a fresh b) = omega arith
 
 -- where it is, and then its value
 record Judged (own : List Setting) (setting : Setting) : Type 0 where
@@ -125,26 +126,26 @@ module _ (own : List Setting) (setting : Setting) where
       nothing t r (repeated a b) = both_ways _ a.0 opening
       nothing t r (repeated_disk a b) = both_ways _ a.0 opening
       nothing t r (repeated_detail a b) = both_ways _ a.0 opening
-      nothing t r (excluded beside a b) = both_ways _ a.0 opening
+      nothing t r (excluded beside a fresh b) = both_ways _ a.0 opening
 
   disk-judged : IsGroup setting → Judged own setting
   unfolding disk_behind setting_reason disk_reason
   disk-judged group = first _ refl
     where
       is-late : (t : ℕ) (r : ConfReason) → PlaceFails own setting t r
-          → ((t ≡ 2) × (r ≡ reasons.Misplaced) × (stands_in (part_kind own) options.Disk ≡ false)) ⊎ ((t ≡ 3) × (list_any (λ other. is_same_disk (setting_disk setting) (setting_disk other)) own ≡ true))
+          → ((t ≡ 4) × (r ≡ reasons.Misplaced) × (stands_in (part_kind own) options.Disk ≡ false)) ⊎ ((t ≡ 5) × (list_any (λ other. is_same_disk (setting_disk setting) (setting_disk other)) own ≡ true))
       is-late t r (misplaced a b) = absurd (both_ways _ a.1 group.1)
       is-late t r (misplaced_disk a b) = inl (refl, refl, b)
       is-late t r (misplaced_detail a b) = absurd (both_ways _ a.1 group.1)
       is-late t r (repeated a b) = absurd (both_ways _ a.1 group.1)
       is-late t r (repeated_disk a b) = inr (refl, b)
       is-late t r (repeated_detail a b) = absurd (both_ways _ a.1 group.1)
-      is-late t r (excluded beside a b) = absurd (both_ways _ a.1 group.1)
+      is-late t r (excluded beside a fresh b) = absurd (both_ways _ a.1 group.1)
 
       second : stands_in (part_kind own) options.Disk ≡ true → (again : Bool) → list_any (λ other. is_same_disk (setting_disk setting) (setting_disk other)) own ≡ again → Judged own setting
       second stands true again = record {
         place = Some reasons.Repeated;
-        placed = (3, repeated_disk group again, λ before other less f. elim (is-late before other f) [ inl g ↦ both_ways _ g.2 stands | inr g ↦ omega (arith, less, g.0) ]);
+        placed = (5, repeated_disk group again, λ before other less f. elim (is-late before other f) [ inl g ↦ both_ways _ g.2 stands | inr g ↦ omega (arith, less, g.0) ]);
         same = rw (group.0, group.1, stands, again) refl;
       }
       second stands false again = record {
@@ -157,7 +158,7 @@ module _ (own : List Setting) (setting : Setting) where
       first true stands = second stands _ refl
       first false stands = record {
         place = Some reasons.Misplaced;
-        placed = (2, misplaced_disk group stands, λ before other less f. elim (is-late before other f) [ inl g ↦ omega (arith, less, g.0) | inr g ↦ omega (arith, less, g.0) ]);
+        placed = (4, misplaced_disk group stands, λ before other less f. elim (is-late before other f) [ inl g ↦ omega (arith, less, g.0) | inr g ↦ omega (arith, less, g.0) ]);
         same = rw (group.0, group.1, stands) refl;
       }
 
@@ -166,19 +167,19 @@ module _ (own : List Setting) (setting : Setting) where
   detail-judged detail = first _ refl
     where
       is-late : (t : ℕ) (r : ConfReason) → PlaceFails own setting t r
-          → ((t ≡ 2) × (group_disk own ≡ None)) ⊎ ((t ≡ 3) × (has_option setting.option (details_of own) ≡ true))
+          → ((t ≡ 4) × (group_disk own ≡ None)) ⊎ ((t ≡ 5) × (has_option setting.option (details_of own) ≡ true))
       is-late t r (misplaced a b) = absurd (both_ways _ a.2 detail.2)
       is-late t r (misplaced_disk a b) = absurd (both_ways _ detail.1 a.1)
       is-late t r (misplaced_detail a b) = inl (refl, b)
       is-late t r (repeated a b) = absurd (both_ways _ a.2 detail.2)
       is-late t r (repeated_disk a b) = absurd (both_ways _ detail.1 a.1)
       is-late t r (repeated_detail a b) = inr (refl, b)
-      is-late t r (excluded beside a b) = absurd (both_ways _ a.2 detail.2)
+      is-late t r (excluded beside a fresh b) = absurd (both_ways _ a.2 detail.2)
 
       second : (disk : ℕ) → group_disk own ≡ Some disk → (again : Bool) → has_option setting.option (details_of own) ≡ again → Judged own setting
       second disk group true again = record {
         place = Some reasons.Repeated;
-        placed = (3, repeated_detail detail again, λ before other less f. elim (is-late before other f) [ inl g ↦ absurd (let e = g.1 in cc) | inr g ↦ omega (arith, less, g.0) ]);
+        placed = (5, repeated_detail detail again, λ before other less f. elim (is-late before other f) [ inl g ↦ absurd (let e = g.1 in cc) | inr g ↦ omega (arith, less, g.0) ]);
         same = rw (detail.0, detail.1, detail.2, group, again) refl;
       }
       second disk group false again = record {
@@ -191,7 +192,7 @@ module _ (own : List Setting) (setting : Setting) where
       first (Some disk) group = second disk group _ refl
       first None group = record {
         place = Some reasons.Misplaced;
-        placed = (2, misplaced_detail detail group, λ before other less f. elim (is-late before other f) [ inl g ↦ omega (arith, less, g.0) | inr g ↦ omega (arith, less, g.0) ]);
+        placed = (4, misplaced_detail detail group, λ before other less f. elim (is-late before other f) [ inl g ↦ omega (arith, less, g.0) | inr g ↦ omega (arith, less, g.0) ]);
         same = rw (detail.0, detail.1, detail.2, group) refl;
       }
 
@@ -200,21 +201,21 @@ module _ (own : List Setting) (setting : Setting) where
   part-judged part = first _ refl
     where
       is-late : (t : ℕ) (r : ConfReason) → PlaceFails own setting t r
-          → ((t ≡ 2) × (stands_in (part_kind own) setting.option ≡ false)) ⊎ ((t ≡ 3) × (has_option setting.option own ≡ true)) ⊎ ((t ≡ 4) × ((other : Opt) × (excluded_in own setting.option ≡ Some other)))
+          → ((t ≡ 4) × (stands_in (part_kind own) setting.option ≡ false)) ⊎ ((t ≡ 5) × (has_option setting.option own ≡ true)) ⊎ ((t ≡ 5) × ((other : Opt) × (excluded_in own setting.option ≡ Some other)))
       is-late t r (misplaced a b) = inl (refl, b)
       is-late t r (misplaced_disk a b) = absurd (both_ways _ part.1 a.1)
       is-late t r (misplaced_detail a b) = absurd (both_ways _ part.2 a.2)
       is-late t r (repeated a b) = inr (inl (refl, b))
       is-late t r (repeated_disk a b) = absurd (both_ways _ part.1 a.1)
       is-late t r (repeated_detail a b) = absurd (both_ways _ part.2 a.2)
-      is-late t r (excluded beside a b) = inr (inr (refl, (beside, b)))
+      is-late t r (excluded beside a fresh b) = inr (inr (refl, (beside, b)))
 
       third : stands_in (part_kind own) setting.option ≡ true → has_option setting.option own ≡ false → (other : Option Opt) → excluded_in own setting.option ≡ other → Judged own setting
       third stands fresh (Some other) excludes = record {
         place = Some (reasons.Excludes other);
         placed = (
-          4,
-          excluded other part excludes,
+          5,
+          excluded other part fresh excludes,
           λ before why less f. elim (is-late before why f) [
             | inl g ↦ both_ways _ g.1 stands
             | inr g ↦ elim g [ inl h ↦ both_ways _ fresh h.1 | inr h ↦ omega (arith, less, h.0) ]
@@ -235,7 +236,7 @@ module _ (own : List Setting) (setting : Setting) where
       second stands true again = record {
         place = Some reasons.Repeated;
         placed = (
-          3,
+          5,
           repeated part again,
           λ before other less f. elim (is-late before other f) [
             | inl g ↦ both_ways _ g.1 stands
@@ -251,7 +252,7 @@ module _ (own : List Setting) (setting : Setting) where
       first false stands = record {
         place = Some reasons.Misplaced;
         placed = (
-          2,
+          4,
           misplaced part stands,
           λ before other less f. elim (is-late before other f) [
             | inl g ↦ omega (arith, less, g.0)
@@ -481,26 +482,29 @@ names-first names (section ∷ sections) = by (names_reason names section) (name
 -- what is wrong with an option, by the test's number
 option_reason : List Setting → Setting → ℕ → ConfReason
 option_reason own setting t =
-    if t == 2 then reasons.Misplaced else
-    if t == 3 then reasons.Repeated else
-    if t == 4 then excluding (excluded_in own setting.option) else
-    if t == 5 then reasons.NoValue else
-    if t == 6 then reasons.BadValue else
+    if t == 4 then reasons.Misplaced else
+    if t == 5 then at_place (same_option setting.option options.Disk) (is_of_disk setting.option) (has_option setting.option own) else
+    if t == 6 then reasons.NoValue else
+    if t == 7 then reasons.BadValue else
     reasons.NameTooLong
   where
     excluding : Option Opt → ConfReason
     excluding None = reasons.Repeated
     excluding (Some beside) = reasons.Excludes beside
 
+    at_place : Bool → Bool → Bool → ConfReason
+    at_place false false false = excluding (excluded_in own setting.option)
+    at_place _ _ _ = reasons.Repeated
+
 place-reason : (own : List Setting) (setting : Setting) (t : ℕ) (r : ConfReason) → PlaceFails own setting t r → option_reason own setting t ≡ r
 unfolding option_reason
 place-reason own setting t r (misplaced a b) = refl
 place-reason own setting t r (misplaced_disk a b) = refl
 place-reason own setting t r (misplaced_detail a b) = refl
-place-reason own setting t r (repeated a b) = refl
-place-reason own setting t r (repeated_disk a b) = refl
-place-reason own setting t r (repeated_detail a b) = refl
-place-reason own setting t r (excluded beside a b) = rw b refl
+place-reason own setting t r (repeated a b) = rw (a.1, a.2, b) refl
+place-reason own setting t r (repeated_disk a b) = rw a.1 refl
+place-reason own setting t r (repeated_detail a b) = rw (a.1, a.2) refl
+place-reason own setting t r (excluded beside a fresh b) = rw (a.1, a.2, fresh, b) refl
 
 value-reason : (own : List Setting) (disk : ℕ) (setting : Setting) (t : ℕ) (r : ConfReason) → ValueFails disk setting t r → option_reason own setting t ≡ r
 unfolding option_reason
@@ -619,7 +623,7 @@ module _ (text : List ℕ) where
   IsSetting at r = (at.stage ≡ 1) × ItemFails SettingFails part_after [] settings at.item at.test r
 
   abbrev IsUnread : Place → ConfRefusal → Type 0
-  IsUnread at r = (at ≡ place 1 (length settings) 1) × ((text_settings text).refusal ≡ Some r)
+  IsUnread at r = (at ≡ place 1 (length settings) (reading_test r.reason)) × ((text_settings text).refusal ≡ Some r)
 
   abbrev IsSection : Place → ConfRefusal → Type 0
   IsSection at r = (at.stage ≡ 2) × ItemFails WholeFails (λ same _. same) parts.front parts.sections at.item at.test r
@@ -633,8 +637,12 @@ module _ (text : List ℕ) where
   abbrev IsUnknown : Place → ConfRefusal → Type 0
   IsUnknown at r = (is_unknown parts.front all_names ≡ true) × (at ≡ place 5 0 0) × (no_default parts.front ≡ r)
 
+  -- what fails of the whole, once all is read
+  abbrev IsLater : Place → ConfRefusal → Type 0
+  IsLater at r = ((text_settings text).refusal ≡ None) × (IsSection at r ⊎ (IsName at r ⊎ (IsEmpty at r ⊎ IsUnknown at r)))
+
   abbrev IsAny : Place → ConfRefusal → Type 0
-  IsAny at r = IsLong at r ⊎ (IsSetting at r ⊎ (IsUnread at r ⊎ (IsSection at r ⊎ (IsName at r ⊎ (IsEmpty at r ⊎ IsUnknown at r)))))
+  IsAny at r = IsLong at r ⊎ (IsSetting at r ⊎ (IsUnread at r ⊎ IsLater at r))
 
   -- the stages' answers in turn
   abbrev last_refusal : Option ConfRefusal
@@ -646,15 +654,22 @@ module _ (text : List ℕ) where
   abbrev any_refusal : Option ConfRefusal
   any_refusal =
       first_or (only (nat_lt conf_limit (length text)) (too_long (length text)))
-      (first_or (settings_refusal [] settings) (first_or (text_settings text).refusal whole_refusals))
+      (first_or (settings_refusal [] settings) (first_or (text_settings text).refusal (unless (text_settings text).refusal whole_refusals)))
 
   unread-decides : Decides IsUnread (text_settings text).refusal
   unread-decides = by (text_settings text).refusal
     where
-      by : (o : Option ConfRefusal) → Decides (λ at r. (at ≡ place 1 (length settings) 1) × (o ≡ Some r)) o
+      by : (o : Option ConfRefusal) → Decides (λ at r. (at ≡ place 1 (length settings) (reading_test r.reason)) × (o ≡ Some r)) o
       by None = record { answers = λ at r f. absurd (let e = f.1 in cc); one = λ at r s f g. absurd (let e = f.1 in cc) }
       by (Some refusal) = record {
-        answers = (place 1 (length settings) 1, (refl, refl), λ before other less f. let e = subst (λ q. IsBefore q (place 1 (length settings) 1)) f.0 less in before-apart _ _ e e);
+        answers = (
+          place 1 (length settings) (reading_test refusal.reason),
+          (refl, refl),
+          λ before other less f.
+              let same : other ≡ refusal = let e = f.1 in cc in
+              let e = subst (λ q. IsBefore q (place 1 (length settings) (reading_test refusal.reason))) (f.0 ∙ ap (λ r. place 1 (length settings) (reading_test r.reason)) same) less in
+              before-apart _ _ e e,
+        );
         one = λ at r s f g. let e = f.1 in let h = g.1 in cc;
       }
 
@@ -676,30 +691,30 @@ module _ (text : List ℕ) where
   section-stages at r (inl f) = omega (arith, f.0)
   section-stages at r (inr f) = let e = name-stages at r f in omega (arith, e)
 
-  long-before : (a b : Place) (r s : ConfRefusal) → IsLong a r → IsSetting b s ⊎ (IsUnread b s ⊎ (IsSection b s ⊎ (IsName b s ⊎ (IsEmpty b s ⊎ IsUnknown b s)))) → IsBefore a b
+  long-before : (a b : Place) (r s : ConfRefusal) → IsLong a r → IsSetting b s ⊎ (IsUnread b s ⊎ IsLater b s) → IsBefore a b
   long-before a b r s f (inl g) = let e = stage-of a (place 0 0 0) f.1 in inl (omega (arith, e, g.0))
-  long-before a b r s f (inr (inl g)) = let e = stage-of a (place 0 0 0) f.1 in let h = stage-of b (place 1 (length settings) 1) g.0 in inl (omega (arith, e, h))
-  long-before a b r s f (inr (inr g)) = let e = stage-of a (place 0 0 0) f.1 in let h = section-stages b s g in inl (omega (arith, e, h))
+  long-before a b r s f (inr (inl g)) = let e = stage-of a (place 0 0 0) f.1 in let h = stage-of b (place 1 (length settings) (reading_test s.reason)) g.0 in inl (omega (arith, e, h))
+  long-before a b r s f (inr (inr g)) = let e = stage-of a (place 0 0 0) f.1 in let h = section-stages b s g.1 in inl (omega (arith, e, h))
 
-  setting-before : (a b : Place) (r s : ConfRefusal) → IsSetting a r → IsUnread b s ⊎ (IsSection b s ⊎ (IsName b s ⊎ (IsEmpty b s ⊎ IsUnknown b s))) → IsBefore a b
+  setting-before : (a b : Place) (r s : ConfRefusal) → IsSetting a r → IsUnread b s ⊎ IsLater b s → IsBefore a b
   setting-before a b r s f (inl g) =
-      let e = stage-of b (place 1 (length settings) 1) g.0 in
+      let e = stage-of b (place 1 (length settings) (reading_test s.reason)) g.0 in
       let i : b.item ≡ length settings = ap (λ q. q.item) g.0 in
       let w = within-items SettingFails part_after settings [] a.item a.test r f.1 in
       inr (omega (arith, f.0, e), inl (omega (arith, i, w)))
-  setting-before a b r s f (inr g) = let e = section-stages b s g in inl (omega (arith, f.0, e))
+  setting-before a b r s f (inr g) = let e = section-stages b s g.1 in inl (omega (arith, f.0, e))
 
   all-decides : Decides IsAny any_refusal
   all-decides =
       decides-join IsLong _ _ _ long-before (decides-one (nat_lt conf_limit (length text)) (place 0 0 0) (too_long (length text)))
       (decides-join IsSetting _ _ _ setting-before (decides-stage 1 SettingFails part_after settings [] _ one-setting (answers-settings settings))
-      (decides-join IsUnread _ _ _ (λ a b r s f g. let e = stage-of a (place 1 (length settings) 1) f.0 in let h = section-stages b s g in inl (omega (arith, e, h))) unread-decides
-      (decides-join IsSection _ _ _ (λ a b r s f g. let h = name-stages b s g in inl (omega (arith, f.0, h)))
+      (decides-join IsUnread _ _ _ (λ a b r s f g. let e = stage-of a (place 1 (length settings) (reading_test r.reason)) f.0 in let h = section-stages b s g.1 in inl (omega (arith, e, h))) unread-decides
+      (decides-unless _ _ _ (decides-join IsSection _ _ _ (λ a b r s f g. let h = name-stages b s g in inl (omega (arith, f.0, h)))
       (decides-stage 2 WholeFails (λ same _. same) parts.sections parts.front _ (λ front section at r s f g. sym (one-whole front section at r f) ∙ one-whole front section at s g) (answers-sections parts.front parts.sections))
       (decides-join IsName _ _ _ (λ a b r s f g. let h = last-stages b s g in inl (omega (arith, f.0, h)))
       (decides-stage 3 NewNameFails names_after parts.sections [] _ (λ names section at r s f g. sym (one-name names section at r f) ∙ one-name names section at s g) names-answers)
       (decides-join IsEmpty IsUnknown _ _ (λ a b r s f g. let e = stage-of a (place 4 0 0) f.1 in let h = stage-of b (place 5 0 0) g.1 in inl (omega (arith, e, h)))
-      (decides-one (is_nil all_names) (place 4 0 0) no_images) (decides-one (is_unknown parts.front all_names) (place 5 0 0) (no_default parts.front)))))))
+      (decides-one (is_nil all_names) (place 4 0 0) no_images) (decides-one (is_unknown parts.front all_names) (place 5 0 0) (no_default parts.front))))))))
 
   -- ---- the answer is the stages' in turn
 
@@ -744,28 +759,51 @@ module _ (text : List ℕ) where
   nil-sections [] is = refl
   nil-sections (section ∷ sections) is = absurd (cc)
 
+  to-read : {own : List Setting} {r : ConfRefusal} → (settings ≡ own) × ((text_settings text).refusal ≡ Some r)
+      → IsUnread (place 1 (length own) (reading_test r.reason)) r
+  to-read {own} {r} (same, is) = (ap (λ x. place 1 (length x) (reading_test r.reason)) (sym same), is)
+
   to-any : (at : Place) (r : ConfRefusal) → Fails text at r → IsAny at r
-  unfolding is_nil no_images no_default
+  unfolding is_nil no_images no_default text_refusal
   to-any at r (is_long a) = inl (lt-ltb conf_limit (length text) a, refl, refl)
-  to-any at r (unread refusal a) = inr (inr (inl (refl, a)))
-  to-any at r (of_option item test refusal a) = inr (inl (refl, a))
-  to-any at r (of_section item test refusal a) = inr (inr (inr (inl (refl, a))))
-  to-any at r (of_names item test refusal a) = inr (inr (inr (inr (inl (refl, a)))))
-  to-any at r (no_section a) = inr (inr (inr (inr (inr (inl (is_nil-names parts.sections ∙ (rw a refl), refl, refl))))))
-  to-any at r (of_default wanted a b) = inr (inr (inr (inr (inr (inr (wanted-is_unknown parts.front all_names wanted a b, refl, refl))))))
+  to-any at r (faulty own begun option left fault a b) = inr (inr (inl (to-read (refused-read text left r a (meets-cut text begun left option fault b)))))
+  to-any at r (unknown own begun token behind a b) = inr (inr (inl (to-read (refused-read text _ r a (unknown-cut text begun token behind b)))))
+  to-any at r (left_out own begun word behind a b c) = inr (inr (inl (to-read (refused-read text _ r a (left_out-cut text begun word behind b c)))))
+  to-any at r (of_option read begun left item test refusal a b) =
+      let more = read-before text a in
+      inr (inl (refl, subst (λ s. ItemFails SettingFails part_after [] s item test r) (sym more.1) (items-before SettingFails part_after read more.0 [] item test r b)))
+  to-any at r (of_section all item test refusal whole a) =
+      let e = whole-read text whole in
+      inr (inr (inr (e.1, inl (refl, subst (λ s. ItemFails WholeFails (λ same _. same) (parts_of s).front (parts_of s).sections item test r) (sym e.0) a))))
+  to-any at r (of_names all item test refusal whole a) =
+      let e = whole-read text whole in
+      inr (inr (inr (e.1, inr (inl (refl, subst (λ s. ItemFails NewNameFails names_after [] (parts_of s).sections item test r) (sym e.0) a)))))
+  to-any at r (no_section all whole a) =
+      let e = whole-read text whole in
+      inr (inr (inr (e.1, inr (inr (inl (is_nil-names parts.sections ∙ (rw (e.0, a) refl), refl, refl))))))
+  to-any at r (of_default all wanted whole a b) =
+      let e = whole-read text whole in
+      let known = subst (λ s. is_unknown (parts_of s).front (flat_map section_names (parts_of s).sections) ≡ true) (sym e.0)
+      (wanted-is_unknown (parts_of all).front (flat_map section_names (parts_of all).sections) wanted a b) in
+      inr (inr (inr (e.1, inr (inr (inr (known, refl, ap (λ s. no_default (parts_of s).front) e.0))))))
 
   from-any : (at : Place) (r : ConfRefusal) → IsAny at r → Fails text at r
   unfolding no_images no_default
   from-any at r (inl (a, p, e)) = subst (λ q. Fails text q r) (sym p) (subst (λ s. Fails text (place 0 0 0) s) e (is_long (ltb-true conf_limit (length text) a)))
-  from-any at r (inr (inl (k, f))) = subst (λ q. Fails text q r) (ap (λ s. place s at.item at.test) (sym k)) (of_option at.item at.test r f)
-  from-any at r (inr (inr (inl (p, e)))) = subst (λ q. Fails text q r) (sym p) (unread r e)
-  from-any at r (inr (inr (inr (inl (k, f))))) = subst (λ q. Fails text q r) (ap (λ s. place s at.item at.test) (sym k)) (of_section at.item at.test r f)
-  from-any at r (inr (inr (inr (inr (inl (k, f)))))) = subst (λ q. Fails text q r) (ap (λ s. place s at.item at.test) (sym k)) (of_names at.item at.test r f)
-  from-any at r (inr (inr (inr (inr (inr (inl (a, p, e))))))) =
-      subst (λ q. Fails text q r) (sym p) (subst (λ s. Fails text (place 4 0 0) s) e (no_section (nil-sections parts.sections (sym (is_nil-names parts.sections) ∙ a))))
-  from-any at r (inr (inr (inr (inr (inr (inr (a, p, e))))))) =
+  from-any at r (inr (inl (k, f))) =
+      let there = all-reached text in
+      subst (λ q. Fails text q r) (ap (λ s. place s at.item at.test) (sym k)) (of_option settings there.0 there.1 at.item at.test r there.2 f)
+  from-any at r (inr (inr (inl (p, e)))) = subst (λ q. Fails text q r) (sym p) (read-fails text r e)
+  from-any at r (inr (inr (inr (none, inl (k, f))))) =
+      subst (λ q. Fails text q r) (ap (λ s. place s at.item at.test) (sym k)) (of_section settings at.item at.test r (all-read text none) f)
+  from-any at r (inr (inr (inr (none, inr (inl (k, f)))))) =
+      subst (λ q. Fails text q r) (ap (λ s. place s at.item at.test) (sym k)) (of_names settings at.item at.test r (all-read text none) f)
+  from-any at r (inr (inr (inr (none, inr (inr (inl (a, p, e))))))) =
+      subst (λ q. Fails text q r) (sym p)
+      (subst (λ s. Fails text (place 4 0 0) s) e (no_section settings (all-read text none) (nil-sections parts.sections (sym (is_nil-names parts.sections) ∙ a))))
+  from-any at r (inr (inr (inr (none, inr (inr (inr (a, p, e))))))) =
       let w = is_unknown-wanted parts.front all_names a in
-      subst (λ q. Fails text q r) (sym p) (subst (λ s. Fails text (place 5 0 0) s) e (of_default w.0 w.1 w.2))
+      subst (λ q. Fails text q r) (sym p) (subst (λ s. Fails text (place 5 0 0) s) e (of_default settings w.0 (all-read text none) w.1 w.2))
 
   answers-all : Answers IsBefore (Fails text) (refusal_in (conf_at text))
   answers-all = rw answer-in-turn (answers-same IsBefore IsAny (Fails text) any_refusal from-any to-any all-decides.answers)

@@ -1,7 +1,12 @@
-"""What the tools of cases share: lists as terms, theorems that computing proves, and their files, which are written or
-compared with what is there."""
+"""What the tools of cases share: lists as terms, definitions over lines, theorems that computing proves, and their files,
+which are written or compared with what is there."""
 
 import re
+import textwrap
+
+WIDTH = 120             # a definition's lines are broken here, where they can be
+MOST = 160              # no line is longer; a record is broken only for this, since it has a line for each field then
+LONG_HEX = 40           # so many bytes may be one number, which no line can break
 
 
 def listed(terms):
@@ -37,6 +42,85 @@ def theorem(name, shows, pairs, unfolding):
     statement = sides[0] if len(sides) == 1 else ' × '.join('(%s)' % side for side in sides)
     proof = 'refl' if len(sides) == 1 else '(%s)' % ', '.join(['refl'] * len(sides))
     return ['', '-- ' + shows, 'pub %s : %s' % (name, statement), 'unfolding ' + unfolding, '%s = %s' % (name, proof)]
+
+
+def cut_hex(term):
+    """The term with each number of many bytes as several."""
+    def several(found):
+        digits = found.group(1)
+        parts = [digits[at:at + 2 * LONG_HEX] for at in range(0, len(digits), 2 * LONG_HEX)]
+        return ' ++ '.join('hex %d 0x%s' % (len(part) // 2, part) for part in parts)
+    return re.sub(r'hex \d+ 0x([0-9a-f]{%d,})' % (2 * LONG_HEX + 1), several, term)
+
+
+def cut(term, marks, deepest=float('inf')):
+    """The term in pieces, cut at the marks that are in the fewest parentheses, where these are no more than `deepest`: a
+    line that ends in few of them is easier to read. `∷` ends its piece; `++` and a parenthesis begin theirs. A text and a
+    record stay whole, since `rt fmt` gives each field of a broken record a line of its own."""
+    places, depth, braces, at = [], 0, 0, 0
+    for part in re.findall(r'"[^"]*"| ∷ |; | \+\+ | \(|.', term):
+        if part in marks and not braces:
+            places.append((depth, at, part))
+        if part[0] != '"':
+            depth += part.count('(') - part.count(')')
+            braces += part.count('{') - part.count('}')
+        at += len(part)
+    fewest = min([found for found, _, _ in places], default=0)
+    pieces, begun = [], 0
+    for found, at, part in places:
+        if found == fewest <= deepest:
+            pieces.append(term[begun:at] + (' ∷' if part == ' ∷ ' else ''))
+            begun = at + (1 if part in (' ++ ', ' (') else len(part))
+    return pieces + [term[begun:]]
+
+
+def parts_of(term):
+    """The parts of a term that may have lines of their own: the items of a list, or else several arguments."""
+    joins = (' ∷ ', ' ++ ')
+    items, arguments = cut(term, joins, 0), cut(term, (' (',), 0)
+    return items if len(items) > 1 else arguments if len(arguments) > 2 else cut(term, joins)
+
+
+def filled(term, margin):
+    """A term over lines. A part that a line has no room for is cut once more, and has its lines alone."""
+    rows, row = [], margin
+    parts = parts_of(term)
+    for part in parts:
+        if len(margin + part) > WIDTH and len(parts) > 1:
+            rows, row = rows + [row] + filled(part, margin), margin
+        elif row.strip() and len(row + ' ' + part) > WIDTH:
+            rows, row = rows + [row], margin + part
+        else:
+            row += part if row == margin else ' ' + part
+    return [each for each in rows + [row] if each.strip()]
+
+
+def laid_out(term, margin, before, after):
+    """A term over as many lines as it takes, with what comes before it and after it, as `rt fmt` leaves it."""
+    row = margin + before + term + after
+    record = re.fullmatch(r'(record (?:\(.*?\) )?\{) (.*) \}', term)
+    if len(row) <= (MOST if record else WIDTH):
+        return [row]
+    if record:
+        fields = [field.partition(' = ') for field in cut(record.group(2), ('; ',))]
+        rows = [line for name, _, value in fields for line in laid_out(value, margin + '  ', name + ' = ', ';')]
+        return [margin + before + record.group(1)] + rows + [margin + '}' + after]
+    inner, items = margin + '    ', cut(term, (' ∷ ',))
+    if '{' in term and items[-1] == '[]':
+        ends = [' ∷'] * (len(items) - 2) + [' ∷ []' + after]
+        rows = [line for item, end in zip(items, ends) for line in laid_out(item.removesuffix(' ∷'), inner, '', end)]
+    else:
+        rows = filled(term, inner)
+        rows[-1] += after
+    return [margin + before.rstrip()] * bool(before) + rows
+
+
+def definition(shows, name, kind, term):
+    """The lines of a definition, with what it shows as a comment."""
+    comment = textwrap.wrap('-- ' + shows, WIDTH, subsequent_indent='-- ', break_on_hyphens=False)
+    rows = comment + ['abbrev pub %s : %s' % (name, kind)] + laid_out(cut_hex(term), '', name + ' = ', '')
+    assert all(len(row) <= MOST for row in rows), name
+    return [''] + rows
 
 
 def unfoldable(path):

@@ -61,7 +61,7 @@ def taken_by(item):
 
 
 def asked(case):
-    """What is asked, with the word that answers it."""
+    """What is asked, with the definition that answers it."""
     if 'inode' in case:
         return 'zones_on', '%d %d %d %d' % (case['directory'], case['length'], case['inode'], case['place'])
     if 'total' in case:

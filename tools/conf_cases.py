@@ -67,28 +67,30 @@ def disk(value):
         device([number, 0]), maybe(bios, str), maybe(sectors, str), maybe(heads, str), line)
 
 
+def optional(value):
+    return maybe(value, text)
+
+
 def fields(value, terms):
     return '(record { %s })' % '; '.join('%s = %s' % (name, term(value[name])) for name, term in terms)
 
 
-def section(value):
-    optional = lambda one: maybe(one, text)
-    return fields(value, [
-        ('other', lambda one: maybe(one, device)), ('path', text), ('label', text), ('alias', optional),
-        ('initrd', optional), ('root', lambda one: maybe(one, str)), ('mount', MOUNTS.get),
-        ('append', optional), ('literal', optional), ('vga', lambda one: maybe(one, str)),
-        ('password', optional), ('restricted', flag), ('optional', flag), ('lock', flag),
-        ('fallback', optional), ('table', lambda one: maybe(one, device)), ('line', str)])
+SECTION = [
+    ('other', lambda one: maybe(one, device)), ('path', text), ('label', text), ('alias', optional),
+    ('initrd', optional), ('root', lambda one: maybe(one, str)), ('mount', MOUNTS.get),
+    ('append', optional), ('literal', optional), ('vga', lambda one: maybe(one, str)),
+    ('password', optional), ('restricted', flag), ('optional', flag), ('lock', flag),
+    ('fallback', optional), ('table', lambda one: maybe(one, device)), ('line', str)]
+CONFIG = [
+    ('boot', lambda one: maybe(one, device)), ('map', text), ('install', optional), ('backup', optional),
+    ('force_backup', optional), ('compact', flag), ('mode', MODES.get), ('default_name', optional),
+    ('delay', str), ('timeout', lambda one: maybe(one, str)), ('prompt', flag), ('message', optional),
+    ('disks', lambda some: listed([disk(one) for one in some])),
+    ('sections', lambda some: listed([fields(one, SECTION) for one in some]))]
 
 
 def config(value):
-    optional = lambda one: maybe(one, text)
-    return fields(value, [
-        ('boot', lambda one: maybe(one, device)), ('map', text), ('install', optional), ('backup', optional),
-        ('force_backup', optional), ('compact', flag), ('mode', MODES.get), ('default_name', optional),
-        ('delay', str), ('timeout', lambda one: maybe(one, str)), ('prompt', flag), ('message', optional),
-        ('disks', lambda some: listed([disk(one) for one in some])),
-        ('sections', lambda some: listed([section(one) for one in some]))])
+    return fields(value, CONFIG)
 
 
 def named(about):

@@ -11,7 +11,6 @@ too.
 
 import json
 import pathlib
-import re
 import sys
 
 import conf_cases
@@ -100,7 +99,7 @@ def file_text(theorems, fixed):
 
 def main(arguments):
     cases = json.loads(DATA.read_text())
-    fixed = set(re.findall(r'^abbrev pub (\w+)', plan_cases.fixtures(json.loads(plan_cases.DATA.read_text())), re.M))
+    fixed = plan_cases.fixed_names(plan_cases.fixtures(json.loads(plan_cases.DATA.read_text())))
     theorems = plan_cases.named('Install', [(case['shows'], equations(case)) for case in cases])
     return write_cases('install_cases.py', PROOFS, 'InstallCases', theorems, A_FILE,
                        lambda some: file_text(some, fixed), arguments)

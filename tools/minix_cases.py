@@ -13,7 +13,7 @@ import pathlib
 import re
 import sys
 
-from case_files import cases_text, in_files, listed, numbers, theorem_names, unfoldable, write_or_check
+from case_files import cases_text, definition, in_files, listed, numbers, theorem_names, unfoldable, write_or_check
 from model_cases import CRATE, SPECS, option, patches, raw, words_in
 
 DATA = pathlib.Path(__file__).resolve().parent / 'minix_cases.json'
@@ -32,7 +32,7 @@ TITLES = {
     'content': 'the bytes of an inode', 'file': 'the bytes of a file', 'zone': 'the zone of a block',
     'block': 'the bytes of a block', 'names': 'what a name is', 'entries': 'the entries of a directory',
 }
-# Words that a case names and that aren't unfolded.
+# Definitions that a case names and that aren't unfolded.
 OTHERS = {
     'MinixFind': ['find', 'find_name', 'NotFound', 'NotDirectory', 'NotFile', 'TooManyLinks', 'BadEntry', 'PathTooLong', 'Zone'],
     'MinixParts': ['Layout', 'ZoneOutside'],
@@ -166,16 +166,15 @@ def text_of(what, named_cases, fixtures):
 
 def fixtures_text(data):
     lines = ['-- Volumes that many cases begin with, written by tools/minix_cases.py.',
-             'use Rattle.std.specs.Prelude.{[], ◌∷◌, List, codes, replicate}',
+             'use Rattle.std.specs.Prelude.{[], ◌∷◌, ◌++◌, List, codes, replicate}',
              'use Rattle.lilo_model.specs.MinixLayout.{V1Short, V1Long, V2Short, V2Long}',
              'use Rattle.lilo_model.specs.MinixParts.{Volume}',
              'use Rattle.model_cases.specs.Sparse.{Patch, patch_at, hex}']
     for name, fixture in data.items():
         span = 'record { disk = %d; start = %d; count = %d }' % tuple(fixture['span'])
-        lines += ['', '-- ' + fixture['shows'], 'abbrev pub minix_%s : List Patch' % name,
-                  'minix_%s = %s' % (name, patches(fixture['patches'])),
-                  '', '-- where it lies, and its superblock', 'abbrev pub volume_%s : Volume' % name,
-                  'volume_%s = record { span = %s; layout = %s }' % (name, span, layout(fixture['layout']))]
+        lines += definition(fixture['shows'], 'minix_' + name, 'List Patch', patches(fixture['patches'], text)[1:-1])
+        lines += definition('where it lies, and its superblock', 'volume_' + name, 'Volume',
+                            'record { span = %s; layout = %s }' % (span, layout(fixture['layout'])))
     return '\n'.join(lines) + '\n'
 
 

@@ -12,7 +12,7 @@ import re
 import sys
 from pathlib import Path
 
-from case_files import cases_text, in_files, listed, theorem_names, unfoldable, write_or_check
+from case_files import cases_text, definition, in_files, listed, theorem_names, unfoldable, write_or_check
 
 TOP = Path(__file__).resolve().parent.parent
 DATA = TOP / 'tools' / 'model_cases'
@@ -112,8 +112,8 @@ def machine(item):
     return '(machine_of %s)' % listed(['disk_with %d %d %d' % tuple(disk) for disk in item])
 
 
-def patches(items):
-    return listed(['patch_at %d %d %d %s' % (disk, sector, at, text(data)) for disk, sector, at, data in items])
+def patches(items, term=text):
+    return listed(['patch_at %d %d %d %s' % (disk, sector, at, term(data)) for disk, sector, at, data in items])
 
 
 def image(item):
@@ -378,11 +378,10 @@ def text_of(title, kind, named_cases, fixtures):
 
 def fixtures_text(data):
     lines = ['-- Disks that many cases begin with, written by tools/model_cases.py.',
-             'use Rattle.std.specs.Prelude.{[], ◌∷◌, List, codes, replicate}',
+             'use Rattle.std.specs.Prelude.{[], ◌∷◌, ◌++◌, List, codes, replicate}',
              'use Rattle.model_cases.specs.Sparse.{Patch, patch_at, hex}']
     for name, fixture in data.items():
-        lines += ['', '-- ' + fixture['shows'], 'abbrev pub %s : List Patch' % name,
-                  '%s = %s' % (name, patches(fixture['patches']))]
+        lines += definition(fixture['shows'], name, 'List Patch', patches(fixture['patches'])[1:-1])
     return '\n'.join(lines) + '\n'
 
 

@@ -1,9 +1,9 @@
 #!/usr/bin/env python3
 """Writes the cases of what configurations mean and plan, from plan_cases.json beside it, as theorems that the check
 computes: crates/model_cases/proofs/Meant*, Plan*, Boots*, Refused* and NamesCases*.antt, and the disks, volumes and
-configurations that they begin with: crates/model_cases/specs/PlanFixtures.antt. Of some it writes that the premises
-of the law on planned maps are met: crates/map_cases/proofs/LiesCases*.antt. With --check it writes nothing, and fails
-where a file isn't as it would be written.
+configurations that they begin with: crates/model_cases/specs/PlanDisks, PlanVolumes, PlanNames and Plan*Confs.antt. Of
+some it writes that the premises of the law on planned maps are met: crates/map_cases/proofs/LiesCases*.antt. With
+--check it writes nothing, and fails where a file isn't as it would be written.
 
 Bytes are hexadecimal in the data, a run of equal ones as the byte, `*` and its length, and parts are joined by `+`. A
 disk is a base with changes, each of them disk, sector, offset and bytes.
@@ -16,13 +16,13 @@ import sys
 
 import conf_cases
 import model_cases
-from case_files import in_files, listed, theorem, theorem_names, unfoldable, write_or_check
+from case_files import definition, in_files, listed, theorem, theorem_names, unfoldable, write_or_check
 from model_cases import CRATE, PROOFS, SETUP, SPECS, sectors, words_in
 
 DATA = pathlib.Path(__file__).resolve().parent / 'plan_cases.json'
 A_FILE = 8              # theorems a file
 LAWS = CRATE.parent / 'map_cases' / 'proofs'
-FIXED = set()           # the names of what the cases begin with
+FIXED = {}              # the names of what the cases begin with, and the file of each
 MODULES = {'TreeFault': 'MinixFind', 'SetupFault': 'Header', 'AddressFault': 'Slots', 'TableFault': 'Partitions'}
 ALIASES = {'MinixFind': 'trees', 'Header': 'headers', 'Slots': 'slots', 'Partitions': 'tables',
            'ConfOptions': 'options'}
@@ -46,7 +46,7 @@ TITLES = {
     'Boots': 'planned maps boot as is meant', 'Refused': 'why no map is planned',
     'Names': 'whether what a configuration names is apart, and which path is refused',
 }
-# Words that a case names and that aren't unfolded.
+# Definitions that a case names and that aren't unfolded.
 OTHERS = {
     'Std': ['true', 'false', 'codes', 'replicate', 'None', 'Some', 'Ok', 'Err'],
     'Header': SETUP,
@@ -415,8 +415,10 @@ def imports(kind, terms, fixed):
         used = [word for word in helpers if word in words]
         if used:
             rows.append('use Rattle.model_cases.specs.%s.{%s}' % (name, ', '.join(used)))
-    used = sorted(words & fixed)
-    return rows + (['use Rattle.model_cases.specs.PlanFixtures.{%s}' % ', '.join(used)] if used else [])
+    for file in sorted(set(fixed.values())):
+        used = sorted(word for word in words if fixed.get(word) == file)
+        rows += ['use Rattle.model_cases.specs.%s.{%s}' % (file, ', '.join(used))] if used else []
+    return rows
 
 
 def file_text(kind, theorems, fixed):
@@ -429,8 +431,7 @@ def file_text(kind, theorems, fixed):
     return '\n'.join(rows) + '\n'
 
 
-HEAD = '''-- What cases of plans begin with, written by tools/plan_cases.py.
-use Rattle.std.specs.Prelude.{ℕ, true, false, List, [], ◌∷◌, ◌++◌, None, Some, codes, replicate}
+HEAD = '''use Rattle.std.specs.Prelude.{ℕ, true, false, List, [], ◌∷◌, ◌++◌, None, Some, codes, replicate}
 use Rattle.lilo_model.specs.Conf.{Config, Unsaid, ReadOnlyMount, ReadWriteMount}
 use Rattle.lilo_model.specs.Devices.{Device}
 use Rattle.lilo_model.specs.Slots.{ChsMode, LinearMode, Lba32Mode}
@@ -439,37 +440,88 @@ use Rattle.lilo_model.specs.MinixLayout.{V1Short, V1Long, V2Short, V2Long}
 use Rattle.lilo_model.specs.MinixParts.{Volume}
 use Rattle.lilo_model.specs.MinixNames.{File, Link, Directory, Other}
 use Rattle.lilo_model.specs.MinixFindNames.{Names}
+use Rattle.model_cases.specs.Configs.{plain_config, section_at}
 use Rattle.model_cases.specs.Sparse.{Patch, patch_at, hex, piece, file, disk_with, machine_of}
 use Rattle.model_cases.specs.Volumes.{named, things_at, sector_of_device, sectors_of_devices}
 '''
+# What cases of plans begin with, by file, so that none is long. Configurations are told apart by the disks that they are on.
+HOLDINGS = {
+    'PlanDisks': 'disks', 'PlanVolumes': 'machines, volumes, and the first sectors of devices',
+    'PlanNames': 'what has a name on volumes', 'PlanConfs': 'configurations that are alone on their disks',
+    'PlanChanceConfs1': 'configurations by chance', 'PlanChanceConfs2': 'more configurations by chance',
+    'PlanTracksConfs': 'configurations where tracks have 32 sectors',
+    'PlanLogicalConfs': 'configurations where the volume is a logical partition',
+}
+# What `plain_config` and `section_at` say, where it is something. A record that is whole doesn't fit on a line, and over lines
+# it has one for each field: so a configuration and a section are written by what they say beyond these.
+LEAST = {'boot': [0, 0], 'map': '/boot/map', 'mode': '1', 'delay': 0, 'disks': []}
+
+
+def bare(term):
+    """A term without parentheses around it."""
+    return term[1:-1] if term.startswith('(') else term
+
+
+def beyond(base, value, terms):
+    """A record, as another and the fields in which it differs."""
+    said = ['%s = %s' % (name, bare(term(value[name]))) for name, term in terms
+            if value[name] is not False and value[name] != LEAST.get(name)]
+    return 'record (%s) { %s }' % (base, '; '.join(said)) if said else base
+
+
+def section(value):
+    opened = [('line', str), ('path', conf_cases.text), ('label', conf_cases.text)]
+    base = ' '.join(['section_at'] + [term(value[name]) for name, term in opened])
+    return beyond(base, value, [field for field in conf_cases.SECTION if field[0] not in dict(opened)])
+
+
+def config(value):
+    sections = ('sections', lambda some: listed([section(one) for one in some]))
+    return beyond('plain_config', value, conf_cases.CONFIG[:-1] + [sections])
+
+
+def conf_file(case):
+    """The file that has the configuration of a case."""
+    if case.get('uses') == 'many':
+        return 'PlanChanceConfs%d' % (1 if int(case['name'].removeprefix('r')) <= 30 else 2)
+    return 'Plan%sConfs' % case.get('uses', '').capitalize()
 
 
 def fixtures(data):
-    rows = [HEAD.rstrip('\n')]
+    """The text of each file that has what cases begin with."""
+    bodies = {name: [] for name in HOLDINGS}
 
-    def abbrev(shows, name, kind, term):
-        rows.extend(['', '-- ' + shows, 'abbrev pub %s : %s' % (name, kind), '%s = %s' % (name, term)])
+    def abbrev(file, shows, name, kind, term):
+        bodies[file] += definition(shows, name, kind, term)
 
     for base in data['bases']:
-        abbrev(base['shows'], 'disk_' + base['name'], 'List Patch', disks(base['disks']))
+        abbrev('PlanDisks', base['shows'], 'disk_' + base['name'], 'List Patch', bare(disks(base['disks'])))
     for case in data['plans']:
         fields = scenario(case)
         if case['config'] is not None:
-            abbrev(case['shows'], fields['conf'], 'Config', conf_cases.config(case['config'])[1:-1])
+            abbrev(conf_file(case), case['shows'], fields['conf'], 'Config', config(case['config']))
         if 'uses' in case:
             continue
-        abbrev('its disks', fields['disk'], 'List Patch', disks(case['disks']))
-        abbrev('their machine', fields['machine'], 'Machine', model_cases.machine(case['machine'])[1:-1])
-        abbrev('the volume', fields['volume'], 'Volume', volume(case['volume']))
-        abbrev('what has a name on it', fields['names'], 'Names', names(case['names']))
-        abbrev('the first sectors of devices', fields['devices'], 'Device → List ℕ', devices(case['devices']))
-    return used_names('\n'.join(rows) + '\n')
+        shows = case['shows'] + ': '
+        abbrev('PlanDisks', shows + 'its disks', fields['disk'], 'List Patch', bare(disks(case['disks'])))
+        abbrev('PlanVolumes', shows + 'its machine', fields['machine'], 'Machine',
+               bare(model_cases.machine(case['machine'])))
+        abbrev('PlanVolumes', shows + 'its volume', fields['volume'], 'Volume', volume(case['volume']))
+        abbrev('PlanVolumes', shows + 'the first sectors of its devices', fields['devices'], 'Device → List ℕ',
+               devices(case['devices']))
+        abbrev('PlanNames', shows + 'what has a name on its volume', fields['names'], 'Names', names(case['names']))
+    return {name: fixture_text(name, '\n'.join(rows)) for name, rows in bodies.items()}
 
 
-def used_names(source):
-    """The file without the names that it imports and doesn't use."""
-    cut = source.index('\n\n')
-    return conf_cases.used(source[:cut], source[cut:]) + source[cut + 1:]
+def fixture_text(name, body):
+    """A file of what cases begin with, without the names that it doesn't use."""
+    title = '-- What cases of plans begin with: %s. Written by tools/plan_cases.py.\n' % HOLDINGS[name]
+    return title + conf_cases.used(HEAD, body) + body + '\n'
+
+
+def fixed_names(texts):
+    """The names of what cases begin with, and the file of each."""
+    return {name: file for file, text in texts.items() for name in re.findall(r'^abbrev pub (\w+)', text, re.M)}
 
 
 def named(kind, cases):
@@ -494,8 +546,8 @@ def all_theorems(data):
 def main(arguments):
     data = json.loads(DATA.read_text())
     begun = fixtures(data)
-    fixed = set(re.findall(r'^abbrev pub (\w+)', begun, re.M))
-    files = {CRATE / 'specs' / 'PlanFixtures.antt': begun}
+    fixed = fixed_names(begun)
+    files = {CRATE / 'specs' / (name + '.antt'): text for name, text in begun.items()}
     for kind, theorems in all_theorems(data):
         files |= in_files(PROOFS, kind + 'Cases', theorems, A_FILE, lambda some: file_text(kind, some, fixed))
     FIXED.update(fixed)

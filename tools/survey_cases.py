@@ -4,7 +4,7 @@ computes: crates/model_cases/proofs/SurveyCases*.antt. With --check it writes no
 isn't as it would be written.
 
 A volume is given by its superblock, its inodes from 1 on (mode, links, size, zones), the pieces of its zones that
-aren't zeros (offset and hexadecimal bytes), and the marks that are set. The answer is the first refusal, or the zones
+aren't zeros (offset and hexadecimal bytes), and the bitmap bits that are set. The answer is the first refusal, or the zones
 that have an owner (zone, inode, whether it has numbers of zones) and the number of names of each inode. Every case
 is in the data; those that say "checked" are written.
 """

@@ -39,7 +39,7 @@ use Rattle.lilo_model.specs.Table.{is_set, entry_name, is_printable, is_name, ha
 use Rattle.lilo_model.specs.Verdict.{names_behind, names_text, query_verdict, dump_text, boot_verdict}
 use Rattle.lilo_model.specs.VolumeSearch.{has_magic, holds_volume, searched_partitions, searched_on, ends_search, first_volume, named_volume, volume_place}
 use Rattle.model_cases.specs.Sparse.{hex, patch_at, disk_with, machine_of, on}
-use Rattle.model_cases.specs.PlanFixtures.{disk_files}
+use Rattle.model_cases.specs.PlanDisks.{disk_files}
 use Rattle.std.specs.Fmt.{digits}
 use Rattle.install_laws.specs.InstallVerdict.{install_line, begun_by, is_clear, is_holder, may_settle, room_on, install_room, test_room, answer_of, install_checks, install_answer, answer_text, test_text, install_verdict, test_verdict}
 use Rattle.write_model.specs.Choice.{free_inode, left_zones, name_check, file_need, choice_with, zones_check, choose_blocks, choose, taken_with}

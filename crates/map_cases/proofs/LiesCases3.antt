@@ -35,7 +35,9 @@ use Rattle.lilo_model.specs.Slots.{has_ranges, has_address, is_slot, is_one_slot
 use Rattle.lilo_model.specs.Table.{is_set, entry_name, is_printable, is_name, has_flags, has_video, has_length, has_main, has_initrd, has_extra, is_entry, descriptor_of, entry_bytes, same_name, repeats, breaks, table_at, descriptor_bytes}
 use Rattle.model_cases.specs.Sparse.{hex, patch_at, file, disks_of, on}
 use Rattle.model_cases.specs.Volumes.{with_sectors}
-use Rattle.model_cases.specs.PlanFixtures.{conf_low, disk_low, machine_low, volume_low}
+use Rattle.model_cases.specs.PlanConfs.{conf_low}
+use Rattle.model_cases.specs.PlanDisks.{disk_low}
+use Rattle.model_cases.specs.PlanVolumes.{machine_low, volume_low}
 
 other-sector : (place other : DiskSector) → (place.sector == other.sector) ≡ false → place ≢ other
 other-sector place other test same =

@@ -34,7 +34,9 @@ use Rattle.lilo_model.specs.Slots.{has_ranges, has_address, is_slot, is_one_slot
 use Rattle.lilo_model.specs.Table.{is_set, entry_name, is_printable, is_name, has_flags, has_video, has_length, has_main, has_initrd, has_extra, is_entry, descriptor_of, entry_bytes, same_name, repeats, breaks, table_at, descriptor_bytes}
 use Rattle.model_cases.specs.Sparse.{disks_of, on}
 use Rattle.model_cases.specs.Volumes.{with_sectors}
-use Rattle.model_cases.specs.PlanFixtures.{conf_optional, disk_optional, machine_optional, volume_optional}
+use Rattle.model_cases.specs.PlanConfs.{conf_optional}
+use Rattle.model_cases.specs.PlanDisks.{disk_optional}
+use Rattle.model_cases.specs.PlanVolumes.{machine_optional, volume_optional}
 
 other-sector : (place other : DiskSector) → (place.sector == other.sector) ≡ false → place ≢ other
 other-sector place other test same =

@@ -20,10 +20,10 @@ pub boot_sector_slots_by_cylinder_head_and_sector : boot_at (file 512 (piece 0 (
 unfolding number16 number32 is_zero has_ranges has_address is_slot is_one_slot chs_of address_of slot_of some_slot slot_at slot_bytes to_chs to_lba sector_at sectors_of place_at slot_make could_be_one is_bootable has_signature has_options has_names has_slots has_no_message has_whole_message has_message has_zeros is_whole timeout_of table_slots boot_of boot_at
 boot_sector_slots_by_cylinder_head_and_sector = refl
 
--- a moment
-pub boot_sector_a_moment : boot_at (file 512 (piece 0 (hex 69 0xeb7e4c494c4f0100785634120100000032000600bc020200038001005e0000000380010062000000038001006e000000038001005f00000003800100600000000380010061) ∷ piece 510 (hex 2 0x55aa) ∷ [])) ≡ Ok (record { version = 1; time = 305419896; prompt = true; delay = 0; timeout = (Some 50); names = 6; default_entry = 0; message_length = 700; message_chain = 2; line = (record { disk = 0; count = 1; address = Lba32 94 }); zero_sector = (record { disk = 0; count = 1; address = Lba32 98 }); message = (Some (record { disk = 0; count = 1; address = Lba32 110 })); table = ((record { disk = 0; count = 1; address = Lba32 95 }) ∷ (record { disk = 0; count = 1; address = Lba32 96 }) ∷ (record { disk = 0; count = 1; address = Lba32 97 }) ∷ []) })
+-- a time
+pub boot_sector_a_time : boot_at (file 512 (piece 0 (hex 69 0xeb7e4c494c4f0100785634120100000032000600bc020200038001005e0000000380010062000000038001006e000000038001005f00000003800100600000000380010061) ∷ piece 510 (hex 2 0x55aa) ∷ [])) ≡ Ok (record { version = 1; time = 305419896; prompt = true; delay = 0; timeout = (Some 50); names = 6; default_entry = 0; message_length = 700; message_chain = 2; line = (record { disk = 0; count = 1; address = Lba32 94 }); zero_sector = (record { disk = 0; count = 1; address = Lba32 98 }); message = (Some (record { disk = 0; count = 1; address = Lba32 110 })); table = ((record { disk = 0; count = 1; address = Lba32 95 }) ∷ (record { disk = 0; count = 1; address = Lba32 96 }) ∷ (record { disk = 0; count = 1; address = Lba32 97 }) ∷ []) })
 unfolding number16 number32 is_zero has_ranges has_address is_slot is_one_slot chs_of address_of slot_of some_slot slot_at slot_bytes to_chs to_lba sector_at sectors_of place_at slot_make could_be_one is_bootable has_signature has_options has_names has_slots has_no_message has_whole_message has_message has_zeros is_whole timeout_of table_slots boot_of boot_at
-boot_sector_a_moment = refl
+boot_sector_a_time = refl
 
 -- a boot sector with a byte changed
 pub boot_sector_a_boot_sector_with_a_byte_changed : boot_at (file 512 (piece 0 (hex 69 0xeb7e4c494c4f0100000000000100000032000600bc020200038001005e0000000302010062000000038001006e000000038001005f00000003800100600000000380010061) ∷ piece 510 (hex 2 0x55aa) ∷ [])) ≡ Err (BadTable 255)

@@ -27,7 +27,9 @@ use Rattle.lilo_model.specs.Slots.{has_ranges, has_address, is_slot, is_one_slot
 use Rattle.lilo_model.specs.Table.{is_set, entry_name, is_printable, is_name, has_flags, has_video, has_length, has_main, has_initrd, has_extra, is_entry, descriptor_of, entry_bytes, same_name, repeats, breaks, table_at, descriptor_bytes}
 use Rattle.model_cases.specs.Sparse.{disks_of, on, typed}
 use Rattle.model_cases.specs.Volumes.{with_sectors}
-use Rattle.model_cases.specs.PlanFixtures.{conf_chs, conf_compact, conf_compact_chs, conf_hole, conf_hole_compact, conf_no_prompt, conf_password, conf_sample, disk_chs, disk_compact, disk_compact_chs, disk_hole, disk_hole_compact, disk_no_prompt, disk_password, disk_sample, machine_chs, machine_compact, machine_compact_chs, machine_hole, machine_hole_compact, machine_no_prompt, machine_password, machine_sample, volume_chs, volume_compact, volume_compact_chs, volume_hole, volume_hole_compact, volume_no_prompt, volume_password, volume_sample}
+use Rattle.model_cases.specs.PlanConfs.{conf_chs, conf_compact, conf_compact_chs, conf_hole, conf_hole_compact, conf_no_prompt, conf_password, conf_sample}
+use Rattle.model_cases.specs.PlanDisks.{disk_chs, disk_compact, disk_compact_chs, disk_hole, disk_hole_compact, disk_no_prompt, disk_password, disk_sample}
+use Rattle.model_cases.specs.PlanVolumes.{machine_chs, machine_compact, machine_compact_chs, machine_hole, machine_hole_compact, machine_no_prompt, machine_password, machine_sample, volume_chs, volume_compact, volume_compact_chs, volume_hole, volume_hole_compact, volume_no_prompt, volume_password, volume_sample}
 
 -- the sample configuration
 pub boots_the_sample_configuration : (whole_boot (with_sectors (disks_of disk_sample) (record { disk = 0; sector = 0 } ∷ (on 0 (94 ∷ 95 ∷ 96 ∷ 97 ∷ 98 ∷ 99 ∷ 100 ∷ 101 ∷ []))) (plan_boot_sector (planned (disks_of disk_sample) machine_sample volume_sample conf_sample 305419896) machine_sample (on 0 (94 ∷ 95 ∷ 96 ∷ 97 ∷ 98 ∷ 99 ∷ 100 ∷ 101 ∷ [])) (disks_of disk_sample 0 0) ∷ plan_sectors (planned (disks_of disk_sample) machine_sample volume_sample conf_sample 305419896) machine_sample (on 0 (94 ∷ 95 ∷ 96 ∷ 97 ∷ 98 ∷ 99 ∷ 100 ∷ 101 ∷ [])))) machine_sample (record { disk = 0; start = 0; count = 4096 }) [] 16777216 ≡ meant conf_sample (names_in volume_sample (disks_of disk_sample)) (devices_in (disks_of disk_sample) machine_sample) Empty [] 16777216) × (whole_boot (with_sectors (disks_of disk_sample) (record { disk = 0; sector = 0 } ∷ (on 0 (94 ∷ 95 ∷ 96 ∷ 97 ∷ 98 ∷ 99 ∷ 100 ∷ 101 ∷ []))) (plan_boot_sector (planned (disks_of disk_sample) machine_sample volume_sample conf_sample 305419896) machine_sample (on 0 (94 ∷ 95 ∷ 96 ∷ 97 ∷ 98 ∷ 99 ∷ 100 ∷ 101 ∷ [])) (disks_of disk_sample 0 0) ∷ plan_sectors (planned (disks_of disk_sample) machine_sample volume_sample conf_sample 305419896) machine_sample (on 0 (94 ∷ 95 ∷ 96 ∷ 97 ∷ 98 ∷ 99 ∷ 100 ∷ 101 ∷ [])))) machine_sample (record { disk = 0; start = 0; count = 4096 }) (typed (codes "linux single\n")) 16777216 ≡ meant conf_sample (names_in volume_sample (disks_of disk_sample)) (devices_in (disks_of disk_sample) machine_sample) Empty (typed (codes "linux single\n")) 16777216)

@@ -27,7 +27,9 @@ use Rattle.lilo_model.specs.Slots.{has_ranges, has_address, is_slot, is_one_slot
 use Rattle.lilo_model.specs.Table.{is_set, entry_name, is_printable, is_name, has_flags, has_video, has_length, has_main, has_initrd, has_extra, is_entry, descriptor_of, entry_bytes, same_name, repeats, breaks, table_at, descriptor_bytes}
 use Rattle.model_cases.specs.Sparse.{hex, disks_of, on, typed}
 use Rattle.model_cases.specs.Volumes.{with_sectors}
-use Rattle.model_cases.specs.PlanFixtures.{conf_alias_fallback, conf_link, conf_literal, conf_optional, conf_other, conf_own_table, conf_two_chain, conf_whole, disk_alias_fallback, disk_link, disk_literal, disk_optional, disk_other, disk_own_table, disk_two_chain, disk_whole, machine_alias_fallback, machine_link, machine_literal, machine_optional, machine_other, machine_own_table, machine_two_chain, machine_whole, volume_alias_fallback, volume_link, volume_literal, volume_optional, volume_other, volume_own_table, volume_two_chain, volume_whole}
+use Rattle.model_cases.specs.PlanConfs.{conf_alias_fallback, conf_link, conf_literal, conf_optional, conf_other, conf_own_table, conf_two_chain, conf_whole}
+use Rattle.model_cases.specs.PlanDisks.{disk_alias_fallback, disk_link, disk_literal, disk_optional, disk_other, disk_own_table, disk_two_chain, disk_whole}
+use Rattle.model_cases.specs.PlanVolumes.{machine_alias_fallback, machine_link, machine_literal, machine_optional, machine_other, machine_own_table, machine_two_chain, machine_whole, volume_alias_fallback, volume_link, volume_literal, volume_optional, volume_other, volume_own_table, volume_two_chain, volume_whole}
 
 -- an alias, a fallback, texts and a video mode
 pub boots_an_alias_a_fallback_texts_and_a_video_mode : whole_boot (with_sectors (disks_of disk_alias_fallback) (record { disk = 0; sector = 0 } ∷ (on 0 (94 ∷ 95 ∷ 96 ∷ 97 ∷ 98 ∷ 99 ∷ 100 ∷ 101 ∷ 102 ∷ []))) (plan_boot_sector (planned (disks_of disk_alias_fallback) machine_alias_fallback volume_alias_fallback conf_alias_fallback 305419896) machine_alias_fallback (on 0 (94 ∷ 95 ∷ 96 ∷ 97 ∷ 98 ∷ 99 ∷ 100 ∷ 101 ∷ 102 ∷ [])) (disks_of disk_alias_fallback 0 0) ∷ plan_sectors (planned (disks_of disk_alias_fallback) machine_alias_fallback volume_alias_fallback conf_alias_fallback 305419896) machine_alias_fallback (on 0 (94 ∷ 95 ∷ 96 ∷ 97 ∷ 98 ∷ 99 ∷ 100 ∷ 101 ∷ 102 ∷ [])))) machine_alias_fallback (record { disk = 0; start = 0; count = 4096 }) (typed (codes "l vga=3 y\n")) 16777216 ≡ meant conf_alias_fallback (names_in volume_alias_fallback (disks_of disk_alias_fallback)) (devices_in (disks_of disk_alias_fallback) machine_alias_fallback) Empty (typed (codes "l vga=3 y\n")) 16777216

@@ -27,7 +27,11 @@ use Rattle.lilo_model.specs.Slots.{has_ranges, has_address, is_slot, is_one_slot
 use Rattle.lilo_model.specs.Table.{is_set, entry_name, is_printable, is_name, has_flags, has_video, has_length, has_main, has_initrd, has_extra, is_entry, descriptor_of, entry_bytes, same_name, repeats, breaks, table_at, descriptor_bytes}
 use Rattle.model_cases.specs.Sparse.{hex, disks_of, on, typed, waited}
 use Rattle.model_cases.specs.Volumes.{with_sectors}
-use Rattle.model_cases.specs.PlanFixtures.{conf_full, conf_r21, conf_r27, conf_r33, conf_r45, conf_r51, conf_r9, disk_full, disk_many, machine_full, machine_many, volume_full, volume_many}
+use Rattle.model_cases.specs.PlanChanceConfs1.{conf_r21, conf_r27, conf_r9}
+use Rattle.model_cases.specs.PlanChanceConfs2.{conf_r33, conf_r45, conf_r51}
+use Rattle.model_cases.specs.PlanConfs.{conf_full}
+use Rattle.model_cases.specs.PlanDisks.{disk_full, disk_many}
+use Rattle.model_cases.specs.PlanVolumes.{machine_full, machine_many, volume_full, volume_many}
 
 -- compact, a message, an initrd, and two other systems, one with the table of the boot device
 pub boots_compact_a_message_an_initrd_and_two_other_systems_one_with_the_table_of_the_boot_device : whole_boot (with_sectors (disks_of disk_full) (record { disk = 0; sector = 0 } ∷ (on 0 (96 ∷ 97 ∷ 98 ∷ 99 ∷ 100 ∷ 101 ∷ 102 ∷ 103 ∷ 104 ∷ 105 ∷ 106 ∷ 107 ∷ 108 ∷ 109 ∷ []))) (plan_boot_sector (planned (disks_of disk_full) machine_full volume_full conf_full 305419896) machine_full (on 0 (96 ∷ 97 ∷ 98 ∷ 99 ∷ 100 ∷ 101 ∷ 102 ∷ 103 ∷ 104 ∷ 105 ∷ 106 ∷ 107 ∷ 108 ∷ 109 ∷ [])) (disks_of disk_full 0 0) ∷ plan_sectors (planned (disks_of disk_full) machine_full volume_full conf_full 305419896) machine_full (on 0 (96 ∷ 97 ∷ 98 ∷ 99 ∷ 100 ∷ 101 ∷ 102 ∷ 103 ∷ 104 ∷ 105 ∷ 106 ∷ 107 ∷ 108 ∷ 109 ∷ [])))) machine_full (record { disk = 0; start = 0; count = 4096 }) (typed (codes "dos\n")) 16777216 ≡ meant conf_full (names_in volume_full (disks_of disk_full)) (devices_in (disks_of disk_full) machine_full) Empty (typed (codes "dos\n")) 16777216

@@ -79,10 +79,10 @@ pub minix_choose_no_inode_for_a_name_that_is_there_in_version_1_with_short_names
 unfolding number16 number32 number_in follow pointer_by inside follow_at zone_at block_at entry_of entry_at find_entry data_blocks made_above made_indirect all_entries has_name is_overlooked is_promised new_place way_along missing_on_way promised_zone free_inode left_zones name_check file_need choice_with zones_check choose_blocks choose taken_with branch_of
 minix_choose_no_inode_for_a_name_that_is_there_in_version_1_with_short_names = refl
 
--- marks without a use in version 1 with short names
-pub minix_choose_marks_without_a_use_in_version_1_with_short_names : choose_on (volume_by (super_with V1Short 16 64 1 1 8) (node 16877 2 48 (8 ∷ 0 ∷ 0 ∷ 0 ∷ 0 ∷ 0 ∷ 0 ∷ 0 ∷ 0 ∷ 0 ∷ []) ∷ node 33188 1 0 (0 ∷ 0 ∷ 0 ∷ 0 ∷ 0 ∷ 0 ∷ 0 ∷ 0 ∷ 0 ∷ 0 ∷ []) ∷ []) (zone_with 8 (file 1024 (piece 0 (hex 3 0x01002e) ∷ piece 16 (hex 4 0x01002e2e) ∷ piece 32 (hex 3 0x020061) ∷ [])) ∷ []) (1 ∷ 2 ∷ 3 ∷ 5 ∷ []) (8 ∷ 9 ∷ 11 ∷ 12 ∷ [])) (taken_by [] [] [] []) (wish 3000 [] 1 (codes "new")) ≡ Ok (choice 4 3 (10 ∷ 13 ∷ 14 ∷ []) (10 ∷ 13 ∷ 14 ∷ []) [] [])
+-- bits without a use in version 1 with short names
+pub minix_choose_bits_without_a_use_in_version_1_with_short_names : choose_on (volume_by (super_with V1Short 16 64 1 1 8) (node 16877 2 48 (8 ∷ 0 ∷ 0 ∷ 0 ∷ 0 ∷ 0 ∷ 0 ∷ 0 ∷ 0 ∷ 0 ∷ []) ∷ node 33188 1 0 (0 ∷ 0 ∷ 0 ∷ 0 ∷ 0 ∷ 0 ∷ 0 ∷ 0 ∷ 0 ∷ 0 ∷ []) ∷ []) (zone_with 8 (file 1024 (piece 0 (hex 3 0x01002e) ∷ piece 16 (hex 4 0x01002e2e) ∷ piece 32 (hex 3 0x020061) ∷ [])) ∷ []) (1 ∷ 2 ∷ 3 ∷ 5 ∷ []) (8 ∷ 9 ∷ 11 ∷ 12 ∷ [])) (taken_by [] [] [] []) (wish 3000 [] 1 (codes "new")) ≡ Ok (choice 4 3 (10 ∷ 13 ∷ 14 ∷ []) (10 ∷ 13 ∷ 14 ∷ []) [] [])
 unfolding number16 number32 number_in follow pointer_by inside follow_at zone_at block_at entry_of entry_at find_entry data_blocks made_above made_indirect all_entries has_name is_overlooked is_promised new_place way_along missing_on_way promised_zone free_inode left_zones name_check file_need choice_with zones_check choose_blocks choose taken_with branch_of
-minix_choose_marks_without_a_use_in_version_1_with_short_names = refl
+minix_choose_bits_without_a_use_in_version_1_with_short_names = refl
 
 -- two zones for three blocks in version 1 with short names
 pub minix_choose_two_zones_for_three_blocks_in_version_1_with_short_names : choose_on (volume_by (super_with V1Short 16 11 1 1 8) (node 16877 2 32 (8 ∷ 0 ∷ 0 ∷ 0 ∷ 0 ∷ 0 ∷ 0 ∷ 0 ∷ 0 ∷ 0 ∷ []) ∷ []) (zone_with 8 (file 1024 (piece 0 (hex 3 0x01002e) ∷ piece 16 (hex 4 0x01002e2e) ∷ [])) ∷ []) (1 ∷ []) (8 ∷ [])) (taken_by [] [] [] []) (wish 3000 [] 1 (codes "new")) ≡ Err (NoSpace 3 2)
@@ -209,7 +209,7 @@ pub minix_choose_no_inode_for_a_name_that_is_there_in_version_1_with_long_names 
 unfolding number16 number32 number_in follow pointer_by inside follow_at zone_at block_at entry_of entry_at find_entry data_blocks made_above made_indirect all_entries has_name is_overlooked is_promised new_place way_along missing_on_way promised_zone free_inode left_zones name_check file_need choice_with zones_check choose_blocks choose taken_with branch_of
 minix_choose_no_inode_for_a_name_that_is_there_in_version_1_with_long_names = refl
 
--- marks without a use in version 1 with long names
-pub minix_choose_marks_without_a_use_in_version_1_with_long_names : choose_on (volume_by (super_with V1Long 16 64 1 1 8) (node 16877 2 96 (8 ∷ 0 ∷ 0 ∷ 0 ∷ 0 ∷ 0 ∷ 0 ∷ 0 ∷ 0 ∷ 0 ∷ []) ∷ node 33188 1 0 (0 ∷ 0 ∷ 0 ∷ 0 ∷ 0 ∷ 0 ∷ 0 ∷ 0 ∷ 0 ∷ 0 ∷ []) ∷ []) (zone_with 8 (file 1024 (piece 0 (hex 3 0x01002e) ∷ piece 32 (hex 4 0x01002e2e) ∷ piece 64 (hex 3 0x020061) ∷ [])) ∷ []) (1 ∷ 2 ∷ 3 ∷ 5 ∷ []) (8 ∷ 9 ∷ 11 ∷ 12 ∷ [])) (taken_by [] [] [] []) (wish 3000 [] 1 (codes "new")) ≡ Ok (choice 4 3 (10 ∷ 13 ∷ 14 ∷ []) (10 ∷ 13 ∷ 14 ∷ []) [] [])
+-- bits without a use in version 1 with long names
+pub minix_choose_bits_without_a_use_in_version_1_with_long_names : choose_on (volume_by (super_with V1Long 16 64 1 1 8) (node 16877 2 96 (8 ∷ 0 ∷ 0 ∷ 0 ∷ 0 ∷ 0 ∷ 0 ∷ 0 ∷ 0 ∷ 0 ∷ []) ∷ node 33188 1 0 (0 ∷ 0 ∷ 0 ∷ 0 ∷ 0 ∷ 0 ∷ 0 ∷ 0 ∷ 0 ∷ 0 ∷ []) ∷ []) (zone_with 8 (file 1024 (piece 0 (hex 3 0x01002e) ∷ piece 32 (hex 4 0x01002e2e) ∷ piece 64 (hex 3 0x020061) ∷ [])) ∷ []) (1 ∷ 2 ∷ 3 ∷ 5 ∷ []) (8 ∷ 9 ∷ 11 ∷ 12 ∷ [])) (taken_by [] [] [] []) (wish 3000 [] 1 (codes "new")) ≡ Ok (choice 4 3 (10 ∷ 13 ∷ 14 ∷ []) (10 ∷ 13 ∷ 14 ∷ []) [] [])
 unfolding number16 number32 number_in follow pointer_by inside follow_at zone_at block_at entry_of entry_at find_entry data_blocks made_above made_indirect all_entries has_name is_overlooked is_promised new_place way_along missing_on_way promised_zone free_inode left_zones name_check file_need choice_with zones_check choose_blocks choose taken_with branch_of
-minix_choose_marks_without_a_use_in_version_1_with_long_names = refl
+minix_choose_bits_without_a_use_in_version_1_with_long_names = refl

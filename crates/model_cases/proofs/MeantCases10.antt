@@ -13,7 +13,9 @@ use Rattle.lilo_model.specs.MinixFindNames.{child_path, path_of}
 use Rattle.lilo_model.specs.Place.{command_line, written_by, place, kernel_fit}
 use Rattle.lilo_model.specs.Reason.{Idle, Header}
 use Rattle.model_cases.specs.Sparse.{hex, piece, file, typed, waited}
-use Rattle.model_cases.specs.PlanFixtures.{conf_r49, conf_r50, conf_r51, conf_r52, conf_r53, conf_r54, conf_r55, conf_r56, devices_many, names_many}
+use Rattle.model_cases.specs.PlanChanceConfs2.{conf_r49, conf_r50, conf_r51, conf_r52, conf_r53, conf_r54, conf_r55, conf_r56}
+use Rattle.model_cases.specs.PlanNames.{names_many}
+use Rattle.model_cases.specs.PlanVolumes.{devices_many}
 
 -- by chance 49
 pub meant_by_chance_49 : (meant conf_r49 names_many devices_many (Kept (codes "old")) (typed (hex 5 0x6162087f6c)) 16777216 ≡ record { outcome = Loaded (record { real = record { address = 0x90000; size = 1024 }; protected = record { address = 0x100000; size = 576 }; initrd = None; line = record { address = 0x99800; size = 38 } }); shown = (codes "LILO\nLoading old\n"); line = Some (Kept (codes "old")); written = (record { address = 0x90000; bytes = (file 1024 (piece 497 (hex 1 0x01) ∷ piece 510 (hex 10 0x55aa0000486472530602) ∷ piece 528 (hex 2 0x0281) ∷ piece 549 (hex 11 0x96000000980900ffffff37) ∷ piece 568 (hex 1 0xff) ∷ [])) } ∷ record { address = 0x100000; bytes = (file 576 (piece 0 (replicate 576 5) ∷ [])) } ∷ record { address = 0x99800; bytes = (file 38 (piece 0 (codes "auto BOOT_IMAGE=old rw root=801 quiet") ∷ [])) } ∷ []); left = (typed (hex 5 0x6162087f6c)) }) × (meant conf_r49 names_many devices_many Empty (waited 1 ++ typed (hex 6 0x6162087f6c15) ++ waited 1 ++ typed (hex 6 0x6162630d090d)) 1073741824 ≡ record { outcome = Loaded (record { real = record { address = 0x90000; size = 1024 }; protected = record { address = 0x100000; size = 576 }; initrd = None; line = record { address = 0x99800; size = 31 } }); shown = (codes "LILO\nLoading x2\n"); line = Some Empty; written = (record { address = 0x90000; bytes = (file 1024 (piece 497 (hex 1 0x01) ∷ piece 510 (hex 10 0x55aa0000486472530602) ∷ piece 528 (hex 2 0x0281) ∷ piece 549 (hex 11 0x96000000980900ffffff37) ∷ piece 568 (hex 1 0xff) ∷ [])) } ∷ record { address = 0x100000; bytes = (file 576 (piece 0 (replicate 576 5) ∷ [])) } ∷ record { address = 0x99800; bytes = (file 31 (piece 0 (codes "auto BOOT_IMAGE=x2 rw root=803") ∷ [])) } ∷ []); left = (waited 1 ++ typed (hex 6 0x6162087f6c15) ++ waited 1 ++ typed (hex 6 0x6162630d090d)) })

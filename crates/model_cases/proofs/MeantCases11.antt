@@ -12,7 +12,10 @@ use Rattle.lilo_model.specs.MinixFind.{components, child, find_path, file_block,
 use Rattle.lilo_model.specs.MinixFindNames.{child_path, path_of}
 use Rattle.lilo_model.specs.Place.{command_line, written_by, place, kernel_fit}
 use Rattle.model_cases.specs.Sparse.{hex, piece, file, typed, waited}
-use Rattle.model_cases.specs.PlanFixtures.{conf_r57, conf_r58, conf_r59, conf_r60, conf_tracks_1, conf_tracks_2, conf_tracks_3, conf_tracks_4, devices_many, devices_tracks, names_many, names_tracks}
+use Rattle.model_cases.specs.PlanChanceConfs2.{conf_r57, conf_r58, conf_r59, conf_r60}
+use Rattle.model_cases.specs.PlanNames.{names_many, names_tracks}
+use Rattle.model_cases.specs.PlanTracksConfs.{conf_tracks_1, conf_tracks_2, conf_tracks_3, conf_tracks_4}
+use Rattle.model_cases.specs.PlanVolumes.{devices_many, devices_tracks}
 
 -- by chance 57
 pub meant_by_chance_57 : (meant conf_r57 names_many devices_many Empty (typed (hex 9 0x616263156f6c640d3f)) 16777216 ≡ record { outcome = Loaded (record { real = record { address = 0x90000; size = 1024 }; protected = record { address = 0x10000; size = 5 }; initrd = None; line = record { address = 0x99800; size = 24 } }); shown = (codes "LILO\nboot: abc\nboot: old\nLoading old\n"); line = Some Empty; written = (record { address = 0x90000; bytes = (file 1024 (piece 32 (hex 4 0x3fa30098) ∷ piece 497 (hex 1 0x01) ∷ piece 510 (hex 2 0x55aa) ∷ piece 556 (hex 4 0xffffff37) ∷ piece 568 (hex 1 0xff) ∷ [])) } ∷ record { address = 0x10000; bytes = (file 5 (piece 0 (codes "HELLO") ∷ [])) } ∷ record { address = 0x99800; bytes = (file 24 (piece 0 (codes "BOOT_IMAGE=old root=801") ∷ [])) } ∷ []); left = (typed (hex 1 0x3f)) }) × (meant conf_r57 names_many devices_many (Once (codes "win2 w")) (waited 60 ++ typed (hex 2 0x090d)) 16777216 ≡ record { outcome = Loaded (record { real = record { address = 0x90000; size = 2560 }; protected = record { address = 0x100000; size = 5 }; initrd = None; line = record { address = 0x99800; size = 25 } }); shown = (codes "LILO\nboot: \nLoading linux\n"); line = Some (Kept (codes "linux")); written = (record { address = 0x90000; bytes = (file 2560 (piece 510 (hex 10 0x55aa0000486472530602) ∷ piece 528 (hex 2 0x0281) ∷ piece 549 (hex 11 0x96000000980900ffffff37) ∷ piece 568 (hex 1 0xff) ∷ [])) } ∷ record { address = 0x100000; bytes = (file 5 (piece 0 (codes "PMODE") ∷ [])) } ∷ record { address = 0x99800; bytes = (file 25 (piece 0 (codes "auto BOOT_IMAGE=linux rw") ∷ [])) } ∷ []); left = (waited 55 ++ typed (hex 2 0x090d)) })

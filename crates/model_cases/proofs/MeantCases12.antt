@@ -13,7 +13,9 @@ use Rattle.lilo_model.specs.MinixFindNames.{child_path, path_of}
 use Rattle.lilo_model.specs.Place.{command_line, written_by, place, kernel_fit}
 use Rattle.lilo_model.specs.Reason.{Idle, Header}
 use Rattle.model_cases.specs.Sparse.{hex, piece, file, typed, waited}
-use Rattle.model_cases.specs.PlanFixtures.{conf_tracks_10, conf_tracks_11, conf_tracks_12, conf_tracks_5, conf_tracks_6, conf_tracks_7, conf_tracks_8, conf_tracks_9, devices_tracks, names_tracks}
+use Rattle.model_cases.specs.PlanNames.{names_tracks}
+use Rattle.model_cases.specs.PlanTracksConfs.{conf_tracks_10, conf_tracks_11, conf_tracks_12, conf_tracks_5, conf_tracks_6, conf_tracks_7, conf_tracks_8, conf_tracks_9}
+use Rattle.model_cases.specs.PlanVolumes.{devices_tracks}
 
 -- the same with linear addresses, and a message of 513 bytes
 pub meant_the_same_with_linear_addresses_and_a_message_of_513_bytes : meant conf_tracks_5 names_tracks devices_tracks Empty (typed (codes "1\n")) 16777216 ≡ record { outcome = Loaded (record { real = record { address = 0x90000; size = 1024 }; protected = record { address = 0x100000; size = 71677 }; initrd = None; line = record { address = 0x99800; size = 13 } }); shown = (codes "LILO\nmmmmmmmmmmmmmmmmmmmmmmmmmmmmmmmmmmmmmmmmmmmmmmmmmmmmmmmmmmmmmmmmmmmmmmmmmmmmmmmmmmmmmmmmmmmmmmmmmmmmmmmmmmmmmmmmmmmmmmmmmmmmmmmmmmmmmmmmmmmmmmmmmmmmmmmmmmmmmmmmmmmmmmmmmmmmmmmmmmmmmmmmmmmmmmmmmmmmmmmmmmmmmmmmmmmmmmmmmmmmmmmmmmmmmmmmmmmmmmmmmmmmmmmmmmmmmmmmmmmmmmmmmmmmmmmmmmmmmmmmmmmmmmmmmmmmmmmmmmmmmmmmmmmmmmmmmmmmmmmmmmmmmmmmmmmmmmmmmmmmmmmmmmmmmmmmmmmmmmmmmmmmmmmmmmmmmmmmmmmmmmmmmmmmmmmmmmmmmmmmmmmmmmmmmmmmmmmmmmmmmmmmmmmmmmmmmmmmmmmmmmmmmmmmmmmmmmmmmmmmmmmmmmmmmmmmmmmmmmmmmmmmmmmmmmmmmmmmmmmmmmmmmmmmmmmmmboot: 1\nLoading 1\n"); line = Some Empty; written = (record { address = 0x90000; bytes = (file 1024 (piece 497 (hex 1 0x01) ∷ piece 510 (hex 10 0x55aa0000486472530602) ∷ piece 528 (hex 2 0x0281) ∷ piece 549 (hex 11 0x96000000980900ffffff37) ∷ piece 568 (hex 1 0xff) ∷ [])) } ∷ record { address = 0x100000; bytes = (file 71677 (piece 0 (replicate 71677 11) ∷ [])) } ∷ record { address = 0x99800; bytes = (file 13 (piece 0 (codes "BOOT_IMAGE=1") ∷ [])) } ∷ []); left = [] }

@@ -13,7 +13,9 @@ use Rattle.lilo_model.specs.MinixFindNames.{child_path, path_of}
 use Rattle.lilo_model.specs.Place.{command_line, written_by, place, kernel_fit}
 use Rattle.lilo_model.specs.Reason.{Idle, Header}
 use Rattle.model_cases.specs.Sparse.{hex, piece, file, typed, waited}
-use Rattle.model_cases.specs.PlanFixtures.{conf_tracks_13, conf_tracks_14, conf_tracks_15, conf_tracks_16, conf_tracks_17, conf_tracks_18, conf_tracks_19, conf_tracks_20, devices_tracks, names_tracks}
+use Rattle.model_cases.specs.PlanNames.{names_tracks}
+use Rattle.model_cases.specs.PlanTracksConfs.{conf_tracks_13, conf_tracks_14, conf_tracks_15, conf_tracks_16, conf_tracks_17, conf_tracks_18, conf_tracks_19, conf_tracks_20}
+use Rattle.model_cases.specs.PlanVolumes.{devices_tracks}
 
 -- linear, compact, a prompt, delay 65534, an image, a lock, vga
 pub meant_linear_compact_a_prompt_delay_65534_an_image_a_lock_vga : (meant conf_tracks_13 names_tracks devices_tracks Empty (typed (codes "fifteen-letters vga=ext lock y\n")) 16777216 ≡ record { outcome = Loaded (record { real = record { address = 0x90000; size = 1024 }; protected = record { address = 0x100000; size = 4476 }; initrd = None; line = record { address = 0x99800; size = 32 } }); shown = (codes "LILO\nboot: fifteen-letters vga=ext lock y\nLoading fifteen-letters\n"); line = Some (Kept (codes "fifteen-letters vga=ext y")); written = (record { address = 0x90000; bytes = (file 1024 (piece 497 (hex 1 0x01) ∷ piece 506 (hex 14 0xfeff000055aa0000486472530602) ∷ piece 528 (hex 2 0x0281) ∷ piece 549 (hex 11 0x96000000980900ffffff37) ∷ piece 568 (hex 1 0xff) ∷ [])) } ∷ record { address = 0x100000; bytes = (file 4476 (piece 0 (replicate 4476 5) ∷ [])) } ∷ record { address = 0x99800; bytes = (file 32 (piece 0 (codes "BOOT_IMAGE=fifteen-letters ro y") ∷ [])) } ∷ []); left = [] }) × (meant conf_tracks_13 names_tracks devices_tracks (Once (codes "gone")) (typed (hex 30 0x6669667465656e2d6c657474657273207667613d30783720780d72657374)) 3145728 ≡ record { outcome = Loaded (record { real = record { address = 0x90000; size = 1024 }; protected = record { address = 0x100000; size = 4476 }; initrd = None; line = record { address = 0x99800; size = 32 } }); shown = (codes "LILO\nboot: fifteen-letters vga=0x7 x\nLoading fifteen-letters\n"); line = Some (Kept (codes "fifteen-letters vga=0x7 x")); written = (record { address = 0x90000; bytes = (file 1024 (piece 497 (hex 1 0x01) ∷ piece 506 (hex 14 0x0700000055aa0000486472530602) ∷ piece 528 (hex 2 0x0281) ∷ piece 549 (hex 11 0x96000000980900ffffff37) ∷ piece 568 (hex 1 0xff) ∷ [])) } ∷ record { address = 0x100000; bytes = (file 4476 (piece 0 (replicate 4476 5) ∷ [])) } ∷ record { address = 0x99800; bytes = (file 32 (piece 0 (codes "BOOT_IMAGE=fifteen-letters ro x") ∷ [])) } ∷ []); left = (typed (codes "rest")) })

@@ -13,7 +13,9 @@ use Rattle.lilo_model.specs.MinixFindNames.{child_path, path_of}
 use Rattle.lilo_model.specs.Place.{command_line, written_by, place, kernel_fit}
 use Rattle.lilo_model.specs.Reason.{Idle, Header}
 use Rattle.model_cases.specs.Sparse.{hex, piece, file, typed, waited}
-use Rattle.model_cases.specs.PlanFixtures.{conf_tracks_21, conf_tracks_22, conf_tracks_23, conf_tracks_24, conf_tracks_25, conf_tracks_26, conf_tracks_27, conf_tracks_28, devices_tracks, names_tracks}
+use Rattle.model_cases.specs.PlanNames.{names_tracks}
+use Rattle.model_cases.specs.PlanTracksConfs.{conf_tracks_21, conf_tracks_22, conf_tracks_23, conf_tracks_24, conf_tracks_25, conf_tracks_26, conf_tracks_27, conf_tracks_28}
+use Rattle.model_cases.specs.PlanVolumes.{devices_tracks}
 
 -- by cylinder, timeout 7, 2 images, another system, an initrd, an alias, a password, a lock, a fallback, vga, root
 pub meant_by_cylinder_timeout_7_2_images_another_system_an_initrd_an_alias_a_password_a_lock_a_fallback_vga_root : (meant conf_tracks_21 names_tracks devices_tracks Empty (waited 3 ++ typed (hex 6 0x330d6120620a)) 4194304 ≡ record { outcome = Refused Idle; shown = (codes "LILO\nPassword: \nSorry.\nboot: a b\nNo such image.\nboot: "); line = Some Empty; written = []; left = [] }) × (meant conf_tracks_21 names_tracks devices_tracks (Once (codes "fifteen-letters one")) (typed (codes "fifteen-letters\n")) 3145728 ≡ record { outcome = Handed; shown = (codes "LILO\nLoading fifteen-letters\n"); line = Some (Kept (codes "fifteen-letters one")); written = (record { address = 0x7c00; bytes = (file 512 (piece 3 (codes "LOGICAL") ∷ piece 510 (hex 2 0x55aa) ∷ [])) } ∷ []); left = (typed (codes "fifteen-letters\n")) })

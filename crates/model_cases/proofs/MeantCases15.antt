@@ -13,7 +13,9 @@ use Rattle.lilo_model.specs.MinixFindNames.{child_path, path_of}
 use Rattle.lilo_model.specs.Place.{command_line, written_by, place, kernel_fit}
 use Rattle.lilo_model.specs.Reason.{Idle, Header}
 use Rattle.model_cases.specs.Sparse.{hex, piece, file, typed, waited}
-use Rattle.model_cases.specs.PlanFixtures.{conf_tracks_29, conf_tracks_30, conf_tracks_31, conf_tracks_32, conf_tracks_33, conf_tracks_34, conf_tracks_35, conf_tracks_36, devices_tracks, names_tracks}
+use Rattle.model_cases.specs.PlanNames.{names_tracks}
+use Rattle.model_cases.specs.PlanTracksConfs.{conf_tracks_29, conf_tracks_30, conf_tracks_31, conf_tracks_32, conf_tracks_33, conf_tracks_34, conf_tracks_35, conf_tracks_36}
+use Rattle.model_cases.specs.PlanVolumes.{devices_tracks}
 
 -- lba32, compact, a message, a prompt, timeout 65534, 2 images, an initrd, an alias, a password, restricted, a lock, a fallback, append
 pub meant_lba32_compact_a_message_a_prompt_timeout_65534_2_images_an_initrd_an_alias_a_password_restricted_a_lock_a_fallback_append : (meant conf_tracks_29 names_tracks devices_tracks Empty (waited 1 ++ typed (hex 19 0x7a7a0a35207667613d30783720780d746f700a)) 16777216 ≡ record { outcome = Loaded (record { real = record { address = 0x90000; size = 1024 }; protected = record { address = 0x10000; size = 976 }; initrd = None; line = record { address = 0x99800; size = 23 } }); shown = (codes "LILO\nPick one:\nboot: zz\nNo such image.\nboot: 5 vga=0x7 x\nPassword: \nLoading 5\n"); line = Some (Kept (codes "two")); written = (record { address = 0x90000; bytes = (file 1024 (piece 32 (hex 4 0x3fa30098) ∷ piece 497 (hex 1 0x01) ∷ piece 506 (hex 6 0x0700000055aa) ∷ piece 556 (hex 4 0xffffff37) ∷ piece 568 (hex 1 0xff) ∷ [])) } ∷ record { address = 0x10000; bytes = (file 976 (piece 0 (replicate 976 2) ∷ [])) } ∷ record { address = 0x99800; bytes = (file 23 (piece 0 (codes "BOOT_IMAGE=5 ro a=98 x") ∷ [])) } ∷ []); left = [] }) × (meant conf_tracks_29 names_tracks devices_tracks (Once (codes "two one")) [] 16777216 ≡ record { outcome = Refused Idle; shown = (codes "LILO\nPassword: \nPick one:\nboot: "); line = Some (Once (codes "two one")); written = []; left = [] })

@@ -13,7 +13,10 @@ use Rattle.lilo_model.specs.MinixFindNames.{child_path, path_of}
 use Rattle.lilo_model.specs.Place.{command_line, written_by, place, kernel_fit}
 use Rattle.lilo_model.specs.Reason.{Idle}
 use Rattle.model_cases.specs.Sparse.{hex, piece, file, typed}
-use Rattle.model_cases.specs.PlanFixtures.{conf_logical_1, conf_logical_2, conf_logical_3, conf_logical_4, conf_tracks_37, conf_tracks_38, conf_tracks_39, conf_tracks_40, devices_logical, devices_tracks, names_logical, names_tracks}
+use Rattle.model_cases.specs.PlanLogicalConfs.{conf_logical_1, conf_logical_2, conf_logical_3, conf_logical_4}
+use Rattle.model_cases.specs.PlanNames.{names_logical, names_tracks}
+use Rattle.model_cases.specs.PlanTracksConfs.{conf_tracks_37, conf_tracks_38, conf_tracks_39, conf_tracks_40}
+use Rattle.model_cases.specs.PlanVolumes.{devices_logical, devices_tracks}
 
 -- lba32, compact, a prompt, delay 65534, 3 images, one omitted, an initrd, an alias, a password, a lock, a fallback, append, root
 pub meant_lba32_compact_a_prompt_delay_65534_3_images_one_omitted_an_initrd_an_alias_a_password_a_lock_a_fallback_append_root : (meant conf_tracks_37 names_tracks devices_tracks Empty (typed (hex 9 0x717515350d7475780a)) 16777216 ≡ record { outcome = Refused Idle; shown = (codes "LILO\nboot: qu\nboot: 5\nNo such image.\nboot: tux\nNo such image.\nboot: "); line = Some Empty; written = []; left = [] }) × (meant conf_tracks_37 names_tracks devices_tracks (Once (codes "gone")) (typed (codes "two single\ntux\n")) 16777216 ≡ record { outcome = Refused Idle; shown = (codes "LILO\nboot: two single\nNo such image.\nboot: tux\nNo such image.\nboot: "); line = Some (Once (codes "gone")); written = []; left = [] })

@@ -13,7 +13,9 @@ use Rattle.lilo_model.specs.MinixFindNames.{child_path, path_of}
 use Rattle.lilo_model.specs.Place.{command_line, written_by, place, kernel_fit}
 use Rattle.lilo_model.specs.Reason.{Idle}
 use Rattle.model_cases.specs.Sparse.{hex, piece, file, typed, waited}
-use Rattle.model_cases.specs.PlanFixtures.{conf_logical_10, conf_logical_11, conf_logical_12, conf_logical_5, conf_logical_6, conf_logical_7, conf_logical_8, conf_logical_9, devices_logical, names_logical}
+use Rattle.model_cases.specs.PlanLogicalConfs.{conf_logical_10, conf_logical_11, conf_logical_12, conf_logical_5, conf_logical_6, conf_logical_7, conf_logical_8, conf_logical_9}
+use Rattle.model_cases.specs.PlanNames.{names_logical}
+use Rattle.model_cases.specs.PlanVolumes.{devices_logical}
 
 -- lba32, compact, timeout 1, an image, another system, an initrd, a fallback
 pub meant_lba32_compact_timeout_1_an_image_another_system_an_initrd_a_fallback : (meant conf_logical_5 names_logical devices_logical Empty (typed (hex 10 0x73616665206c6f636b0d)) 4194304 ≡ record { outcome = Handed; shown = (codes "LILO\nLoading safe\n"); line = Some Empty; written = (record { address = 0x7c00; bytes = (file 512 (piece 3 (codes "FAT") ∷ piece 510 (hex 2 0x55aa) ∷ [])) } ∷ []); left = (typed (hex 10 0x73616665206c6f636b0d)) }) × (meant conf_logical_5 names_logical devices_logical (Kept (codes "safe")) (typed (hex 8 0x717515736166650d)) 1048576 ≡ record { outcome = Handed; shown = (codes "LILO\nLoading safe\n"); line = Some (Kept (codes "safe")); written = (record { address = 0x7c00; bytes = (file 512 (piece 3 (codes "FAT") ∷ piece 510 (hex 2 0x55aa) ∷ [])) } ∷ []); left = (typed (hex 8 0x717515736166650d)) })

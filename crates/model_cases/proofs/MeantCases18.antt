@@ -13,7 +13,9 @@ use Rattle.lilo_model.specs.MinixFindNames.{child_path, path_of}
 use Rattle.lilo_model.specs.Place.{command_line, written_by, place, kernel_fit}
 use Rattle.lilo_model.specs.Reason.{Idle, Header}
 use Rattle.model_cases.specs.Sparse.{hex, piece, file, typed, waited}
-use Rattle.model_cases.specs.PlanFixtures.{conf_logical_13, conf_logical_14, conf_logical_15, conf_logical_16, conf_logical_17, conf_logical_18, conf_logical_19, conf_logical_20, devices_logical, names_logical}
+use Rattle.model_cases.specs.PlanLogicalConfs.{conf_logical_13, conf_logical_14, conf_logical_15, conf_logical_16, conf_logical_17, conf_logical_18, conf_logical_19, conf_logical_20}
+use Rattle.model_cases.specs.PlanNames.{names_logical}
+use Rattle.model_cases.specs.PlanVolumes.{devices_logical}
 
 -- linear, compact, a message, delay 1, timeout 7, an image, an initrd, a lock
 pub meant_linear_compact_a_message_delay_1_timeout_7_an_image_an_initrd_a_lock : (meant conf_logical_13 names_logical devices_logical Empty (waited 1 ++ typed (hex 4 0x646f730d)) 16777216 ≡ record { outcome = Loaded (record { real = record { address = 0x90000; size = 1024 }; protected = record { address = 0x100000; size = 5 }; initrd = (Some (record { address = 0xfff000; size = 3072 })); line = record { address = 0x99800; size = 20 } }); shown = (codes "LILO\nLoading dos\n"); line = Some (Kept (codes "dos")); written = (record { address = 0x90000; bytes = (file 1024 (piece 497 (hex 1 0x01) ∷ piece 510 (hex 10 0x55aa0000486472530602) ∷ piece 528 (hex 2 0x0281) ∷ piece 537 (hex 5 0xf0ff00000c) ∷ piece 549 (hex 11 0x96000000980900ffffff37) ∷ piece 568 (hex 1 0xff) ∷ [])) } ∷ record { address = 0x100000; bytes = (file 5 (piece 0 (codes "HELLO") ∷ [])) } ∷ record { address = 0xfff000; bytes = (file 3072 []) } ∷ record { address = 0x99800; bytes = (file 20 (piece 0 (codes "auto BOOT_IMAGE=dos") ∷ [])) } ∷ []); left = (typed (hex 4 0x646f730d)) }) × (meant conf_logical_13 names_logical devices_logical Empty [] 16777216 ≡ record { outcome = Loaded (record { real = record { address = 0x90000; size = 1024 }; protected = record { address = 0x100000; size = 5 }; initrd = (Some (record { address = 0xfff000; size = 3072 })); line = record { address = 0x99800; size = 20 } }); shown = (codes "LILO\nLoading dos\n"); line = Some (Kept (codes "dos")); written = (record { address = 0x90000; bytes = (file 1024 (piece 497 (hex 1 0x01) ∷ piece 510 (hex 10 0x55aa0000486472530602) ∷ piece 528 (hex 2 0x0281) ∷ piece 537 (hex 5 0xf0ff00000c) ∷ piece 549 (hex 11 0x96000000980900ffffff37) ∷ piece 568 (hex 1 0xff) ∷ [])) } ∷ record { address = 0x100000; bytes = (file 5 (piece 0 (codes "HELLO") ∷ [])) } ∷ record { address = 0xfff000; bytes = (file 3072 []) } ∷ record { address = 0x99800; bytes = (file 20 (piece 0 (codes "auto BOOT_IMAGE=dos") ∷ [])) } ∷ []); left = [] })

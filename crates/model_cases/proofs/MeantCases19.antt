@@ -13,7 +13,9 @@ use Rattle.lilo_model.specs.MinixFindNames.{child_path, path_of}
 use Rattle.lilo_model.specs.Place.{command_line, written_by, place, kernel_fit}
 use Rattle.lilo_model.specs.Reason.{Idle, Header}
 use Rattle.model_cases.specs.Sparse.{hex, piece, file, typed, waited}
-use Rattle.model_cases.specs.PlanFixtures.{conf_logical_21, conf_logical_22, conf_logical_23, conf_logical_24, conf_logical_25, conf_logical_26, conf_logical_27, conf_logical_28, devices_logical, names_logical}
+use Rattle.model_cases.specs.PlanLogicalConfs.{conf_logical_21, conf_logical_22, conf_logical_23, conf_logical_24, conf_logical_25, conf_logical_26, conf_logical_27, conf_logical_28}
+use Rattle.model_cases.specs.PlanNames.{names_logical}
+use Rattle.model_cases.specs.PlanVolumes.{devices_logical}
 
 -- linear, a message, a prompt, 2 images, an alias, a lock, root
 pub meant_linear_a_message_a_prompt_2_images_an_alias_a_lock_root : (meant conf_logical_21 names_logical devices_logical Empty (waited 3 ++ typed (hex 8 0x0962206c6f636b0a)) 16777216 ≡ record { outcome = Loaded (record { real = record { address = 0x90000; size = 1024 }; protected = record { address = 0x100000; size = 5 }; initrd = None; line = record { address = 0x99800; size = 23 } }); shown = (codes "LILO\nboot: \nb\nfifteen-letters\n7\nboot: b lock\nLoading b\n"); line = Some (Kept (codes "b")); written = (record { address = 0x90000; bytes = (file 1024 (piece 497 (hex 1 0x01) ∷ piece 510 (hex 10 0x55aa0000486472530602) ∷ piece 528 (hex 2 0x0281) ∷ piece 549 (hex 11 0x96000000980900ffffff37) ∷ piece 568 (hex 1 0xff) ∷ [])) } ∷ record { address = 0x100000; bytes = (file 5 (piece 0 (codes "HELLO") ∷ [])) } ∷ record { address = 0x99800; bytes = (file 23 (piece 0 (codes "BOOT_IMAGE=b root=1abc") ∷ [])) } ∷ []); left = [] }) × (meant conf_logical_21 names_logical devices_logical (Kept (codes "fifteen-letters vga=ask  lock w")) [] 16777216 ≡ record { outcome = Loaded (record { real = record { address = 0x90000; size = 1024 }; protected = record { address = 0x100000; size = 5 }; initrd = None; line = record { address = 0x99800; size = 47 } }); shown = (codes "LILO\nLoading fifteen-letters\n"); line = Some (Kept (codes "fifteen-letters vga=ask w")); written = (record { address = 0x90000; bytes = (file 1024 (piece 497 (hex 1 0x01) ∷ piece 506 (hex 14 0xfdff000055aa0000486472530602) ∷ piece 528 (hex 2 0x0281) ∷ piece 549 (hex 11 0x96000000980900ffffff37) ∷ piece 568 (hex 1 0xff) ∷ [])) } ∷ record { address = 0x100000; bytes = (file 5 (piece 0 (codes "HELLO") ∷ [])) } ∷ record { address = 0x99800; bytes = (file 47 (piece 0 (codes "auto BOOT_IMAGE=fifteen-letters rw root=1abc w") ∷ [])) } ∷ []); left = [] })

@@ -13,7 +13,9 @@ use Rattle.lilo_model.specs.MinixFindNames.{child_path, path_of}
 use Rattle.lilo_model.specs.Place.{command_line, written_by, place, kernel_fit}
 use Rattle.lilo_model.specs.Reason.{Idle, Header}
 use Rattle.model_cases.specs.Sparse.{hex, piece, file, typed}
-use Rattle.model_cases.specs.PlanFixtures.{conf_alias_fallback, conf_all_password, conf_empty_message, conf_literal, conf_lock, conf_low, conf_low_initrd, conf_row8, devices_alias_fallback, devices_all_password, devices_empty_message, devices_literal, devices_lock, devices_low, devices_low_initrd, devices_row8, names_alias_fallback, names_all_password, names_empty_message, names_literal, names_lock, names_low, names_low_initrd, names_row8}
+use Rattle.model_cases.specs.PlanConfs.{conf_alias_fallback, conf_all_password, conf_empty_message, conf_literal, conf_lock, conf_low, conf_low_initrd, conf_row8}
+use Rattle.model_cases.specs.PlanNames.{names_alias_fallback, names_all_password, names_empty_message, names_literal, names_lock, names_low, names_low_initrd, names_row8}
+use Rattle.model_cases.specs.PlanVolumes.{devices_alias_fallback, devices_all_password, devices_empty_message, devices_literal, devices_lock, devices_low, devices_low_initrd, devices_row8}
 
 -- a password for all
 pub meant_a_password_for_all : (meant conf_all_password names_all_password devices_all_password Empty [] 16777216 ≡ record { outcome = Refused Idle; shown = (codes "LILO\nboot: \nPassword: \nboot: "); line = Some Empty; written = []; left = [] }) × (meant conf_all_password names_all_password devices_all_password Empty (typed (codes "\ntux\n")) 16777216 ≡ record { outcome = Loaded (record { real = record { address = 0x90000; size = 1024 }; protected = record { address = 0x100000; size = 5 }; initrd = (Some (record { address = 0xfff000; size = 700 })); line = record { address = 0x99800; size = 29 } }); shown = (codes "LILO\nboot: \nPassword: \nLoading linux\n"); line = Some Empty; written = (record { address = 0x90000; bytes = (file 1024 (piece 497 (hex 1 0x01) ∷ piece 510 (hex 10 0x55aa0000486472530602) ∷ piece 528 (hex 2 0x0281) ∷ piece 537 (hex 5 0xf0ff00bc02) ∷ piece 549 (hex 11 0x96000000980900ffffff37) ∷ piece 568 (hex 1 0xff) ∷ [])) } ∷ record { address = 0x100000; bytes = (file 5 (piece 0 (codes "HELLO") ∷ [])) } ∷ record { address = 0xfff000; bytes = (file 700 (piece 0 (replicate 700 165) ∷ [])) } ∷ record { address = 0x99800; bytes = (file 29 (piece 0 (codes "BOOT_IMAGE=linux ro root=301") ∷ [])) } ∷ []); left = [] })

@@ -13,7 +13,9 @@ use Rattle.lilo_model.specs.MinixFindNames.{child_path, path_of}
 use Rattle.lilo_model.specs.Place.{command_line, written_by, place, kernel_fit}
 use Rattle.lilo_model.specs.Reason.{Idle}
 use Rattle.model_cases.specs.Sparse.{hex, piece, file, typed}
-use Rattle.model_cases.specs.PlanFixtures.{conf_full, conf_link, conf_optional, conf_other, conf_own_table, conf_v1_short, conf_v2_short, conf_whole, devices_full, devices_link, devices_optional, devices_other, devices_own_table, devices_v1_short, devices_v2_short, devices_whole, names_full, names_link, names_optional, names_other, names_own_table, names_v1_short, names_v2_short, names_whole}
+use Rattle.model_cases.specs.PlanConfs.{conf_full, conf_link, conf_optional, conf_other, conf_own_table, conf_v1_short, conf_v2_short, conf_whole}
+use Rattle.model_cases.specs.PlanNames.{names_full, names_link, names_optional, names_other, names_own_table, names_v1_short, names_v2_short, names_whole}
+use Rattle.model_cases.specs.PlanVolumes.{devices_full, devices_link, devices_optional, devices_other, devices_own_table, devices_v1_short, devices_v2_short, devices_whole}
 
 -- optional sections
 pub meant_optional_sections : (meant conf_optional names_optional devices_optional Empty (typed (codes "old\n")) 16777216 ≡ record { outcome = Loaded (record { real = record { address = 0x90000; size = 1024 }; protected = record { address = 0x100000; size = 576 }; initrd = None; line = record { address = 0x99800; size = 15 } }); shown = (codes "LILO\nboot: old\nLoading old\n"); line = Some Empty; written = (record { address = 0x90000; bytes = (file 1024 (piece 497 (hex 1 0x01) ∷ piece 510 (hex 10 0x55aa0000486472530602) ∷ piece 528 (hex 2 0x0281) ∷ piece 549 (hex 11 0x96000000980900ffffff37) ∷ piece 568 (hex 1 0xff) ∷ [])) } ∷ record { address = 0x100000; bytes = (file 576 (piece 0 (replicate 576 5) ∷ [])) } ∷ record { address = 0x99800; bytes = (file 15 (piece 0 (codes "BOOT_IMAGE=old") ∷ [])) } ∷ []); left = [] }) × (meant conf_optional names_optional devices_optional Empty (typed (codes "gone\n")) 16777216 ≡ record { outcome = Refused Idle; shown = (codes "LILO\nboot: gone\nNo such image.\nboot: "); line = Some Empty; written = []; left = [] }) × (meant conf_optional names_optional devices_optional (Once (codes "old")) [] 16777216 ≡ record { outcome = Loaded (record { real = record { address = 0x90000; size = 1024 }; protected = record { address = 0x100000; size = 576 }; initrd = None; line = record { address = 0x99800; size = 20 } }); shown = (codes "LILO\nLoading old\n"); line = Some Empty; written = (record { address = 0x90000; bytes = (file 1024 (piece 497 (hex 1 0x01) ∷ piece 510 (hex 10 0x55aa0000486472530602) ∷ piece 528 (hex 2 0x0281) ∷ piece 549 (hex 11 0x96000000980900ffffff37) ∷ piece 568 (hex 1 0xff) ∷ [])) } ∷ record { address = 0x100000; bytes = (file 576 (piece 0 (replicate 576 5) ∷ [])) } ∷ record { address = 0x99800; bytes = (file 20 (piece 0 (codes "auto BOOT_IMAGE=old") ∷ [])) } ∷ []); left = [] })

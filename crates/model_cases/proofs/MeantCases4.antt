@@ -13,7 +13,9 @@ use Rattle.lilo_model.specs.MinixFindNames.{child_path, path_of}
 use Rattle.lilo_model.specs.Place.{command_line, written_by, place, kernel_fit}
 use Rattle.lilo_model.specs.Reason.{Idle, Header}
 use Rattle.model_cases.specs.Sparse.{hex, piece, file, typed, waited}
-use Rattle.model_cases.specs.PlanFixtures.{conf_r1, conf_r2, conf_r3, conf_r4, conf_r5, conf_r6, conf_r7, conf_r8, devices_many, names_many}
+use Rattle.model_cases.specs.PlanChanceConfs1.{conf_r1, conf_r2, conf_r3, conf_r4, conf_r5, conf_r6, conf_r7, conf_r8}
+use Rattle.model_cases.specs.PlanNames.{names_many}
+use Rattle.model_cases.specs.PlanVolumes.{devices_many}
 
 -- by chance 1
 pub meant_by_chance_1 : (meant conf_r1 names_many devices_many Empty (waited 1 ++ typed (hex 1 0x15)) 2097152 ≡ record { outcome = Refused Idle; shown = (codes "LILO\nboot: \nboot: "); line = Some Empty; written = []; left = [] }) × (meant conf_r1 names_many devices_many (Once (codes "a w")) [] 1048576 ≡ record { outcome = Refused (Header (NoRoom 1049152 1048576)); shown = (codes "LILO\nLoading a\nError\n"); line = Some (Kept (codes "a w")); written = []; left = [] })

@@ -13,7 +13,9 @@ use Rattle.lilo_model.specs.MinixFindNames.{child_path, path_of}
 use Rattle.lilo_model.specs.Place.{command_line, written_by, place, kernel_fit}
 use Rattle.lilo_model.specs.Reason.{Idle}
 use Rattle.model_cases.specs.Sparse.{hex, piece, file, typed, waited}
-use Rattle.model_cases.specs.PlanFixtures.{conf_r10, conf_r11, conf_r12, conf_r13, conf_r14, conf_r15, conf_r16, conf_r9, devices_many, names_many}
+use Rattle.model_cases.specs.PlanChanceConfs1.{conf_r10, conf_r11, conf_r12, conf_r13, conf_r14, conf_r15, conf_r16, conf_r9}
+use Rattle.model_cases.specs.PlanNames.{names_many}
+use Rattle.model_cases.specs.PlanVolumes.{devices_many}
 
 -- by chance 9
 pub meant_by_chance_9 : (meant conf_r9 names_many devices_many (Kept (codes "win")) (typed (codes "win lock\n") ++ waited 1 ++ typed (hex 2 0x3f15) ++ waited 4 ++ typed (hex 4 0x77696e15)) 2097152 ≡ record { outcome = Loaded (record { real = record { address = 0x90000; size = 2560 }; protected = record { address = 0x100000; size = 5 }; initrd = (Some (record { address = 0x1ff000; size = 1500 })); line = record { address = 0x99800; size = 15 } }); shown = (codes "LILO\nboot: win lock\nLoading win\n"); line = Some (Kept (codes "win")); written = (record { address = 0x90000; bytes = (file 2560 (piece 506 (hex 14 0x0103000055aa0000486472530602) ∷ piece 528 (hex 2 0x0281) ∷ piece 537 (hex 5 0xf01f00dc05) ∷ piece 549 (hex 11 0x96000000980900ffffff37) ∷ piece 568 (hex 1 0xff) ∷ [])) } ∷ record { address = 0x100000; bytes = (file 5 (piece 0 (codes "PMODE") ∷ [])) } ∷ record { address = 0x1ff000; bytes = (file 1500 (piece 0 (replicate 1500 17) ∷ [])) } ∷ record { address = 0x99800; bytes = (file 15 (piece 0 (codes "BOOT_IMAGE=win") ∷ [])) } ∷ []); left = (waited 1 ++ typed (hex 2 0x3f15) ++ waited 4 ++ typed (hex 4 0x77696e15)) }) × (meant conf_r9 names_many devices_many (Once (codes "win w")) [] 2097152 ≡ record { outcome = Loaded (record { real = record { address = 0x90000; size = 2560 }; protected = record { address = 0x100000; size = 5 }; initrd = (Some (record { address = 0x1ff000; size = 1500 })); line = record { address = 0x99800; size = 22 } }); shown = (codes "LILO\nLoading win\n"); line = Some Empty; written = (record { address = 0x90000; bytes = (file 2560 (piece 506 (hex 14 0x0103000055aa0000486472530602) ∷ piece 528 (hex 2 0x0281) ∷ piece 537 (hex 5 0xf01f00dc05) ∷ piece 549 (hex 11 0x96000000980900ffffff37) ∷ piece 568 (hex 1 0xff) ∷ [])) } ∷ record { address = 0x100000; bytes = (file 5 (piece 0 (codes "PMODE") ∷ [])) } ∷ record { address = 0x1ff000; bytes = (file 1500 (piece 0 (replicate 1500 17) ∷ [])) } ∷ record { address = 0x99800; bytes = (file 22 (piece 0 (codes "auto BOOT_IMAGE=win w") ∷ [])) } ∷ []); left = [] })

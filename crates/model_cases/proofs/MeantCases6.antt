@@ -13,7 +13,9 @@ use Rattle.lilo_model.specs.MinixFindNames.{child_path, path_of}
 use Rattle.lilo_model.specs.Place.{command_line, written_by, place, kernel_fit}
 use Rattle.lilo_model.specs.Reason.{Idle, Header}
 use Rattle.model_cases.specs.Sparse.{hex, piece, file, typed, waited}
-use Rattle.model_cases.specs.PlanFixtures.{conf_r17, conf_r18, conf_r19, conf_r20, conf_r21, conf_r22, conf_r23, conf_r24, devices_many, names_many}
+use Rattle.model_cases.specs.PlanChanceConfs1.{conf_r17, conf_r18, conf_r19, conf_r20, conf_r21, conf_r22, conf_r23, conf_r24}
+use Rattle.model_cases.specs.PlanNames.{names_many}
+use Rattle.model_cases.specs.PlanVolumes.{devices_many}
 
 -- by chance 17
 pub meant_by_chance_17 : (meant conf_r17 names_many devices_many (Once (codes "win w")) [] 1073741824 ≡ record { outcome = Loaded (record { real = record { address = 0x90000; size = 1024 }; protected = record { address = 0x100000; size = 3077 }; initrd = None; line = record { address = 0x99800; size = 22 } }); shown = (codes "LILO\nLoading win\n"); line = Some (Kept (codes "win")); written = (record { address = 0x90000; bytes = (file 1024 (piece 497 (hex 1 0x01) ∷ piece 510 (hex 10 0x55aa0000486472530602) ∷ piece 528 (hex 2 0x0281) ∷ piece 549 (hex 11 0x96000000980900ffffff37) ∷ piece 568 (hex 1 0xff) ∷ [])) } ∷ record { address = 0x100000; bytes = (file 3077 (piece 0 (replicate 1024 7) ∷ piece 2048 (replicate 1029 7) ∷ [])) } ∷ record { address = 0x99800; bytes = (file 22 (piece 0 (codes "auto BOOT_IMAGE=win w") ∷ [])) } ∷ []); left = [] }) × (meant conf_r17 names_many devices_many (Once (codes "win2 w")) (waited 4 ++ typed (hex 2 0x090d)) 1073741824 ≡ record { outcome = Loaded (record { real = record { address = 0x90000; size = 1024 }; protected = record { address = 0x100000; size = 3077 }; initrd = None; line = record { address = 0x99800; size = 23 } }); shown = (codes "LILO\nLoading win2\n"); line = Some (Kept (codes "win")); written = (record { address = 0x90000; bytes = (file 1024 (piece 497 (hex 1 0x01) ∷ piece 510 (hex 10 0x55aa0000486472530602) ∷ piece 528 (hex 2 0x0281) ∷ piece 549 (hex 11 0x96000000980900ffffff37) ∷ piece 568 (hex 1 0xff) ∷ [])) } ∷ record { address = 0x100000; bytes = (file 3077 (piece 0 (replicate 1024 7) ∷ piece 2048 (replicate 1029 7) ∷ [])) } ∷ record { address = 0x99800; bytes = (file 23 (piece 0 (codes "auto BOOT_IMAGE=win2 w") ∷ [])) } ∷ []); left = (waited 4 ++ typed (hex 2 0x090d)) })

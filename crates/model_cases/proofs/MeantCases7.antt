@@ -13,7 +13,10 @@ use Rattle.lilo_model.specs.MinixFindNames.{child_path, path_of}
 use Rattle.lilo_model.specs.Place.{command_line, written_by, place, kernel_fit}
 use Rattle.lilo_model.specs.Reason.{Idle, Header}
 use Rattle.model_cases.specs.Sparse.{hex, piece, file, typed, waited}
-use Rattle.model_cases.specs.PlanFixtures.{conf_r25, conf_r26, conf_r27, conf_r28, conf_r29, conf_r30, conf_r31, conf_r32, devices_many, names_many}
+use Rattle.model_cases.specs.PlanChanceConfs1.{conf_r25, conf_r26, conf_r27, conf_r28, conf_r29, conf_r30}
+use Rattle.model_cases.specs.PlanChanceConfs2.{conf_r31, conf_r32}
+use Rattle.model_cases.specs.PlanNames.{names_many}
+use Rattle.model_cases.specs.PlanVolumes.{devices_many}
 
 -- by chance 25
 pub meant_by_chance_25 : (meant conf_r25 names_many devices_many (Once (codes "old w")) (typed (hex 4 0x61626315)) 16777216 ≡ record { outcome = Loaded (record { real = record { address = 0x90000; size = 1024 }; protected = record { address = 0x100000; size = 576 }; initrd = None; line = record { address = 0x99800; size = 31 } }); shown = (codes "LILO\nLoading old\n"); line = Some (Kept (codes "old w")); written = (record { address = 0x90000; bytes = (file 1024 (piece 497 (hex 1 0x01) ∷ piece 506 (hex 14 0x0103000055aa0000486472530602) ∷ piece 528 (hex 2 0x0281) ∷ piece 549 (hex 11 0x96000000980900ffffff37) ∷ piece 568 (hex 1 0xff) ∷ [])) } ∷ record { address = 0x100000; bytes = (file 576 (piece 0 (replicate 576 5) ∷ [])) } ∷ record { address = 0x99800; bytes = (file 31 (piece 0 (codes "auto BOOT_IMAGE=old root=801 w") ∷ [])) } ∷ []); left = (typed (hex 4 0x61626315)) }) × (meant conf_r25 names_many devices_many (Once (codes "old w")) [] 1048576 ≡ record { outcome = Refused (Header (NoRoom 1049152 1048576)); shown = (codes "LILO\nLoading old\nError\n"); line = Some (Kept (codes "old w")); written = []; left = [] })

@@ -13,7 +13,9 @@ use Rattle.lilo_model.specs.MinixFindNames.{child_path, path_of}
 use Rattle.lilo_model.specs.Place.{command_line, written_by, place, kernel_fit}
 use Rattle.lilo_model.specs.Reason.{Idle, Header}
 use Rattle.model_cases.specs.Sparse.{hex, piece, file, typed, waited}
-use Rattle.model_cases.specs.PlanFixtures.{conf_r33, conf_r34, conf_r35, conf_r36, conf_r37, conf_r38, conf_r39, conf_r40, devices_many, names_many}
+use Rattle.model_cases.specs.PlanChanceConfs2.{conf_r33, conf_r34, conf_r35, conf_r36, conf_r37, conf_r38, conf_r39, conf_r40}
+use Rattle.model_cases.specs.PlanNames.{names_many}
+use Rattle.model_cases.specs.PlanVolumes.{devices_many}
 
 -- by chance 33
 pub meant_by_chance_33 : (meant conf_r33 names_many devices_many (Once (codes "x2 w")) (waited 60 ++ typed (hex 13 0x6c696e75782073696e676c6515)) 2097152 ≡ record { outcome = Loaded (record { real = record { address = 0x90000; size = 1024 }; protected = record { address = 0x100000; size = 5 }; initrd = None; line = record { address = 0x99800; size = 25 } }); shown = (codes "LILO\nLoading x2\n"); line = Some Empty; written = (record { address = 0x90000; bytes = (file 1024 (piece 497 (hex 1 0x01) ∷ piece 506 (hex 14 0x0500000055aa0000486472530602) ∷ piece 528 (hex 2 0x0281) ∷ piece 549 (hex 11 0x96000000980900ffffff37) ∷ piece 568 (hex 1 0xff) ∷ [])) } ∷ record { address = 0x100000; bytes = (file 5 (piece 0 (codes "HELLO") ∷ [])) } ∷ record { address = 0x99800; bytes = (file 25 (piece 0 (codes "auto BOOT_IMAGE=x2 x y w") ∷ [])) } ∷ []); left = (waited 60 ++ typed (hex 13 0x6c696e75782073696e676c6515)) }) × (meant conf_r33 names_many devices_many (Once (codes "a w")) (waited 4 ++ typed (codes "\n") ++ waited 1 ++ typed (hex 5 0x783215090a)) 1048576 ≡ record { outcome = Handed; shown = (codes "LILO\nLoading a\n"); line = Some Empty; written = (record { address = 0x7c00; bytes = (file 512 (piece 3 (codes "WIN") ∷ piece 510 (hex 2 0x55aa) ∷ [])) } ∷ []); left = (waited 4 ++ typed (codes "\n") ++ waited 1 ++ typed (hex 5 0x783215090a)) })

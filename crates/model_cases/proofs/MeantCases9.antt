@@ -13,7 +13,9 @@ use Rattle.lilo_model.specs.MinixFindNames.{child_path, path_of}
 use Rattle.lilo_model.specs.Place.{command_line, written_by, place, kernel_fit}
 use Rattle.lilo_model.specs.Reason.{Idle}
 use Rattle.model_cases.specs.Sparse.{hex, piece, file, typed, waited}
-use Rattle.model_cases.specs.PlanFixtures.{conf_r41, conf_r42, conf_r43, conf_r44, conf_r45, conf_r46, conf_r47, conf_r48, devices_many, names_many}
+use Rattle.model_cases.specs.PlanChanceConfs2.{conf_r41, conf_r42, conf_r43, conf_r44, conf_r45, conf_r46, conf_r47, conf_r48}
+use Rattle.model_cases.specs.PlanNames.{names_many}
+use Rattle.model_cases.specs.PlanVolumes.{devices_many}
 
 -- by chance 41
 pub meant_by_chance_41 : (meant conf_r41 names_many devices_many (Kept (codes "gone")) (typed (hex 8 0x74757815090a3f0a)) 1073741824 ≡ record { outcome = Loaded (record { real = record { address = 0x90000; size = 1024 }; protected = record { address = 0x100000; size = 576 }; initrd = (Some (record { address = 0x37fff000; size = 700 })); line = record { address = 0x99800; size = 22 } }); shown = (codes "LILO\nboot: tux\nboot: \nwin\na\nboot: \nLoading a\n"); line = Some (Kept (codes "win")); written = (record { address = 0x90000; bytes = (file 1024 (piece 497 (hex 1 0x01) ∷ piece 506 (hex 14 0x0103000055aa0000486472530602) ∷ piece 528 (hex 2 0x0281) ∷ piece 537 (hex 5 0xf0ff37bc02) ∷ piece 549 (hex 11 0x96000000980900ffffff37) ∷ piece 568 (hex 1 0xff) ∷ [])) } ∷ record { address = 0x100000; bytes = (file 576 (piece 0 (replicate 576 5) ∷ [])) } ∷ record { address = 0x37fff000; bytes = (file 700 (piece 0 (replicate 700 165) ∷ [])) } ∷ record { address = 0x99800; bytes = (file 22 (piece 0 (codes "BOOT_IMAGE=a root=301") ∷ [])) } ∷ []); left = (typed (hex 2 0x3f0a)) }) × (meant conf_r41 names_many devices_many (Kept (codes "a")) (typed (hex 2 0x6115)) 1048576 ≡ record { outcome = Refused Idle; shown = (codes "LILO\nboot: a\nboot: "); line = Some (Kept (codes "a")); written = []; left = [] })

@@ -34,15 +34,15 @@ pub minix_super_another_greatest_size_and_state_in_version_1_with_long_names : s
 unfolding number16 number32 is_zero kind_of super_of super_checks super_in super_at v1_inode v2_inode inode_of inode_at inode_place
 minix_super_another_greatest_size_and_state_in_version_1_with_long_names = refl
 
--- zones that need a second block of marks in version 1 with long names
-pub minix_super_zones_that_need_a_second_block_of_marks_in_version_1_with_long_names : super_at (file 512 (piece 0 (hex 24 0x200005200100010005000000001c08108f13010000000000) ∷ [])) 20000 ≡ Err (BadSize ZoneMap)
+-- zones that need a second block of bits in version 1 with long names
+pub minix_super_zones_that_need_a_second_block_of_bits_in_version_1_with_long_names : super_at (file 512 (piece 0 (hex 24 0x200005200100010005000000001c08108f13010000000000) ∷ [])) 20000 ≡ Err (BadSize ZoneMap)
 unfolding number16 number32 is_zero kind_of super_of super_checks super_in super_at v1_inode v2_inode inode_of inode_at inode_place
-minix_super_zones_that_need_a_second_block_of_marks_in_version_1_with_long_names = refl
+minix_super_zones_that_need_a_second_block_of_bits_in_version_1_with_long_names = refl
 
--- zones that fill one block of marks in version 1 with long names
-pub minix_super_zones_that_fill_one_block_of_marks_in_version_1_with_long_names : super_at (file 512 (piece 0 (hex 24 0x200004200100010005000000001c08108f13010000000000) ∷ [])) 20000 ≡ Ok (record { kind = V1Long; inodes = 32; zones = 8196; imap = 1; zmap = 1; first = 5; max_size = 268966912; state = 1 })
+-- zones that fill one block of bits in version 1 with long names
+pub minix_super_zones_that_fill_one_block_of_bits_in_version_1_with_long_names : super_at (file 512 (piece 0 (hex 24 0x200004200100010005000000001c08108f13010000000000) ∷ [])) 20000 ≡ Ok (record { kind = V1Long; inodes = 32; zones = 8196; imap = 1; zmap = 1; first = 5; max_size = 268966912; state = 1 })
 unfolding number16 number32 is_zero kind_of super_of super_checks super_in super_at v1_inode v2_inode inode_of inode_at inode_place
-minix_super_zones_that_fill_one_block_of_marks_in_version_1_with_long_names = refl
+minix_super_zones_that_fill_one_block_of_bits_in_version_1_with_long_names = refl
 
 -- the superblock that mkfs.minix makes on 40 blocks in version 2 with short names
 pub minix_super_the_superblock_that_mkfs_minix_makes_on_40_blocks_in_version_2_with_short_names : super_at (file 512 (piece 0 (hex 24 0x200000000100010006000000ffffff7f6824010028000000) ∷ [])) 80 ≡ Ok (record { kind = V2Short; inodes = 32; zones = 40; imap = 1; zmap = 1; first = 6; max_size = 2147483647; state = 1 })
@@ -114,15 +114,15 @@ pub minix_super_no_zone_bitmap_and_a_first_zone_after_the_zones_in_version_2_wit
 unfolding number16 number32 is_zero kind_of super_of super_checks super_in super_at v1_inode v2_inode inode_of inode_at inode_place
 minix_super_no_zone_bitmap_and_a_first_zone_after_the_zones_in_version_2_with_short_names = refl
 
--- inodes that need a second block of marks in version 2 with short names
-pub minix_super_inodes_that_need_a_second_block_of_marks_in_version_2_with_short_names : super_at (file 512 (piece 0 (hex 24 0x002000000100010006000000ffffff7f6824010028000000) ∷ [])) 80 ≡ Err (BadSize InodeMap)
+-- inodes that need a second block of bits in version 2 with short names
+pub minix_super_inodes_that_need_a_second_block_of_bits_in_version_2_with_short_names : super_at (file 512 (piece 0 (hex 24 0x002000000100010006000000ffffff7f6824010028000000) ∷ [])) 80 ≡ Err (BadSize InodeMap)
 unfolding number16 number32 is_zero kind_of super_of super_checks super_in super_at v1_inode v2_inode inode_of inode_at inode_place
-minix_super_inodes_that_need_a_second_block_of_marks_in_version_2_with_short_names = refl
+minix_super_inodes_that_need_a_second_block_of_bits_in_version_2_with_short_names = refl
 
--- inodes that fill one block of marks in version 2 with short names
-pub minix_super_inodes_that_fill_one_block_of_marks_in_version_2_with_short_names : super_at (file 512 (piece 0 (hex 24 0xff1f00000100010006000000ffffff7f6824010028000000) ∷ [])) 80 ≡ Err (BadSize FirstZone)
+-- inodes that fill one block of bits in version 2 with short names
+pub minix_super_inodes_that_fill_one_block_of_bits_in_version_2_with_short_names : super_at (file 512 (piece 0 (hex 24 0xff1f00000100010006000000ffffff7f6824010028000000) ∷ [])) 80 ≡ Err (BadSize FirstZone)
 unfolding number16 number32 is_zero kind_of super_of super_checks super_in super_at v1_inode v2_inode inode_of inode_at inode_place
-minix_super_inodes_that_fill_one_block_of_marks_in_version_2_with_short_names = refl
+minix_super_inodes_that_fill_one_block_of_bits_in_version_2_with_short_names = refl
 
 -- a first zone inside the table in version 2 with short names
 pub minix_super_a_first_zone_inside_the_table_in_version_2_with_short_names : super_at (file 512 (piece 0 (hex 24 0x200000000100010005000000ffffff7f6824010028000000) ∷ [])) 80 ≡ Err (BadSize FirstZone)
@@ -154,15 +154,15 @@ pub minix_super_another_greatest_size_and_state_in_version_2_with_short_names : 
 unfolding number16 number32 is_zero kind_of super_of super_checks super_in super_at v1_inode v2_inode inode_of inode_at inode_place
 minix_super_another_greatest_size_and_state_in_version_2_with_short_names = refl
 
--- zones that need a second block of marks in version 2 with short names
-pub minix_super_zones_that_need_a_second_block_of_marks_in_version_2_with_short_names : super_at (file 512 (piece 0 (hex 24 0x200000000100010006000000ffffff7f6824010006200000) ∷ [])) 20000 ≡ Err (BadSize ZoneMap)
+-- zones that need a second block of bits in version 2 with short names
+pub minix_super_zones_that_need_a_second_block_of_bits_in_version_2_with_short_names : super_at (file 512 (piece 0 (hex 24 0x200000000100010006000000ffffff7f6824010006200000) ∷ [])) 20000 ≡ Err (BadSize ZoneMap)
 unfolding number16 number32 is_zero kind_of super_of super_checks super_in super_at v1_inode v2_inode inode_of inode_at inode_place
-minix_super_zones_that_need_a_second_block_of_marks_in_version_2_with_short_names = refl
+minix_super_zones_that_need_a_second_block_of_bits_in_version_2_with_short_names = refl
 
--- zones that fill one block of marks in version 2 with short names
-pub minix_super_zones_that_fill_one_block_of_marks_in_version_2_with_short_names : super_at (file 512 (piece 0 (hex 24 0x200000000100010006000000ffffff7f6824010005200000) ∷ [])) 20000 ≡ Ok (record { kind = V2Short; inodes = 32; zones = 8197; imap = 1; zmap = 1; first = 6; max_size = 2147483647; state = 1 })
+-- zones that fill one block of bits in version 2 with short names
+pub minix_super_zones_that_fill_one_block_of_bits_in_version_2_with_short_names : super_at (file 512 (piece 0 (hex 24 0x200000000100010006000000ffffff7f6824010005200000) ∷ [])) 20000 ≡ Ok (record { kind = V2Short; inodes = 32; zones = 8197; imap = 1; zmap = 1; first = 6; max_size = 2147483647; state = 1 })
 unfolding number16 number32 is_zero kind_of super_of super_checks super_in super_at v1_inode v2_inode inode_of inode_at inode_place
-minix_super_zones_that_fill_one_block_of_marks_in_version_2_with_short_names = refl
+minix_super_zones_that_fill_one_block_of_bits_in_version_2_with_short_names = refl
 
 -- the superblock that mkfs.minix makes on 40 blocks in version 2 with long names
 pub minix_super_the_superblock_that_mkfs_minix_makes_on_40_blocks_in_version_2_with_long_names : super_at (file 512 (piece 0 (hex 24 0x200000000100010006000000ffffff7f7824010028000000) ∷ [])) 80 ≡ Ok (record { kind = V2Long; inodes = 32; zones = 40; imap = 1; zmap = 1; first = 6; max_size = 2147483647; state = 1 })

@@ -19,7 +19,7 @@ use Rattle.lilo_model.specs.Slots.{has_ranges, has_address, is_slot, is_one_slot
 use Rattle.lilo_model.specs.MinixFind as trees
 use Rattle.lilo_model.specs.ConfOptions as options
 use Rattle.model_cases.specs.Sparse.{hex, patch_at, disks_of, disk_with, machine_of}
-use Rattle.model_cases.specs.PlanFixtures.{disk_files}
+use Rattle.model_cases.specs.PlanDisks.{disk_files}
 
 -- the code is a link to map
 pub names_the_code_is_a_link_to_map : (apart_checks (disks_of (disk_files ++ (patch_at 0 68 1 (hex 1 0x03) ∷ patch_at 0 70 1 (hex 1 0x07) ∷ patch_at 0 72 36 (hex 1 0xe0) ∷ patch_at 0 72 224 (hex 5 0xffa1000001) ∷ patch_at 0 72 237 (hex 2 0x010e) ∷ patch_at 0 72 256 (hex 5 0xa481000001) ∷ patch_at 0 72 269 (hex 2 0x010f) ∷ patch_at 0 78 160 (hex 3 0x07006d) ∷ patch_at 0 78 192 (hex 3 0x08006c) ∷ patch_at 0 80 64 (hex 1 0x09) ∷ patch_at 0 90 0 (codes "x") ∷ patch_at 0 92 0 (codes "m") ∷ patch_at 0 94 0 (codes "#") ∷ []))) (machine_of (disk_with 4096 16 63 ∷ [])) (record { span = record { disk = 0; start = 64; count = 4032 }; layout = record { kind = V1Long; inodes = 64; zones = 2016; imap = 1; zmap = 1; first = 6; max_size = 268966912; state = 1 } }) (record { boot = (Some (record { disk = 0; partition = 0 })); map = (codes "/boot/m"); install = (Some (codes "/boot/l")); backup = None; force_backup = None; compact = false; mode = Lba32Mode; default_name = (Some (codes "linux")); delay = 0; timeout = (Some 50); prompt = true; message = None; disks = []; sections = ((record { other = None; path = (codes "/boot/vmlinuz"); label = (codes "linux"); alias = None; initrd = (Some (codes "/boot/initrd")); root = (Some 769); mount = ReadOnlyMount; append = None; literal = None; vga = None; password = None; restricted = false; optional = false; lock = false; fallback = None; table = None; line = 8 }) ∷ []) }) (record { disk = 0; partition = 0 }) ≡ Err options.Install) × (is_ok (own_names (names_in (record { span = record { disk = 0; start = 64; count = 4032 }; layout = record { kind = V1Long; inodes = 64; zones = 2016; imap = 1; zmap = 1; first = 6; max_size = 268966912; state = 1 } }) (disks_of (disk_files ++ (patch_at 0 68 1 (hex 1 0x03) ∷ patch_at 0 70 1 (hex 1 0x07) ∷ patch_at 0 72 36 (hex 1 0xe0) ∷ patch_at 0 72 224 (hex 5 0xffa1000001) ∷ patch_at 0 72 237 (hex 2 0x010e) ∷ patch_at 0 72 256 (hex 5 0xa481000001) ∷ patch_at 0 72 269 (hex 2 0x010f) ∷ patch_at 0 78 160 (hex 3 0x07006d) ∷ patch_at 0 78 192 (hex 3 0x08006c) ∷ patch_at 0 80 64 (hex 1 0x09) ∷ patch_at 0 90 0 (codes "x") ∷ patch_at 0 92 0 (codes "m") ∷ patch_at 0 94 0 (codes "#") ∷ [])))) (record { boot = (Some (record { disk = 0; partition = 0 })); map = (codes "/boot/m"); install = (Some (codes "/boot/l")); backup = None; force_backup = None; compact = false; mode = Lba32Mode; default_name = (Some (codes "linux")); delay = 0; timeout = (Some 50); prompt = true; message = None; disks = []; sections = ((record { other = None; path = (codes "/boot/vmlinuz"); label = (codes "linux"); alias = None; initrd = (Some (codes "/boot/initrd")); root = (Some 769); mount = ReadOnlyMount; append = None; literal = None; vga = None; password = None; restricted = false; optional = false; lock = false; fallback = None; table = None; line = 8 }) ∷ []) }) (record { disk = 0; partition = 0 }) (is_foreign (disks_of (disk_files ++ (patch_at 0 68 1 (hex 1 0x03) ∷ patch_at 0 70 1 (hex 1 0x07) ∷ patch_at 0 72 36 (hex 1 0xe0) ∷ patch_at 0 72 224 (hex 5 0xffa1000001) ∷ patch_at 0 72 237 (hex 2 0x010e) ∷ patch_at 0 72 256 (hex 5 0xa481000001) ∷ patch_at 0 72 269 (hex 2 0x010f) ∷ patch_at 0 78 160 (hex 3 0x07006d) ∷ patch_at 0 78 192 (hex 3 0x08006c) ∷ patch_at 0 80 64 (hex 1 0x09) ∷ patch_at 0 90 0 (codes "x") ∷ patch_at 0 92 0 (codes "m") ∷ patch_at 0 94 0 (codes "#") ∷ [])) 0 0))) ≡ true)

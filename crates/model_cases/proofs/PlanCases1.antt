@@ -20,7 +20,9 @@ use Rattle.lilo_model.specs.Section.{link_at, section, file_content, section_byt
 use Rattle.lilo_model.specs.Slots.{has_ranges, has_address, is_slot, is_one_slot, chs_of, address_of, slot_of, some_slot, slot_at, slot_bytes, to_chs, to_lba, sector_at, sectors_of, place_at, slot_make, could_be_one}
 use Rattle.lilo_model.specs.Table.{is_set, entry_name, is_printable, is_name, has_flags, has_video, has_length, has_main, has_initrd, has_extra, is_entry, descriptor_of, entry_bytes, same_name, repeats, breaks, table_at, descriptor_bytes}
 use Rattle.model_cases.specs.Sparse.{hex, piece, file, disks_of, on}
-use Rattle.model_cases.specs.PlanFixtures.{conf_chs, conf_compact, conf_compact_chs, conf_hole, conf_hole_compact, conf_linear, conf_no_prompt, conf_sample, disk_chs, disk_compact, disk_compact_chs, disk_hole, disk_hole_compact, disk_linear, disk_no_prompt, disk_sample, machine_chs, machine_compact, machine_compact_chs, machine_hole, machine_hole_compact, machine_linear, machine_no_prompt, machine_sample, volume_chs, volume_compact, volume_compact_chs, volume_hole, volume_hole_compact, volume_linear, volume_no_prompt, volume_sample}
+use Rattle.model_cases.specs.PlanConfs.{conf_chs, conf_compact, conf_compact_chs, conf_hole, conf_hole_compact, conf_linear, conf_no_prompt, conf_sample}
+use Rattle.model_cases.specs.PlanDisks.{disk_chs, disk_compact, disk_compact_chs, disk_hole, disk_hole_compact, disk_linear, disk_no_prompt, disk_sample}
+use Rattle.model_cases.specs.PlanVolumes.{machine_chs, machine_compact, machine_compact_chs, machine_hole, machine_hole_compact, machine_linear, machine_no_prompt, machine_sample, volume_chs, volume_compact, volume_compact_chs, volume_hole, volume_hole_compact, volume_linear, volume_no_prompt, volume_sample}
 
 -- the sample configuration
 pub plan_the_sample_configuration : (plan_sectors (planned (disks_of disk_sample) machine_sample volume_sample conf_sample 305419896) machine_sample (on 0 (94 ∷ 95 ∷ 96 ∷ 97 ∷ 98 ∷ 99 ∷ 100 ∷ 101 ∷ [])) ≡ (file 512 (piece 0 (codes "LINE") ∷ [])) ∷ (file 512 (piece 0 (codes "linux") ∷ piece 16 (hex 39 0x4000000005040000bc020000038001006300000003800100640000000380010065000000010001) ∷ [])) ∷ (file 512 []) ∷ (file 512 []) ∷ (file 512 []) ∷ (file 512 (piece 0 (hex 1 0x0c) ∷ piece 8 (codes " ro root=301") ∷ [])) ∷ (file 512 (piece 0 (hex 21 0x038001005200000003800100530000000380010054) ∷ [])) ∷ (file 512 (piece 0 (hex 13 0x03800100560000000380010057) ∷ [])) ∷ []) × (plan_boot_sector (planned (disks_of disk_sample) machine_sample volume_sample conf_sample 305419896) machine_sample (on 0 (94 ∷ 95 ∷ 96 ∷ 97 ∷ 98 ∷ 99 ∷ 100 ∷ 101 ∷ [])) (disks_of disk_sample 0 0) ≡ file 512 (piece 0 (hex 19 0xeb7e4c494c4f01007856341201000000320001) ∷ piece 24 (hex 13 0x038001005e0000000380010062) ∷ piece 48 (hex 21 0x038001005f00000003800100600000000380010061) ∷ piece 128 (replicate 312 144) ∷ piece 450 (hex 10 0x8100000040000000c00f) ∷ piece 510 (hex 2 0x55aa) ∷ [])) × (map_size (planned (disks_of disk_sample) machine_sample volume_sample conf_sample 305419896) machine_sample ≡ 8)

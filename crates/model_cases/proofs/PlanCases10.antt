@@ -20,7 +20,9 @@ use Rattle.lilo_model.specs.Section.{link_at, section, file_content, section_byt
 use Rattle.lilo_model.specs.Slots.{has_ranges, has_address, is_slot, is_one_slot, chs_of, address_of, slot_of, some_slot, slot_at, slot_bytes, to_chs, to_lba, sector_at, sectors_of, place_at, slot_make, could_be_one}
 use Rattle.lilo_model.specs.Table.{is_set, entry_name, is_printable, is_name, has_flags, has_video, has_length, has_main, has_initrd, has_extra, is_entry, descriptor_of, entry_bytes, same_name, repeats, breaks, table_at, descriptor_bytes}
 use Rattle.model_cases.specs.Sparse.{hex, piece, file, disks_of, on}
-use Rattle.model_cases.specs.PlanFixtures.{conf_r49, conf_r50, conf_r51, conf_r52, conf_r53, conf_r54, conf_r55, conf_r56, disk_many, machine_many, volume_many}
+use Rattle.model_cases.specs.PlanChanceConfs2.{conf_r49, conf_r50, conf_r51, conf_r52, conf_r53, conf_r54, conf_r55, conf_r56}
+use Rattle.model_cases.specs.PlanDisks.{disk_many}
+use Rattle.model_cases.specs.PlanVolumes.{machine_many, volume_many}
 
 -- by chance 49
 pub plan_by_chance_49 : (plan_sectors (planned (disks_of disk_many) machine_many volume_many conf_r49 1966644298) machine_many (on 0 (190 ∷ 191 ∷ 192 ∷ 193 ∷ 194 ∷ 195 ∷ 196 ∷ 197 ∷ 198 ∷ [])) ≡ (file 512 (piece 0 (codes "LINE") ∷ [])) ∷ (file 512 (piece 0 (codes "x2") ∷ piece 20 (hex 2 0x4006) ∷ piece 28 (hex 15 0x018001000700030001800100080003) ∷ piece 52 (hex 1 0x01) ∷ piece 64 (codes "x22") ∷ piece 84 (hex 2 0x4006) ∷ piece 92 (hex 15 0x018001000700030001800100080003) ∷ piece 116 (hex 1 0x01) ∷ piece 128 (codes "old") ∷ piece 144 (hex 6 0x080000004006) ∷ piece 156 (hex 15 0x0180010009000300018001000a0003) ∷ piece 180 (hex 1 0x01) ∷ [])) ∷ (file 512 []) ∷ (file 512 []) ∷ (file 512 []) ∷ (file 512 (piece 0 (hex 1 0x0c) ∷ piece 8 (codes " rw root=803") ∷ [])) ∷ (file 512 (piece 0 (hex 31 0x018001001e000100018001001f000100018001002000010001800100210001) ∷ [])) ∷ (file 512 (piece 0 (hex 1 0x12) ∷ piece 8 (codes " rw root=801 quiet") ∷ [])) ∷ (file 512 (piece 0 (hex 31 0x018001001e000100018001001f000100018001002000010001800100210001) ∷ [])) ∷ []) × (plan_boot_sector (planned (disks_of disk_many) machine_many volume_many conf_r49 1966644298) machine_many (on 0 (190 ∷ 191 ∷ 192 ∷ 193 ∷ 194 ∷ 195 ∷ 196 ∷ 197 ∷ 198 ∷ [])) (disks_of disk_many 0 0) ≡ file 512 (piece 0 (hex 12 0xeb7e4c494c4f01004a9c3875) ∷ piece 16 (hex 3 0xffff03) ∷ piece 24 (hex 15 0x018001000200030001800100060003) ∷ piece 48 (hex 23 0x0180010003000300018001000400030001800100050003) ∷ piece 128 (replicate 312 144) ∷ piece 450 (hex 10 0x8100000040000000c00f) ∷ piece 510 (hex 2 0x55aa) ∷ [])) × (map_size (planned (disks_of disk_many) machine_many volume_many conf_r49 1966644298) machine_many ≡ 9)

@@ -20,7 +20,10 @@ use Rattle.lilo_model.specs.Section.{link_at, section, file_content, section_byt
 use Rattle.lilo_model.specs.Slots.{has_ranges, has_address, is_slot, is_one_slot, chs_of, address_of, slot_of, some_slot, slot_at, slot_bytes, to_chs, to_lba, sector_at, sectors_of, place_at, slot_make, could_be_one}
 use Rattle.lilo_model.specs.Table.{is_set, entry_name, is_printable, is_name, has_flags, has_video, has_length, has_main, has_initrd, has_extra, is_entry, descriptor_of, entry_bytes, same_name, repeats, breaks, table_at, descriptor_bytes}
 use Rattle.model_cases.specs.Sparse.{hex, piece, file, disks_of, on}
-use Rattle.model_cases.specs.PlanFixtures.{conf_r57, conf_r58, conf_r59, conf_r60, conf_tracks_1, conf_tracks_2, conf_tracks_3, conf_tracks_4, disk_many, disk_tracks, machine_many, machine_tracks, volume_many, volume_tracks}
+use Rattle.model_cases.specs.PlanChanceConfs2.{conf_r57, conf_r58, conf_r59, conf_r60}
+use Rattle.model_cases.specs.PlanDisks.{disk_many, disk_tracks}
+use Rattle.model_cases.specs.PlanTracksConfs.{conf_tracks_1, conf_tracks_2, conf_tracks_3, conf_tracks_4}
+use Rattle.model_cases.specs.PlanVolumes.{machine_many, machine_tracks, volume_many, volume_tracks}
 
 -- by chance 57
 pub plan_by_chance_57 : (plan_sectors (planned (disks_of disk_many) machine_many volume_many conf_r57 56) machine_many (on 0 (190 ∷ 191 ∷ 192 ∷ 193 ∷ 194 ∷ 195 ∷ 196 ∷ 197 ∷ 198 ∷ 199 ∷ [])) ≡ (file 512 (piece 0 (codes "LINE") ∷ [])) ∷ (file 512 (piece 0 (codes "linux") ∷ piece 16 (hex 6 0x08000000050a) ∷ piece 28 (hex 13 0x03800100c300000003800100c4) ∷ piece 52 (hex 1 0x01) ∷ piece 64 (codes "old") ∷ piece 80 (hex 6 0x060000000504) ∷ piece 92 (hex 13 0x03800100c500000003800100c7) ∷ piece 116 (hex 9 0x0100000003800100c6) ∷ [])) ∷ (file 512 []) ∷ (file 512 []) ∷ (file 512 []) ∷ (file 512 (piece 0 (hex 1 0x03) ∷ piece 8 (codes " rw") ∷ [])) ∷ (file 512 (piece 0 (hex 29 0x038002006c00000003800100c200000003800100c2000000038002006e) ∷ [])) ∷ (file 512 (piece 0 (hex 1 0x09) ∷ piece 8 (codes " root=801") ∷ [])) ∷ (file 512 (piece 2 (hex 1 0x03) ∷ piece 480 (codes "tux") ∷ [])) ∷ (file 512 (piece 0 (hex 5 0x0380030068) ∷ [])) ∷ []) × (plan_boot_sector (planned (disks_of disk_many) machine_many volume_many conf_r57 56) machine_many (on 0 (190 ∷ 191 ∷ 192 ∷ 193 ∷ 194 ∷ 195 ∷ 196 ∷ 197 ∷ 198 ∷ 199 ∷ [])) (disks_of disk_many 0 0) ≡ file 512 (piece 0 (hex 19 0xeb7e4c494c4f01003800000001000000050002) ∷ piece 24 (hex 13 0x03800100be00000003800100c2) ∷ piece 48 (hex 21 0x03800100bf00000003800100c000000003800100c1) ∷ piece 128 (replicate 312 144) ∷ piece 450 (hex 10 0x8100000040000000c00f) ∷ piece 510 (hex 2 0x55aa) ∷ [])) × (map_size (planned (disks_of disk_many) machine_many volume_many conf_r57 56) machine_many ≡ 10)

@@ -20,7 +20,9 @@ use Rattle.lilo_model.specs.Section.{link_at, section, file_content, section_byt
 use Rattle.lilo_model.specs.Slots.{has_ranges, has_address, is_slot, is_one_slot, chs_of, address_of, slot_of, some_slot, slot_at, slot_bytes, to_chs, to_lba, sector_at, sectors_of, place_at, slot_make, could_be_one}
 use Rattle.lilo_model.specs.Table.{is_set, entry_name, is_printable, is_name, has_flags, has_video, has_length, has_main, has_initrd, has_extra, is_entry, descriptor_of, entry_bytes, same_name, repeats, breaks, table_at, descriptor_bytes}
 use Rattle.model_cases.specs.Sparse.{hex, piece, file, disks_of, on}
-use Rattle.model_cases.specs.PlanFixtures.{conf_tracks_10, conf_tracks_11, conf_tracks_12, conf_tracks_5, conf_tracks_6, conf_tracks_7, conf_tracks_8, conf_tracks_9, disk_tracks, machine_tracks, volume_tracks}
+use Rattle.model_cases.specs.PlanDisks.{disk_tracks}
+use Rattle.model_cases.specs.PlanTracksConfs.{conf_tracks_10, conf_tracks_11, conf_tracks_12, conf_tracks_5, conf_tracks_6, conf_tracks_7, conf_tracks_8, conf_tracks_9}
+use Rattle.model_cases.specs.PlanVolumes.{machine_tracks, volume_tracks}
 
 -- the same with linear addresses, and a message of 513 bytes
 pub plan_the_same_with_linear_addresses_and_a_message_of_513_bytes : (plan_sectors (planned (disks_of disk_tracks) machine_tracks volume_tracks conf_tracks_5 2471353155) machine_tracks (on 0 (436 ∷ 437 ∷ 440 ∷ 441 ∷ 448 ∷ 449 ∷ 450 ∷ 451 ∷ [])) ≡ (file 512 (piece 0 (codes "LINE") ∷ [])) ∷ (file 512 (piece 0 (codes "a") ∷ piece 20 (hex 3 0xfd1b01) ∷ piece 28 (hex 14 0x02800100c201000002800100c301) ∷ piece 52 (hex 1 0x01) ∷ piece 64 (codes "1") ∷ piece 84 (hex 3 0xfd1b01) ∷ piece 92 (hex 14 0x02800100c201000002800100c301) ∷ piece 116 (hex 1 0x01) ∷ [])) ∷ (file 512 []) ∷ (file 512 []) ∷ (file 512 []) ∷ (file 512 (piece 0 (hex 6 0x028002000201) ∷ [])) ∷ (file 512 []) ∷ (file 512 (piece 0 (hex 14 0x02807f001e01000002800f009d01) ∷ [])) ∷ []) × (plan_boot_sector (planned (disks_of disk_tracks) machine_tracks volume_tracks conf_tracks_5 2471353155) machine_tracks (on 0 (436 ∷ 437 ∷ 440 ∷ 441 ∷ 448 ∷ 449 ∷ 450 ∷ 451 ∷ [])) (disks_of disk_tracks 0 0) ≡ file 512 (piece 0 (hex 70 0xeb7e4c494c4f010043db4d9301000000ffff02000102010002800100b401000002800100c001000002800100c101000002800100b501000002800100b801000002800100b901) ∷ piece 128 (hex 122 0x8182838485868788898a8b8c8d8e8f909192939495969798999a9b9c9d9e9fa0a1a2a3a4a5a6a7a8a9aaabacadaeafb0b1b2b3b4b5b6b7b8b9babbbcbdbebfc0c1c2c3c4c5c6c7c8c9cacbcccdcecfd0d1d2d3d4d5d6d7d8d9dadbdcdddedfe0e1e2e3e4e5e6e7e8e9eaebecedeeeff0f1f2f3f4f5f6f7f8f9fa ++ replicate 190 67) ∷ piece 450 (hex 9 0x830000002000000028) ∷ piece 466 (hex 10 0x8100000060000000f00a) ∷ piece 510 (hex 2 0x55aa) ∷ [])) × (map_size (planned (disks_of disk_tracks) machine_tracks volume_tracks conf_tracks_5 2471353155) machine_tracks ≡ 8)

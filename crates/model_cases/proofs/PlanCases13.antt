@@ -20,7 +20,9 @@ use Rattle.lilo_model.specs.Section.{link_at, section, file_content, section_byt
 use Rattle.lilo_model.specs.Slots.{has_ranges, has_address, is_slot, is_one_slot, chs_of, address_of, slot_of, some_slot, slot_at, slot_bytes, to_chs, to_lba, sector_at, sectors_of, place_at, slot_make, could_be_one}
 use Rattle.lilo_model.specs.Table.{is_set, entry_name, is_printable, is_name, has_flags, has_video, has_length, has_main, has_initrd, has_extra, is_entry, descriptor_of, entry_bytes, same_name, repeats, breaks, table_at, descriptor_bytes}
 use Rattle.model_cases.specs.Sparse.{hex, piece, file, disks_of, on}
-use Rattle.model_cases.specs.PlanFixtures.{conf_tracks_13, conf_tracks_14, conf_tracks_15, conf_tracks_16, conf_tracks_17, conf_tracks_18, conf_tracks_19, conf_tracks_20, disk_tracks, machine_tracks, volume_tracks}
+use Rattle.model_cases.specs.PlanDisks.{disk_tracks}
+use Rattle.model_cases.specs.PlanTracksConfs.{conf_tracks_13, conf_tracks_14, conf_tracks_15, conf_tracks_16, conf_tracks_17, conf_tracks_18, conf_tracks_19, conf_tracks_20}
+use Rattle.model_cases.specs.PlanVolumes.{machine_tracks, volume_tracks}
 
 -- linear, compact, a prompt, delay 65534, an image, a lock, vga
 pub plan_linear_compact_a_prompt_delay_65534_an_image_a_lock_vga : (plan_sectors (planned (disks_of disk_tracks) machine_tracks volume_tracks conf_tracks_13 1222285614) machine_tracks (on 0 (1674 ∷ 2372 ∷ 2763 ∷ 697 ∷ 506 ∷ 937 ∷ []) ++ on 1 (387 ∷ [])) ≡ (file 512 (piece 0 (codes "LINE") ∷ [])) ∷ (file 512 (piece 0 (hex 22 0x6669667465656e2d6c65747465727300280005037c15) ∷ piece 28 (hex 14 0x02800100a9030000028101008301) ∷ piece 52 (hex 1 0x01) ∷ [])) ∷ (file 512 []) ∷ (file 512 []) ∷ (file 512 []) ∷ (file 512 (piece 0 (hex 1 0x03) ∷ piece 8 (codes " ro") ∷ [])) ∷ (file 512 (piece 0 (hex 30 0x02800200ae01000002800200b201000002800200b601000002800500ba01) ∷ [])) ∷ []) × (plan_boot_sector (planned (disks_of disk_tracks) machine_tracks volume_tracks conf_tracks_13 1222285614) machine_tracks (on 0 (1674 ∷ 2372 ∷ 2763 ∷ 697 ∷ 506 ∷ 937 ∷ []) ++ on 1 (387 ∷ [])) (disks_of disk_tracks 0 0) ≡ file 512 (piece 0 (hex 19 0xeb7e4c494c4f01002e99da480100feffffff01) ∷ piece 24 (hex 14 0x028001008a06000002800100fa01) ∷ piece 48 (hex 22 0x028001004409000002800100cb0a000002800100b902) ∷ piece 128 (hex 122 0x8182838485868788898a8b8c8d8e8f909192939495969798999a9b9c9d9e9fa0a1a2a3a4a5a6a7a8a9aaabacadaeafb0b1b2b3b4b5b6b7b8b9babbbcbdbebfc0c1c2c3c4c5c6c7c8c9cacbcccdcecfd0d1d2d3d4d5d6d7d8d9dadbdcdddedfe0e1e2e3e4e5e6e7e8e9eaebecedeeeff0f1f2f3f4f5f6f7f8f9fa ++ replicate 190 67) ∷ piece 450 (hex 9 0x830000002000000028) ∷ piece 466 (hex 10 0x8100000060000000f00a) ∷ piece 510 (hex 2 0x55aa) ∷ [])) × (map_size (planned (disks_of disk_tracks) machine_tracks volume_tracks conf_tracks_13 1222285614) machine_tracks ≡ 7)

@@ -20,7 +20,9 @@ use Rattle.lilo_model.specs.Section.{link_at, section, file_content, section_byt
 use Rattle.lilo_model.specs.Slots.{has_ranges, has_address, is_slot, is_one_slot, chs_of, address_of, slot_of, some_slot, slot_at, slot_bytes, to_chs, to_lba, sector_at, sectors_of, place_at, slot_make, could_be_one}
 use Rattle.lilo_model.specs.Table.{is_set, entry_name, is_printable, is_name, has_flags, has_video, has_length, has_main, has_initrd, has_extra, is_entry, descriptor_of, entry_bytes, same_name, repeats, breaks, table_at, descriptor_bytes}
 use Rattle.model_cases.specs.Sparse.{hex, piece, file, disks_of, on}
-use Rattle.model_cases.specs.PlanFixtures.{conf_tracks_21, conf_tracks_22, conf_tracks_23, conf_tracks_24, conf_tracks_25, conf_tracks_26, conf_tracks_27, conf_tracks_28, disk_tracks, machine_tracks, volume_tracks}
+use Rattle.model_cases.specs.PlanDisks.{disk_tracks}
+use Rattle.model_cases.specs.PlanTracksConfs.{conf_tracks_21, conf_tracks_22, conf_tracks_23, conf_tracks_24, conf_tracks_25, conf_tracks_26, conf_tracks_27, conf_tracks_28}
+use Rattle.model_cases.specs.PlanVolumes.{machine_tracks, volume_tracks}
 
 -- by cylinder, timeout 7, 2 images, another system, an initrd, an alias, a password, a lock, a fallback, vga, root
 pub plan_by_cylinder_timeout_7_2_images_another_system_an_initrd_an_alias_a_password_a_lock_a_fallback_vga_root : (plan_sectors (planned (disks_of disk_tracks) machine_tracks volume_tracks conf_tracks_21 1401418397) machine_tracks (on 0 (1555 ∷ 1068 ∷ []) ++ on 1 (409 ∷ []) ++ on 0 (1236 ∷ 531 ∷ 2739 ∷ 1535 ∷ 453 ∷ 840 ∷ 2711 ∷ 1630 ∷ 2672 ∷ 1311 ∷ 2765 ∷ []) ++ on 1 (381 ∷ [])) ≡ (file 512 (piece 0 (codes "LINE") ∷ [])) ∷ (file 512 (piece 0 (codes "safe") ∷ piece 16 (hex 49 0x720000004d120000bc02000001800100140a05000180010006010600018001000903020001000100018001002005070033) ∷ piece 80 (hex 49 0x720000004d120000bc02000001800100140a05000180010006010600018001000903020001000100018001002005070078) ∷ piece 144 (hex 65 0x7000fdff4d120000bc02000001800100180a040001800100110a0300018001002005000001000100018001001f0602006669667465656e2d6c6574746572730009) ∷ piece 213 (hex 1 0x02) ∷ piece 220 (hex 15 0x018001000e0a060001810100080502) ∷ piece 244 (hex 1 0x01) ∷ piece 256 (codes "2") ∷ piece 272 (hex 1 0x09) ∷ piece 277 (hex 1 0x02) ∷ piece 284 (hex 15 0x018001000e0a060001810100080502) ∷ piece 308 (hex 1 0x01) ∷ [])) ∷ (file 512 []) ∷ (file 512 []) ∷ (file 512 []) ∷ (file 512 (piece 0 (hex 1 0x09) ∷ piece 8 (codes " root=301") ∷ [])) ∷ (file 512 (piece 0 (hex 21 0x110003006669667465656e2d6c6574746572732073) ∷ piece 480 (codes "a b") ∷ [])) ∷ (file 512 (piece 0 (hex 78 0x01800100050100000180010006010000018001000701000001800100080100000180010009010000018001000a010000018001000b010000018001000c010000018001000d010000018001000e01) ∷ [])) ∷ (file 512 (piece 0 (hex 15 0x0180010019000300018001001a0003) ∷ [])) ∷ (file 512 []) ∷ (file 512 (piece 0 (hex 8 0x0400000073616665) ∷ [])) ∷ (file 512 (piece 0 (hex 78 0x01800100050100000180010006010000018001000701000001800100080100000180010009010000018001000a010000018001000b010000018001000c010000018001000d010000018001000e01) ∷ [])) ∷ (file 512 (piece 0 (hex 15 0x0180010019000300018001001a0003) ∷ [])) ∷ (file 512 []) ∷ (file 512 (piece 0 (hex 7 0x01810100080201) ∷ [])) ∷ []) × (plan_boot_sector (planned (disks_of disk_tracks) machine_tracks volume_tracks conf_tracks_21 1401418397) machine_tracks (on 0 (1555 ∷ 1068 ∷ []) ++ on 1 (409 ∷ []) ++ on 0 (1236 ∷ 531 ∷ 2739 ∷ 1535 ∷ 453 ∷ 840 ∷ 2711 ∷ 1630 ∷ 2672 ∷ 1311 ∷ 2765 ∷ []) ++ on 1 (381 ∷ [])) (disks_of disk_tracks 0 0) ≡ file 512 (piece 0 (hex 12 0xeb7e4c494c4f01009df28753) ∷ piece 16 (hex 3 0x070005) ∷ piece 24 (hex 14 0x0180010014060000018001001402) ∷ piece 48 (hex 23 0x018001000d040100018101000206000001800100150406) ∷ piece 128 (hex 122 0x8182838485868788898a8b8c8d8e8f909192939495969798999a9b9c9d9e9fa0a1a2a3a4a5a6a7a8a9aaabacadaeafb0b1b2b3b4b5b6b7b8b9babbbcbdbebfc0c1c2c3c4c5c6c7c8c9cacbcccdcecfd0d1d2d3d4d5d6d7d8d9dadbdcdddedfe0e1e2e3e4e5e6e7e8e9eaebecedeeeff0f1f2f3f4f5f6f7f8f9fa ++ replicate 190 67) ∷ piece 450 (hex 9 0x830000002000000028) ∷ piece 466 (hex 10 0x8100000060000000f00a) ∷ piece 510 (hex 2 0x55aa) ∷ [])) × (map_size (planned (disks_of disk_tracks) machine_tracks volume_tracks conf_tracks_21 1401418397) machine_tracks ≡ 15)

@@ -20,7 +20,9 @@ use Rattle.lilo_model.specs.Section.{link_at, section, file_content, section_byt
 use Rattle.lilo_model.specs.Slots.{has_ranges, has_address, is_slot, is_one_slot, chs_of, address_of, slot_of, some_slot, slot_at, slot_bytes, to_chs, to_lba, sector_at, sectors_of, place_at, slot_make, could_be_one}
 use Rattle.lilo_model.specs.Table.{is_set, entry_name, is_printable, is_name, has_flags, has_video, has_length, has_main, has_initrd, has_extra, is_entry, descriptor_of, entry_bytes, same_name, repeats, breaks, table_at, descriptor_bytes}
 use Rattle.model_cases.specs.Sparse.{hex, piece, file, disks_of, on}
-use Rattle.model_cases.specs.PlanFixtures.{conf_tracks_29, conf_tracks_30, conf_tracks_31, conf_tracks_32, conf_tracks_33, conf_tracks_34, conf_tracks_35, conf_tracks_36, disk_tracks, machine_tracks, volume_tracks}
+use Rattle.model_cases.specs.PlanDisks.{disk_tracks}
+use Rattle.model_cases.specs.PlanTracksConfs.{conf_tracks_29, conf_tracks_30, conf_tracks_31, conf_tracks_32, conf_tracks_33, conf_tracks_34, conf_tracks_35, conf_tracks_36}
+use Rattle.model_cases.specs.PlanVolumes.{machine_tracks, volume_tracks}
 
 -- lba32, compact, a message, a prompt, timeout 65534, 2 images, an initrd, an alias, a password, restricted, a lock, a fallback, append
 pub plan_lba32_compact_a_message_a_prompt_timeout_65534_2_images_an_initrd_an_alias_a_password_restricted_a_lock_a_fallback_append : (plan_sectors (planned (disks_of disk_tracks) machine_tracks volume_tracks conf_tracks_29 2691592850) machine_tracks (on 0 (2011 ∷ 497 ∷ 1379 ∷ 703 ∷ 1480 ∷ 1750 ∷ 1229 ∷ 2093 ∷ 2099 ∷ 2508 ∷ 2270 ∷ 1722 ∷ 2548 ∷ [])) ≡ (file 512 (piece 0 (codes "LINE") ∷ [])) ∷ (file 512 (piece 0 (codes "two") ∷ piece 16 (hex 6 0x12000000d007) ∷ piece 28 (hex 14 0x03800100cd040000038001003308) ∷ piece 52 (hex 13 0x01000000038001002d08000035) ∷ piece 80 (hex 6 0x12000000d007) ∷ piece 92 (hex 14 0x03800100cd040000038001003308) ∷ piece 116 (hex 16 0x01000000038001002d08000073616665) ∷ piece 144 (hex 46 0x4e0000007c150000bc02000003800100cc09000003800100ba06000003800100f40900000100010003800100de08) ∷ [])) ∷ (file 512 []) ∷ (file 512 []) ∷ (file 512 []) ∷ (file 512 (piece 0 (hex 6 0x038001000001) ∷ [])) ∷ (file 512 (piece 0 (hex 1 0x08) ∷ piece 8 (codes " ro a=98") ∷ [])) ∷ (file 512 (piece 0 (hex 7 0x0300030074776f) ∷ piece 480 (codes "top") ∷ [])) ∷ (file 512 (piece 0 (hex 6 0x038004001601) ∷ [])) ∷ (file 512 (piece 0 (hex 1 0x08) ∷ piece 8 (codes " ro a=88") ∷ [])) ∷ (file 512 (piece 2 (hex 1 0x03) ∷ piece 480 (codes "a b") ∷ [])) ∷ (file 512 (piece 0 (hex 30 0x03800200ae01000003800200b201000003800200b601000003800500ba01) ∷ [])) ∷ (file 512 (piece 0 (hex 5 0x0380020078) ∷ [])) ∷ []) × (plan_boot_sector (planned (disks_of disk_tracks) machine_tracks volume_tracks conf_tracks_29 2691592850) machine_tracks (on 0 (2011 ∷ 497 ∷ 1379 ∷ 703 ∷ 1480 ∷ 1750 ∷ 1229 ∷ 2093 ∷ 2099 ∷ 2508 ∷ 2270 ∷ 1722 ∷ 2548 ∷ [])) (disks_of disk_tracks 0 96) ≡ file 512 (piece 0 (hex 70 0xeb7e4c494c4f010092726ea001000000feff03000a00010003800100db07000003800100c805000003800100d606000003800100f1010000038001006305000003800100bf02) ∷ piece 510 (hex 2 0x55aa) ∷ [])) × (map_size (planned (disks_of disk_tracks) machine_tracks volume_tracks conf_tracks_29 2691592850) machine_tracks ≡ 13)

@@ -20,7 +20,10 @@ use Rattle.lilo_model.specs.Section.{link_at, section, file_content, section_byt
 use Rattle.lilo_model.specs.Slots.{has_ranges, has_address, is_slot, is_one_slot, chs_of, address_of, slot_of, some_slot, slot_at, slot_bytes, to_chs, to_lba, sector_at, sectors_of, place_at, slot_make, could_be_one}
 use Rattle.lilo_model.specs.Table.{is_set, entry_name, is_printable, is_name, has_flags, has_video, has_length, has_main, has_initrd, has_extra, is_entry, descriptor_of, entry_bytes, same_name, repeats, breaks, table_at, descriptor_bytes}
 use Rattle.model_cases.specs.Sparse.{hex, piece, file, disks_of, on}
-use Rattle.model_cases.specs.PlanFixtures.{conf_logical_1, conf_logical_2, conf_logical_3, conf_logical_4, conf_tracks_37, conf_tracks_38, conf_tracks_39, conf_tracks_40, disk_logical, disk_tracks, machine_logical, machine_tracks, volume_logical, volume_tracks}
+use Rattle.model_cases.specs.PlanDisks.{disk_logical, disk_tracks}
+use Rattle.model_cases.specs.PlanLogicalConfs.{conf_logical_1, conf_logical_2, conf_logical_3, conf_logical_4}
+use Rattle.model_cases.specs.PlanTracksConfs.{conf_tracks_37, conf_tracks_38, conf_tracks_39, conf_tracks_40}
+use Rattle.model_cases.specs.PlanVolumes.{machine_logical, machine_tracks, volume_logical, volume_tracks}
 
 -- lba32, compact, a prompt, delay 65534, 3 images, one omitted, an initrd, an alias, a password, a lock, a fallback, append, root
 pub plan_lba32_compact_a_prompt_delay_65534_3_images_one_omitted_an_initrd_an_alias_a_password_a_lock_a_fallback_append_root : (plan_sectors (planned (disks_of disk_tracks) machine_tracks volume_tracks conf_tracks_37 2242686124) machine_tracks (on 0 (1687 ∷ 1965 ∷ []) ++ on 1 (472 ∷ []) ++ on 0 (1321 ∷ 2374 ∷ 1202 ∷ 506 ∷ 2814 ∷ []) ++ on 1 (447 ∷ []) ++ on 0 (995 ∷ [])) ≡ (file 512 (piece 0 (codes "LINE") ∷ [])) ∷ (file 512 (piece 0 (hex 55 0x6669667465656e2d6c657474657273004800000040060000bc02000003800100b204000003800100fa01000003800100fe0a0000010001) ∷ piece 64 (codes "dos") ∷ piece 84 (hex 2 0xd007) ∷ piece 92 (hex 14 0x03810100bf01000003800100e303) ∷ piece 116 (hex 1 0x01) ∷ [])) ∷ (file 512 []) ∷ (file 512 []) ∷ (file 512 []) ∷ (file 512 (piece 0 (hex 1 0x09) ∷ piece 8 (codes " quiet  x") ∷ [])) ∷ (file 512 (piece 0 (hex 6 0x038004000e01) ∷ [])) ∷ (file 512 (piece 0 (hex 5 0x0380020078) ∷ [])) ∷ (file 512 (piece 0 (hex 1 0x09) ∷ piece 8 (codes " quiet  x") ∷ [])) ∷ (file 512 (piece 0 (hex 6 0x038004001601) ∷ [])) ∷ []) × (plan_boot_sector (planned (disks_of disk_tracks) machine_tracks volume_tracks conf_tracks_37 2242686124) machine_tracks (on 0 (1687 ∷ 1965 ∷ []) ++ on 1 (472 ∷ []) ++ on 0 (1321 ∷ 2374 ∷ 1202 ∷ 506 ∷ 2814 ∷ []) ++ on 1 (447 ∷ []) ++ on 0 (995 ∷ [])) (disks_of disk_tracks 0 32) ≡ file 512 (piece 0 (hex 19 0xeb7e4c494c4f0100acacac850100feffffff02) ∷ piece 24 (hex 14 0x0380010097060000038001004609) ∷ piece 48 (hex 22 0x03800100ad07000003810100d8010000038001002905) ∷ piece 96 (hex 1 0x01) ∷ piece 128 (hex 122 0x8182838485868788898a8b8c8d8e8f909192939495969798999a9b9c9d9e9fa0a1a2a3a4a5a6a7a8a9aaabacadaeafb0b1b2b3b4b5b6b7b8b9babbbcbdbebfc0c1c2c3c4c5c6c7c8c9cacbcccdcecfd0d1d2d3d4d5d6d7d8d9dadbdcdddedfe0e1e2e3e4e5e6e7e8e9eaebecedeeeff0f1f2f3f4f5f6f7f8f9fa ++ replicate 190 67) ∷ piece 510 (hex 2 0x55aa) ∷ [])) × (map_size (planned (disks_of disk_tracks) machine_tracks volume_tracks conf_tracks_37 2242686124) machine_tracks ≡ 10)

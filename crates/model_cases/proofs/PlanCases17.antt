@@ -20,7 +20,9 @@ use Rattle.lilo_model.specs.Section.{link_at, section, file_content, section_byt
 use Rattle.lilo_model.specs.Slots.{has_ranges, has_address, is_slot, is_one_slot, chs_of, address_of, slot_of, some_slot, slot_at, slot_bytes, to_chs, to_lba, sector_at, sectors_of, place_at, slot_make, could_be_one}
 use Rattle.lilo_model.specs.Table.{is_set, entry_name, is_printable, is_name, has_flags, has_video, has_length, has_main, has_initrd, has_extra, is_entry, descriptor_of, entry_bytes, same_name, repeats, breaks, table_at, descriptor_bytes}
 use Rattle.model_cases.specs.Sparse.{hex, piece, file, disks_of, on}
-use Rattle.model_cases.specs.PlanFixtures.{conf_logical_10, conf_logical_11, conf_logical_12, conf_logical_5, conf_logical_6, conf_logical_7, conf_logical_8, conf_logical_9, disk_logical, machine_logical, volume_logical}
+use Rattle.model_cases.specs.PlanDisks.{disk_logical}
+use Rattle.model_cases.specs.PlanLogicalConfs.{conf_logical_10, conf_logical_11, conf_logical_12, conf_logical_5, conf_logical_6, conf_logical_7, conf_logical_8, conf_logical_9}
+use Rattle.model_cases.specs.PlanVolumes.{machine_logical, volume_logical}
 
 -- lba32, compact, timeout 1, an image, another system, an initrd, a fallback
 pub plan_lba32_compact_timeout_1_an_image_another_system_an_initrd_a_fallback : (plan_sectors (planned (disks_of disk_logical) machine_logical volume_logical conf_logical_5 1719079043) machine_logical (on 0 (657 ∷ 2065 ∷ 1895 ∷ 2117 ∷ 1524 ∷ 2014 ∷ 228 ∷ 614 ∷ 1211 ∷ 770 ∷ 1628 ∷ [])) ≡ (file 512 (piece 0 (codes "LINE") ∷ [])) ∷ (file 512 (piece 0 (codes "b") ∷ piece 16 (hex 52 0x50000000581b0000d40e000003800100de070000038001006602000003800100bb0400000100010003800100e400000073616665) ∷ piece 80 (hex 1 0x01) ∷ piece 85 (hex 1 0x02) ∷ piece 92 (hex 14 0x0380010002030000038001005c06) ∷ piece 116 (hex 1 0x01) ∷ [])) ∷ (file 512 []) ∷ (file 512 []) ∷ (file 512 []) ∷ (file 512 (piece 0 (hex 1 0x03) ∷ piece 8 (codes " ro") ∷ [])) ∷ (file 512 (piece 0 (hex 5 0x0100000062) ∷ [])) ∷ (file 512 (piece 0 (hex 45 0x038004007600000003800100f405000003800100f405000003800100f405000003800100f4050000038006007a) ∷ [])) ∷ (file 512 (piece 0 (hex 45 0x03800100f405000003800100f4050000038002008000000003800100f405000003800100f40500000380020082) ∷ [])) ∷ (file 512 []) ∷ (file 512 (piece 0 (hex 5 0x0381010011) ∷ [])) ∷ []) × (plan_boot_sector (planned (disks_of disk_logical) machine_logical volume_logical conf_logical_5 1719079043) machine_logical (on 0 (657 ∷ 2065 ∷ 1895 ∷ 2117 ∷ 1524 ∷ 2014 ∷ 228 ∷ 614 ∷ 1211 ∷ 770 ∷ 1628 ∷ [])) (disks_of disk_logical 0 102) ≡ file 512 (piece 0 (hex 12 0xeb7e4c494c4f010083107766) ∷ piece 16 (hex 3 0x010002) ∷ piece 24 (hex 14 0x038001009102000003800100f405) ∷ piece 48 (hex 22 0x03800100110800000380010067070000038001004508) ∷ piece 96 (hex 1 0x01) ∷ piece 510 (hex 2 0x55aa) ∷ [])) × (map_size (planned (disks_of disk_logical) machine_logical volume_logical conf_logical_5 1719079043) machine_logical ≡ 11)

@@ -20,7 +20,9 @@ use Rattle.lilo_model.specs.Section.{link_at, section, file_content, section_byt
 use Rattle.lilo_model.specs.Slots.{has_ranges, has_address, is_slot, is_one_slot, chs_of, address_of, slot_of, some_slot, slot_at, slot_bytes, to_chs, to_lba, sector_at, sectors_of, place_at, slot_make, could_be_one}
 use Rattle.lilo_model.specs.Table.{is_set, entry_name, is_printable, is_name, has_flags, has_video, has_length, has_main, has_initrd, has_extra, is_entry, descriptor_of, entry_bytes, same_name, repeats, breaks, table_at, descriptor_bytes}
 use Rattle.model_cases.specs.Sparse.{hex, piece, file, disks_of, on}
-use Rattle.model_cases.specs.PlanFixtures.{conf_logical_13, conf_logical_14, conf_logical_15, conf_logical_16, conf_logical_17, conf_logical_18, conf_logical_19, conf_logical_20, disk_logical, machine_logical, volume_logical}
+use Rattle.model_cases.specs.PlanDisks.{disk_logical}
+use Rattle.model_cases.specs.PlanLogicalConfs.{conf_logical_13, conf_logical_14, conf_logical_15, conf_logical_16, conf_logical_17, conf_logical_18, conf_logical_19, conf_logical_20}
+use Rattle.model_cases.specs.PlanVolumes.{machine_logical, volume_logical}
 
 -- linear, compact, a message, delay 1, timeout 7, an image, an initrd, a lock
 pub plan_linear_compact_a_message_delay_1_timeout_7_an_image_an_initrd_a_lock : (plan_sectors (planned (disks_of disk_logical) machine_logical volume_logical conf_logical_13 573216291) machine_logical (on 0 (826 ∷ 714 ∷ 1195 ∷ 2358 ∷ 691 ∷ 1121 ∷ 1085 ∷ 1872 ∷ 425 ∷ [])) ≡ (file 512 (piece 0 (codes "LINE") ∷ [])) ∷ (file 512 (piece 0 (codes "dos") ∷ piece 16 (hex 39 0x4800000005040000000c0000028001003d040000028001005007000002800100a9010000010001) ∷ [])) ∷ (file 512 []) ∷ (file 512 []) ∷ (file 512 []) ∷ (file 512 (piece 0 (hex 5 0x028003008a) ∷ [])) ∷ (file 512 []) ∷ (file 512 (piece 0 (hex 5 0x0280030084) ∷ [])) ∷ (file 512 (piece 0 (hex 46 0x02800100b302000002800100b302000002800100b302000002800100b302000002800100b302000002800100b302) ∷ [])) ∷ []) × (plan_boot_sector (planned (disks_of disk_logical) machine_logical volume_logical conf_logical_13 573216291) machine_logical (on 0 (826 ∷ 714 ∷ 1195 ∷ 2358 ∷ 691 ∷ 1121 ∷ 1085 ∷ 1872 ∷ 425 ∷ [])) (disks_of disk_logical 0 0) ≡ file 512 (piece 0 (hex 70 0xeb7e4c494c4f010023962a220000010007000100b4040100028001003a03000002800100b3020000028001006104000002800100ca02000002800100ab040000028001003609) ∷ piece 128 (replicate 312 195) ∷ piece 450 (hex 9 0x83000000110000001e) ∷ piece 466 (hex 10 0x05000000440000006009) ∷ piece 510 (hex 2 0x55aa) ∷ [])) × (map_size (planned (disks_of disk_logical) machine_logical volume_logical conf_logical_13 573216291) machine_logical ≡ 9)

@@ -20,7 +20,9 @@ use Rattle.lilo_model.specs.Section.{link_at, section, file_content, section_byt
 use Rattle.lilo_model.specs.Slots.{has_ranges, has_address, is_slot, is_one_slot, chs_of, address_of, slot_of, some_slot, slot_at, slot_bytes, to_chs, to_lba, sector_at, sectors_of, place_at, slot_make, could_be_one}
 use Rattle.lilo_model.specs.Table.{is_set, entry_name, is_printable, is_name, has_flags, has_video, has_length, has_main, has_initrd, has_extra, is_entry, descriptor_of, entry_bytes, same_name, repeats, breaks, table_at, descriptor_bytes}
 use Rattle.model_cases.specs.Sparse.{hex, piece, file, disks_of, on}
-use Rattle.model_cases.specs.PlanFixtures.{conf_logical_21, conf_logical_22, conf_logical_23, conf_logical_24, conf_logical_25, conf_logical_26, conf_logical_27, conf_logical_28, disk_logical, machine_logical, volume_logical}
+use Rattle.model_cases.specs.PlanDisks.{disk_logical}
+use Rattle.model_cases.specs.PlanLogicalConfs.{conf_logical_21, conf_logical_22, conf_logical_23, conf_logical_24, conf_logical_25, conf_logical_26, conf_logical_27, conf_logical_28}
+use Rattle.model_cases.specs.PlanVolumes.{machine_logical, volume_logical}
 
 -- linear, a message, a prompt, 2 images, an alias, a lock, root
 pub plan_linear_a_message_a_prompt_2_images_an_alias_a_lock_root : (plan_sectors (planned (disks_of disk_logical) machine_logical volume_logical conf_logical_21 841699275) machine_logical (on 0 (2163 ∷ 1085 ∷ 420 ∷ 1063 ∷ 964 ∷ 393 ∷ 555 ∷ 2137 ∷ 670 ∷ [])) ≡ (file 512 (piece 0 (codes "LINE") ∷ [])) ∷ (file 512 (piece 0 (codes "b") ∷ piece 16 (hex 6 0x080000000504) ∷ piece 28 (hex 14 0x0280010089010000028001002b02) ∷ piece 52 (hex 1 0x01) ∷ piece 64 (codes "fifteen-letters") ∷ piece 84 (hex 2 0x0504) ∷ piece 92 (hex 14 0x0280010059080000028001009e02) ∷ piece 116 (hex 1 0x01) ∷ piece 128 (codes "7") ∷ piece 148 (hex 2 0x0504) ∷ piece 156 (hex 14 0x0280010059080000028001009e02) ∷ piece 180 (hex 1 0x01) ∷ [])) ∷ (file 512 []) ∷ (file 512 []) ∷ (file 512 []) ∷ (file 512 (piece 0 (codes "\n") ∷ piece 8 (codes " root=1abc") ∷ [])) ∷ (file 512 (piece 0 (hex 21 0x028001008400000002800100850000000280010086) ∷ [])) ∷ (file 512 (piece 0 (hex 1 0x0d) ∷ piece 8 (codes " rw root=1abc") ∷ [])) ∷ (file 512 (piece 0 (hex 21 0x028001008400000002800100850000000280010086) ∷ [])) ∷ []) × (plan_boot_sector (planned (disks_of disk_logical) machine_logical volume_logical conf_logical_21 841699275) machine_logical (on 0 (2163 ∷ 1085 ∷ 420 ∷ 1063 ∷ 964 ∷ 393 ∷ 555 ∷ 2137 ∷ 670 ∷ [])) (disks_of disk_logical 0 102) ≡ file 512 (piece 0 (hex 19 0xeb7e4c494c4f0100cb4f2b3201000000ffff03) ∷ piece 24 (hex 14 0x028001007308000002800100c403) ∷ piece 48 (hex 22 0x028001003d04000002800100a4010000028001002704) ∷ piece 128 (replicate 312 195) ∷ piece 510 (hex 2 0x55aa) ∷ [])) × (map_size (planned (disks_of disk_logical) machine_logical volume_logical conf_logical_21 841699275) machine_logical ≡ 9)

@@ -20,7 +20,9 @@ use Rattle.lilo_model.specs.Section.{link_at, section, file_content, section_byt
 use Rattle.lilo_model.specs.Slots.{has_ranges, has_address, is_slot, is_one_slot, chs_of, address_of, slot_of, some_slot, slot_at, slot_bytes, to_chs, to_lba, sector_at, sectors_of, place_at, slot_make, could_be_one}
 use Rattle.lilo_model.specs.Table.{is_set, entry_name, is_printable, is_name, has_flags, has_video, has_length, has_main, has_initrd, has_extra, is_entry, descriptor_of, entry_bytes, same_name, repeats, breaks, table_at, descriptor_bytes}
 use Rattle.model_cases.specs.Sparse.{hex, piece, file, disks_of, on}
-use Rattle.model_cases.specs.PlanFixtures.{conf_alias_fallback, conf_empty_message, conf_literal, conf_lock, conf_low, conf_optional, conf_password, conf_row8, disk_alias_fallback, disk_empty_message, disk_literal, disk_lock, disk_low, disk_optional, disk_password, disk_row8, machine_alias_fallback, machine_empty_message, machine_literal, machine_lock, machine_low, machine_optional, machine_password, machine_row8, volume_alias_fallback, volume_empty_message, volume_literal, volume_lock, volume_low, volume_optional, volume_password, volume_row8}
+use Rattle.model_cases.specs.PlanConfs.{conf_alias_fallback, conf_empty_message, conf_literal, conf_lock, conf_low, conf_optional, conf_password, conf_row8}
+use Rattle.model_cases.specs.PlanDisks.{disk_alias_fallback, disk_empty_message, disk_literal, disk_lock, disk_low, disk_optional, disk_password, disk_row8}
+use Rattle.model_cases.specs.PlanVolumes.{machine_alias_fallback, machine_empty_message, machine_literal, machine_lock, machine_low, machine_optional, machine_password, machine_row8, volume_alias_fallback, volume_empty_message, volume_literal, volume_lock, volume_low, volume_optional, volume_password, volume_row8}
 
 -- a restricted password
 pub plan_a_restricted_password : (plan_sectors (planned (disks_of disk_password) machine_password volume_password conf_password 305419896) machine_password (on 0 (94 ∷ 95 ∷ 96 ∷ 97 ∷ 98 ∷ 99 ∷ 100 ∷ 101 ∷ 102 ∷ [])) ≡ (file 512 (piece 0 (codes "LINE") ∷ [])) ∷ (file 512 (piece 0 (codes "linux") ∷ piece 16 (hex 45 0x4600000005040000bc020000038001006300000003800100650000000380010066000000010001000380010064) ∷ [])) ∷ (file 512 []) ∷ (file 512 []) ∷ (file 512 []) ∷ (file 512 (piece 0 (hex 1 0x0c) ∷ piece 8 (codes " ro root=301") ∷ [])) ∷ (file 512 (piece 2 (hex 1 0x03) ∷ piece 480 (codes "tux") ∷ [])) ∷ (file 512 (piece 0 (hex 21 0x038001005200000003800100530000000380010054) ∷ [])) ∷ (file 512 (piece 0 (hex 13 0x03800100560000000380010057) ∷ [])) ∷ []) × (plan_boot_sector (planned (disks_of disk_password) machine_password volume_password conf_password 305419896) machine_password (on 0 (94 ∷ 95 ∷ 96 ∷ 97 ∷ 98 ∷ 99 ∷ 100 ∷ 101 ∷ 102 ∷ [])) (disks_of disk_password 0 0) ≡ file 512 (piece 0 (hex 19 0xeb7e4c494c4f01007856341201000000320001) ∷ piece 24 (hex 13 0x038001005e0000000380010062) ∷ piece 48 (hex 21 0x038001005f00000003800100600000000380010061) ∷ piece 128 (replicate 312 144) ∷ piece 450 (hex 10 0x8100000040000000c00f) ∷ piece 510 (hex 2 0x55aa) ∷ [])) × (map_size (planned (disks_of disk_password) machine_password volume_password conf_password 305419896) machine_password ≡ 9)

@@ -20,7 +20,9 @@ use Rattle.lilo_model.specs.Section.{link_at, section, file_content, section_byt
 use Rattle.lilo_model.specs.Slots.{has_ranges, has_address, is_slot, is_one_slot, chs_of, address_of, slot_of, some_slot, slot_at, slot_bytes, to_chs, to_lba, sector_at, sectors_of, place_at, slot_make, could_be_one}
 use Rattle.lilo_model.specs.Table.{is_set, entry_name, is_printable, is_name, has_flags, has_video, has_length, has_main, has_initrd, has_extra, is_entry, descriptor_of, entry_bytes, same_name, repeats, breaks, table_at, descriptor_bytes}
 use Rattle.model_cases.specs.Sparse.{hex, piece, file, disks_of, on}
-use Rattle.model_cases.specs.PlanFixtures.{conf_logical_29, conf_logical_30, conf_logical_31, conf_logical_32, disk_logical, machine_logical, volume_logical}
+use Rattle.model_cases.specs.PlanDisks.{disk_logical}
+use Rattle.model_cases.specs.PlanLogicalConfs.{conf_logical_29, conf_logical_30, conf_logical_31, conf_logical_32}
+use Rattle.model_cases.specs.PlanVolumes.{machine_logical, volume_logical}
 
 -- lba32, compact, a message, delay 30, timeout 65534, an image, a fallback, vga
 pub plan_lba32_compact_a_message_delay_30_timeout_65534_an_image_a_fallback_vga : (plan_sectors (planned (disks_of disk_logical) machine_logical volume_logical conf_logical_29 4292247383) machine_logical (on 0 (1898 ∷ 1329 ∷ 1413 ∷ 928 ∷ 398 ∷ 782 ∷ []) ++ on 1 (379 ∷ []) ++ on 0 (286 ∷ 1765 ∷ [])) ≡ (file 512 (piece 0 (codes "LINE") ∷ [])) ∷ (file 512 (piece 0 (hex 22 0x6669667465656e2d6c65747465727300300003030504) ∷ piece 28 (hex 14 0x038101007b01000003800100e506) ∷ piece 52 (hex 10 0x01000000038001001e01) ∷ [])) ∷ (file 512 []) ∷ (file 512 []) ∷ (file 512 []) ∷ (file 512 (piece 0 (hex 5 0x038003008a) ∷ [])) ∷ (file 512 (piece 0 (hex 1 0x03) ∷ piece 8 (codes " rw") ∷ [])) ∷ (file 512 (piece 0 (hex 21 0x110000006669667465656e2d6c6574746572732073) ∷ [])) ∷ (file 512 (piece 0 (hex 5 0x0380030084) ∷ [])) ∷ []) × (plan_boot_sector (planned (disks_of disk_logical) machine_logical volume_logical conf_logical_29 4292247383) machine_logical (on 0 (1898 ∷ 1329 ∷ 1413 ∷ 928 ∷ 398 ∷ 782 ∷ []) ++ on 1 (379 ∷ []) ++ on 0 (286 ∷ 1765 ∷ [])) (disks_of disk_logical 0 102) ≡ file 512 (piece 0 (hex 70 0xeb7e4c494c4f0100577fd6ff00001e00feff0100b4040100038001006a070000038001008e010000038001000e0300000380010031050000038001008505000003800100a003) ∷ piece 128 (replicate 312 195) ∷ piece 510 (hex 2 0x55aa) ∷ [])) × (map_size (planned (disks_of disk_logical) machine_logical volume_logical conf_logical_29 4292247383) machine_logical ≡ 9)

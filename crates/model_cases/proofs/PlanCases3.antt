@@ -20,7 +20,9 @@ use Rattle.lilo_model.specs.Section.{link_at, section, file_content, section_byt
 use Rattle.lilo_model.specs.Slots.{has_ranges, has_address, is_slot, is_one_slot, chs_of, address_of, slot_of, some_slot, slot_at, slot_bytes, to_chs, to_lba, sector_at, sectors_of, place_at, slot_make, could_be_one}
 use Rattle.lilo_model.specs.Table.{is_set, entry_name, is_printable, is_name, has_flags, has_video, has_length, has_main, has_initrd, has_extra, is_entry, descriptor_of, entry_bytes, same_name, repeats, breaks, table_at, descriptor_bytes}
 use Rattle.model_cases.specs.Sparse.{hex, piece, file, disks_of, on}
-use Rattle.model_cases.specs.PlanFixtures.{conf_full, conf_link, conf_other, conf_own_table, conf_two_chain, conf_v1_short, conf_v2_short, conf_whole, disk_full, disk_link, disk_other, disk_own_table, disk_two_chain, disk_v1_short, disk_v2_short, disk_whole, machine_full, machine_link, machine_other, machine_own_table, machine_two_chain, machine_v1_short, machine_v2_short, machine_whole, volume_full, volume_link, volume_other, volume_own_table, volume_two_chain, volume_v1_short, volume_v2_short, volume_whole}
+use Rattle.model_cases.specs.PlanConfs.{conf_full, conf_link, conf_other, conf_own_table, conf_two_chain, conf_v1_short, conf_v2_short, conf_whole}
+use Rattle.model_cases.specs.PlanDisks.{disk_full, disk_link, disk_other, disk_own_table, disk_two_chain, disk_v1_short, disk_v2_short, disk_whole}
+use Rattle.model_cases.specs.PlanVolumes.{machine_full, machine_link, machine_other, machine_own_table, machine_two_chain, machine_v1_short, machine_v2_short, machine_whole, volume_full, volume_link, volume_other, volume_own_table, volume_two_chain, volume_v1_short, volume_v2_short, volume_whole}
 
 -- two other systems
 pub plan_two_other_systems : (plan_sectors (planned (disks_of disk_other) machine_other volume_other conf_other 305419896) machine_other (on 0 (94 ∷ 95 ∷ 96 ∷ 97 ∷ 98 ∷ 99 ∷ 100 ∷ 101 ∷ 102 ∷ 103 ∷ 104 ∷ 105 ∷ 106 ∷ [])) ≡ (file 512 (piece 0 (codes "LINE") ∷ [])) ∷ (file 512 (piece 0 (codes "linux") ∷ piece 16 (hex 39 0x4000000005040000bc020000038001006300000003800100640000000380010065000000010001) ∷ piece 64 (codes "dos") ∷ piece 80 (hex 1 0x81) ∷ piece 85 (hex 1 0x04) ∷ piece 92 (hex 13 0x03800100660000000380010067) ∷ piece 116 (hex 1 0x01) ∷ piece 128 (codes "hdb1") ∷ piece 144 (hex 1 0x03) ∷ piece 149 (hex 1 0x02) ∷ piece 156 (hex 13 0x0380010068000000038001006a) ∷ piece 180 (hex 13 0x01000000038001006900000077) ∷ piece 208 (hex 1 0x03) ∷ piece 213 (hex 1 0x02) ∷ piece 220 (hex 13 0x0380010068000000038001006a) ∷ piece 244 (hex 9 0x010000000380010069) ∷ [])) ∷ (file 512 []) ∷ (file 512 []) ∷ (file 512 []) ∷ (file 512 (piece 0 (hex 1 0x0c) ∷ piece 8 (codes " ro root=301") ∷ [])) ∷ (file 512 (piece 0 (hex 21 0x038001005200000003800100530000000380010054) ∷ [])) ∷ (file 512 (piece 0 (hex 13 0x03800100560000000380010057) ∷ [])) ∷ (file 512 []) ∷ (file 512 (piece 0 (hex 3 0x038101) ∷ piece 8 (hex 3 0x038101) ∷ [])) ∷ (file 512 []) ∷ (file 512 (piece 2 (hex 1 0x01) ∷ piece 480 (codes "x") ∷ [])) ∷ (file 512 (piece 0 (hex 5 0x038101003f) ∷ [])) ∷ []) × (plan_boot_sector (planned (disks_of disk_other) machine_other volume_other conf_other 305419896) machine_other (on 0 (94 ∷ 95 ∷ 96 ∷ 97 ∷ 98 ∷ 99 ∷ 100 ∷ 101 ∷ 102 ∷ 103 ∷ 104 ∷ 105 ∷ 106 ∷ [])) (disks_of disk_other 0 0) ≡ file 512 (piece 0 (hex 19 0xeb7e4c494c4f01007856341201000000ffff04) ∷ piece 24 (hex 13 0x038001005e0000000380010062) ∷ piece 48 (hex 21 0x038001005f00000003800100600000000380010061) ∷ piece 128 (replicate 312 144) ∷ piece 450 (hex 10 0x8100000040000000c00f) ∷ piece 510 (hex 2 0x55aa) ∷ [])) × (map_size (planned (disks_of disk_other) machine_other volume_other conf_other 305419896) machine_other ≡ 13)

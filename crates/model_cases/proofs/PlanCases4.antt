@@ -20,7 +20,9 @@ use Rattle.lilo_model.specs.Section.{link_at, section, file_content, section_byt
 use Rattle.lilo_model.specs.Slots.{has_ranges, has_address, is_slot, is_one_slot, chs_of, address_of, slot_of, some_slot, slot_at, slot_bytes, to_chs, to_lba, sector_at, sectors_of, place_at, slot_make, could_be_one}
 use Rattle.lilo_model.specs.Table.{is_set, entry_name, is_printable, is_name, has_flags, has_video, has_length, has_main, has_initrd, has_extra, is_entry, descriptor_of, entry_bytes, same_name, repeats, breaks, table_at, descriptor_bytes}
 use Rattle.model_cases.specs.Sparse.{hex, piece, file, disks_of, on}
-use Rattle.model_cases.specs.PlanFixtures.{conf_r1, conf_r2, conf_r3, conf_r4, conf_r5, conf_r6, conf_r7, conf_r8, disk_many, machine_many, volume_many}
+use Rattle.model_cases.specs.PlanChanceConfs1.{conf_r1, conf_r2, conf_r3, conf_r4, conf_r5, conf_r6, conf_r7, conf_r8}
+use Rattle.model_cases.specs.PlanDisks.{disk_many}
+use Rattle.model_cases.specs.PlanVolumes.{machine_many, volume_many}
 
 -- by chance 1
 pub plan_by_chance_1 : (plan_sectors (planned (disks_of disk_many) machine_many volume_many conf_r1 1602753240) machine_many (on 0 (502 ∷ 3128 ∷ 3308 ∷ []) ++ on 1 (1890 ∷ []) ++ on 0 (2918 ∷ []) ++ on 1 (382 ∷ 1990 ∷ []) ++ on 0 (3345 ∷ [])) ≡ (file 512 (piece 0 (codes "LINE") ∷ [])) ∷ (file 512 (piece 0 (codes "a") ∷ piece 16 (hex 39 0x4800000040060000bc020000038101007e01000003810100c607000003800100110d0000010001) ∷ [])) ∷ (file 512 []) ∷ (file 512 []) ∷ (file 512 []) ∷ (file 512 (piece 0 (hex 1 0x03) ∷ piece 8 (codes " rw") ∷ [])) ∷ (file 512 (piece 0 (hex 5 0x038004005c) ∷ [])) ∷ (file 512 (piece 0 (hex 5 0x0380020056) ∷ [])) ∷ []) × (plan_boot_sector (planned (disks_of disk_many) machine_many volume_many conf_r1 1602753240) machine_many (on 0 (502 ∷ 3128 ∷ 3308 ∷ []) ++ on 1 (1890 ∷ []) ++ on 0 (2918 ∷ []) ++ on 1 (382 ∷ 1990 ∷ []) ++ on 0 (3345 ∷ [])) (disks_of disk_many 0 0) ≡ file 512 (piece 0 (hex 19 0xeb7e4c494c4f0100d812885f01000100ffff01) ∷ piece 24 (hex 14 0x03800100f601000003800100660b) ∷ piece 48 (hex 22 0x03800100380c000003800100ec0c0000038101006207) ∷ piece 450 (hex 10 0x8100000040000000c00f) ∷ piece 510 (hex 2 0x55aa) ∷ [])) × (map_size (planned (disks_of disk_many) machine_many volume_many conf_r1 1602753240) machine_many ≡ 8)

@@ -20,7 +20,9 @@ use Rattle.lilo_model.specs.Section.{link_at, section, file_content, section_byt
 use Rattle.lilo_model.specs.Slots.{has_ranges, has_address, is_slot, is_one_slot, chs_of, address_of, slot_of, some_slot, slot_at, slot_bytes, to_chs, to_lba, sector_at, sectors_of, place_at, slot_make, could_be_one}
 use Rattle.lilo_model.specs.Table.{is_set, entry_name, is_printable, is_name, has_flags, has_video, has_length, has_main, has_initrd, has_extra, is_entry, descriptor_of, entry_bytes, same_name, repeats, breaks, table_at, descriptor_bytes}
 use Rattle.model_cases.specs.Sparse.{hex, piece, file, disks_of, on}
-use Rattle.model_cases.specs.PlanFixtures.{conf_r17, conf_r18, conf_r19, conf_r20, conf_r21, conf_r22, conf_r23, conf_r24, disk_many, machine_many, volume_many}
+use Rattle.model_cases.specs.PlanChanceConfs1.{conf_r17, conf_r18, conf_r19, conf_r20, conf_r21, conf_r22, conf_r23, conf_r24}
+use Rattle.model_cases.specs.PlanDisks.{disk_many}
+use Rattle.model_cases.specs.PlanVolumes.{machine_many, volume_many}
 
 -- by chance 17
 pub plan_by_chance_17 : (plan_sectors (planned (disks_of disk_many) machine_many volume_many conf_r17 1150810787) machine_many (on 0 (3862 ∷ []) ++ on 1 (960 ∷ []) ++ on 0 (888 ∷ 3266 ∷ 385 ∷ 2574 ∷ []) ++ on 1 (1482 ∷ []) ++ on 0 (3654 ∷ 2755 ∷ 3384 ∷ [])) ≡ (file 512 (piece 0 (codes "LINE") ∷ [])) ∷ (file 512 (piece 0 (codes "a") ∷ piece 20 (hex 2 0x0504) ∷ piece 28 (hex 14 0x028001000e0a000002810100ca05) ∷ piece 52 (hex 1 0x01) ∷ piece 64 (codes "win") ∷ piece 80 (hex 6 0x100000000510) ∷ piece 92 (hex 14 0x02800100460e000002800100380d) ∷ piece 116 (hex 16 0x0100000002800100c30a000077696e32) ∷ piece 144 (hex 6 0x100000000510) ∷ piece 156 (hex 14 0x02800100460e000002800100380d) ∷ piece 180 (hex 10 0x0100000002800100c30a) ∷ [])) ∷ (file 512 []) ∷ (file 512 []) ∷ (file 512 []) ∷ (file 512 (piece 0 (hex 1 0x07) ∷ piece 8 (codes " single") ∷ [])) ∷ (file 512 (piece 0 (hex 5 0x0280030068) ∷ [])) ∷ (file 512 []) ∷ (file 512 (piece 0 (hex 7 0x0300000077696e) ∷ [])) ∷ (file 512 (piece 0 (hex 29 0x0280040060000000028001008101000002800100810100000280030064) ∷ [])) ∷ []) × (plan_boot_sector (planned (disks_of disk_many) machine_many volume_many conf_r17 1150810787) machine_many (on 0 (3862 ∷ []) ++ on 1 (960 ∷ []) ++ on 0 (888 ∷ 3266 ∷ 385 ∷ 2574 ∷ []) ++ on 1 (1482 ∷ []) ++ on 0 (3654 ∷ 2755 ∷ 3384 ∷ [])) (disks_of disk_many 0 0) ≡ file 512 (piece 0 (hex 12 0xeb7e4c494c4f0100a3fa9744) ∷ piece 16 (hex 3 0xffff03) ∷ piece 24 (hex 14 0x02800100160f0000028001008101) ∷ piece 48 (hex 22 0x02810100c0030000028001007803000002800100c20c) ∷ piece 450 (hex 10 0x8100000040000000c00f) ∷ piece 510 (hex 2 0x55aa) ∷ [])) × (map_size (planned (disks_of disk_many) machine_many volume_many conf_r17 1150810787) machine_many ≡ 10)

@@ -20,7 +20,10 @@ use Rattle.lilo_model.specs.Section.{link_at, section, file_content, section_byt
 use Rattle.lilo_model.specs.Slots.{has_ranges, has_address, is_slot, is_one_slot, chs_of, address_of, slot_of, some_slot, slot_at, slot_bytes, to_chs, to_lba, sector_at, sectors_of, place_at, slot_make, could_be_one}
 use Rattle.lilo_model.specs.Table.{is_set, entry_name, is_printable, is_name, has_flags, has_video, has_length, has_main, has_initrd, has_extra, is_entry, descriptor_of, entry_bytes, same_name, repeats, breaks, table_at, descriptor_bytes}
 use Rattle.model_cases.specs.Sparse.{hex, piece, file, disks_of, on}
-use Rattle.model_cases.specs.PlanFixtures.{conf_r25, conf_r26, conf_r27, conf_r28, conf_r29, conf_r30, conf_r31, conf_r32, disk_many, machine_many, volume_many}
+use Rattle.model_cases.specs.PlanChanceConfs1.{conf_r25, conf_r26, conf_r27, conf_r28, conf_r29, conf_r30}
+use Rattle.model_cases.specs.PlanChanceConfs2.{conf_r31, conf_r32}
+use Rattle.model_cases.specs.PlanDisks.{disk_many}
+use Rattle.model_cases.specs.PlanVolumes.{machine_many, volume_many}
 
 -- by chance 25
 pub plan_by_chance_25 : (plan_sectors (planned (disks_of disk_many) machine_many volume_many conf_r25 1545503053) machine_many (on 0 (2365 ∷ []) ++ on 1 (1395 ∷ []) ++ on 0 (839 ∷ 3402 ∷ 3606 ∷ 394 ∷ 2486 ∷ 803 ∷ 1793 ∷ []) ++ on 1 (943 ∷ []) ++ on 0 (981 ∷ 2634 ∷ []) ++ on 1 (1936 ∷ []) ++ on 0 (2430 ∷ [])) ≡ (file 512 (piece 0 (codes "LINE") ∷ [])) ∷ (file 512 (piece 0 (codes "win") ∷ piece 16 (hex 6 0x020000000504) ∷ piece 28 (hex 15 0x01800100110006000180010030000c) ∷ piece 52 (hex 17 0x01000000018001001e0207006c696e7578) ∷ piece 80 (hex 51 0x4e00000040060000dc050000018001001e010c000180010025000f0001800100340209000100010001810100090d03006f6c64) ∷ piece 144 (hex 6 0x280001034006) ∷ piece 156 (hex 15 0x01810100101c010001800100250206) ∷ piece 180 (hex 1 0x01) ∷ [])) ∷ (file 512 []) ∷ (file 512 []) ∷ (file 512 []) ∷ (file 512 (piece 0 (hex 1 0x04) ∷ piece 8 (codes " x y") ∷ [])) ∷ (file 512 (piece 2 (hex 1 0x03) ∷ piece 480 (codes "abc") ∷ [])) ∷ (file 512 (piece 0 (hex 23 0x018001002a000100018001002b000100018001002c0001) ∷ [])) ∷ (file 512 (piece 0 (hex 1 0x06) ∷ piece 8 (codes " quiet") ∷ [])) ∷ (file 512 (piece 2 (hex 1 0x03) ∷ piece 480 (codes "abc") ∷ [])) ∷ (file 512 (piece 0 (hex 31 0x018001001e000100018001001f000100018001002000010001800100210001) ∷ [])) ∷ (file 512 (piece 0 (hex 23 0x0180010034000100018001003500010001800100360001) ∷ [])) ∷ (file 512 (piece 0 (hex 1 0x09) ∷ piece 8 (codes " root=801") ∷ [])) ∷ (file 512 (piece 0 (hex 31 0x018001001e000100018001001f000100018001002000010001800100210001) ∷ [])) ∷ []) × (plan_boot_sector (planned (disks_of disk_many) machine_many volume_many conf_r25 1545503053) machine_many (on 0 (2365 ∷ []) ++ on 1 (1395 ∷ []) ++ on 0 (839 ∷ 3402 ∷ 3606 ∷ 394 ∷ 2486 ∷ 803 ∷ 1793 ∷ []) ++ on 1 (943 ∷ []) ++ on 0 (981 ∷ 2634 ∷ []) ++ on 1 (1936 ∷ []) ++ on 0 (2430 ∷ [])) (disks_of disk_many 0 0) ≡ file 512 (piece 0 (hex 19 0xeb7e4c494c4f01004d811e5c01000000ffff03) ∷ piece 24 (hex 15 0x018001002302050001800100100309) ∷ piece 48 (hex 23 0x01810100021402000180010015000d0001800100010306) ∷ piece 96 (hex 1 0x01) ∷ piece 128 (replicate 312 144) ∷ piece 450 (hex 10 0x8100000040000000c00f) ∷ piece 510 (hex 2 0x55aa) ∷ [])) × (map_size (planned (disks_of disk_many) machine_many volume_many conf_r25 1545503053) machine_many ≡ 14)

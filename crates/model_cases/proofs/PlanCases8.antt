@@ -20,7 +20,9 @@ use Rattle.lilo_model.specs.Section.{link_at, section, file_content, section_byt
 use Rattle.lilo_model.specs.Slots.{has_ranges, has_address, is_slot, is_one_slot, chs_of, address_of, slot_of, some_slot, slot_at, slot_bytes, to_chs, to_lba, sector_at, sectors_of, place_at, slot_make, could_be_one}
 use Rattle.lilo_model.specs.Table.{is_set, entry_name, is_printable, is_name, has_flags, has_video, has_length, has_main, has_initrd, has_extra, is_entry, descriptor_of, entry_bytes, same_name, repeats, breaks, table_at, descriptor_bytes}
 use Rattle.model_cases.specs.Sparse.{hex, piece, file, disks_of, on}
-use Rattle.model_cases.specs.PlanFixtures.{conf_r33, conf_r34, conf_r35, conf_r36, conf_r37, conf_r38, conf_r39, conf_r40, disk_many, machine_many, volume_many}
+use Rattle.model_cases.specs.PlanChanceConfs2.{conf_r33, conf_r34, conf_r35, conf_r36, conf_r37, conf_r38, conf_r39, conf_r40}
+use Rattle.model_cases.specs.PlanDisks.{disk_many}
+use Rattle.model_cases.specs.PlanVolumes.{machine_many, volume_many}
 
 -- by chance 33
 pub plan_by_chance_33 : (plan_sectors (planned (disks_of disk_many) machine_many volume_many conf_r33 32) machine_many (on 0 (190 ∷ 191 ∷ 192 ∷ 193 ∷ 194 ∷ 195 ∷ 196 ∷ 197 ∷ 198 ∷ [])) ≡ (file 512 (piece 0 (codes "LINE") ∷ [])) ∷ (file 512 (piece 0 (codes "x2") ∷ piece 16 (hex 6 0x200005000504) ∷ piece 28 (hex 13 0x02800100c300000002800100c4) ∷ piece 52 (hex 1 0x01) ∷ piece 64 (codes "a") ∷ piece 80 (hex 1 0x01) ∷ piece 85 (hex 1 0x02) ∷ piece 92 (hex 13 0x02800100c500000002800100c6) ∷ piece 116 (hex 1 0x01) ∷ [])) ∷ (file 512 []) ∷ (file 512 []) ∷ (file 512 []) ∷ (file 512 (piece 0 (hex 1 0x04) ∷ piece 8 (codes " x y") ∷ [])) ∷ (file 512 (piece 0 (hex 5 0x0280030052) ∷ [])) ∷ (file 512 []) ∷ (file 512 (piece 0 (hex 5 0x028101003f) ∷ [])) ∷ []) × (plan_boot_sector (planned (disks_of disk_many) machine_many volume_many conf_r33 32) machine_many (on 0 (190 ∷ 191 ∷ 192 ∷ 193 ∷ 194 ∷ 195 ∷ 196 ∷ 197 ∷ 198 ∷ [])) (disks_of disk_many 0 0) ≡ file 512 (piece 0 (hex 9 0xeb7e4c494c4f010020) ∷ piece 16 (hex 3 0x050002) ∷ piece 24 (hex 13 0x02800100be00000002800100c2) ∷ piece 48 (hex 21 0x02800100bf00000002800100c000000002800100c1) ∷ piece 128 (replicate 312 144) ∷ piece 450 (hex 10 0x8100000040000000c00f) ∷ piece 510 (hex 2 0x55aa) ∷ [])) × (map_size (planned (disks_of disk_many) machine_many volume_many conf_r33 32) machine_many ≡ 9)

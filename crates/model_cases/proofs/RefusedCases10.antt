@@ -26,7 +26,7 @@ use Rattle.lilo_model.specs.Slots as slots
 use Rattle.lilo_model.specs.Partitions as tables
 use Rattle.lilo_model.specs.ConfOptions as options
 use Rattle.model_cases.specs.Sparse.{hex, patch_at, disks_of, disk_with, machine_of}
-use Rattle.model_cases.specs.PlanFixtures.{disk_systems}
+use Rattle.model_cases.specs.PlanDisks.{disk_systems}
 
 -- a sector beyond the last cylinder passes where lba32 numbers it
 pub refused_a_sector_beyond_the_last_cylinder_passes_where_lba32_numbers_it : is_ok (plan_at (disks_of (disk_systems ++ (patch_at 1 0 454 (hex 6 0x58fc00006400) ∷ patch_at 1 0 466 (hex 9 0x0600000020fd000032) ∷ patch_at 1 64600 510 (hex 2 0x55aa) ∷ patch_at 1 64800 510 (hex 2 0x55aa) ∷ []))) (machine_of (disk_with 4096 16 63 ∷ disk_with 70000 1 63 ∷ [])) (record { span = record { disk = 0; start = 64; count = 4032 }; layout = record { kind = V1Long; inodes = 64; zones = 2016; imap = 1; zmap = 1; first = 6; max_size = 268966912; state = 1 } }) (record { disk = 0; start = 0; count = 4096 }) (record { boot = (Some (record { disk = 0; partition = 0 })); map = (codes "/boot/map"); install = (Some (codes "/boot/boot.b")); backup = None; force_backup = None; compact = false; mode = Lba32Mode; default_name = None; delay = 0; timeout = None; prompt = false; message = None; disks = []; sections = ((record { other = (Some (record { disk = 1; partition = 1 })); path = (codes "/dev/hdb1"); label = (codes "x"); alias = None; initrd = None; root = None; mount = Unsaid; append = None; literal = None; vga = None; password = None; restricted = false; optional = false; lock = false; fallback = None; table = (Some (record { disk = 1; partition = 2 })); line = 5 }) ∷ (record { other = None; path = (codes "/boot/vmlinuz"); label = (codes "linux"); alias = None; initrd = (Some (codes "/boot/initrd")); root = None; mount = ReadOnlyMount; append = None; literal = None; vga = None; password = None; restricted = false; optional = false; lock = false; fallback = None; table = None; line = 8 }) ∷ []) }) 0) ≡ true

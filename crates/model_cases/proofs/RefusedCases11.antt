@@ -25,7 +25,7 @@ use Rattle.lilo_model.specs.Slots.{has_ranges, has_address, is_slot, is_one_slot
 use Rattle.lilo_model.specs.MinixFind as trees
 use Rattle.lilo_model.specs.Partitions as tables
 use Rattle.model_cases.specs.Sparse.{hex, patch_at, disks_of, disk_with, machine_of}
-use Rattle.model_cases.specs.PlanFixtures.{disk_systems}
+use Rattle.model_cases.specs.PlanDisks.{disk_systems}
 
 -- a logical partition past its disk
 pub refused_a_logical_partition_past_its_disk : (plan_at (disks_of (disk_systems ++ (patch_at 1 0 466 (hex 9 0x05000000dc05000064) ∷ patch_at 1 1500 450 (hex 10 0x83000000010000005802) ∷ patch_at 1 1500 510 (hex 2 0x55aa) ∷ []))) (machine_of (disk_with 4096 16 63 ∷ disk_with 2000 4 17 ∷ [])) (record { span = record { disk = 0; start = 64; count = 4032 }; layout = record { kind = V1Long; inodes = 64; zones = 2016; imap = 1; zmap = 1; first = 6; max_size = 268966912; state = 1 } }) (record { disk = 0; start = 0; count = 4096 }) (record { boot = (Some (record { disk = 0; partition = 0 })); map = (codes "/boot/map"); install = (Some (codes "/boot/boot.b")); backup = None; force_backup = None; compact = false; mode = ChsMode; default_name = None; delay = 0; timeout = None; prompt = false; message = None; disks = []; sections = ((record { other = (Some (record { disk = 1; partition = 1 })); path = (codes "/dev/hdb1"); label = (codes "x"); alias = None; initrd = None; root = None; mount = Unsaid; append = None; literal = None; vga = None; password = None; restricted = false; optional = false; lock = false; fallback = None; table = None; line = 4 }) ∷ []) }) 0 ≡ Err (Table (tables.OutsideDisk 5))) × (plan_status (Table (tables.OutsideDisk 5)) ≡ 3) × (plan_text (Table (tables.OutsideDisk 5)) ≡ (codes "table"))

@@ -24,7 +24,7 @@ use Rattle.lilo_model.specs.Slots.{has_ranges, has_address, is_slot, is_one_slot
 use Rattle.lilo_model.specs.MinixFind as trees
 use Rattle.lilo_model.specs.Partitions as tables
 use Rattle.model_cases.specs.Sparse.{hex, patch_at, disks_of, disk_with, machine_of}
-use Rattle.model_cases.specs.PlanFixtures.{disk_files, disk_systems}
+use Rattle.model_cases.specs.PlanDisks.{disk_files, disk_systems}
 
 -- a link to itself
 pub refused_a_link_to_itself : (plan_at (disks_of (disk_files ++ (patch_at 0 70 1 (hex 1 0x00) ∷ patch_at 0 72 96 (hex 6 0xffa100000700) ∷ patch_at 0 72 112 (hex 1 0x00) ∷ patch_at 0 72 142 (codes "\n") ∷ patch_at 0 72 174 (hex 1 0x0b) ∷ patch_at 0 72 206 (hex 1 0x0c) ∷ patch_at 0 82 0 (codes "vmlinuz") ∷ patch_at 0 82 497 (hex 1 0x00) ∷ patch_at 0 82 510 (hex 2 0x0000) ∷ patch_at 0 83 2 (replicate 6 0) ∷ patch_at 0 83 17 (hex 1 0x00) ∷ patch_at 0 83 44 (hex 4 0x00000000) ∷ patch_at 0 83 56 (hex 1 0x00) ∷ patch_at 0 84 0 (replicate 512 165) ∷ patch_at 0 85 0 (replicate 188 165) ∷ patch_at 0 86 0 (replicate 512 144) ∷ patch_at 0 87 0 (replicate 188 0) ∷ patch_at 0 88 0 (codes "#" ++ replicate 511 0) ∷ patch_at 0 90 0 (hex 1 0x00) ∷ []))) (machine_of (disk_with 4096 16 63 ∷ [])) (record { span = record { disk = 0; start = 64; count = 4032 }; layout = record { kind = V1Long; inodes = 64; zones = 2016; imap = 1; zmap = 1; first = 6; max_size = 268966912; state = 1 } }) (record { disk = 0; start = 0; count = 4096 }) (record { boot = (Some (record { disk = 0; partition = 0 })); map = (codes "/boot/map"); install = (Some (codes "/boot/boot.b")); backup = None; force_backup = None; compact = false; mode = Lba32Mode; default_name = (Some (codes "linux")); delay = 0; timeout = (Some 50); prompt = true; message = None; disks = []; sections = ((record { other = None; path = (codes "/boot/vmlinuz"); label = (codes "linux"); alias = None; initrd = None; root = (Some 769); mount = ReadOnlyMount; append = None; literal = None; vga = None; password = None; restricted = false; optional = false; lock = false; fallback = None; table = None; line = 8 }) ∷ []) }) 0 ≡ Err (Tree (codes "/boot/vmlinuz") trees.TooManyLinks)) × (plan_status (Tree (codes "/boot/vmlinuz") trees.TooManyLinks) ≡ 3) × (plan_text (Tree (codes "/boot/vmlinuz") trees.TooManyLinks) ≡ (codes "path /boot/vmlinuz"))

@@ -24,7 +24,7 @@ use Rattle.lilo_model.specs.Planned.{devices_in, inode_places, mapped_inode, fil
 use Rattle.lilo_model.specs.Slots.{has_ranges, has_address, is_slot, is_one_slot, chs_of, address_of, slot_of, some_slot, slot_at, slot_bytes, to_chs, to_lba, sector_at, sectors_of, place_at, slot_make, could_be_one, Lba32Mode}
 use Rattle.lilo_model.specs.Header as headers
 use Rattle.model_cases.specs.Sparse.{hex, patch_at, disks_of, disk_with, machine_of}
-use Rattle.model_cases.specs.PlanFixtures.{disk_files}
+use Rattle.model_cases.specs.PlanDisks.{disk_files}
 
 -- an empty kernel
 pub refused_an_empty_kernel : (plan_at (disks_of (disk_files ++ (patch_at 0 70 0 (hex 2 0x7f00) ∷ patch_at 0 72 100 (hex 2 0x0000) ∷ patch_at 0 72 110 (hex 3 0x000000) ∷ patch_at 0 72 142 (hex 1 0x09) ∷ patch_at 0 72 174 (codes "\n") ∷ patch_at 0 72 206 (hex 1 0x0b) ∷ patch_at 0 82 0 (replicate 512 165) ∷ patch_at 0 83 0 (replicate 188 165) ∷ patch_at 0 84 0 (replicate 512 144) ∷ patch_at 0 86 0 (codes "#" ++ replicate 511 0) ∷ patch_at 0 87 0 (replicate 188 0) ∷ patch_at 0 88 0 (replicate 512 0) ∷ patch_at 0 90 0 (hex 1 0x00) ∷ []))) (machine_of (disk_with 4096 16 63 ∷ [])) (record { span = record { disk = 0; start = 64; count = 4032 }; layout = record { kind = V1Long; inodes = 64; zones = 2016; imap = 1; zmap = 1; first = 6; max_size = 268966912; state = 1 } }) (record { disk = 0; start = 0; count = 4096 }) (record { boot = (Some (record { disk = 0; partition = 0 })); map = (codes "/boot/map"); install = (Some (codes "/boot/boot.b")); backup = None; force_backup = None; compact = false; mode = Lba32Mode; default_name = (Some (codes "linux")); delay = 0; timeout = (Some 50); prompt = true; message = None; disks = []; sections = ((record { other = None; path = (codes "/boot/vmlinuz"); label = (codes "linux"); alias = None; initrd = (Some (codes "/boot/initrd")); root = (Some 769); mount = ReadOnlyMount; append = None; literal = None; vga = None; password = None; restricted = false; optional = false; lock = false; fallback = None; table = None; line = 8 }) ∷ []) }) 0 ≡ Err (headers_of (codes "/boot/vmlinuz") headers.TooShort)) × (plan_status (headers_of (codes "/boot/vmlinuz") headers.TooShort) ≡ 4) × (plan_text (headers_of (codes "/boot/vmlinuz") headers.TooShort) ≡ (codes "header /boot/vmlinuz"))

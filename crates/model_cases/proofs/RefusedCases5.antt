@@ -26,7 +26,7 @@ use Rattle.lilo_model.specs.Header as headers
 use Rattle.lilo_model.specs.Slots as slots
 use Rattle.lilo_model.specs.ConfOptions as options
 use Rattle.model_cases.specs.Sparse.{hex, patch_at, disks_of, disk_with, machine_of}
-use Rattle.model_cases.specs.PlanFixtures.{disk_files}
+use Rattle.model_cases.specs.PlanDisks.{disk_files}
 
 -- a kernel takes a short line alone
 pub refused_a_kernel_takes_a_short_line_alone : (plan_at (disks_of (disk_files ++ (patch_at 0 83 56 (codes " ") ∷ patch_at 0 84 0 (replicate 5 5) ∷ []))) (machine_of (disk_with 4096 16 63 ∷ [])) (record { span = record { disk = 0; start = 64; count = 4032 }; layout = record { kind = V1Long; inodes = 64; zones = 2016; imap = 1; zmap = 1; first = 6; max_size = 268966912; state = 1 } }) (record { disk = 0; start = 0; count = 4096 }) (record { boot = (Some (record { disk = 0; partition = 0 })); map = (codes "/boot/map"); install = (Some (codes "/boot/boot.b")); backup = None; force_backup = None; compact = false; mode = Lba32Mode; default_name = (Some (codes "linux")); delay = 0; timeout = (Some 50); prompt = true; message = None; disks = []; sections = ((record { other = None; path = (codes "/boot/vmlinuz"); label = (codes "linux"); alias = None; initrd = (Some (codes "/boot/initrd")); root = (Some 769); mount = ReadOnlyMount; append = None; literal = None; vga = None; password = None; restricted = false; optional = false; lock = false; fallback = None; table = None; line = 8 }) ∷ []) }) 0 ≡ Err (headers_of (codes "/boot/vmlinuz") (headers.LineTooLong 33))) × (plan_status (headers_of (codes "/boot/vmlinuz") (headers.LineTooLong 33)) ≡ 4) × (plan_text (headers_of (codes "/boot/vmlinuz") (headers.LineTooLong 33)) ≡ (codes "header /boot/vmlinuz"))

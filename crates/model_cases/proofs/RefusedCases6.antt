@@ -25,7 +25,7 @@ use Rattle.lilo_model.specs.Slots.{has_ranges, has_address, is_slot, is_one_slot
 use Rattle.lilo_model.specs.MinixFind as trees
 use Rattle.lilo_model.specs.Partitions as tables
 use Rattle.model_cases.specs.Sparse.{disks_of, disk_with, machine_of}
-use Rattle.model_cases.specs.PlanFixtures.{disk_files, disk_systems}
+use Rattle.model_cases.specs.PlanDisks.{disk_files, disk_systems}
 
 -- nothing is refused
 pub refused_nothing_is_refused : is_ok (plan_at (disks_of disk_files) (machine_of (disk_with 4096 16 63 ∷ [])) (record { span = record { disk = 0; start = 64; count = 4032 }; layout = record { kind = V1Long; inodes = 64; zones = 2016; imap = 1; zmap = 1; first = 6; max_size = 268966912; state = 1 } }) (record { disk = 0; start = 0; count = 4096 }) (record { boot = (Some (record { disk = 0; partition = 0 })); map = (codes "/boot/map"); install = (Some (codes "/boot/boot.b")); backup = None; force_backup = None; compact = false; mode = Lba32Mode; default_name = (Some (codes "linux")); delay = 0; timeout = (Some 50); prompt = true; message = None; disks = []; sections = ((record { other = None; path = (codes "/boot/vmlinuz"); label = (codes "linux"); alias = None; initrd = (Some (codes "/boot/initrd")); root = (Some 769); mount = ReadOnlyMount; append = None; literal = None; vga = None; password = None; restricted = false; optional = false; lock = false; fallback = None; table = None; line = 8 }) ∷ []) }) 0) ≡ true

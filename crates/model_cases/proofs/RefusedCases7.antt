@@ -23,7 +23,7 @@ use Rattle.lilo_model.specs.Planned.{devices_in, inode_places, mapped_inode, fil
 use Rattle.lilo_model.specs.Slots.{has_ranges, has_address, is_slot, is_one_slot, chs_of, address_of, slot_of, some_slot, slot_at, slot_bytes, to_chs, to_lba, sector_at, sectors_of, place_at, slot_make, could_be_one, ChsMode}
 use Rattle.lilo_model.specs.ConfOptions as options
 use Rattle.model_cases.specs.Sparse.{disks_of, disk_with, machine_of}
-use Rattle.model_cases.specs.PlanFixtures.{disk_systems}
+use Rattle.model_cases.specs.PlanDisks.{disk_systems}
 
 -- an omitted default comes before that no image is left
 pub refused_an_omitted_default_comes_before_that_no_image_is_left : (plan_at (disks_of disk_systems) (machine_of (disk_with 4096 16 63 ∷ disk_with 2000 4 17 ∷ [])) (record { span = record { disk = 0; start = 64; count = 4032 }; layout = record { kind = V1Long; inodes = 64; zones = 2016; imap = 1; zmap = 1; first = 6; max_size = 268966912; state = 1 } }) (record { disk = 0; start = 0; count = 4096 }) (record { boot = (Some (record { disk = 0; partition = 0 })); map = (codes "/boot/map"); install = (Some (codes "/boot/boot.b")); backup = None; force_backup = None; compact = false; mode = ChsMode; default_name = (Some (codes "b")); delay = 0; timeout = None; prompt = false; message = None; disks = []; sections = ((record { other = None; path = (codes "/gone"); label = (codes "a"); alias = None; initrd = None; root = None; mount = Unsaid; append = None; literal = None; vga = None; password = None; restricted = false; optional = true; lock = false; fallback = None; table = None; line = 5 }) ∷ (record { other = None; path = (codes "/gone2"); label = (codes "b"); alias = None; initrd = None; root = None; mount = Unsaid; append = None; literal = None; vga = None; password = None; restricted = false; optional = true; lock = false; fallback = None; table = None; line = 8 }) ∷ []) }) 0 ≡ Err (Missing (codes "b"))) × (plan_status (Missing (codes "b")) ≡ 3) × (plan_text (Missing (codes "b")) ≡ (codes "missing b"))

@@ -24,7 +24,7 @@ use Rattle.lilo_model.specs.Planned.{devices_in, inode_places, mapped_inode, fil
 use Rattle.lilo_model.specs.Slots.{has_ranges, has_address, is_slot, is_one_slot, chs_of, address_of, slot_of, some_slot, slot_at, slot_bytes, to_chs, to_lba, sector_at, sectors_of, place_at, slot_make, could_be_one, ChsMode}
 use Rattle.lilo_model.specs.Header as headers
 use Rattle.model_cases.specs.Sparse.{hex, patch_at, disks_of, disk_with, machine_of}
-use Rattle.model_cases.specs.PlanFixtures.{disk_systems}
+use Rattle.model_cases.specs.PlanDisks.{disk_systems}
 
 -- a long message comes before that another system is the boot device
 pub refused_a_long_message_comes_before_that_another_system_is_the_boot_device : (plan_at (disks_of (disk_systems ++ (patch_at 0 68 1 (hex 1 0x01) ∷ patch_at 0 70 1 (hex 9 0xffffffffffffffff03) ∷ patch_at 0 72 36 (hex 1 0xc0) ∷ patch_at 0 72 224 (hex 2 0xa481) ∷ patch_at 0 72 230 (hex 1 0x01) ∷ patch_at 0 72 237 (hex 16 0x010e000f00100011001200130014004e) ∷ patch_at 0 78 160 (hex 5 0x08006d7367) ∷ patch_at 0 92 0 (replicate 512 109) ∷ patch_at 0 93 0 (replicate 512 109) ∷ patch_at 0 94 0 (replicate 512 109) ∷ patch_at 0 95 0 (replicate 512 109) ∷ patch_at 0 96 0 (replicate 512 109) ∷ patch_at 0 97 0 (replicate 512 109) ∷ patch_at 0 98 0 (replicate 512 109) ∷ patch_at 0 99 0 (replicate 512 109) ∷ patch_at 0 100 0 (replicate 512 109) ∷ patch_at 0 101 0 (replicate 512 109) ∷ patch_at 0 102 0 (replicate 512 109) ∷ patch_at 0 103 0 (replicate 512 109) ∷ patch_at 0 104 0 (replicate 512 109) ∷ patch_at 0 105 0 (replicate 512 109) ∷ patch_at 0 106 0 (replicate 512 109) ∷ patch_at 0 107 0 (replicate 512 109) ∷ patch_at 0 108 0 (replicate 512 109) ∷ patch_at 0 109 0 (replicate 512 109) ∷ patch_at 0 110 0 (replicate 512 109) ∷ patch_at 0 111 0 (replicate 512 109) ∷ patch_at 0 112 0 (replicate 512 109) ∷ patch_at 0 113 0 (replicate 512 109) ∷ patch_at 0 114 0 (replicate 512 109) ∷ patch_at 0 115 0 (replicate 512 109) ∷ patch_at 0 116 0 (replicate 512 109) ∷ patch_at 0 117 0 (replicate 512 109) ∷ patch_at 0 118 0 (replicate 512 109) ∷ patch_at 0 119 0 (replicate 512 109) ∷ patch_at 0 120 0 (replicate 512 109) ∷ patch_at 0 121 0 (replicate 512 109) ∷ patch_at 0 122 0 (replicate 512 109) ∷ patch_at 0 123 0 (replicate 512 109) ∷ patch_at 0 124 0 (replicate 512 109) ∷ patch_at 0 125 0 (replicate 512 109) ∷ patch_at 0 126 0 (replicate 512 109) ∷ patch_at 0 127 0 (replicate 512 109) ∷ patch_at 0 128 0 (replicate 512 109) ∷ patch_at 0 129 0 (replicate 512 109) ∷ patch_at 0 130 0 (replicate 512 109) ∷ patch_at 0 131 0 (replicate 512 109) ∷ patch_at 0 132 0 (replicate 512 109) ∷ patch_at 0 133 0 (replicate 512 109) ∷ patch_at 0 134 0 (replicate 512 109) ∷ patch_at 0 135 0 (replicate 512 109) ∷ patch_at 0 136 0 (replicate 512 109) ∷ patch_at 0 137 0 (replicate 512 109) ∷ patch_at 0 138 0 (replicate 512 109) ∷ patch_at 0 139 0 (replicate 512 109) ∷ patch_at 0 140 0 (replicate 512 109) ∷ patch_at 0 141 0 (replicate 512 109) ∷ patch_at 0 142 0 (replicate 512 109) ∷ patch_at 0 143 0 (replicate 512 109) ∷ patch_at 0 144 0 (replicate 512 109) ∷ patch_at 0 145 0 (replicate 512 109) ∷ patch_at 0 146 0 (replicate 512 109) ∷ patch_at 0 147 0 (replicate 512 109) ∷ patch_at 0 148 0 (replicate 512 109) ∷ patch_at 0 149 0 (replicate 512 109) ∷ patch_at 0 150 0 (replicate 512 109) ∷ patch_at 0 151 0 (replicate 512 109) ∷ patch_at 0 152 0 (replicate 512 109) ∷ patch_at 0 153 0 (replicate 512 109) ∷ patch_at 0 154 0 (replicate 512 109) ∷ patch_at 0 155 0 (replicate 512 109) ∷ patch_at 0 156 0 (replicate 512 109) ∷ patch_at 0 157 0 (replicate 512 109) ∷ patch_at 0 158 0 (replicate 512 109) ∷ patch_at 0 159 0 (replicate 512 109) ∷ patch_at 0 160 0 (replicate 512 109) ∷ patch_at 0 161 0 (replicate 512 109) ∷ patch_at 0 162 0 (replicate 512 109) ∷ patch_at 0 163 0 (replicate 512 109) ∷ patch_at 0 164 0 (replicate 512 109) ∷ patch_at 0 165 0 (replicate 512 109) ∷ patch_at 0 166 0 (replicate 512 109) ∷ patch_at 0 167 0 (replicate 512 109) ∷ patch_at 0 168 0 (replicate 512 109) ∷ patch_at 0 169 0 (replicate 512 109) ∷ patch_at 0 170 0 (replicate 512 109) ∷ patch_at 0 171 0 (replicate 512 109) ∷ patch_at 0 172 0 (replicate 512 109) ∷ patch_at 0 173 0 (replicate 512 109) ∷ patch_at 0 174 0 (replicate 512 109) ∷ patch_at 0 175 0 (replicate 512 109) ∷ patch_at 0 176 0 (replicate 512 109) ∷ patch_at 0 177 0 (replicate 512 109) ∷ patch_at 0 178 0 (replicate 512 109) ∷ patch_at 0 179 0 (replicate 512 109) ∷ patch_at 0 180 0 (replicate 512 109) ∷ patch_at 0 181 0 (replicate 512 109) ∷ patch_at 0 182 0 (replicate 512 109) ∷ patch_at 0 183 0 (replicate 512 109) ∷ patch_at 0 184 0 (replicate 512 109) ∷ patch_at 0 185 0 (replicate 512 109) ∷ patch_at 0 186 0 (replicate 512 109) ∷ patch_at 0 187 0 (replicate 512 109) ∷ patch_at 0 188 0 (replicate 512 109) ∷ patch_at 0 189 0 (replicate 512 109) ∷ patch_at 0 190 0 (replicate 512 109) ∷ patch_at 0 191 0 (replicate 512 109) ∷ patch_at 0 192 0 (replicate 512 109) ∷ patch_at 0 193 0 (replicate 512 109) ∷ patch_at 0 194 0 (replicate 512 109) ∷ patch_at 0 195 0 (replicate 512 109) ∷ patch_at 0 196 0 (replicate 512 109) ∷ patch_at 0 197 0 (replicate 512 109) ∷ patch_at 0 198 0 (replicate 512 109) ∷ patch_at 0 199 0 (replicate 512 109) ∷ patch_at 0 200 0 (replicate 512 109) ∷ patch_at 0 201 0 (replicate 512 109) ∷ patch_at 0 202 0 (replicate 512 109) ∷ patch_at 0 203 0 (replicate 512 109) ∷ patch_at 0 204 0 (replicate 512 109) ∷ patch_at 0 205 0 (replicate 512 109) ∷ patch_at 0 206 0 (replicate 512 109) ∷ patch_at 0 207 0 (replicate 512 109) ∷ patch_at 0 208 0 (replicate 512 109) ∷ patch_at 0 209 0 (replicate 512 109) ∷ patch_at 0 210 0 (replicate 512 109) ∷ patch_at 0 211 0 (replicate 512 109) ∷ patch_at 0 212 0 (replicate 512 109) ∷ patch_at 0 213 0 (replicate 512 109) ∷ patch_at 0 214 0 (replicate 512 109) ∷ patch_at 0 215 0 (replicate 512 109) ∷ patch_at 0 216 0 (replicate 512 109) ∷ patch_at 0 217 0 (replicate 512 109) ∷ patch_at 0 218 0 (replicate 512 109) ∷ patch_at 0 219 0 (replicate 512 109) ∷ patch_at 0 220 0 (hex 113 0x150016001700180019001a001b001c001d001e001f0020002100220023002400250026002700280029002a002b002c002d002e002f0030003100320033003400350036003700380039003a003b003c003d003e003f0040004100420043004400450046004700480049004a004b004c004d) ∷ []))) (machine_of (disk_with 4096 16 63 ∷ disk_with 2000 4 17 ∷ [])) (record { span = record { disk = 0; start = 64; count = 4032 }; layout = record { kind = V1Long; inodes = 64; zones = 2016; imap = 1; zmap = 1; first = 6; max_size = 268966912; state = 1 } }) (record { disk = 0; start = 0; count = 4096 }) (record { boot = (Some (record { disk = 0; partition = 0 })); map = (codes "/boot/map"); install = (Some (codes "/boot/boot.b")); backup = None; force_backup = None; compact = false; mode = ChsMode; default_name = None; delay = 0; timeout = None; prompt = false; message = (Some (codes "/boot/msg")); disks = []; sections = ((record { other = (Some (record { disk = 0; partition = 0 })); path = (codes "/dev/hda"); label = (codes "x"); alias = None; initrd = None; root = None; mount = Unsaid; append = None; literal = None; vga = None; password = None; restricted = false; optional = false; lock = false; fallback = None; table = None; line = 5 }) ∷ []) }) 0 ≡ Err (MessageTooLong 65536)) × (plan_status (MessageTooLong 65536) ≡ 4) × (plan_text (MessageTooLong 65536) ≡ (codes "message 65536 over 65535"))

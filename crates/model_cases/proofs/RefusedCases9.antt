@@ -26,7 +26,7 @@ use Rattle.lilo_model.specs.Header as headers
 use Rattle.lilo_model.specs.Slots as slots
 use Rattle.lilo_model.specs.ConfOptions as options
 use Rattle.model_cases.specs.Sparse.{hex, patch_at, disks_of, disk_with, machine_of}
-use Rattle.model_cases.specs.PlanFixtures.{disk_systems}
+use Rattle.model_cases.specs.PlanDisks.{disk_systems}
 
 -- 64 setup sectors alone pass
 pub refused_64_setup_sectors_alone_pass : is_ok (plan_at (disks_of (disk_systems ++ (patch_at 0 68 1 (hex 1 0x01) ∷ patch_at 0 70 1 (hex 1 0x0f) ∷ patch_at 0 72 36 (hex 1 0xc0) ∷ patch_at 0 72 224 (hex 6 0xa48100000082) ∷ patch_at 0 72 237 (hex 2 0x010e) ∷ patch_at 0 72 252 (hex 1 0x10) ∷ patch_at 0 78 160 (hex 5 0x0800626164) ∷ patch_at 0 92 497 (codes "@") ∷ patch_at 0 92 510 (hex 2 0x55aa) ∷ patch_at 0 93 2 (hex 6 0x486472530602) ∷ patch_at 0 93 17 (hex 1 0x01) ∷ patch_at 0 93 44 (hex 4 0xffffff37) ∷ patch_at 0 93 56 (hex 1 0xff) ∷ patch_at 0 96 50 (hex 1 0x0f) ∷ []))) (machine_of (disk_with 4096 16 63 ∷ disk_with 2000 4 17 ∷ [])) (record { span = record { disk = 0; start = 64; count = 4032 }; layout = record { kind = V1Long; inodes = 64; zones = 2016; imap = 1; zmap = 1; first = 6; max_size = 268966912; state = 1 } }) (record { disk = 0; start = 0; count = 4096 }) (record { boot = (Some (record { disk = 0; partition = 0 })); map = (codes "/boot/map"); install = (Some (codes "/boot/boot.b")); backup = None; force_backup = None; compact = false; mode = ChsMode; default_name = None; delay = 0; timeout = None; prompt = false; message = None; disks = []; sections = ((record { other = None; path = (codes "/boot/bad"); label = (codes "a"); alias = None; initrd = None; root = None; mount = Unsaid; append = None; literal = None; vga = None; password = None; restricted = false; optional = false; lock = false; fallback = None; table = None; line = 4 }) ∷ []) }) 0) ≡ true

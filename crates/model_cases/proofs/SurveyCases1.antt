@@ -105,10 +105,10 @@ pub minix_survey_dotdot_missing_in_version_1_with_short_names : survey_found (vo
 unfolding number16 number32 is_zero kind_of super_of super_checks super_in super_at v1_inode v2_inode inode_of inode_at inode_place bit with_bit parts_of number_in follow pointer_by inside follow_at zone_at block_at content_at entry_of entry_at find_entry entries_at is_dots zone_number block content entry first_named lookup reached thing names names_in was_reached with_inode survey_walk owner names_of has_name judge judged survey_of is_indirect
 minix_survey_dotdot_missing_in_version_1_with_short_names = refl
 
--- . renamed and then marks without a use in version 1 with short names
-pub minix_survey_dot_renamed_and_then_marks_without_a_use_in_version_1_with_short_names : survey_found (volume_by (super_with V1Short 16 48 1 1 5) (node 16877 4 96 (5 ∷ 0 ∷ 0 ∷ 0 ∷ 0 ∷ 0 ∷ 0 ∷ 0 ∷ 0 ∷ 0 ∷ []) ∷ node 16877 3 64 (6 ∷ 0 ∷ 0 ∷ 0 ∷ 0 ∷ 0 ∷ 0 ∷ 0 ∷ 0 ∷ 0 ∷ []) ∷ node 33188 1 4 (7 ∷ 0 ∷ 0 ∷ 0 ∷ 0 ∷ 0 ∷ 0 ∷ 0 ∷ 0 ∷ 0 ∷ []) ∷ node 16877 2 64 (8 ∷ 0 ∷ 0 ∷ 0 ∷ 0 ∷ 0 ∷ 0 ∷ 0 ∷ 0 ∷ 0 ∷ []) ∷ node 33188 1 2000 (9 ∷ 10 ∷ 0 ∷ 0 ∷ 0 ∷ 0 ∷ 0 ∷ 0 ∷ 0 ∷ 0 ∷ []) ∷ node 41471 1 3 (11 ∷ 0 ∷ 0 ∷ 0 ∷ 0 ∷ 0 ∷ 0 ∷ 0 ∷ 0 ∷ 0 ∷ []) ∷ node 33188 1 1 (12 ∷ 0 ∷ 0 ∷ 0 ∷ 0 ∷ 0 ∷ 0 ∷ 0 ∷ 0 ∷ 0 ∷ []) ∷ node 33188 1 9216 (13 ∷ 14 ∷ 15 ∷ 16 ∷ 17 ∷ 18 ∷ 19 ∷ 22 ∷ 0 ∷ 0 ∷ []) ∷ node 16877 2 32 (23 ∷ 0 ∷ 0 ∷ 0 ∷ 0 ∷ 0 ∷ 0 ∷ 0 ∷ 0 ∷ 0 ∷ []) ∷ []) (zone_with 5 (file 1024 (piece 0 (hex 5 0x0300646f74) ∷ piece 16 (hex 4 0x01002e2e) ∷ piece 32 (hex 3 0x020070) ∷ piece 48 (hex 3 0x030061) ∷ piece 64 (hex 3 0x06006c) ∷ piece 80 (hex 3 0x090072) ∷ [])) ∷ zone_with 6 (file 1024 (piece 0 (hex 3 0x02002e) ∷ piece 16 (hex 4 0x01002e2e) ∷ piece 32 (hex 3 0x040071) ∷ piece 48 (hex 3 0x050062) ∷ [])) ∷ zone_with 8 (file 1024 (piece 0 (hex 3 0x04002e) ∷ piece 16 (hex 4 0x02002e2e) ∷ piece 32 (hex 3 0x070063) ∷ piece 48 (hex 5 0x0800626967) ∷ [])) ∷ zone_with 22 (file 1024 (piece 0 (hex 3 0x140015) ∷ [])) ∷ zone_with 23 (file 1024 (piece 0 (hex 3 0x09002e) ∷ piece 16 (hex 4 0x01002e2e) ∷ [])) ∷ []) (1 ∷ 2 ∷ 3 ∷ 4 ∷ 5 ∷ 6 ∷ 7 ∷ 8 ∷ 9 ∷ 16 ∷ []) (5 ∷ 6 ∷ 7 ∷ 8 ∷ 9 ∷ 10 ∷ 11 ∷ 12 ∷ 13 ∷ 14 ∷ 15 ∷ 16 ∷ 17 ∷ 18 ∷ 19 ∷ 20 ∷ 21 ∷ 22 ∷ 23 ∷ 47 ∷ [])) ≡ Err (FewLinks 3)
+-- . renamed and then bits without a use in version 1 with short names
+pub minix_survey_dot_renamed_and_then_bits_without_a_use_in_version_1_with_short_names : survey_found (volume_by (super_with V1Short 16 48 1 1 5) (node 16877 4 96 (5 ∷ 0 ∷ 0 ∷ 0 ∷ 0 ∷ 0 ∷ 0 ∷ 0 ∷ 0 ∷ 0 ∷ []) ∷ node 16877 3 64 (6 ∷ 0 ∷ 0 ∷ 0 ∷ 0 ∷ 0 ∷ 0 ∷ 0 ∷ 0 ∷ 0 ∷ []) ∷ node 33188 1 4 (7 ∷ 0 ∷ 0 ∷ 0 ∷ 0 ∷ 0 ∷ 0 ∷ 0 ∷ 0 ∷ 0 ∷ []) ∷ node 16877 2 64 (8 ∷ 0 ∷ 0 ∷ 0 ∷ 0 ∷ 0 ∷ 0 ∷ 0 ∷ 0 ∷ 0 ∷ []) ∷ node 33188 1 2000 (9 ∷ 10 ∷ 0 ∷ 0 ∷ 0 ∷ 0 ∷ 0 ∷ 0 ∷ 0 ∷ 0 ∷ []) ∷ node 41471 1 3 (11 ∷ 0 ∷ 0 ∷ 0 ∷ 0 ∷ 0 ∷ 0 ∷ 0 ∷ 0 ∷ 0 ∷ []) ∷ node 33188 1 1 (12 ∷ 0 ∷ 0 ∷ 0 ∷ 0 ∷ 0 ∷ 0 ∷ 0 ∷ 0 ∷ 0 ∷ []) ∷ node 33188 1 9216 (13 ∷ 14 ∷ 15 ∷ 16 ∷ 17 ∷ 18 ∷ 19 ∷ 22 ∷ 0 ∷ 0 ∷ []) ∷ node 16877 2 32 (23 ∷ 0 ∷ 0 ∷ 0 ∷ 0 ∷ 0 ∷ 0 ∷ 0 ∷ 0 ∷ 0 ∷ []) ∷ []) (zone_with 5 (file 1024 (piece 0 (hex 5 0x0300646f74) ∷ piece 16 (hex 4 0x01002e2e) ∷ piece 32 (hex 3 0x020070) ∷ piece 48 (hex 3 0x030061) ∷ piece 64 (hex 3 0x06006c) ∷ piece 80 (hex 3 0x090072) ∷ [])) ∷ zone_with 6 (file 1024 (piece 0 (hex 3 0x02002e) ∷ piece 16 (hex 4 0x01002e2e) ∷ piece 32 (hex 3 0x040071) ∷ piece 48 (hex 3 0x050062) ∷ [])) ∷ zone_with 8 (file 1024 (piece 0 (hex 3 0x04002e) ∷ piece 16 (hex 4 0x02002e2e) ∷ piece 32 (hex 3 0x070063) ∷ piece 48 (hex 5 0x0800626967) ∷ [])) ∷ zone_with 22 (file 1024 (piece 0 (hex 3 0x140015) ∷ [])) ∷ zone_with 23 (file 1024 (piece 0 (hex 3 0x09002e) ∷ piece 16 (hex 4 0x01002e2e) ∷ [])) ∷ []) (1 ∷ 2 ∷ 3 ∷ 4 ∷ 5 ∷ 6 ∷ 7 ∷ 8 ∷ 9 ∷ 16 ∷ []) (5 ∷ 6 ∷ 7 ∷ 8 ∷ 9 ∷ 10 ∷ 11 ∷ 12 ∷ 13 ∷ 14 ∷ 15 ∷ 16 ∷ 17 ∷ 18 ∷ 19 ∷ 20 ∷ 21 ∷ 22 ∷ 23 ∷ 47 ∷ [])) ≡ Err (FewLinks 3)
 unfolding number16 number32 is_zero kind_of super_of super_checks super_in super_at v1_inode v2_inode inode_of inode_at inode_place bit with_bit parts_of number_in follow pointer_by inside follow_at zone_at block_at content_at entry_of entry_at find_entry entries_at is_dots zone_number block content entry first_named lookup reached thing names names_in was_reached with_inode survey_walk owner names_of has_name judge judged survey_of is_indirect
-minix_survey_dot_renamed_and_then_marks_without_a_use_in_version_1_with_short_names = refl
+minix_survey_dot_renamed_and_then_bits_without_a_use_in_version_1_with_short_names = refl
 
 -- a second . in version 1 with short names
 pub minix_survey_a_second_dot_in_version_1_with_short_names : survey_found (volume_by (super_with V1Short 16 48 1 1 5) (node 16877 4 112 (5 ∷ 0 ∷ 0 ∷ 0 ∷ 0 ∷ 0 ∷ 0 ∷ 0 ∷ 0 ∷ 0 ∷ []) ∷ node 16877 3 64 (6 ∷ 0 ∷ 0 ∷ 0 ∷ 0 ∷ 0 ∷ 0 ∷ 0 ∷ 0 ∷ 0 ∷ []) ∷ node 33188 1 4 (7 ∷ 0 ∷ 0 ∷ 0 ∷ 0 ∷ 0 ∷ 0 ∷ 0 ∷ 0 ∷ 0 ∷ []) ∷ node 16877 2 64 (8 ∷ 0 ∷ 0 ∷ 0 ∷ 0 ∷ 0 ∷ 0 ∷ 0 ∷ 0 ∷ 0 ∷ []) ∷ node 33188 1 2000 (9 ∷ 10 ∷ 0 ∷ 0 ∷ 0 ∷ 0 ∷ 0 ∷ 0 ∷ 0 ∷ 0 ∷ []) ∷ node 41471 1 3 (11 ∷ 0 ∷ 0 ∷ 0 ∷ 0 ∷ 0 ∷ 0 ∷ 0 ∷ 0 ∷ 0 ∷ []) ∷ node 33188 1 1 (12 ∷ 0 ∷ 0 ∷ 0 ∷ 0 ∷ 0 ∷ 0 ∷ 0 ∷ 0 ∷ 0 ∷ []) ∷ node 33188 1 0 (0 ∷ 0 ∷ 0 ∷ 0 ∷ 0 ∷ 0 ∷ 0 ∷ 0 ∷ 0 ∷ 0 ∷ []) ∷ node 16877 2 32 (13 ∷ 0 ∷ 0 ∷ 0 ∷ 0 ∷ 0 ∷ 0 ∷ 0 ∷ 0 ∷ 0 ∷ []) ∷ []) (zone_with 5 (file 1024 (piece 0 (hex 3 0x01002e) ∷ piece 16 (hex 4 0x01002e2e) ∷ piece 32 (hex 3 0x020070) ∷ piece 48 (hex 3 0x030061) ∷ piece 64 (hex 3 0x06006c) ∷ piece 80 (hex 3 0x090072) ∷ piece 96 (hex 3 0x01002e) ∷ [])) ∷ zone_with 6 (file 1024 (piece 0 (hex 3 0x02002e) ∷ piece 16 (hex 4 0x01002e2e) ∷ piece 32 (hex 3 0x040071) ∷ piece 48 (hex 3 0x050062) ∷ [])) ∷ zone_with 8 (file 1024 (piece 0 (hex 3 0x04002e) ∷ piece 16 (hex 4 0x02002e2e) ∷ piece 32 (hex 3 0x070063) ∷ piece 48 (hex 3 0x080064) ∷ [])) ∷ zone_with 13 (file 1024 (piece 0 (hex 3 0x09002e) ∷ piece 16 (hex 4 0x01002e2e) ∷ [])) ∷ []) (1 ∷ 2 ∷ 3 ∷ 4 ∷ 5 ∷ 6 ∷ 7 ∷ 8 ∷ 9 ∷ []) (5 ∷ 6 ∷ 7 ∷ 8 ∷ 9 ∷ 10 ∷ 11 ∷ 12 ∷ 13 ∷ [])) ≡ Err (BadLink 1 6)
@@ -150,10 +150,10 @@ pub minix_survey_a_device_in_version_1_with_short_names : survey_found (volume_b
 unfolding number16 number32 is_zero kind_of super_of super_checks super_in super_at v1_inode v2_inode inode_of inode_at inode_place bit with_bit parts_of number_in follow pointer_by inside follow_at zone_at block_at content_at entry_of entry_at find_entry entries_at is_dots zone_number block content entry first_named lookup reached thing names names_in was_reached with_inode survey_walk owner names_of has_name judge judged survey_of is_indirect
 minix_survey_a_device_in_version_1_with_short_names = refl
 
--- marks without a use in version 1 with short names
-pub minix_survey_marks_without_a_use_in_version_1_with_short_names : survey_found (volume_by (super_with V1Short 16 48 1 1 5) (node 16877 4 96 (5 ∷ 0 ∷ 0 ∷ 0 ∷ 0 ∷ 0 ∷ 0 ∷ 0 ∷ 0 ∷ 0 ∷ []) ∷ node 16877 3 64 (6 ∷ 0 ∷ 0 ∷ 0 ∷ 0 ∷ 0 ∷ 0 ∷ 0 ∷ 0 ∷ 0 ∷ []) ∷ node 33188 1 4 (7 ∷ 0 ∷ 0 ∷ 0 ∷ 0 ∷ 0 ∷ 0 ∷ 0 ∷ 0 ∷ 0 ∷ []) ∷ node 16877 2 64 (8 ∷ 0 ∷ 0 ∷ 0 ∷ 0 ∷ 0 ∷ 0 ∷ 0 ∷ 0 ∷ 0 ∷ []) ∷ node 33188 1 2000 (9 ∷ 10 ∷ 0 ∷ 0 ∷ 0 ∷ 0 ∷ 0 ∷ 0 ∷ 0 ∷ 0 ∷ []) ∷ node 41471 1 3 (11 ∷ 0 ∷ 0 ∷ 0 ∷ 0 ∷ 0 ∷ 0 ∷ 0 ∷ 0 ∷ 0 ∷ []) ∷ node 33188 1 1 (12 ∷ 0 ∷ 0 ∷ 0 ∷ 0 ∷ 0 ∷ 0 ∷ 0 ∷ 0 ∷ 0 ∷ []) ∷ node 33188 1 0 (0 ∷ 0 ∷ 0 ∷ 0 ∷ 0 ∷ 0 ∷ 0 ∷ 0 ∷ 0 ∷ 0 ∷ []) ∷ node 16877 2 32 (13 ∷ 0 ∷ 0 ∷ 0 ∷ 0 ∷ 0 ∷ 0 ∷ 0 ∷ 0 ∷ 0 ∷ []) ∷ []) (zone_with 5 (file 1024 (piece 0 (hex 3 0x01002e) ∷ piece 16 (hex 4 0x01002e2e) ∷ piece 32 (hex 3 0x020070) ∷ piece 48 (hex 3 0x030061) ∷ piece 64 (hex 3 0x06006c) ∷ piece 80 (hex 3 0x090072) ∷ [])) ∷ zone_with 6 (file 1024 (piece 0 (hex 3 0x02002e) ∷ piece 16 (hex 4 0x01002e2e) ∷ piece 32 (hex 3 0x040071) ∷ piece 48 (hex 3 0x050062) ∷ [])) ∷ zone_with 8 (file 1024 (piece 0 (hex 3 0x04002e) ∷ piece 16 (hex 4 0x02002e2e) ∷ piece 32 (hex 3 0x070063) ∷ piece 48 (hex 3 0x080064) ∷ [])) ∷ zone_with 13 (file 1024 (piece 0 (hex 3 0x09002e) ∷ piece 16 (hex 4 0x01002e2e) ∷ [])) ∷ []) (1 ∷ 2 ∷ 3 ∷ 4 ∷ 5 ∷ 6 ∷ 7 ∷ 8 ∷ 9 ∷ 16 ∷ []) (5 ∷ 6 ∷ 7 ∷ 8 ∷ 9 ∷ 10 ∷ 11 ∷ 12 ∷ 13 ∷ 47 ∷ [])) ≡ Ok (found (owned 5 1 false ∷ owned 6 2 false ∷ owned 7 3 false ∷ owned 8 4 false ∷ owned 9 5 false ∷ owned 10 5 false ∷ owned 11 6 false ∷ owned 12 7 false ∷ owned 13 9 false ∷ []) (0 ∷ 1 ∷ 1 ∷ 1 ∷ 1 ∷ 1 ∷ 1 ∷ 1 ∷ 1 ∷ 0 ∷ 0 ∷ 0 ∷ 0 ∷ 0 ∷ 0 ∷ 0 ∷ []))
+-- bits without a use in version 1 with short names
+pub minix_survey_bits_without_a_use_in_version_1_with_short_names : survey_found (volume_by (super_with V1Short 16 48 1 1 5) (node 16877 4 96 (5 ∷ 0 ∷ 0 ∷ 0 ∷ 0 ∷ 0 ∷ 0 ∷ 0 ∷ 0 ∷ 0 ∷ []) ∷ node 16877 3 64 (6 ∷ 0 ∷ 0 ∷ 0 ∷ 0 ∷ 0 ∷ 0 ∷ 0 ∷ 0 ∷ 0 ∷ []) ∷ node 33188 1 4 (7 ∷ 0 ∷ 0 ∷ 0 ∷ 0 ∷ 0 ∷ 0 ∷ 0 ∷ 0 ∷ 0 ∷ []) ∷ node 16877 2 64 (8 ∷ 0 ∷ 0 ∷ 0 ∷ 0 ∷ 0 ∷ 0 ∷ 0 ∷ 0 ∷ 0 ∷ []) ∷ node 33188 1 2000 (9 ∷ 10 ∷ 0 ∷ 0 ∷ 0 ∷ 0 ∷ 0 ∷ 0 ∷ 0 ∷ 0 ∷ []) ∷ node 41471 1 3 (11 ∷ 0 ∷ 0 ∷ 0 ∷ 0 ∷ 0 ∷ 0 ∷ 0 ∷ 0 ∷ 0 ∷ []) ∷ node 33188 1 1 (12 ∷ 0 ∷ 0 ∷ 0 ∷ 0 ∷ 0 ∷ 0 ∷ 0 ∷ 0 ∷ 0 ∷ []) ∷ node 33188 1 0 (0 ∷ 0 ∷ 0 ∷ 0 ∷ 0 ∷ 0 ∷ 0 ∷ 0 ∷ 0 ∷ 0 ∷ []) ∷ node 16877 2 32 (13 ∷ 0 ∷ 0 ∷ 0 ∷ 0 ∷ 0 ∷ 0 ∷ 0 ∷ 0 ∷ 0 ∷ []) ∷ []) (zone_with 5 (file 1024 (piece 0 (hex 3 0x01002e) ∷ piece 16 (hex 4 0x01002e2e) ∷ piece 32 (hex 3 0x020070) ∷ piece 48 (hex 3 0x030061) ∷ piece 64 (hex 3 0x06006c) ∷ piece 80 (hex 3 0x090072) ∷ [])) ∷ zone_with 6 (file 1024 (piece 0 (hex 3 0x02002e) ∷ piece 16 (hex 4 0x01002e2e) ∷ piece 32 (hex 3 0x040071) ∷ piece 48 (hex 3 0x050062) ∷ [])) ∷ zone_with 8 (file 1024 (piece 0 (hex 3 0x04002e) ∷ piece 16 (hex 4 0x02002e2e) ∷ piece 32 (hex 3 0x070063) ∷ piece 48 (hex 3 0x080064) ∷ [])) ∷ zone_with 13 (file 1024 (piece 0 (hex 3 0x09002e) ∷ piece 16 (hex 4 0x01002e2e) ∷ [])) ∷ []) (1 ∷ 2 ∷ 3 ∷ 4 ∷ 5 ∷ 6 ∷ 7 ∷ 8 ∷ 9 ∷ 16 ∷ []) (5 ∷ 6 ∷ 7 ∷ 8 ∷ 9 ∷ 10 ∷ 11 ∷ 12 ∷ 13 ∷ 47 ∷ [])) ≡ Ok (found (owned 5 1 false ∷ owned 6 2 false ∷ owned 7 3 false ∷ owned 8 4 false ∷ owned 9 5 false ∷ owned 10 5 false ∷ owned 11 6 false ∷ owned 12 7 false ∷ owned 13 9 false ∷ []) (0 ∷ 1 ∷ 1 ∷ 1 ∷ 1 ∷ 1 ∷ 1 ∷ 1 ∷ 1 ∷ 0 ∷ 0 ∷ 0 ∷ 0 ∷ 0 ∷ 0 ∷ 0 ∷ []))
 unfolding number16 number32 is_zero kind_of super_of super_checks super_in super_at v1_inode v2_inode inode_of inode_at inode_place bit with_bit parts_of number_in follow pointer_by inside follow_at zone_at block_at content_at entry_of entry_at find_entry entries_at is_dots zone_number block content entry first_named lookup reached thing names names_in was_reached with_inode survey_walk owner names_of has_name judge judged survey_of is_indirect
-minix_survey_marks_without_a_use_in_version_1_with_short_names = refl
+minix_survey_bits_without_a_use_in_version_1_with_short_names = refl
 
 -- free entry in version 1 with short names
 pub minix_survey_free_entry_in_version_1_with_short_names : survey_found (volume_by (super_with V1Short 16 48 1 1 5) (node 16877 4 96 (5 ∷ 0 ∷ 0 ∷ 0 ∷ 0 ∷ 0 ∷ 0 ∷ 0 ∷ 0 ∷ 0 ∷ []) ∷ node 16877 3 64 (6 ∷ 0 ∷ 0 ∷ 0 ∷ 0 ∷ 0 ∷ 0 ∷ 0 ∷ 0 ∷ 0 ∷ []) ∷ node 33188 1 4 (7 ∷ 0 ∷ 0 ∷ 0 ∷ 0 ∷ 0 ∷ 0 ∷ 0 ∷ 0 ∷ 0 ∷ []) ∷ node 16877 2 64 (8 ∷ 0 ∷ 0 ∷ 0 ∷ 0 ∷ 0 ∷ 0 ∷ 0 ∷ 0 ∷ 0 ∷ []) ∷ node 33188 1 2000 (9 ∷ 10 ∷ 0 ∷ 0 ∷ 0 ∷ 0 ∷ 0 ∷ 0 ∷ 0 ∷ 0 ∷ []) ∷ node 41471 1 3 (11 ∷ 0 ∷ 0 ∷ 0 ∷ 0 ∷ 0 ∷ 0 ∷ 0 ∷ 0 ∷ 0 ∷ []) ∷ node 33188 1 1 (12 ∷ 0 ∷ 0 ∷ 0 ∷ 0 ∷ 0 ∷ 0 ∷ 0 ∷ 0 ∷ 0 ∷ []) ∷ node 33188 1 0 (0 ∷ 0 ∷ 0 ∷ 0 ∷ 0 ∷ 0 ∷ 0 ∷ 0 ∷ 0 ∷ 0 ∷ []) ∷ node 16877 2 32 (13 ∷ 0 ∷ 0 ∷ 0 ∷ 0 ∷ 0 ∷ 0 ∷ 0 ∷ 0 ∷ 0 ∷ []) ∷ []) (zone_with 5 (file 1024 (piece 0 (hex 3 0x01002e) ∷ piece 16 (hex 4 0x01002e2e) ∷ piece 32 (hex 3 0x020070) ∷ piece 48 (hex 3 0x030061) ∷ piece 64 (hex 3 0x06006c) ∷ piece 80 (hex 3 0x090072) ∷ [])) ∷ zone_with 6 (file 1024 (piece 0 (hex 3 0x02002e) ∷ piece 16 (hex 4 0x01002e2e) ∷ piece 32 (hex 3 0x040071) ∷ piece 48 (hex 3 0x050062) ∷ [])) ∷ zone_with 8 (file 1024 (piece 0 (hex 3 0x04002e) ∷ piece 16 (hex 4 0x02002e2e) ∷ piece 34 (codes "old") ∷ piece 48 (hex 3 0x080064) ∷ [])) ∷ zone_with 13 (file 1024 (piece 0 (hex 3 0x09002e) ∷ piece 16 (hex 4 0x01002e2e) ∷ [])) ∷ []) (1 ∷ 2 ∷ 3 ∷ 4 ∷ 5 ∷ 6 ∷ 7 ∷ 8 ∷ 9 ∷ []) (5 ∷ 6 ∷ 7 ∷ 8 ∷ 9 ∷ 10 ∷ 11 ∷ 12 ∷ 13 ∷ [])) ≡ Ok (found (owned 5 1 false ∷ owned 6 2 false ∷ owned 7 3 false ∷ owned 8 4 false ∷ owned 9 5 false ∷ owned 10 5 false ∷ owned 11 6 false ∷ owned 13 9 false ∷ []) (0 ∷ 1 ∷ 1 ∷ 1 ∷ 1 ∷ 1 ∷ 0 ∷ 1 ∷ 1 ∷ 0 ∷ 0 ∷ 0 ∷ 0 ∷ 0 ∷ 0 ∷ 0 ∷ []))

@@ -1,8 +1,16 @@
 pub mod Cases
 pub mod Choices
+pub mod Configs
 pub mod Fixtures
 pub mod MinixFixtures
-pub mod PlanFixtures
+pub mod PlanChanceConfs1
+pub mod PlanChanceConfs2
+pub mod PlanConfs
+pub mod PlanDisks
+pub mod PlanLogicalConfs
+pub mod PlanNames
+pub mod PlanTracksConfs
+pub mod PlanVolumes
 pub mod Sparse
 pub mod Surveys
 pub mod Volumes

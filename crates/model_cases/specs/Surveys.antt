@@ -1,6 +1,7 @@
 -- Volumes by tables of their inodes, zones and bitmap bits, and what a survey finds of one. The walk over an inode's
 -- zones goes from number to number, so that cases compute. (This project's own.)
-use Rattle.std.specs.Prelude.{ℕ, zero, suc, ◌+◌, ◌*◌, ◌^◌, ◌==◌, Bool, true, false, if◌then◌else◌, List, [], ◌∷◌, ◌++◌, map, replicate, slice_index, slice_index_or, Option, None, Some, Result, Ok, Err}
+use Rattle.std.specs.Prelude.{ℕ, zero, suc, ◌+◌, ◌*◌, ◌^◌, ◌==◌, Bool, true, false, if◌then◌else◌, Option, None, Some, Result, Ok, Err}
+use Rattle.std.specs.Prelude.{List, [], ◌∷◌, ◌++◌, map, replicate, slice_index, slice_index_or}
 use Rattle.std.specs.List.{list_any, range_with_len, flat_map}
 use Rattle.lilo_model.specs.Checks.{◌>>=◌}
 use Rattle.lilo_model.specs.MinixLayout.{Kind, Super, Inode, numbers_in_zone}
@@ -68,7 +69,16 @@ zone_in zeros [] zone = zeros
 zone_in zeros (first ∷ others) zone = if first.zone == zone then first.bytes else zone_in zeros others zone
 
 abbrev pub super_with : Kind → ℕ → ℕ → ℕ → ℕ → ℕ → Super
-super_with kind inodes zones imap zmap first = record { kind = kind; inodes = inodes; zones = zones; imap = imap; zmap = zmap; first = first; max_size = 0; state = 1 }
+super_with kind inodes zones imap zmap first = record {
+  kind = kind;
+  inodes = inodes;
+  zones = zones;
+  imap = imap;
+  zmap = zmap;
+  first = first;
+  max_size = 0;
+  state = 1;
+}
 
 -- a volume, by its superblock, its inodes from 1 on, its zones that aren't zeros, and the bitmap bits that are set
 abbrev pub volume_by : Super → List Inode → List ZoneOf → List ℕ → List ℕ → Surveyable

@@ -14,7 +14,7 @@ def built(name):
     folder = os.path.join(TOP, 'crates', name)
     if os.environ.get('BUILT_BY_GATE') and os.path.exists(os.path.join(folder, 'out', name)):
         return os.path.join(folder, 'out', name)
-    done = subprocess.run(['rt', 'run', '--', '-'], cwd=folder, stdin=subprocess.DEVNULL,
+    done = subprocess.run([os.path.join(TOP, 'tools', 'rt'), 'run', '--', '-'], cwd=folder, stdin=subprocess.DEVNULL,
                           stdout=subprocess.PIPE, stderr=subprocess.STDOUT)
     program = os.path.join(folder, 'out', name)
     fresh = b'logic=proved' in done.stdout or b'nothing has changed' in done.stdout

@@ -1,10 +1,10 @@
 """Runs of a program on an image file, recorded by strace, and the images that a stop of one may leave.
 
-A stop at a moment leaves all writes up to the last sync before it, and of those after it any. Where these are few, each
-choice of them is made; else none, all, every second one, the first or the last alone, and all but one of these."""
+A stop at a moment leaves all writes up to the last sync before it, and of those after it any. Where these are five or
+fewer, each choice of them is made. Of more it is none, all up to each, every second one of these, all of these but the
+first, each alone, and, where a sync is next, all but each."""
 
 import codecs
-import hashlib
 import itertools
 import re
 import subprocess
@@ -41,7 +41,7 @@ def events(log, path):
 
 
 def traced(strace, test, program, words, content=b'', options=()):
-    """A run of a program by its words in the folder of a test: its status, its text, and the lines of its calls."""
+    """A run of a program by its arguments in the folder of a test: its status, its text, and the lines of its calls."""
     log = test.path('log')
     done = subprocess.run([strace, *TRACE, *options, '-o', log, program, *words], cwd=test.folder.name, input=content,
                           stdout=subprocess.PIPE, stderr=subprocess.STDOUT, timeout=60)
@@ -85,32 +85,29 @@ def mistakes(fsck, test, volume, mode):
     return [line for line in said.split(b'\n') if not is_left(line)]
 
 
-def choices(writes):
-    """Which of the writes after the last sync a stop may leave, in their order."""
+def choices(writes, is_synced):
+    """Which of the writes after the last sync are looked at, in their order: of more than five, those choices that
+    weren't looked at before the last of them was made."""
     if len(writes) <= 5:
         return [part for size in range(len(writes) + 1) for part in itertools.combinations(writes, size)]
-    return [[], writes, writes[::2], writes[1::2], writes[-1:], writes[:-1], writes[:1], writes[1:]]
+    but_each = [writes[:at] + writes[at + 1:] for at in range(len(writes))]
+    return [writes, writes[::2], writes[1::2], writes[-1:], *(but_each if is_synced else but_each[:1])]
 
 
 def images_left(start, run):
-    """Every image that a stop of a run may leave, each once."""
-    seen, durable, open_writes = set(), bytearray(start), []
-
-    def put(image, sectors):
-        for place, data in sectors.items():
-            image[place:place + len(data)] = data
-        return image
-
+    """The images that a stop of a run may leave, as said above, each once. Each of its writes is of a sector."""
+    assert all(place % 512 == 0 and len(data) == 512 for place, data in filter(None, run))
+    seen, durable, open_writes = set(), {}, []
     for event in [*run, None]:
-        for choice in choices(open_writes):
+        for choice in choices(open_writes, event is None):
             # Of the writes to one place the last one counts, and one that changes nothing counts as none.
-            sectors = {place: data for place, data in dict(choice).items() if durable[place:place + len(data)] != data}
-            image = bytes(put(bytearray(durable), sectors))
-            mark = hashlib.sha256(image).digest()
+            sectors = {place: data for place, data in (durable | dict(choice)).items()
+                       if start[place:place + len(data)] != data}
+            mark = frozenset(sectors.items())
             if mark not in seen:
                 seen.add(mark)
-                yield image
+                yield made(start, sectors.items())
         if event is None:
-            durable, open_writes = put(durable, dict(open_writes)), []
+            durable, open_writes = durable | dict(open_writes), []
         else:
             open_writes.append(event)

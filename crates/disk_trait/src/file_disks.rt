@@ -16,7 +16,7 @@ use std::marker::Model;
 #[derive(Drop)]
 pub struct FileDisks<F> {
     disks: Vec<Option<FileDisk<F>>>,
-    // Whether all is durable: each file was synced, and nothing was written since.
+    // Whether nothing was written since all files were synced, or since they were opened.
     durable: bool,
     faults: u64,
 }
@@ -36,7 +36,7 @@ impl<F> FileDisks<F> {
     {
         FileDisks {
             disks: Vec::new(alloc),
-            durable: false,
+            durable: true,
             faults: 0,
         }
     }
@@ -58,7 +58,6 @@ impl<F: Drop> FileDisks<F> {
         ensures ok { OnOk result (self.new ≡ record self.old { disks = self.old.disks ++ disk ∷ [] }) }
         ensures err { OnErr result (self.new ≡ self.old) }
     {
-        self.durable = false;
         self.disks.push(disk)?;
         Ok(())
     }
@@ -155,8 +154,8 @@ impl<F: Read + Write + Seek + OpenFile + Drop> Disks for FileDisks<F> {
         }
     }
 
-    /// Syncs each file that is there, also after one has failed. Where nothing was written since all were synced,
-    /// there is nothing to sync.
+    /// Syncs each file that is there, also after one has failed. Where nothing was written to these disks since all were
+    /// synced, or at all, there is nothing to sync.
     fn flush(&mut self) -> Result<(), DiskFault> {
         if !self.durable {
             self.durable = self.sync_all();

@@ -1,4 +1,4 @@
-// What the words of moments say: laws, which no code needs to call.
+// What the definitions of moments say: laws, which no code needs to call.
 ghost use Rattle.disk_trait.specs.Past.{Image};
 ghost use Rattle.disk_trait.specs.Laws.{MayHoldLaw, LastMomentLaw, NowAndBegunLaw, QuietLaw, JoiningLaw, LeavesOnlyLaw};
 ghost use Rattle.disk_trait.specs.Laws.{RunsJoinLaw, WeakerLaw, EndOfRunLaw, WholeLaw, UntoldLaw, LeftImagesLaw};

@@ -256,7 +256,7 @@ impl Disks for MemDisks {
         ensures count { length self.new.start ≡ length self.old.start }
         ensures geometry { geometries_of self.new.start ≡ geometries_of self.old.start }
 
-        // A call in range fails where the list says so, or for want of room.
+        // A call in range fails where the list says so, or where its room is used up.
         ensures failed { IsErrOf result DiskFault.Failed
             ↔ ((sector < sizes_of self.old.start disk)
             × (IsSome (planned self.old) ⊎ IsFull self.old)) }
@@ -289,7 +289,7 @@ impl Disks for MemDisks {
         ensures count { length self.new.start ≡ length self.old.start }
         ensures geometry { geometries_of self.new.start ≡ geometries_of self.old.start }
 
-        // A call fails where the list says so, or for want of room.
+        // A call fails where the list says so, or where its room is used up.
         ensures fails { IsErr result ↔ (IsSome (planned self.old) ⊎ IsFull self.old) }
         ensures state { self.new ≡ after_flush self.old result }
     {

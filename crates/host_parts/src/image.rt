@@ -1,7 +1,6 @@
 // Disk images.
 ghost use Rattle.std.specs.Prelude.{◌≤◌, IfSome};
 
-use crate::ImageFile;
 use disk_trait::{FileDisk, Geometry};
 use std::fs::{File, OpenFile, OpenOptions};
 use std::io;
@@ -12,14 +11,14 @@ const MOST_SECTORS: u64 = 4_294_967_296;
 /// Opens the image at a path: for reading and writing, or else for reading alone, so that a write
 /// to it is then a fault of the device. A folder, a file that has no size, and one of more than
 /// 4,294,967,296 sectors can't be used.
-pub fn open_image(rt: &HostRuntime, path: &str, geometry: Geometry) -> Option<FileDisk<ImageFile>>
+pub fn open_image(rt: &HostRuntime, path: &str, geometry: Geometry) -> Option<FileDisk<File>>
     ensures few { IfSome result (λ disk. disk.sectors ≤ 4294967296) }
 {
     let file = open_file(rt, path).ok()?;
     if file.metadata().ok()?.is_dir() {
         return None;
     }
-    let disk = FileDisk::new(ImageFile::new(file), geometry).ok()?;
+    let disk = FileDisk::new(file, geometry).ok()?;
     (disk.sectors() <= MOST_SECTORS).then_some(disk)
 }
 
@@ -30,11 +29,11 @@ pub fn create_image(
     path: &str,
     sectors: u32,
     geometry: Geometry,
-) -> Option<FileDisk<ImageFile>>
+) -> Option<FileDisk<File>>
     ensures few { IfSome result (λ disk. disk.sectors ≤ 4294967296) }
 {
     let file = create_file(rt, path, u64::from(sectors) * 512).ok()?;
-    let disk = FileDisk::new(ImageFile::new(file), geometry).ok()?;
+    let disk = FileDisk::new(file, geometry).ok()?;
     (disk.sectors() <= MOST_SECTORS).then_some(disk)
 }
 

@@ -3,10 +3,8 @@
 
 mod clock;
 mod image;
-mod image_file;
 mod start;
 
 pub use clock::now_seconds;
 pub use image::{create_image, open_image};
-pub use image_file::ImageFile;
 pub use start::{StartFault, arguments};

@@ -9,10 +9,11 @@
 #![tactic(auto)]
 
 use disk_trait::{FileDisk, FileDisks, Geometry, untold};
-use host_parts::{ImageFile, StartFault, arguments, create_image, now_seconds, open_image};
+use host_parts::{StartFault, arguments, create_image, now_seconds, open_image};
 use ldisk_make::are_placed;
 use ldisk_run::ldisk;
 use ldisk_words::{Asked, Command, ask};
+use std::fs::File;
 use std::process::ExitCode;
 use stream_trait::{StdSink, StdSource, Words};
 
@@ -64,7 +65,7 @@ fn is_carried_out(asked: &Asked<'_>) -> bool {
 }
 
 /// The image that arguments name as the only disk.
-fn open_disks(rt: &HostRuntime, asked: &Asked<'_>) -> Result<FileDisks<ImageFile>, StartFault> {
+fn open_disks(rt: &HostRuntime, asked: &Asked<'_>) -> Result<FileDisks<File>, StartFault> {
     let Some(disk) = open_disk(rt, asked) else {
         return Err(StartFault::Image(String::from_str(rt.alloc(), asked.image)?));
     };
@@ -74,7 +75,7 @@ fn open_disks(rt: &HostRuntime, asked: &Asked<'_>) -> Result<FileDisks<ImageFile
 }
 
 /// The image, which is made where it is to be a new one, with 16 heads and 63 sectors on a track.
-fn open_disk(rt: &HostRuntime, asked: &Asked<'_>) -> Option<FileDisk<ImageFile>> {
+fn open_disk(rt: &HostRuntime, asked: &Asked<'_>) -> Option<FileDisk<File>> {
     let geometry = Geometry::new(16, 63).ok()?;
     match &asked.command {
         Command::Make { .. } => create_image(rt, asked.image, asked.sectors, geometry),

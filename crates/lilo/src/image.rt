@@ -2,10 +2,10 @@
 ghost use Rattle.std.specs.Prelude.{◌≤◌, IfSome};
 
 use disk_trait::{FileDisk, Geometry};
-use host_parts::ImageFile;
+use std::fs::File;
 
 /// Opens the image that an argument names. One that can't be opened, or is too large for a disk, can't be used.
-pub fn open_image(rt: &HostRuntime, word: &str) -> Option<FileDisk<ImageFile>>
+pub fn open_image(rt: &HostRuntime, word: &str) -> Option<FileDisk<File>>
     ensures few { IfSome result (λ disk. disk.sectors ≤ 4294967296) }
 {
     let (path, geometry) = parts_of(word)?;

@@ -1,4 +1,4 @@
-//! `lilo IMAGE.. -- WORD..`: LILO over disk images, on a modelled PC.
+//! `lilo IMAGE.. -- ARGUMENT..`: LILO over disk images, on a modelled PC.
 //!
 //! An IMAGE is `path`, `path:heads:sectors`, or `-` for an absent disk; the images are disks 0 to 3.
 //! Without `--` every argument is an image. All text goes to standard output, faults included, and the exit
@@ -9,9 +9,10 @@
 mod image;
 
 use disk_trait::{Disks, FileDisks, untold};
-use host_parts::{ImageFile, StartFault, arguments, now_seconds};
+use host_parts::{StartFault, arguments, now_seconds};
 use image::open_image;
 use lilo_run::{Ram, boots, lilo};
+use std::fs::File;
 use std::process::ExitCode;
 use stream_trait::{StdSink, StdSource, Words};
 
@@ -53,7 +54,7 @@ fn run(rt: &HostRuntime) -> Result<u8, StartFault> {
 /// Opens the images, and keeps the arguments after the first `--`.
 fn sort_arguments(
     rt: &HostRuntime,
-    disks: &mut FileDisks<ImageFile>,
+    disks: &mut FileDisks<File>,
     words: &mut Words,
 ) -> Result<(), StartFault> {
     let mut are_words = false;
@@ -72,7 +73,7 @@ fn sort_arguments(
 /// Opens an image as the next disk.
 fn add_image(
     rt: &HostRuntime,
-    disks: &mut FileDisks<ImageFile>,
+    disks: &mut FileDisks<File>,
     word: String,
 ) -> Result<(), StartFault> {
     if disks.count() >= DISKS {

@@ -300,13 +300,14 @@ fn files_that_are_short_or_fail(rt: HostRuntime) -> Result<(), Fail> {
     Ok(())
 }
 
-// Also after one that failed. Where nothing was written since all were synced, none is synced again.
+// Also after one that failed. Where nothing was written, or nothing since all were synced, none is synced.
 #[test]
 fn a_flush_syncs_each_file(rt: HostRuntime) -> Result<(), Fail> {
     let (first, second) = (Calls::new(), Calls::new());
     let mut disks = counted_disks(rt.alloc(), [&first, &second])?;
     for (is_written, first_fails, second_fails, is_synced) in [
-        (false, true, false, true),
+        (false, true, true, false),
+        (true, true, false, true),
         (false, false, true, true),
         (false, true, true, true),
         (false, false, false, true),

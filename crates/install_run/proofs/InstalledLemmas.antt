@@ -1,7 +1,7 @@
 -- What an installation answers and leaves, from how far it came.
 use Rattle.std.proofs.Common.{◌≡◌, ◌⊎◌, ◌++◌, ◌∙◌, ℕ, ◌==◌, List, [], ◌∷◌, Bool, true, not, Option, Some, None, Result, Ok, Err, codes, refl, sym, ap, subst, inl, inr, arith, append-nil}
 use Rattle.std.proofs.lemmas.Bool.{false≢true}
-use Rattle.std.specs.Prelude.{IfSome, IsTrue, is_some}
+use Rattle.std.specs.Prelude.{◌≢◌, IfSome, IsTrue, is_some}
 use Rattle.std.specs.List.{list_any}
 use Rattle.disk_trait.specs.declared.disks.Disks.{Ghosts}
 use Rattle.disk_trait.specs.declared.disks.Phase.TheVariants.{Before}
@@ -131,10 +131,12 @@ refused_answers image machine settled begun time faults.Memory before after caus
 pub refused_leaves : (machine : Machine) (begun : Begun) (settled : Image) (time : ℕ) (entry ended : Option Past) (status : ℕ) → IsBefore status
     → StaysAsBefore machine begun.volume begun.span entry ended
     → ((names : settles.OwnNames) → AreOwn (now entry) begun names → KeepsMost machine begun names entry ended ⊎ KeepsWith machine begun names entry ended)
+    → ((names : settles.OwnNames) → AreOwn (now entry) begun names → status ≢ 8 → KeepsMost machine begun names entry ended)
     → Leaves machine begun settled time entry ended status
-refused_leaves machine begun settled time entry ended status early stays keeps = record {
+refused_leaves machine begun settled time entry ended status early stays keeps unstaged = record {
   keeps = λ names own. record {
     before = λ is. keeps names own;
+    unstaged = λ is. unstaged names own;
     later = λ at. absurd (none at);
     backup = λ done. absurd (early.not_done done);
     installed = λ zero. absurd (early.not_done (inl zero));
@@ -275,18 +277,21 @@ module _ {D : Type 0} {disks : Ghosts D} (entry : Volume D disks) (config : conf
       halted-leaves : (status : ℕ) (halt : Halt D disks) → IsHalted planned halt → status ≡ fault_status halt.fault halt.phase → halt.fault ≡ faults.Device
           → Leaves (machine_on entry) From Settled-image time (past_of entry) (past_of halt.volume) status
       halted-leaves status halt (HaltedStaging phase halts) status-is lost =
+          let eight : status ≡ 8 = status-is ∙ (ap (λ fault. fault_status fault halt.phase) lost ∙ ap device_status phase) in
           refused_leaves (machine_on entry) From Settled-image time (past_of entry) (past_of halt.volume) status
-          (subst IsBefore (sym (status-is ∙ (ap (λ fault. fault_status fault halt.phase) lost ∙ ap device_status phase))) (before_by 8 refl))
+          (subst IsBefore (sym eight) (before_by 8 refl))
           (staging_stops_law disks entry config boot time S planned halt is prepared.has there halts)
           (λ names own. inr (record {
             bytes = map_of entry planned;
             each = staging_keeps_law disks entry config boot time S planned halt names is prepared.has there own halts;
           }))
+          (λ names own other. absurd (other eight))
       halted-leaves status halt (HaltedCommit phase staged stages halts) status-is lost =
           let nine : status ≡ 9 = status-is ∙ (ap (λ fault. fault_status fault halt.phase) lost ∙ ap device_status phase) in
           record {
             keeps = λ names own. record {
               before = λ early. absurd (early.not_committing nine);
+              unstaged = λ early. absurd (early.not_committing nine);
               later = λ at firm. committing-keeps staged stages firm halt halts names own;
               backup = λ done. absurd (none nine done);
               installed = λ zero. absurd (none nine (inl zero));
@@ -306,6 +311,7 @@ module _ {D : Type 0} {disks : Ghosts D} (entry : Volume D disks) (config : conf
           record {
             keeps = λ names own. record {
               before = λ early. absurd (early.not_done (inr ten));
+              unstaged = λ early. absurd (early.not_done (inr ten));
               later = λ at firm. installing-keeps staged stages firm halt.volume committed (Err halts.fault) commits halts.tidies names own;
               backup = λ done firm. installing-backup staged stages firm halt.volume committed (Err halts.fault) commits halts.tidies names own;
               installed = λ zero. absurd (omega (arith, ten, zero));
@@ -324,6 +330,7 @@ module _ {D : Type 0} {disks : Ghosts D} (entry : Volume D disks) (config : conf
           (record {
             keeps = λ names own. record {
               before = λ early. absurd (early.not_done (inl zero));
+              unstaged = λ early. absurd (early.not_done (inl zero));
               later = λ at firm. installing-keeps carried.staged carried.stages firm tidied.volume carried.committed (Ok tt) carried.commits carried.tidies names own;
               backup = λ done firm. installing-backup carried.staged carried.stages firm tidied.volume carried.committed (Ok tt) carried.commits carried.tidies names own;
               installed = λ at firm. has-installed carried.staged carried.stages firm tidied.volume carried.committed carried.commits carried.tidies carried.quiet names own;
@@ -411,7 +418,8 @@ module _ {D : Type 0} {disks : Ghosts D} (entry : Volume D disks) (config : conf
             subst (λ (p : Option Past). Leaves machine begun (now (past_of halt.volume)) time (past_of entry) p status) (sym same)
             (refused_leaves machine begun (now (past_of halt.volume)) time (past_of entry) (past_of halt.volume) status early
             ((of_some config.boot device (λ d. StaysBegun entry (begun_of entry config d boot) halt.volume) some.1 stays).boots quiet there)
-            (λ names own. inl ((of_some config.boot device (λ d. StaysBegun entry (begun_of entry config d boot) halt.volume) some.1 stays).keeps quiet there names own)));
+            (λ names own. inl ((of_some config.boot device (λ d. StaysBegun entry (begun_of entry config d boot) halt.volume) some.1 stays).keeps quiet there names own))
+            (λ names own other. (of_some config.boot device (λ d. StaysBegun entry (begun_of entry config d boot) halt.volume) some.1 stays).keeps quiet there names own));
       }))
 
 -- ---- where no volume lies

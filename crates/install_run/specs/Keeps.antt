@@ -1,4 +1,4 @@
--- What an installation keeps of the volume and its names, by its exit status (install_join_laws' words).
+-- What an installation keeps of the volume and its names, by its exit status (install_join_laws' definitions).
 use Rattle.std.specs.Prelude.{◌≡◌, ◌⊎◌, ◌≢◌, ℕ, List, Option}
 use Rattle.disk_trait.specs.Past.{Past}
 use Rattle.disk_trait.specs.Moments.{now, MayLeave, LeavesOnly}
@@ -58,10 +58,11 @@ pub record HasInstalled (begun : Begun) (names : model.OwnNames) (entry ended : 
   pub bytes : List ℕ
   pub each : (c : Image) → MayLeave ended c → IsInstalled (now entry) begun names bytes c
 
--- By the status: sound and Held where it was, with the others as before, and the map and the backup as before, or whole; once it is done the
--- backup, and after 0 the map too.
+-- By the status: sound and Held where it was, with the others as before, and the map and the backup as before, or whole; as before but for
+-- settling where it was refused and no disk failed; once it is done the backup, and after 0 the map too.
 pub record KeepsNames (machine : Machine) (begun : Begun) (settled : Image) (names : model.OwnNames) (entry ended : Option Past) (status : ℕ) : Type 0 where
   pub before : IsBefore status → KeepsMost machine begun names entry ended ⊎ KeepsWith machine begun names entry ended
+  pub unstaged : IsBefore status → status ≢ 8 → KeepsMost machine begun names entry ended
   pub later : (status ≡ 9) ⊎ IsDone status → IsFirm (now entry) machine begun settled → KeepsWith machine begun names entry ended
   pub backup : IsDone status → IsFirm (now entry) machine begun settled → (c : Image) → MayLeave ended c → HasBackup (now entry) begun names c
   pub installed : status ≡ 0 → IsFirm (now entry) machine begun settled → HasInstalled begun names entry ended

@@ -1,4 +1,4 @@
--- What the steps of an installation ensured together (install_order's and install_join_laws' words).
+-- What the steps of an installation ensured together (by install_order's and install_join_laws' definitions).
 use Rattle.std.specs.Prelude.{◌≡◌, ◌++◌, ℕ, true, [], codes, Option, Result, Ok, Err}
 use Rattle.disk_trait.specs.declared.disks.Disks.{Ghosts}
 use Rattle.disk_trait.specs.declared.disks.Phase.TheVariants.{Before, Commit, After}

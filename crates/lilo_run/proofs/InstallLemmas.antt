@@ -262,6 +262,7 @@ module _ {D : Type 0} (g : Ghosts D) (old new : D) where
         λ quiet. record {
           keeps = λ names are. record {
             before = λ is. inl (keeps_same found.machine begun names same quiet);
+            unstaged = λ is other. keeps_same found.machine begun names same quiet;
             later = λ is. absurd (⊎_elim (not_nine own early) (not_done own early) is);
             backup = λ is firm. absurd (not_done own early is);
             installed = λ zero firm. absurd (not_done own early (inl zero));

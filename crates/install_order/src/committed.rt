@@ -9,7 +9,6 @@ use minix_write::WriteHalt;
 use minix_zones::Volume;
 
 /// A volume whose new map boots, from its name with `~`.
-#[derive(Drop)]
 pub struct Committed<'d, D: Disks> {
     pub(crate) volume: Volume<'d, D>,
     /// The map's names.

@@ -4,7 +4,6 @@ use disk_trait::{Disks, Phase};
 use minix_zones::Volume;
 
 /// A refusal, with the volume, and how far the installation came.
-#[derive(Drop)]
 pub struct Halt<'d, D: Disks> {
     pub volume: Volume<'d, D>,
     pub phase: Phase,

@@ -13,7 +13,6 @@ use sector_parts::Sector;
 
 /// A volume for which an installation is planned: the map, and the room for it and for a backup of the boot sector,
 /// where one is made.
-#[derive(Drop)]
 pub struct Planned<'d, D: Disks> {
     pub(crate) volume: Volume<'d, D>,
     /// The device that is to boot, and where it lies.

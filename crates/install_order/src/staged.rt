@@ -13,7 +13,6 @@ use sector_parts::Sector;
 
 /// A volume on which the files of an installation are, whole and durable, while what boots is as before. The new boot
 /// sector is what is still to be written.
-#[derive(Drop)]
 pub struct Staged<'d, D: Disks> {
     pub(crate) volume: Volume<'d, D>,
     /// Where the boot device lies.

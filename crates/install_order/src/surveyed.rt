@@ -9,7 +9,6 @@ use mbr_table::Device;
 use minix_zones::Volume;
 
 /// A volume that was surveyed for a configuration, and what was found. Names are settled, or they are only looked at.
-#[derive(Drop)]
 pub struct Surveyed<'d, D: Disks> {
     pub(crate) volume: Volume<'d, D>,
     pub(crate) config: Config,

@@ -3,7 +3,6 @@ use disk_trait::Disks;
 use minix_zones::Volume;
 
 /// A volume whose installation is whole: its new map boots, at its own name.
-#[derive(Drop)]
 pub struct Tidied<'d, D: Disks> {
     pub(crate) volume: Volume<'d, D>,
 }

@@ -1,7 +1,7 @@
 // The BIOS: disks that are read and written by slots, and keys.
 ghost use Rattle.std.specs.Prelude.{◌≡◌, ◌<◌, ◌≤◌, ◌↔◌, length, map, All, Ok, IsOk, IsErr, IsErrOf, IfErr, IsTrue};
+ghost use Rattle.disk_trait.specs.Calls.{SameOf};
 ghost use Rattle.std.specs.Prelude.{OnOk, OnErr};
-ghost use Rattle.disk_trait.specs.Past.{SameDisks};
 ghost use Rattle.lilo_model.specs.Faults.{Rose};
 ghost use Rattle.lilo_model.specs.Checks.{with_fault};
 ghost use Rattle.lilo_model.specs.Slots as slots;
@@ -62,8 +62,7 @@ impl<'d, D: Disks, I: Source> Bios<'d, D, I> {
         ensures later { D.faults self.old.disks.now ≤ D.faults self.new.disks.now }
 
         // Nothing else happens.
-        ensures same { SameDisks D.past D.size_of D.count_of D.geometry_of
-            self.old.disks.now self.new.disks.now }
+        ensures same { SameOf D.Disks self.old.disks.now self.new.disks.now }
         ensures keys { self.new.keys.now ≡ self.old.keys.now }
         ensures same_disks_reference { self.new.disks.ghost_name ≡ self.old.disks.ghost_name }
         ensures same_keys_reference { self.new.keys.ghost_name ≡ self.old.keys.ghost_name }
@@ -159,7 +158,7 @@ pub fn read_slot<D: Disks>(
     ensures later { D.faults disks.old ≤ D.faults disks.new }
 
     // Nothing else happens.
-    ensures same { SameDisks D.past D.size_of D.count_of D.geometry_of disks.old disks.new }
+    ensures same { SameOf D.Disks disks.old disks.new }
 {
     let Ok(sector) = slot.sector(disks.geometry(slot.disk), index) else {
         return Err(BiosFault::NotFound);
@@ -223,7 +222,7 @@ pub fn read_slots<D: Disks>(
     ensures later { D.faults disks.old ≤ D.faults disks.new }
 
     // Nothing else happens.
-    ensures same { SameDisks D.past D.size_of D.count_of D.geometry_of disks.old disks.new }
+    ensures same { SameOf D.Disks disks.old disks.new }
 {
     for place in 0..slots.len() {
         read_first(disks, &slots[place], &mut into[place])?;
@@ -244,7 +243,7 @@ fn read_first<D: Disks>(disks: &mut D, slot: &Slot, into: &mut Sector) -> Result
     ensures no_keys { IsErrOf result BiosFault.KeysFault → ⊥ }
     ensures no_memory { IsErrOf result BiosFault.OutsideRam → ⊥ }
     ensures later { D.faults disks.old ≤ D.faults disks.new }
-    ensures same { SameDisks D.past D.size_of D.count_of D.geometry_of disks.old disks.new }
+    ensures same { SameOf D.Disks disks.old disks.new }
 {
     read_slot(disks, slot, 0, into)
 }

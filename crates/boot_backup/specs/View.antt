@@ -17,7 +17,7 @@ use Rattle.bios_model.specs.Writes.{WritesPlace}
 use Rattle.boot_backup.specs.declared.restore_fault.RestoreFault.{RestoreFault}
 use Rattle.boot_backup.specs.declared.restore_fault.RestoreFault.TheVariants.{NotOurs, NoVolume, Place, Layout, Device}
 
--- partition tables were refused as the model refuses them; a disk that failed is told otherwise
+-- partition tables were refused as the model refuses them; a disk that failed is reported otherwise
 abbrev pub RefusesPlace : {A : Type 0} → TableFault → Result A Refusal → Type 0
 RefusesPlace tables.Device found = ⊥
 RefusesPlace fault found = found ≡ Err (refusals.Device (told_fault fault))
@@ -37,7 +37,7 @@ abbrev pub Gives : Result (List ℕ) RestoreFault → Result (List ℕ) Refusal 
 Gives (Ok bytes) found = found ≡ Ok bytes
 Gives (Err fault) found = IsFault fault found
 
--- the cause of a refusal of a call that only reads: where a disk failed, which is told as `Device`, the count of faults
+-- the cause of a refusal of a call that only reads: where a disk failed, which is reported as `Device`, the count of faults
 -- rose
 abbrev pub HasCause : ℕ → ℕ → RestoreFault → Type 0
 HasCause before now NotOurs = Unit {0}

@@ -24,7 +24,7 @@ use sector_parts::{Sector, part, put_part, put_u16, put_u32, u16_at, u32_at};
 pub struct BootSector {
     /// The version of the format, 1.
     pub version: u16,
-    /// The moment of the installation.
+    /// The time of the installation.
     pub time: u32,
     /// Whether the user is always asked.
     pub prompt: bool,

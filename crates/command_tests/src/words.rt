@@ -113,5 +113,5 @@ fn parts_come_one_after_another(rt: HostRuntime) -> Result<(), Fail> {
         }
         return Ok(());
     }
-    Err(Fail::from("the words are a run"))
+    Err(Fail::from("the arguments are a run"))
 }

@@ -1,4 +1,4 @@
-// What the words of this crate say: laws, which no code needs to call.
+// What the definitions of this crate say: laws, which no code needs to call.
 ghost use Rattle.file_runs.specs.Mapped.{MappedLaw};
 ghost use Rattle.file_runs.specs.Needed.{LeastLaw};
 ghost use Rattle.file_runs.specs.Places.{PlacesLaw};

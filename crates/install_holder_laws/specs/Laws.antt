@@ -1,4 +1,4 @@
--- The tests by which an installation settles, in the model's words.
+-- The tests by which an installation settles, by the model's definitions.
 use Rattle.std.specs.Prelude.{◌≡◌, ◌↔◌, ℕ, true, List}
 use Rattle.lilo_model.specs.Disks.{Image, Machine, Span}
 use Rattle.lilo_model.specs.MinixNames.{IsSound}

@@ -23,7 +23,7 @@ use Rattle.install_stage.specs.MapFile.{map_bytes}
 use Rattle.install_join_laws.specs.Kept.{HasBackup, IsInstalled, Keeps, KeepsUnstaged}
 use Rattle.install_join_laws.specs.Steps.{begun_from, machine_on, HasPlanned, HasStaged, IsBegunWith, LiesOnDisks}
 
--- ---- the words
+-- ---- the definitions
 
 -- these are the names that an installation replaces, by the image at its entry
 abbrev pub AreNamesOf : {D : Type 0} {disks : Ghosts D} → Volume D disks → Surveyed D disks → model.OwnNames → Type 0

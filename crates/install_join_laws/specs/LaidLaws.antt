@@ -24,7 +24,7 @@ use Rattle.install_order.specs.declared.surveyed.Surveyed.{Surveyed}
 use Rattle.install_join_laws.specs.KeptLaws.{AreNamesOf}
 use Rattle.install_join_laws.specs.Steps.{machine_on, HasPlanned, HasStaged, IsBegunWith, LiesOnDisks}
 
--- ---- the words
+-- ---- the definitions
 
 -- what the configuration maps once names are settled
 abbrev pub planned_on : {D : Type 0} {disks : Ghosts D} → Volume D disks → Surveyed D disks → Plan

@@ -1,6 +1,7 @@
 // What an installation would do.
 ghost use Rattle.std.specs.Prelude.{◌≡◌, ◌<◌, ◌≤◌, ℕ, true, is_some, IfOk, IfErr, IfSome, IsTrue};
-ghost use Rattle.disk_trait.specs.Past.{SameDisks, Told};
+ghost use Rattle.disk_trait.specs.Calls.{SameOf};
+ghost use Rattle.disk_trait.specs.Past.{Told};
 ghost use Rattle.lilo_model.specs.Faults.{Rose};
 ghost use Rattle.lilo_model.specs.ConfLawful.{IsLawful};
 ghost use Rattle.lilo_conf.specs.View.{config_view};
@@ -89,7 +90,7 @@ pub fn preview<'d, D: Disks, O: Sink>(
     ensures cause { result.0 ≡ 8 → Rose (faults_of volume.entry) (D.faults result.1.now) }
     ensures later { faults_of volume.entry ≤ D.faults result.1.now }
     ensures statuses { IsTrue (is_preview_status result.0) }
-    ensures same { SameDisks D.past D.size_of D.count_of D.geometry_of volume.entry.disks.now result.1.now }
+    ensures same { SameOf D.Disks volume.entry.disks.now result.1.now }
     ensures same_reference { result.1.ghost_name ≡ volume.entry.disks.ghost_name }
     ensures sink { HasFailed (sink_of O.Sink out.old) (sink_of O.Sink out.new) }
     ensures same_sink { out.new.out.ghost_name ≡ out.old.out.ghost_name }

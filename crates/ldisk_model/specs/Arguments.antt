@@ -101,7 +101,7 @@ pub data AreParts : List (List ℕ) → List PartWish → Type 0 where
       (word : List ℕ) (part : PartWish) (words : List (List ℕ)) (parts : List PartWish)
       → IsPart word part → AreParts words parts → AreParts (word ∷ words) (part ∷ parts)
 
--- a word, and the command that it is of a path on a device
+-- an argument, and the command that it is of a path on a device
 pub data IsPathWord : List ℕ → (Device → List ℕ → Command) → Type 0 where
   put : IsPathWord (codes "put") Put
   get : IsPathWord (codes "get") Get
@@ -201,7 +201,7 @@ make_at image [] = None
 make_at image (digits ∷ words) =
     if nat_le (length words) 4 then new_with image (decimal_at 1 4294967295 digits) (parts_at words) else None
 
--- the command of a path on a device that a word is
+-- the command of a path on a device that an argument names
 unfoldable pub path_command : List ℕ → Device → List ℕ → Option Command
 path_command word device path =
     if bytes_eq word (codes "put") then Some (Put device path) else

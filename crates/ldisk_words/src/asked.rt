@@ -153,7 +153,7 @@ fn asked_with<'a>(image: &'a str, command: Option<Command<'a>>) -> Option<Asked<
     }
 }
 
-/// The command of a word and of the arguments after the image.
+/// The command of its name and of the arguments after the image.
 #[tactic(auto, using(crate::proofs::AskedLemmas::command_four, crate::proofs::AskedLemmas::command_five, crate::proofs::AskedLemmas::command_other))]
 fn command_in<'a>(word: &str, words: &'a Words) -> Option<Command<'a>>
     requires { 2 ≤ length words.now }

@@ -9,7 +9,7 @@ use Rattle.lilo_model.specs.Slots.{Slot, is_one_slot, slot_of, some_slot, slot_b
 -- what a boot sector says, but for the bytes that are code and the partition table
 pub record BootSector : Type 0 where
   pub version : ℕ
-  -- the moment of installation
+  -- the time of installation
   pub time : ℕ
   -- whether the prompt is shown without a key
   pub prompt : Bool

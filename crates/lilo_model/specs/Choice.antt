@@ -183,8 +183,8 @@ course_from setup zero opened (Again text left keys) = record { picked = None; s
 course_from setup (suc most) opened (Again text left keys) =
     course_behind (Shows text ∷ prompt_pieces opened left) (course_from setup most true (next_line_turn setup keys))
 
--- how often the prompt comes again at most: once for each key, and once more; so the course never ends for want
--- of it (proofs/TurnLemmas.antt)
+-- how often the prompt comes again at most: once for each key, and once more; so the course never ends
+-- early (proofs/TurnLemmas.antt)
 abbrev pub most_turns : List Key → ℕ
 most_turns keys = suc (length keys)
 

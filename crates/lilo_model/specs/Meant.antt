@@ -1,4 +1,4 @@
--- Meant: what a boot does as a configuration and its files say, in words that mention no sector. A configuration makes
+-- Meant: what a boot does as a configuration and its files say, by definitions that mention no sector. A configuration makes
 -- a menu, and a menu a boot. (This project's own; texts and options follow LILO's manners, a kernel in memory the
 -- Linux/x86 boot protocol, and where another system's boot sector is put the IBM PC.)
 use Rattle.std.specs.Prelude.{ℕ, zero, suc, ◌/◌, ◌%◌, ◌==◌, true, if◌then◌else◌, List, [], ◌∷◌, ◌++◌, map, flat_map, position, slice_get, codes, Option, Some}

@@ -201,7 +201,7 @@ pub record Inode : Type 0 where
   pub gid : ℕ
   -- the bytes of the file
   pub size : ℕ
-  -- the moments of the last reading, of the last change of the content and of the last change of the inode
+  -- the times of the last reading, of the last change of the content and of the last change of the inode
   pub times : List ℕ
   -- ten numbers of zones: seven of data, then those of one, two and three levels of indirect zones
   pub zones : List ℕ
@@ -224,7 +224,7 @@ abbrev pub numbers32 : List ℕ → ℕ → ℕ → List ℕ
 numbers32 bytes at zero = []
 numbers32 bytes at (suc count) = number32 bytes at ∷ numbers32 bytes (at + 4) count
 
--- the fields of an inode in version 1, which has one moment and nine zones
+-- the fields of an inode in version 1, which has one time and nine zones
 unfoldable pub v1_inode : List ℕ → Inode
 v1_inode bytes = record {
   mode = number16 bytes 0;
@@ -266,7 +266,7 @@ bytes16_of numbers = concat (map bytes16 numbers)
 abbrev pub bytes32_of : List ℕ → List ℕ
 bytes32_of numbers = concat (map bytes32 numbers)
 
--- the bytes of an inode in version 1, whose one moment is that of the content's last change
+-- the bytes of an inode in version 1, whose one time is that of the content's last change
 unfoldable pub v1_inode_bytes : Inode → List ℕ
 v1_inode_bytes inode =
     bytes16 inode.mode
@@ -291,7 +291,7 @@ v2_inode_bytes inode =
 unfoldable pub inode_bytes : Kind → Inode → List ℕ
 inode_bytes kind inode = if is_v1 kind then v1_inode_bytes inode else v2_inode_bytes inode
 
--- what is kept of an inode in the bytes of a kind: version 1 has one moment and nine zones
+-- what is kept of an inode in the bytes of a kind: version 1 has one time and nine zones
 unfoldable pub kept_inode : Kind → Inode → Inode
 kept_inode kind inode =
     if is_v1 kind

@@ -178,6 +178,6 @@ pub record HasSound (volume : Volume) (image : Image) : Type 0 where
   pub whole : (sector : ℕ) → sector < 2 * volume.layout.zones → length (sector_of volume image sector) ≡ 512
   pub parts : Sound volume.layout (parts_of volume image)
 
--- the same, as a word that stays closed
+-- the same, as a definition that stays closed
 unfoldable pub IsSound : Volume → Image → Type 0
 IsSound volume image = HasSound volume image

@@ -71,7 +71,7 @@ is_reached inode (Ends directory places) = false
 unfoldable pub was_reached : List Met → ℕ → Bool
 was_reached before inode = list_any (is_reached inode) before
 
--- ---- the walk: each word gives the list with what comes next
+-- ---- the walk: each definition gives the list with what comes next
 
 abbrev pub with_zones : ℕ → List (Result Visit ZoneFault) → List Met → List Met
 with_zones inode [] met = met

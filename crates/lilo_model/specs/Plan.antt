@@ -35,7 +35,7 @@ pub record MappedSection : Type 0 where
 -- all that a map is made of
 pub record Plan : Type 0 where
   pub config : Config
-  -- the moment of installation
+  -- the time of installation
   pub time : ℕ
   -- the first sector of the file with the code
   pub code : List ℕ

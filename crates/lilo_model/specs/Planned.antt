@@ -101,7 +101,7 @@ unfoldable pub code_in : Volume → Parts → Option (List ℕ) → List ℕ
 code_in volume parts path =
     take 512 (unwrap_or (option_map (content volume.layout parts) (option_and_then (file_inode volume parts) path)) [])
 
--- what a configuration maps at a moment
+-- what a configuration maps at a time
 unfoldable pub planned : Image → Machine → Volume → Config → ℕ → Plan
 planned image machine volume config time = record {
   config = config;

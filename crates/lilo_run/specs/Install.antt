@@ -19,7 +19,7 @@ use Rattle.install_run.specs.Keeps.{IsSteady}
 use Rattle.lilo_run.specs.Run.{Tells, scene_of}
 use Rattle.lilo_run.specs.Verdict.{Left, leaving, install_effect}
 
--- words are one part, which installs, with this device named for the volume and this path of the configuration
+-- the arguments are one part, which installs, with this device named for the volume and this path of the configuration
 abbrev pub IsInstallRun : List (List ℕ) → Option Device → List ℕ → Type 0
 IsInstallRun words root path =
     (part : Part) × (run_at words ≡ Ok (part ∷ [])) × (part.command ≡ Install) × (part.root ≡ root) × (conf_path part.config ≡ path)

@@ -14,7 +14,7 @@ use Rattle.loader_core.specs.Report.{LineWrite, boot_write}
 use Rattle.lilo_run.specs.Run.{Tells, scene_of}
 use Rattle.lilo_run.specs.Verdict.{Effect, Left, boot_effect, effects_of, run_left, run_boots}
 
--- words are one part, which boots this device
+-- the arguments are one part, which boots this device
 abbrev pub IsBootRun : List (List ℕ) → Device → Bool → Type 0
 IsBootRun words device dump = (part : Part) × (run_at words ≡ Ok (part ∷ [])) × (part.command ≡ Boot device dump)
 

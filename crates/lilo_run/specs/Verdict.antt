@@ -289,7 +289,7 @@ parts_effects effect now (part ∷ parts) lefts keys =
     ∷ parts_effects effect (image_after (effect now part (first_left now lefts) keys) now) parts (later_lefts lefts)
     (effect now part (first_left now lefts) keys).left
 
--- what the parts of a run do; words that are none are as one part, which shows the usage
+-- what the parts of a run do; arguments that are none are as one part, which shows the usage
 abbrev pub words_effects : (Image → Part → Left → List Key → Effect) → Image → List (List ℕ) → List Left → List Key → Result (List Part) (Option ℕ)
     → List Effect
 words_effects effect now words lefts keys (Ok parts) = parts_effects effect now parts lefts keys
@@ -320,7 +320,7 @@ abbrev pub run_image : Image → List Effect → Image
 run_image now [] = now
 run_image now (part ∷ parts) = run_image (image_after part now) parts
 
--- ---- what is known of words, whatever disks hold
+-- ---- what is known of arguments, whatever disks hold
 
 -- what is answered whatever a disk holds: 3 for a device of a disk without sectors
 abbrev pub early_at : (ℕ → ℕ) → Device → Option ℕ

@@ -121,7 +121,7 @@ fn phase_line(phase: Phase) -> &'static [u8]
     }
 }
 
-/// Tells what a kernel's loading has put into memory, where that is asked for.
+/// Shows what a kernel's loading has put into memory, where that is asked for.
 fn tell_kernel<O: Sink>(dump: bool, out: &mut Shown<'_, O>, ram: &mut Ram, layout: &Layout)
     requires { LiesIn (length ram.old) layout.now }
     ensures shown { Shows (sink_of O.Sink out.old)

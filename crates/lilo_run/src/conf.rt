@@ -1,7 +1,7 @@
 // The configuration of a part: where it is, what it says, and what is reported of one that can't be used.
 ghost use Rattle.std.specs.Prelude.{◌≡◌, ◌≤◌, ◌++◌, ℕ, None, option_map, option_copied, is_none, codes, IfErr};
+ghost use Rattle.disk_trait.specs.Calls.{SameOf};
 ghost use Rattle.std.specs.Prelude.{IfSome, IsTrue};
-ghost use Rattle.disk_trait.specs.Past.{SameDisks};
 ghost use Rattle.stream_trait.specs.Shows.{Shows, sink_of};
 ghost use Rattle.lilo_model.specs.ConfVerdict.{conf_path, conf_device};
 ghost use Rattle.lilo_model.specs.Place.{Memory};
@@ -104,7 +104,7 @@ pub(crate) fn boot_device<D: Disks>(
         GivesDevice path.now result (conf_device now machine (option_map device_view root) path.now)) }
     ensures cause { IfErr result (HasConfCause (D.faults disks.old) (D.faults disks.new)) }
     ensures later { D.faults disks.old ≤ D.faults disks.new }
-    ensures same { SameDisks D.past D.size_of D.count_of D.geometry_of disks.old disks.new }
+    ensures same { SameOf D.Disks disks.old disks.new }
 {
     match read_conf_file(alloc, disks, root, path) {
         Ok(file) => match parse(alloc, file.text.bytes()) {

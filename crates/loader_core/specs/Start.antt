@@ -116,7 +116,7 @@ WentBy g i o result phase report (disks, keys, ram, out) (disks', keys', ram', o
     OnKeys i (keys, keys') (λ all left. Leaves g disks disks' (report all).write result phase
     × Went result (report all) (memory_of ram) ram' left (sink_of o out) (sink_of o out'))
 
--- the same of what disks hold, where they tell their past: the report for this image, machine, size of memory and keys
+-- the same of what disks hold, where they report their past: the report for this image, machine, size of memory and keys
 abbrev pub WentOn : {D I O : Type 0} → Ghosts D → sources.Ghosts I → sinks.Ghosts O → Result Started Stop → Phase → D × I × List ℕ × Shown O
     → D × I × List ℕ × Shown O → (disks.Image → disks.Machine → ℕ → List Key → Report) → Type 0
 WentOn g i o result phase old new report =

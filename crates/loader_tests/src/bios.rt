@@ -1,5 +1,5 @@
 ghost use Rattle.std.specs.Prelude.{◌≡◌, ◌<◌, ◌≤◌, []};
-ghost use Rattle.disk_trait.specs.Past.{SameDisks};
+ghost use Rattle.disk_trait.specs.Calls.{SameOf};
 
 use bios_model::{Bios, BiosFault, Key, Ram};
 use disk_trait::{Disks, Failing, Geometry, MemDisk, MemDisks};
@@ -43,7 +43,7 @@ fn read_over<D: Disks, I: Source>(
     into: &mut Sector,
 ) -> Result<(), BiosFault>
     requires { index < slot.now.count }
-    ensures same { SameDisks D.past D.size_of D.count_of D.geometry_of disks.old disks.new }
+    ensures same { SameOf D.Disks disks.old disks.new }
     ensures keys { keys.new ≡ keys.old }
 {
     let mut bios = Bios { disks, keys };

@@ -10,7 +10,7 @@ use disk_trait::Geometry;
 use lilo_conf::Config;
 use map_plan::PlanFiles;
 
-/// What a map is made of: what a configuration plans for a moment. Its readers take no memory.
+/// What a map is made of: what a configuration plans for a time. Its readers take no memory.
 #[derive(Drop)]
 pub struct MapPlan {
     pub(crate) config: Config,

@@ -22,7 +22,7 @@ fn boot_sector(plan: &MapPlan) -> Sector
     sector
 }
 
-// The fields of a boot sector: its moment, its delay, no timeout, the second of two names, no message, and the slots of
+// The fields of a boot sector: its time, its delay, no timeout, the second of two names, no message, and the slots of
 // the default line, of the zero sector and of the table.
 #[test]
 fn a_boot_sector_has_its_fields(rt: HostRuntime) -> Result<(), Fail> {

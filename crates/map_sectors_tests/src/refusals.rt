@@ -97,7 +97,7 @@ fn with_both(alloc: Global, first: &Broken, second: &Broken) -> Result<Vec<u8>, 
     Ok(text)
 }
 
-// Whether the first of two faults is reported, where both can stand together.
+// Whether the first of two faults is reported, where both can be there together.
 fn comes_first(
     rt: &impl Abort,
     alloc: Global,

@@ -1,4 +1,4 @@
--- What the words of devices and of chains of tables say, as laws.
+-- What the definitions of devices and of chains of tables say, as laws.
 use Rattle.std.specs.Prelude.{◌≡◌, ◌↔◌, ◌≤◌, ℕ, ◌+◌, List, [], Some}
 use Rattle.lilo_model.specs.Devices.{Device, IsDevice, device_name, device_at}
 use Rattle.lilo_model.specs.Partitions.{linked_sector, chain_from, chain_tables, logical_from}

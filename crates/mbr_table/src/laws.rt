@@ -1,4 +1,4 @@
-// What the words of devices and of chains of tables say: laws, which no code needs to call.
+// What the definitions of devices and of chains of tables say: laws, which no code needs to call.
 ghost use Rattle.mbr_table.specs.Laws.{NamesLaw, ChainEndsLaw};
 
 /// A device is looked up by its name, and by no other.

@@ -1,4 +1,4 @@
-// What the words of Minix volumes say.
+// What the definitions of Minix volumes say.
 ghost use Rattle.minix_laws.specs.FindNames.{FindLaw};
 ghost use Rattle.minix_laws.specs.Plain.{GivenLaw, SoundLaw};
 ghost use Rattle.minix_laws.specs.Pointers.{PointerLaw};

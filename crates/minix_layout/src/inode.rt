@@ -50,7 +50,7 @@ impl Inode {
         Ok(inode)
     }
 
-    /// Writes the bytes of an inode. Version 1 takes the second of the moments, and nine zones.
+    /// Writes the bytes of an inode. Version 1 takes the second of the times, and nine zones.
     #[tactic(auto, unfolding(lilo_model::specs::MinixLayout::inode_bytes))]
     pub fn write_into(&self, part: &mut FieldMut<'_>, kind: FsKind)
         requires length { length part.old.bytes.now ≡ inode_size (kind_view kind) }

@@ -1,7 +1,7 @@
 //! The name that a path ends with on a Minix volume: the directory that has it, what is there, and where a walk along a
 //! path ends or misses its last component.
 //!
-//! What stands on this crate replaces files by their names: it needs the directory and the last component of a path,
+//! What uses this crate replaces files by their names: it needs the directory and the last component of a path,
 //! whether or not anything is there, and whether another path leads to it or would once a file is there. No call takes
 //! memory or writes.
 #![tactic(auto)]

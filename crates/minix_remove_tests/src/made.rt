@@ -69,7 +69,7 @@ const LINK: Wish<'static> = Wish {
     name: b"l",
 };
 
-// Gives the first file a second name in the root, behind its six other entries.
+// Gives the first file a second name in the root, after its six other entries.
 #[tactic(auto, unfolding(disk_trait::specs::Moments::IsTold, disk_trait::specs::Moments::MayLeave))]
 fn link(rt: &impl Abort, volume: &mut Volume<'_, Untold>) -> Result<(), WriteFault> {
     let kind = volume.layout().kind;

@@ -126,7 +126,7 @@ fn is_there(alloc: Global, image: &mut MemDisks) -> Option<bool> {
     }
 }
 
-// The place takes four events, the marks three, two blocks with the inode and a flush six, the entry two: the name
+// The place takes four events, the bits three, two blocks with the inode and a flush six, the entry two: the name
 // comes with the fourteenth.
 #[test]
 fn each_stop_has_the_file_whole_or_not_at_all(rt: HostRuntime) -> Result<(), Fail> {
@@ -245,7 +245,7 @@ fn links_in(alloc: Global, image: &mut MemDisks) -> Option<Links> {
 }
 
 // What a stop after so many events leaves, with these of the unflushed writes made. Each directory takes 15 events: the
-// marks three, its block two, its inode two, its place four, the links of the one above two, and its entry two.
+// bits three, its block two, its inode two, its place four, the links of the one above two, and its entry two.
 fn links_then(prefix: u32, choice: u32) -> Links {
     Links {
         root: if is_made(12, prefix, choice) { 3 } else { 2 },

@@ -1,5 +1,5 @@
 //! `read_conf FILE TIMES`: reads a lilo.conf so many times, and prints the names of its sections or what refuses it.
-//! Status 1 where it is refused, or where the file or a word can't be used.
+//! Status 1 where it is refused, or where the file or an argument can't be used.
 #![tactic(auto)]
 
 use conf_settings::config_line;

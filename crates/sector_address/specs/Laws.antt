@@ -1,4 +1,4 @@
--- What the words of slots say, as laws.
+-- What the definitions of slots say, as laws.
 use Rattle.std.specs.Prelude.{◌≡◌, ◌≤◌, ◌<◌, ◌+◌, ◌%◌, ℕ, List, length, slice_index, Some, Ok, IfOk}
 use Rattle.lilo_model.specs.Disks.{Geometry, IsGeometry}
 use Rattle.lilo_model.specs.Slots.{Mode, ChsMode, LinearMode, Lba32Mode, Chs, Slot, last_cylinder, to_chs, to_lba, sector_at, slot_at, slot_bytes, slot_make}

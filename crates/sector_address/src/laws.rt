@@ -1,4 +1,4 @@
-// What the words of slots say: laws, which no code needs to call.
+// What the definitions of slots say: laws, which no code needs to call.
 ghost use Rattle.sector_address.specs.Laws.{NumberLaw, CylinderLaw, MadeSectorsLaw, MakeLaw, EncodeLaw, OneSpellingLaw};
 
 /// The cylinder, head and sector of a sector's number have that number.

@@ -1,4 +1,4 @@
--- A call fails by its number, or for want of room.
+-- A call fails by its number, or where its room is used up.
 use Rattle.std.proofs.Common.{arith, refl, inl, inr, sym, ◌∙◌}
 use Rattle.stream_trait.proofs.mem_sink.MemSinkSink.put.Goals as goal
 use Rattle.stream_trait.proofs.mem_sink.MemSinkSink.put.Goals.{then-fails-via-then-fails, then-fails-via-else-fails+then-bytes-self}

@@ -1,7 +1,7 @@
 // A beginning, and what it leaves.
 use crate::made::{BOOT, VOLUME};
-use disk_trait::{Disks, MemDisks};
-use install_order::{InstallFault, Surveyed};
+use disk_trait::{Disks, MemDisks, Phase};
+use install_order::{Halt, InstallFault, Surveyed};
 use lilo_conf::parse;
 use minix_survey::survey;
 use minix_tree::{TreeFault, lookup_name};
@@ -34,9 +34,30 @@ pub(crate) fn begin(
         Surveyed::look(alloc, volume, config, BOOT, 7)
     };
     match answer {
-        Ok(surveyed) => Ok(surveyed.clear()),
-        Err(halt) => Err(halt.fault),
+        Ok(surveyed) => {
+            let clear = surveyed.clear();
+            match surveyed.plan(alloc) {
+                Ok(planned) => {
+                    let _ = planned.leave();
+                }
+                Err(halt) => {
+                    let _ = refusal(halt);
+                }
+            }
+            Ok(clear)
+        }
+        Err(halt) => Err(refusal(halt).1),
     }
+}
+
+// The phase and the fault of a refusal, which is taken apart.
+pub(crate) fn refusal<D: Disks>(halt: Halt<'_, D>) -> (Phase, InstallFault) {
+    let Halt {
+        volume: _,
+        phase,
+        fault,
+    } = halt;
+    (phase, fault)
 }
 
 // The names that are looked at, in the root, or with the map in a directory of its own.
@@ -45,7 +66,7 @@ pub(crate) const IN_ROOT: [&[u8]; 5] = [b"/map", b"/map~", b"/kernel", b"/old", 
 pub(crate) const IN_BOOT: [&[u8]; 5] = [b"/boot/map", b"/boot/map~", b"/kernel", b"/old", b"/old~"];
 
 // The inode that a name leads to, 0 where it isn't there.
-fn inode_of(volume: &mut Volume<'_, MemDisks>, path: &[u8]) -> u32 {
+pub(crate) fn inode_of(volume: &mut Volume<'_, MemDisks>, path: &[u8]) -> u32 {
     match lookup_name(volume, path) {
         Ok(stat) => stat.inode,
         Err(TreeFault::NotFound(_)) => 0,
@@ -83,7 +104,7 @@ pub(crate) struct Way {
 }
 
 // The names that a stop after so many events leaves, with these of the unflushed writes made.
-fn names_then(way: Way, prefix: u32, choice: u32) -> [u32; 5] {
+pub(crate) fn names_then(way: Way, prefix: u32, choice: u32) -> [u32; 5] {
     let mut names = way.before;
     for (event, then) in way.turns {
         if prefix > *event || prefix == *event && choice == 1 {

@@ -1,283 +1,289 @@
 // Installations from their beginning to their tidying, with a stop at any moment and each call of the device failing.
-use crate::call::{IN_ROOT, Way, look};
-use crate::made::{BOOT, Edit, VOLUME, made};
-use disk_trait::{Disks, Failing, MemDisks, Phase};
-use install_order::{InstallFault, Surveyed};
-use lilo_conf::parse;
-use minix_zones::Volume;
-use sector_parts::Sector;
-use std::alloc::{AllocError, Global};
+use crate::booting::{BY_NEW, Side, Sides, are_booted, boots_of, machine};
+use crate::call::{names_in, names_then};
+use crate::listing::{Listing, listing_of};
+use crate::made::LINE_SLOT;
+use crate::scene::{Places, Scene, install, phase_at, start_of};
+use crate::{elsewhere, whole};
+use bios_model::Ram;
+use disk_trait::{Disks, Failing, MemDisks};
+use install_order::InstallFault;
+use sector_parts::{Sector, part};
+use std::alloc::Global;
 use std::process::Abort;
 use std::test::Fail;
 use test_disks::{Untold, choices, image_left, made_again};
 
-// The kernel of 1029 bytes, in the zones 51 and 53: a boot sector that says one setup sector, protocol 2.06, a high
-// kernel, and the limits of an initrd and of a command line.
-const KERNEL: &[Edit] = &[
-    (26, 6, b"\x03"),
-    (28, 96, b"\xa4\x81\0\0\x05\x04"),
-    (28, 109, b"\x01\x33\0\x35"),
-    (122, 0x1F1, b"\x01"),
-    (122, 0x1FE, b"\x55\xAA"),
-    (123, 0x02, b"HdrS\x06\x02"),
-    (123, 0x11, b"\x01"),
-    (123, 0x2C, b"\xFF\xFF\xFF\x37"),
-    (123, 0x38, b"\xFF\0\0\0"),
-    (126, 0, b"HELLO"),
-];
-
-// An installation: what was done to the disk by hand, how many events it takes to stage and in the whole, what the
-// names lead to, and the low byte of the number of the sector with the default line, which byte 0x1C of the boot sector
-// has, before and after.
-struct Scene {
-    edits: &'static [Edit],
-    text: &'static [u8],
-    staged: u32,
-    events: u32,
-    way: Way,
-    lines: (u8, u8),
+// An installation that is looked at: its disk at first, what the disk lists and boots then and in the end, the memory
+// of the machine that boots, and after how many events it was looked at last.
+#[derive(Drop)]
+struct Watch<'s> {
+    scene: &'s Scene,
+    start: MemDisks,
+    first: Listing,
+    last: Listing,
+    sides: Sides,
+    ram: Ram,
+    seen: Option<u32>,
 }
 
-const SCENES: [Scene; 4] = [
-    // Over a map of which the zones 31, 32 and 37 to 40 are looked at by a boot. A flush; a bit of the inode, the bits
-    // of four zones and a flush; eight sectors, the inode and a flush; the entry and a flush. The boot sector and a
-    // flush. Then the map is tidied by 14 events. The new map's first zone is 6.
-    Scene {
-        edits: &[],
-        text: b"boot=/dev/hda\nmap=/map\nlba32\nimage=/kernel\nlabel=linux\n",
-        staged: 16,
-        events: 32,
-        way: Way {
-            before: [2, 0, 4, 0, 0],
-            turns: &[
-                (15, [2, 6, 4, 0, 0]),
-                (21, [6, 6, 4, 0, 0]),
-                (23, [6, 0, 4, 0, 0]),
-            ],
-        },
-        lines: (0x5E, 0x20),
-    },
-    // Over another system's boot sector, of which a backup is made first, by nine events: its zone is 6, and the new
-    // map's first one 7.
-    Scene {
-        edits: &[(0, 2, b"MSDO")],
-        text: b"boot=/dev/hda\nmap=/map\nbackup=/old\nlba32\nimage=/kernel\nlabel=linux\n",
-        staged: 25,
-        events: 41,
-        way: Way {
-            before: [2, 0, 4, 0, 0],
-            turns: &[
-                (9, [2, 0, 4, 6, 0]),
-                (24, [2, 7, 4, 6, 0]),
-                (30, [7, 7, 4, 6, 0]),
-                (32, [7, 0, 4, 6, 0]),
-            ],
-        },
-        lines: (0x5E, 0x22),
-    },
-    // Over another system's boot sector and an older backup, after a stop before the commit: 8 events remove `map~`. A
-    // flush; the forced backup under its name with `~` by nine events, and 13 put it in the old one's place. The new
-    // map needs four events more, since the last free place of the directory was the backup's: zeros are put past its
-    // size and flushed, and then the new size.
-    Scene {
-        edits: &[
-            (0, 2, b"MSDO"),
-            (30, 128, b"\x05\0map~"),
-            (30, 160, b"\x03\0old"),
-        ],
-        text: b"boot=/dev/hda\nmap=/map\nforce-backup=/old\nlba32\nimage=/kernel\nlabel=linux\n",
-        staged: 50,
-        events: 66,
-        way: Way {
-            before: [2, 5, 4, 3, 0],
-            turns: &[
-                (2, [2, 0, 4, 3, 0]),
-                (17, [2, 0, 4, 3, 5]),
-                (21, [2, 0, 4, 5, 5]),
-                (23, [2, 0, 4, 5, 0]),
-                (49, [2, 6, 4, 5, 0]),
-                (55, [6, 6, 4, 5, 0]),
-                (57, [6, 0, 4, 5, 0]),
-            ],
-        },
-        lines: (0x5E, 0x22),
-    },
-    // After a stop between the commit and the tidying: 14 events finish the rename, which frees inode 3.
-    Scene {
-        edits: &[(30, 64, b"\x03\0map"), (30, 128, b"\x02\0map~")],
-        text: b"boot=/dev/hda\nmap=/map\nlba32\nimage=/kernel\nlabel=linux\n",
-        staged: 30,
-        events: 46,
-        way: Way {
-            before: [3, 2, 4, 0, 0],
-            turns: &[
-                (4, [2, 2, 4, 0, 0]),
-                (6, [2, 0, 4, 0, 0]),
-                (29, [2, 3, 4, 0, 0]),
-                (35, [3, 3, 4, 0, 0]),
-                (37, [3, 0, 4, 0, 0]),
-            ],
-        },
-        lines: (0x5E, 0x20),
-    },
-];
-
-// The steps of an installation by a configuration.
-#[tactic(auto, unfolding(disk_trait::specs::Moments::IsTold, disk_trait::specs::Moments::MayLeave))]
-fn install(
+// The whole of an installation, and how it is looked at: each list of keys boots something else after it.
+fn watched<'s>(
     rt: &impl Abort,
     alloc: Global,
-    disks: &mut Untold,
-    text: &[u8],
-) -> Result<(), (Phase, InstallFault)> {
-    assert!(rt; disks.size(0) == 512 && text.len() <= 65536);
-    let Ok(config) = parse(alloc, text) else {
-        return Err((Phase::Before, InstallFault::Memory));
-    };
-    assert!(rt; config.boot.is_some());
-    let Ok(volume) = Volume::attach(disks, VOLUME) else {
-        return Err((Phase::Before, InstallFault::Device));
-    };
-    let surveyed = match Surveyed::begin(alloc, volume, config, BOOT, 7) {
-        Ok(surveyed) => surveyed,
-        Err(halt) => return Err((halt.phase, halt.fault)),
-    };
-    let planned = match surveyed.plan(alloc) {
-        Ok(planned) => planned,
-        Err(halt) => return Err((halt.phase, halt.fault)),
-    };
-    let staged = match planned.stage() {
-        Ok(staged) => staged,
-        Err(halt) => return Err((halt.phase, halt.fault)),
-    };
-    let committed = match staged.commit() {
-        Ok(committed) => committed,
-        Err(halt) => return Err((halt.phase, halt.fault)),
-    };
-    match committed.tidy() {
-        Ok(tidied) => {
-            let _ = tidied.leave();
-            Ok(())
-        }
-        Err(halt) => Err((halt.phase, halt.fault)),
-    }
-}
-
-// The disk of a scene.
-fn start_of(alloc: Global, scene: &Scene) -> Result<MemDisks, AllocError> {
-    let kernel = made(alloc, KERNEL)?;
-    let mut disks = made_again(alloc, &kernel, 8, &[])?;
-    for (sector, at, bytes) in scene.edits {
-        let mut held: Sector = [0; 512];
-        let _ = disks.read(0, u64::from(*sector), &mut held);
-        if *at <= 512 && bytes.len() <= 512 - *at {
-            sector_parts::put_part(&mut held, *at, bytes);
-        }
-        let _ = disks.write(0, u64::from(*sector), &held);
-    }
-    made_again(alloc, &disks, 0, &[])
-}
-
-// The byte of a boot sector that is another once it is written.
-fn line_of(image: &mut MemDisks) -> u8 {
-    let mut sector: Sector = [0; 512];
-    let _ = image.read(0, 0, &mut sector);
-    sector[0x1C]
-}
-
-// Each image that a stop after so many events leaves has the boot sector that it should have.
-fn look_at_boot(
-    rt: &impl Abort,
-    alloc: Global,
-    disks: &MemDisks,
-    scene: &Scene,
-    prefix: u32,
-) -> Result<(), Fail> {
-    assert!(rt; prefix <= disks.events());
-    let written = scene.staged.saturating_add(1);
-    for choice in 0..choices(disks, prefix) {
-        let mut image = image_left(alloc, disks, prefix, choice)?;
-        let (old, new) = scene.lines;
-        let is_new = prefix > written || prefix == written && choice == 1;
-        assert_eq!(rt; line_of(&mut image), if is_new { new } else { old });
-    }
-    Ok(())
-}
-
-// An installation, and each of its stops.
-fn play(rt: &impl Abort, alloc: Global, scene: &Scene) -> Result<(), Fail> {
-    let start = start_of(alloc, scene)?;
+    scene: &'s Scene,
+    start: MemDisks,
+) -> Result<(Watch<'s>, MemDisks), Fail> {
+    let mut start = start;
+    let mut ram = machine(alloc)?;
+    let first = listing_of(rt, alloc, &mut start, scene.paths)?;
+    let before = boots_of(rt, alloc, &start, scene.boot, &mut ram)?;
     let mut disks = Untold {
         disks: made_again(alloc, &start, 80, &[])?,
     };
-    assert_eq!(rt; install(rt, alloc, &mut disks, scene.text).is_ok(), true);
-    let Untold { disks } = disks;
+    assert!(rt; install(rt, alloc, &mut disks, scene).is_ok());
+    let Untold { mut disks } = disks;
     assert_eq!(rt; disks.events(), scene.events);
-    for prefix in 0..disks.events().saturating_add(1) {
-        look(rt, alloc, &disks, &IN_ROOT, scene.way, prefix)?;
-        look_at_boot(rt, alloc, &disks, scene, prefix)?;
+    let last = listing_of(rt, alloc, &mut disks, scene.paths)?;
+    let after = boots_of(rt, alloc, &disks, scene.boot, &mut ram)?;
+    let sides = Sides { before, after };
+    assert_eq!(rt; sides.told_apart(), 10);
+    let watched = Watch {
+        scene,
+        start,
+        first,
+        last,
+        sides,
+        ram,
+        seen: None,
+    };
+    Ok((watched, disks))
+}
+
+// The boot sector of an installation.
+fn boot_sector(disks: &mut MemDisks, scene: &Scene) -> Sector {
+    let mut sector: Sector = [0; 512];
+    let _ = disks.read(scene.boot.disk, scene.boot.start, &mut sector);
+    sector
+}
+
+// The low bytes of the numbers of the default line's sector, the zero sector and the table's.
+fn places_in(sector: &Sector) -> Places {
+    [
+        sector[LINE_SLOT],
+        sector[0x24],
+        sector[0x34],
+        sector[0x3C],
+        sector[0x44],
+    ]
+}
+
+// Whether an image is left by a stop after so many events and by none before: at first, and where the last of the
+// writes that aren't flushed is made. Where they are many, only the image without any and that with all but the last
+// are sure to be old.
+fn is_left_first(unflushed: u32, prefix: u32, choice: u32) -> bool {
+    match unflushed {
+        0 => prefix == 0,
+        1..=5 => choice >> (unflushed - 1) == 1,
+        _ => choice != 0 && choice != 5,
     }
-    Ok(())
+}
+
+impl<'s> Watch<'s> {
+    // In the end the new kernel boots, the map has its seven sectors, a backup is the boot sector that was there, and
+    // the table of partitions is as it was.
+    fn look_at_end(&mut self, rt: &impl Abort, disks: &mut MemDisks) {
+        assert!(rt; are_booted(&self.sides.after, &BY_NEW));
+        let boot = boot_sector(&mut self.start, self.scene);
+        let now = boot_sector(disks, self.scene);
+        assert!(rt; part(&now, 440, 70) == part(&boot, 440, 70));
+        let Watch { first, last, .. } = self;
+        for (at, (old, new)) in first.files.iter().zip(last.files.iter()).enumerate() {
+            match at {
+                0 => {
+                    assert_eq!(rt; new.bytes.len(), 3584);
+                    assert!(rt; new.bytes.starts_with(b"LINE\0\0\0\0"));
+                }
+                3 if old.inode != new.inode => assert!(rt; new.bytes.as_slice() == boot.as_slice()),
+                3 => assert!(rt; old == new),
+                _ => {}
+            }
+        }
+    }
+
+    // An image lists these names, each file whole, and nothing else that it didn't before; it has the boot sector that
+    // it should have, and boots by it.
+    fn look_at_image(
+        &mut self,
+        rt: &impl Abort,
+        alloc: Global,
+        mut image: MemDisks,
+        names: [u32; 5],
+        is_new: bool,
+    ) -> Result<(), Fail> {
+        let scene = self.scene;
+        assert_eq!(rt; names_in(alloc, &mut image, scene.paths), Some(names));
+        let listing = listing_of(rt, alloc, &mut image, scene.paths)?;
+        assert!(rt; listing.is_between(&self.first, &self.last));
+        let (old, new) = scene.maps;
+        let (places, wanted) = if is_new {
+            (new, Side::After)
+        } else {
+            (old, Side::Before)
+        };
+        assert_eq!(rt; places_in(&boot_sector(&mut image, scene)), places);
+        let side = self
+            .sides
+            .side_of(rt, alloc, &image, scene.boot, &mut self.ram)?;
+        assert_eq!(rt; side, wanted);
+        Ok(())
+    }
+
+    // Each image that a stop after so many events leaves, and none before, has the names that it should have, and boots
+    // as before up to the write of the boot sector, and as after from then on. Where that isn't flushed it may be made
+    // or not.
+    fn look(
+        &mut self,
+        rt: &impl Abort,
+        alloc: Global,
+        disks: &MemDisks,
+        prefix: u32,
+    ) -> Result<(), Fail> {
+        assert!(rt; prefix <= disks.events());
+        let written = self.scene.staged.saturating_add(1);
+        for choice in 0..choices(disks, prefix) {
+            if is_left_first(disks.unflushed(prefix), prefix, choice) {
+                let image = image_left(alloc, disks, prefix, choice)?;
+                let names = names_then(self.scene.way, prefix, choice);
+                let is_new = prefix > written || prefix == written && choice == 1;
+                self.look_at_image(rt, alloc, image, names, is_new)?;
+            }
+        }
+        Ok(())
+    }
+
+    // What the disks hold is as it should be after their events. That is looked at once for each number of them.
+    fn look_at_now(
+        &mut self,
+        rt: &impl Abort,
+        alloc: Global,
+        disks: &MemDisks,
+    ) -> Result<(), Fail> {
+        let events = disks.events();
+        if self.seen == Some(events) {
+            return Ok(());
+        }
+        self.seen = Some(events);
+        let image = made_again(alloc, disks, 0, &[])?;
+        let names = names_then(self.scene.way, events, 1);
+        self.look_at_image(rt, alloc, image, names, events > self.scene.staged)
+    }
+}
+
+// An installation on a disk, and each of its stops. Gives the disk in the end.
+pub(crate) fn play(
+    rt: &impl Abort,
+    alloc: Global,
+    scene: &Scene,
+    start: MemDisks,
+) -> Result<MemDisks, Fail> {
+    let (mut watched, mut disks) = watched(rt, alloc, scene, start)?;
+    watched.look_at_end(rt, &mut disks);
+    for prefix in 0..disks.events().saturating_add(1) {
+        watched.look(rt, alloc, &disks, prefix)?;
+    }
+    Ok(disks)
 }
 
 #[test]
 fn each_stop_leaves_the_old_map_or_the_new(rt: HostRuntime) -> Result<(), Fail> {
     let alloc = rt.alloc();
-    for scene in SCENES.iter() {
-        play(&rt, alloc, scene)?;
+    for scene in whole::SCENES.iter() {
+        let _ = play(&rt, alloc, scene, start_of(alloc, scene)?)?;
     }
     Ok(())
 }
 
-// The phase in which an installation ends that has done so many events.
-fn phase_at(scene: &Scene, events: u32) -> Phase {
-    if events < scene.staged {
-        Phase::Before
-    } else if events < scene.staged.saturating_add(2) {
-        Phase::Commit
-    } else {
-        Phase::After
+#[test]
+fn so_does_each_stop_elsewhere(rt: HostRuntime) -> Result<(), Fail> {
+    let alloc = rt.alloc();
+    for scene in elsewhere::SCENES.iter() {
+        let _ = play(&rt, alloc, scene, start_of(alloc, scene)?)?;
     }
+    Ok(())
 }
 
-// A call of the device fails, made or not: what the disks are then is as at that moment of the whole. Says whether
-// there was such a call.
-fn fail(rt: &impl Abort, alloc: Global, scene: &Scene, failing: Failing) -> Result<bool, Fail> {
-    let start = start_of(alloc, scene)?;
+// A call of the device fails, made or not: what the disks are then is as at that moment of the whole. Gives how many
+// events there were, where there was such a call.
+fn fail(
+    rt: &impl Abort,
+    alloc: Global,
+    watched: &mut Watch<'_>,
+    failing: Failing,
+) -> Result<Option<u32>, Fail> {
     let mut disks = Untold {
-        disks: made_again(alloc, &start, 80, &[failing])?,
+        disks: made_again(alloc, &watched.start, 80, &[failing])?,
     };
-    let answer = install(rt, alloc, &mut disks, scene.text);
+    let answer = install(rt, alloc, &mut disks, watched.scene);
     let Untold { disks } = disks;
     match answer {
-        Ok(()) => return Ok(false),
+        Ok(()) => return Ok(None),
         Err((phase, fault)) => {
             assert!(rt; matches!(fault, InstallFault::Device));
-            assert!(rt; phase == phase_at(scene, disks.events()));
+            assert!(rt; phase == phase_at(watched.scene, disks.events()));
         }
     }
-    look(rt, alloc, &disks, &IN_ROOT, scene.way, disks.events())?;
-    look_at_boot(rt, alloc, &disks, scene, disks.events())?;
-    Ok(true)
+    watched.look_at_now(rt, alloc, &disks)?;
+    Ok(Some(disks.events()))
 }
 
-// How many calls of the device an installation makes, where each of them fails in turn.
-fn calls_of(rt: &impl Abort, alloc: Global, scene: &Scene, made: bool) -> Result<u64, Fail> {
+// A write or a flush fails, of which a write is made.
+fn fail_made(
+    rt: &impl Abort,
+    alloc: Global,
+    watched: &mut Watch<'_>,
+    call: u64,
+) -> Result<(), Fail> {
+    watched.seen = None;
+    assert!(rt; fail(rt, alloc, watched, Failing { call, made: true })?.is_some());
+    Ok(())
+}
+
+// Each call of an installation fails in turn, and each that isn't a read is then made too: there is an event more
+// before the next one.
+fn fail_each(rt: &impl Abort, alloc: Global, scene: &Scene) -> Result<(), Fail> {
+    let (mut watched, _) = watched(rt, alloc, scene, start_of(alloc, scene)?)?;
+    let mut events = 0;
+    let mut calls: u64 = 0;
     for call in 0..1000 {
-        if !fail(rt, alloc, scene, Failing { call, made })? {
-            return Ok(call);
+        let Some(now) = fail(rt, alloc, &mut watched, Failing { call, made: false })? else {
+            break;
+        };
+        if now != events {
+            events = now;
+            fail_made(rt, alloc, &mut watched, call.saturating_sub(1))?;
         }
+        calls = call.saturating_add(1);
     }
-    Ok(1000)
+    assert!(rt; calls > u64::from(scene.events) && calls < 1000);
+    assert_eq!(rt; events.saturating_add(1), scene.events);
+    fail_made(rt, alloc, &mut watched, calls.saturating_sub(1))
 }
 
 #[test]
 fn each_call_of_an_installation_may_fail(rt: HostRuntime) -> Result<(), Fail> {
     let alloc = rt.alloc();
-    for scene in SCENES.iter() {
-        let calls = calls_of(&rt, alloc, scene, false)?;
-        assert!(rt; calls > u64::from(scene.events) && calls < 1000);
-        assert_eq!(rt; calls_of(&rt, alloc, scene, true)?, calls);
+    for scene in whole::SCENES.iter() {
+        fail_each(&rt, alloc, scene)?;
+    }
+    Ok(())
+}
+
+#[test]
+fn so_may_each_call_elsewhere(rt: HostRuntime) -> Result<(), Fail> {
+    let alloc = rt.alloc();
+    for scene in elsewhere::SCENES.iter() {
+        fail_each(&rt, alloc, scene)?;
     }
     Ok(())
 }

@@ -8,6 +8,9 @@ use std::alloc::{AllocError, Global};
 // Bytes of a sector from an offset on.
 pub(crate) type Edit = (u32, usize, &'static [u8]);
 
+// All of a sector's bytes, zero.
+pub(crate) const NOTHING: &[u8] = &[0; 512];
+
 pub(crate) const VOLUME: Span = Span {
     disk: 0,
     start: 20,
@@ -50,20 +53,33 @@ const FILES: &[Edit] = &[
     (30, 96, b"\x04\0kernel"),
 ];
 
-// A map whose boot sector is sector 0, and which has one name: the line in 94, the table in 95 to 97, and so in inode
-// 2; the options in 99, the kernel's section in 100 and its three sectors 82 to 84. The slots are of numbers that are
-// read as they are.
+// Where a boot sector has the number of the default line's sector.
+pub(crate) const LINE_SLOT: usize = 0x1C;
+
+// A map whose boot sector is sector 0, with a prompt that waits for five ticks, and which has one name: the line in 94,
+// the table in 95 to 97, and so in inode 2; the options in 99, the kernel's section in 100 and its three sectors 82 to
+// 84. The slots are of numbers that are read as they are. The kernel, of 1029 bytes, says one setup sector, protocol
+// 2.06, and that it is high.
 const MAP: &[Edit] = &[
     (0, 0, b"\xEB\x7ELILO\x01\0"),
-    (0, 0x10, b"\xFF\xFF\x01\0"),
+    (0, 0x0C, b"\x01"),
+    (0, 0x10, b"\x05\0\x01\0"),
     (0, 0x18, b"\x03\x80\x01\0\x5E\0\0\0\x03\x80\x01\0\x62\0\0\0"),
     (0, 0x30, b"\x03\x80\x01\0\x5F\0\0\0\x03\x80\x01\0\x60\0\0\0"),
     (0, 0x40, b"\x03\x80\x01\0\x61\0\0\0"),
     (0, 0x1FE, b"\x55\xAA"),
+    (82, 0x1F1, b"\x01"),
+    (82, 0x1FE, b"\x55\xAA"),
+    (83, 0x02, b"HdrS\x06\x02"),
+    (83, 0x11, b"\x01"),
+    (83, 0x38, b"\xFF\0\0\0"),
+    (84, 0, b"OLDER"),
+    (94, 0, b"LINE"),
     (95, 0, b"linux"),
     (95, 20, b"\x05\x04\0\0"),
     (95, 28, b"\x03\x80\x01\0\x63\0\0\0\x03\x80\x01\0\x64\0\0\0"),
     (95, 52, b"\x01\0"),
+    (99, 0, b"\x03\0\0\0\0\0\0\0 ro"),
     (100, 0, b"\x03\x80\x02\0\x52\0\0\0\x03\x80\x01\0\x54\0\0\0"),
 ];
 

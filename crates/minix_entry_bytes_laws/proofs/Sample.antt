@@ -7,6 +7,7 @@ use Rattle.lilo_model.specs.MinixParts.{bit, is_directory, blocks_for, parts_of,
 use Rattle.lilo_model.specs.MinixEntries.{entry_of, entry_with, named_inode, is_dots, Entry, places, here_name, above_name}
 use Rattle.lilo_model.specs.MinixNames.{zone_number, block, content, entry, lookup, reached, thing, Sound, IsSound, File, Directory}
 use Rattle.minix_laws.specs.RootVolume.{root_layout, root_volume}
+use Rattle.minix_laws.proofs.BareRoot.{BareRoot}
 use Rattle.minix_beside_laws.proofs.Entries.{entry_law}
 use Rattle.minix_entry_laws.specs.Only.{zone_of_entry}
 use Rattle.minix_sees_laws.specs.Tree.{HasTreeWith}
@@ -96,21 +97,33 @@ directory-read V1Long = refl
 directory-read V2Short = refl
 directory-read V2Long = refl
 
-room : (kind : Kind) → RootRoom (root_layout kind) (sample kind) 5 6
-room kind = record {
+third_free : (kind : Kind) (place : ℕ) → 2 ≤ place → place < 3 → (entry (root_layout kind) (sample kind) 1 place).inode ≡ 0
+third_free kind place from below =
+    let is : 2 ≡ place = omega (arith, from, below) in
+    subst (λ p. (entry (root_layout kind) (sample kind) 1 p).inode ≡ 0) is (ap (λ (all : ReadRoot). all.7) (root-read kind))
+
+root : (kind : Kind) → BareRoot (root_layout kind) (sample kind) 5 3
+root kind = record {
   directory = ap (λ (all : ReadRoot). all.0) (root-read kind);
   some_mode = λ none. let mode = ap (λ (all : ReadRoot). all.1) (root-read kind) in absurd (omega (arith, none, mode));
   small = ap (λ (all : ReadRoot). all.2) (root-read kind);
-  three = ap (λ (all : ReadRoot). all.3) (root-read kind);
+  entries = ap (λ (all : ReadRoot). all.3) (root-read kind);
+  two = omega arith;
   zones = ap (λ (all : ReadRoot). all.4) (root-read kind);
   first_entry = ap (λ (all : ReadRoot). all.5) (root-read kind);
   second_entry = ap (λ (all : ReadRoot). all.6) (root-read kind);
-  third_free = ap (λ (all : ReadRoot). all.7) (root-read kind);
+  free = third_free kind;
   some_inode = omega arith;
   inode_mark = ap (λ (all : ReadRoot). all.8) (root-read kind);
   zone_mark = ap (λ (all : ReadRoot). all.9) (root-read kind);
   from = omega arith;
   below = omega arith;
+}
+
+room : (kind : Kind) → RootRoom (root_layout kind) (sample kind) 5 6
+room kind = record {
+  root = root kind;
+  some_inode = omega arith;
   file = ap (λ (all : ReadFile). all.0) (file-read kind);
   file_mode = λ none. let mode = ap (λ (all : ReadFile). all.1) (file-read kind) in absurd (omega (arith, none, mode));
   file_small = ap (λ (all : ReadFile). all.2) (file-read kind);
@@ -179,9 +192,9 @@ room-zone V2Long = refl
 room-placed : (kind : Kind) → IsPlaced (root_volume kind) (room_image kind) 1 2
 room-placed kind = record {
   named = room-named (root_layout kind) (parts_of (root_volume kind) (room_image kind)) 5 6 (room kind);
-  is = (room kind).directory;
+  is = (root kind).directory;
   reached = room-reached kind;
-  below = let three = (room kind).three in omega (arith, three);
+  below = let three = (root kind).entries in omega (arith, three);
   some = λ e. let five = room-zone kind in absurd (omega (arith, five, e));
 }
 
@@ -247,7 +260,7 @@ module _ (kind : Kind) (image : Image) (has : HasEntryBytes (root_volume kind) (
   no-other =
       (entry_law (root_layout kind) (parts_of (root_volume kind) (room_image kind)) (parts_of (root_volume kind) image) 1 2 parts-sound written.only.change).kept other_name
       (ap (named_inode other_name) (written.says ∙ room-says kind 2 (omega arith))
-      ∙ sym (named-free other_name (entry (root_layout kind) (parts_of (root_volume kind) (room_image kind)) 1 2) (room kind).third_free))
+      ∙ sym (named-free other_name (entry (root_layout kind) (parts_of (root_volume kind) (room_image kind)) 1 2) (third_free kind 2 (omega arith) (omega arith))))
       ∙ (may-enter other_name plain-other).absent
 
   entered : IsEntered kind image

@@ -12,8 +12,8 @@ use Rattle.lilo_model.specs.MinixLayout.{Kind, V1Short, V1Long, V2Short, V2Long,
 use Rattle.lilo_model.specs.MinixParts.{Volume, Parts, volume_with, volume_at, sector_of, parts_of, inode_part, bit, is_directory, zone_bytes, follow, pointer_by}
 use Rattle.lilo_model.specs.MinixEntries.{entry_of, entry_in, entry_with, entries_per_block, places, here_name, above_name, is_dots}
 use Rattle.lilo_model.specs.MinixNames.{Directory, zone_number, block, entry, lookup, reached, thing, names, names_in, IsSound}
-use Rattle.minix_laws.proofs.RootOnly.{RootOnly, root_only-sound}
-use Rattle.minix_laws.proofs.FirstNamed.{first_named-none}
+use Rattle.minix_laws.proofs.BareRoot.{BareRoot, bare-no_path, bare-sound}
+use Rattle.minix_laws.proofs.RootBytes.{read, bare_read, read_bare}
 use Rattle.minix_layout.proofs.Reading.{super_law, inode_law}
 use Rattle.ldisk_model.specs.MinixFormat.{zeros, map_sector, first_inode, root_entry, formatted_sector, formatted}
 use Rattle.minix_format.specs.Laid.{IsLaid}
@@ -141,34 +141,6 @@ first_block V1Long place few = omega (arith, few)
 first_block V2Short place few = omega (arith, few)
 first_block V2Long place few = omega (arith, few)
 
--- ---- names
-
-dots-here : is_dots here_name ≡ true
-unfolding is_dots
-dots-here = refl
-
-dots-above : is_dots above_name ≡ true
-unfolding is_dots
-dots-above = refl
-
--- a root that has only its two entries has no name in it
-module _ (super : Super) (parts : Parts) (directory : is_directory (parts.node 1) ≡ true) (two : places super.kind (parts.node 1).size ≡ 2)
-    (here : entry super parts 1 0 ≡ entry_with 1 here_name) (above : entry super parts 1 1 ≡ entry_with 1 above_name) where
-  no-entry : (name : List ℕ) → is_dots name ≡ false → (place inode : ℕ) → place < 2 → inode ≢ 0 → entry super parts 1 place ≡ entry_with inode name → ⊥
-  no-entry name other zero inode below some is = let same : here_name ≡ name = ap (λ e. e.name) (sym here ∙ is) in let dots : is_dots name ≡ true = ap is_dots (sym same) ∙ dots-here in cc
-  no-entry name other (suc zero) inode below some is = let same : above_name ≡ name = ap (λ e. e.name) (sym above ∙ is) in let dots : is_dots name ≡ true = ap is_dots (sym same) ∙ dots-above in cc
-  no-entry name other (suc (suc place)) inode below some is = absurd (omega (arith, below))
-
-  lookup-none : (name : List ℕ) (dots : Bool) → is_dots name ≡ dots → lookup super parts name 1 ≡ None
-  unfolding lookup
-  lookup-none name true is = rw (directory, is) refl
-  lookup-none name false is = rw (directory, is, two) (first_named-none (entry super parts 1) name 2 (no-entry name is))
-
-  reached-none : (name : List ℕ) (path : List (List ℕ)) → reached super parts (name ∷ path) ≡ None
-  unfolding reached
-  reached-none name [] = lookup-none name _ refl
-  reached-none name (outer ∷ path) = rw (reached-none outer path) refl
-
 -- ---- numbers
 
 some-blocks : (kind : Kind) (inodes : ℕ) → 1 ≤ inodes → 1 ≤ (inodes * inode_size kind + 1023) / 1024
@@ -294,28 +266,24 @@ module _ (span : Span) (layout : Super) (time : ℕ) (image : Image) (laid : IsL
   two-entries : places layout.kind (parts.node 1).size ≡ 2
   two-entries = ap (λ (node : Inode). places layout.kind node.size) root-is ∙ two_places layout.kind
 
-  only : RootOnly layout parts layout.first
-  only = record {
-    directory = root-directory;
-    some_mode = λ none. let mode = ap (λ (node : Inode). node.mode) root-is in absurd (omega (arith, none, mode));
-    small = ap (λ (node : Inode). is_size layout.kind node.size) root-is ∙ root-small layout.kind;
-    two = two-entries;
-    zones = ap (λ (node : Inode). node.zones) root-is;
-    first_entry = first-entry;
-    second_entry = second-entry;
-    some_inode = laid.some_inode;
-    inode_mark = inode-marked 1 laid.some_inode ∙ refl;
-    zone_mark = zone-marked layout.first (omega arith) laid.below ∙ le-leb layout.first layout.first (omega arith);
-    from = omega arith;
-    below = laid.below;
-  }
+  read-root : read layout parts layout.first ≡ bare_read layout.first
+  read-root =
+      let mode : (parts.node 1).mode ≡ 0x41ED = ap (λ (node : Inode). node.mode) root-is in
+      let small : is_size layout.kind (parts.node 1).size ≡ true = ap (λ (node : Inode). is_size layout.kind node.size) root-is ∙ root-small layout.kind in
+      let zones : (parts.node 1).zones ≡ layout.first ∷ replicate 9 0 = ap (λ (node : Inode). node.zones) root-is in
+      let marked : parts.has_inode 1 ≡ true = inode-marked 1 laid.some_inode ∙ refl in
+      let used : parts.has_zone layout.first ≡ true = zone-marked layout.first (omega arith) laid.below ∙ le-leb layout.first layout.first (omega arith) in
+      rw (root-directory, mode, small, two-entries, zones, first-entry, second-entry, marked, used) refl
+
+  bare : BareRoot layout parts layout.first 2
+  bare = read_bare layout parts layout.first read-root laid.some_inode (omega arith) laid.below
 
   made-sound : IsSound volume made
   unfolding IsSound
   made-sound = record {
     super = super-read;
     whole = λ sector below. length-formatted span layout time image sector (whole sector (omega (arith, below, within)));
-    parts = root_only-sound layout parts layout.first only;
+    parts = bare-sound layout parts layout.first 2 bare;
   }
 
   root-thing : names_in volume made [] ≡ Some Directory
@@ -326,7 +294,7 @@ module _ (span : Span) (layout : Super) (time : ℕ) (image : Image) (laid : IsL
 
   no-name : (name : List ℕ) (path : List (List ℕ)) → names_in volume made (name ∷ path) ≡ None
   unfolding names_in names
-  no-name name path = rw (reached-none layout parts root-directory two-entries first-entry second-entry name path) refl
+  no-name name path = rw (bare-no_path layout parts layout.first 2 bare name path) refl
 
   pub root_alone : HasRootAlone volume made
   root_alone = record {

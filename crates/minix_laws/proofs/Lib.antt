@@ -1,4 +1,4 @@
-pub mod RootOnly
+pub mod BareRoot
 pub mod RootBytes
 pub mod Given
 pub mod Inside

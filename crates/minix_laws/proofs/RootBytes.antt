@@ -1,18 +1,18 @@
 -- The bytes of a volume with a root directory alone are sound parts.
-use Rattle.std.proofs.Common.{◌≡◌, ℕ, ◌+◌, ◌==◌, Bool, true, false, if◌then◌else◌, List, ◌∷◌, length, replicate, Ok, refl, ap, arith}
+use Rattle.std.proofs.Common.{◌≡◌, ℕ, ◌+◌, ◌<◌, ◌≤◌, ◌==◌, Bool, true, false, if◌then◌else◌, List, ◌∷◌, length, replicate, Ok, refl, ap, arith}
 use Rattle.lilo_model.specs.Bytes.{number16, number32}
 use Rattle.lilo_model.specs.MinixLayout.{Kind, V1Short, V1Long, V2Short, V2Long, Super, is_size, kind_of, super_of, super_checks, super_in, super_at, with_counts, super_bytes, v1_inode, v2_inode, inode_of, v1_inode_bytes, v2_inode_bytes, inode_bytes, inode_place}
 use Rattle.lilo_model.specs.MinixParts.{Parts, is_directory, bit, parts_of, number_in, follow, pointer_by}
 use Rattle.lilo_model.specs.MinixEntries.{Entry, entry_of, entry_with, places, here_name, above_name}
 use Rattle.lilo_model.specs.MinixNames.{zone_number, block, entry, IsSound}
 use Rattle.minix_laws.specs.RootVolume.{root_layout, root_volume, root_sector, root_image, RootLaw}
-use Rattle.minix_laws.proofs.RootOnly.{RootOnly, root_only-sound}
+use Rattle.minix_laws.proofs.BareRoot.{BareRoot, bare-sound}
 
 -- what is read of the root in parts, whose zone has this number
-abbrev Read : Type 0
+abbrev pub Read : Type 0
 Read = Bool × ℕ × Bool × ℕ × List ℕ × Entry × Entry × Bool × Bool
 
-abbrev read : Super → Parts → ℕ → Read
+abbrev pub read : Super → Parts → ℕ → Read
 read super parts zone = (
   is_directory (parts.node 1),
   (parts.node 1).mode,
@@ -25,29 +25,38 @@ read super parts zone = (
   parts.has_zone zone,
 )
 
-root-read : (kind : Kind) → read (root_layout kind) (parts_of (root_volume kind) (root_image kind)) 5
-    ≡ (true, 0x41ED, true, 2, 5 ∷ replicate 9 0, entry_with 1 here_name, entry_with 1 above_name, true, true)
+-- what is read of a bare root as mkfs makes it: mode 040755, and `.` and `..` alone
+abbrev pub bare_read : ℕ → Read
+bare_read zone = (true, 0x41ED, true, 2, zone ∷ replicate 9 0, entry_with 1 here_name, entry_with 1 above_name, true, true)
+
+pub read_bare : (super : Super) (parts : Parts) (zone : ℕ) → read super parts zone ≡ bare_read zone
+    → 1 ≤ super.inodes → super.first ≤ zone → zone < super.zones → BareRoot super parts zone 2
+read_bare super parts zone is inodes from below = record {
+  directory = ap (λ (all : Read). all.0) is;
+  some_mode = λ none. let mode = ap (λ (all : Read). all.1) is in absurd (omega (arith, none, mode));
+  small = ap (λ (all : Read). all.2) is;
+  entries = ap (λ (all : Read). all.3) is;
+  two = omega arith;
+  zones = ap (λ (all : Read). all.4) is;
+  first_entry = ap (λ (all : Read). all.5) is;
+  second_entry = ap (λ (all : Read). all.6) is;
+  free = λ place high low. absurd (omega (arith, high, low));
+  some_inode = inodes;
+  inode_mark = ap (λ (all : Read). all.7) is;
+  zone_mark = ap (λ (all : Read). all.8) is;
+  from = from;
+  below = below;
+}
+
+root-read : (kind : Kind) → read (root_layout kind) (parts_of (root_volume kind) (root_image kind)) 5 ≡ bare_read 5
 unfolding super_bytes with_counts inode_bytes v1_inode_bytes v2_inode_bytes parts_of inode_of v1_inode v2_inode inode_place number16 number32 bit number_in follow pointer_by entry_of zone_number block entry
 root-read V1Short = refl
 root-read V1Long = refl
 root-read V2Short = refl
 root-read V2Long = refl
 
-root_only : (kind : Kind) → RootOnly (root_layout kind) (parts_of (root_volume kind) (root_image kind)) 5
-root_only kind = record {
-  directory = ap (λ (all : Read). all.0) (root-read kind);
-  some_mode = λ none. let mode = ap (λ (all : Read). all.1) (root-read kind) in absurd (omega (arith, none, mode));
-  small = ap (λ (all : Read). all.2) (root-read kind);
-  two = ap (λ (all : Read). all.3) (root-read kind);
-  zones = ap (λ (all : Read). all.4) (root-read kind);
-  first_entry = ap (λ (all : Read). all.5) (root-read kind);
-  second_entry = ap (λ (all : Read). all.6) (root-read kind);
-  some_inode = omega arith;
-  inode_mark = ap (λ (all : Read). all.7) (root-read kind);
-  zone_mark = ap (λ (all : Read). all.8) (root-read kind);
-  from = omega arith;
-  below = omega arith;
-}
+bare : (kind : Kind) → BareRoot (root_layout kind) (parts_of (root_volume kind) (root_image kind)) 5 2
+bare kind = read_bare (root_layout kind) (parts_of (root_volume kind) (root_image kind)) 5 (root-read kind) (omega arith) (omega arith) (omega arith)
 
 -- its superblock is read
 root_super : (kind : Kind) → super_at (root_sector kind 2) 16 ≡ Ok (root_layout kind)
@@ -75,5 +84,5 @@ unfolding IsSound
 root_law kind = record {
   super = root_super kind;
   whole = λ sector below. root_whole kind (0 + sector);
-  parts = root_only-sound (root_layout kind) (parts_of (root_volume kind) (root_image kind)) 5 (root_only kind);
+  parts = bare-sound (root_layout kind) (parts_of (root_volume kind) (root_image kind)) 5 2 (bare kind);
 }

@@ -16,7 +16,8 @@ use Rattle.lilo_model.specs.MinixNames.{zone_number, block, entry, IsSound}
 use Rattle.lilo_model.specs.MinixParts as model
 use Rattle.lilo_model.specs.MinixParts.{bit, parts_of, number_in, follow, pointer_by, volume_at}
 use Rattle.minix_laws.specs.RootVolume.{root_inode}
-use Rattle.minix_laws.proofs.RootOnly.{RootOnly, root_only-sound}
+use Rattle.minix_laws.proofs.BareRoot.{BareRoot, bare-sound}
+use Rattle.minix_laws.proofs.RootBytes.{read, bare_read, read_bare, length-choice}
 use Rattle.minix_layout.specs.View.{super_view}
 use Rattle.minix_zones.specs.Volume.{volume_view, past_of}
 use Rattle.minix_zones.specs.declared.volume.Volume.{Volume}
@@ -28,79 +29,15 @@ use Rattle.minix_stops.proofs.OwnLemmas.{own_sectors_law}
 
 -- ---- the bytes are those of a root directory alone
 
-only-V1Short : RootOnly (small_layout V1Short) (parts_of (small_volume V1Short) (small_image V1Short)) 5
+root-read : (kind : Kind) → read (small_layout kind) (parts_of (small_volume kind) (small_image kind)) 5 ≡ bare_read 5
 unfolding super_bytes with_counts inode_bytes v1_inode_bytes v2_inode_bytes parts_of inode_of v1_inode v2_inode inode_place number16 number32 bit number_in follow pointer_by entry_of zone_number block entry
-only-V1Short = record {
-  directory = refl;
-  some_mode = λ e. absurd (omega (arith, e));
-  small = refl;
-  two = refl;
-  zones = refl;
-  first_entry = refl;
-  second_entry = refl;
-  some_inode = omega arith;
-  inode_mark = refl;
-  zone_mark = refl;
-  from = omega arith;
-  below = omega arith;
-}
+root-read V1Short = refl
+root-read V1Long = refl
+root-read V2Short = refl
+root-read V2Long = refl
 
-only-V1Long : RootOnly (small_layout V1Long) (parts_of (small_volume V1Long) (small_image V1Long)) 5
-unfolding super_bytes with_counts inode_bytes v1_inode_bytes v2_inode_bytes parts_of inode_of v1_inode v2_inode inode_place number16 number32 bit number_in follow pointer_by entry_of zone_number block entry
-only-V1Long = record {
-  directory = refl;
-  some_mode = λ e. absurd (omega (arith, e));
-  small = refl;
-  two = refl;
-  zones = refl;
-  first_entry = refl;
-  second_entry = refl;
-  some_inode = omega arith;
-  inode_mark = refl;
-  zone_mark = refl;
-  from = omega arith;
-  below = omega arith;
-}
-
-only-V2Short : RootOnly (small_layout V2Short) (parts_of (small_volume V2Short) (small_image V2Short)) 5
-unfolding super_bytes with_counts inode_bytes v1_inode_bytes v2_inode_bytes parts_of inode_of v1_inode v2_inode inode_place number16 number32 bit number_in follow pointer_by entry_of zone_number block entry
-only-V2Short = record {
-  directory = refl;
-  some_mode = λ e. absurd (omega (arith, e));
-  small = refl;
-  two = refl;
-  zones = refl;
-  first_entry = refl;
-  second_entry = refl;
-  some_inode = omega arith;
-  inode_mark = refl;
-  zone_mark = refl;
-  from = omega arith;
-  below = omega arith;
-}
-
-only-V2Long : RootOnly (small_layout V2Long) (parts_of (small_volume V2Long) (small_image V2Long)) 5
-unfolding super_bytes with_counts inode_bytes v1_inode_bytes v2_inode_bytes parts_of inode_of v1_inode v2_inode inode_place number16 number32 bit number_in follow pointer_by entry_of zone_number block entry
-only-V2Long = record {
-  directory = refl;
-  some_mode = λ e. absurd (omega (arith, e));
-  small = refl;
-  two = refl;
-  zones = refl;
-  first_entry = refl;
-  second_entry = refl;
-  some_inode = omega arith;
-  inode_mark = refl;
-  zone_mark = refl;
-  from = omega arith;
-  below = omega arith;
-}
-
-only : (kind : Kind) → RootOnly (small_layout kind) (parts_of (small_volume kind) (small_image kind)) 5
-only V1Short = only-V1Short
-only V1Long = only-V1Long
-only V2Short = only-V2Short
-only V2Long = only-V2Long
+bare : (kind : Kind) → BareRoot (small_layout kind) (parts_of (small_volume kind) (small_image kind)) 5 2
+bare kind = read_bare (small_layout kind) (parts_of (small_volume kind) (small_image kind)) 5 (root-read kind) (omega arith) (omega arith) (omega arith)
 
 -- its superblock is read
 small-super : (kind : Kind) → super_at (small_sector kind 2) 48 ≡ Ok (small_layout kind)
@@ -109,10 +46,6 @@ small-super V1Short = refl
 small-super V1Long = refl
 small-super V2Short = refl
 small-super V2Long = refl
-
-length-choice : (test : Bool) (one other : List ℕ) → length one ≡ 512 → length other ≡ 512 → length (if test then one else other) ≡ 512
-length-choice true one other is is' = is
-length-choice false one other is is' = is'
 
 -- each sector has 512 bytes
 small-whole : (kind : Kind) (sector : ℕ) → length (small_sector kind sector) ≡ 512
@@ -127,7 +60,7 @@ unfolding IsSound
 image-sound kind = record {
   super = small-super kind;
   whole = λ sector below. small-whole kind (8 + sector - 8);
-  parts = root_only-sound (small_layout kind) (parts_of (small_volume kind) (small_image kind)) 5 (only kind);
+  parts = bare-sound (small_layout kind) (parts_of (small_volume kind) (small_image kind)) 5 2 (bare kind);
 }
 
 -- so is each image with its sectors

@@ -7,7 +7,8 @@ use Rattle.lilo_model.specs.MinixParts.{Parts, Pointer, IsPointer, number_in, fo
 use Rattle.lilo_model.specs.MinixEntries.{entry_of}
 use Rattle.lilo_model.specs.MinixNames.{pointer, zone_number, block, entry, reached, Named, Refers, Sound}
 use Rattle.minix_laws.specs.RootVolume.{root_inode}
-use Rattle.minix_laws.proofs.RootOnly.{RootOnly, root_only-sound}
+use Rattle.minix_laws.proofs.BareRoot.{BareRoot, bare-sound}
+use Rattle.minix_laws.proofs.RootBytes.{read, bare_read, read_bare}
 use Rattle.minix_beside_laws.specs.Keeps.{Keeps}
 use Rattle.minix_beside_laws.proofs.Keeps.{keeps_law, refers-old}
 use Rattle.minix_sees_laws.specs.Sees.{IsFresh, Sees}
@@ -26,15 +27,18 @@ use Rattle.minix_laws.proofs.Inside.{some_numbers}
 abbrev used : ℕ → Bool
 used zone = zone == 5
 
-root : (kind : Kind) → RootOnly (sample_layout kind) (parts_with kind used) 5
+root-read : (kind : Kind) → read (sample_layout kind) (parts_with kind used) 5 ≡ bare_read 5
 unfolding zone_number block entry entry_of number16 follow pointer_by
-root V1Short = record { directory = refl; some_mode = λ e. absurd (omega (arith, e)); small = refl; two = refl; zones = refl; first_entry = refl; second_entry = refl; some_inode = omega arith; inode_mark = refl; zone_mark = refl; from = omega arith; below = omega arith }
-root V1Long = record { directory = refl; some_mode = λ e. absurd (omega (arith, e)); small = refl; two = refl; zones = refl; first_entry = refl; second_entry = refl; some_inode = omega arith; inode_mark = refl; zone_mark = refl; from = omega arith; below = omega arith }
-root V2Short = record { directory = refl; some_mode = λ e. absurd (omega (arith, e)); small = refl; two = refl; zones = refl; first_entry = refl; second_entry = refl; some_inode = omega arith; inode_mark = refl; zone_mark = refl; from = omega arith; below = omega arith }
-root V2Long = record { directory = refl; some_mode = λ e. absurd (omega (arith, e)); small = refl; two = refl; zones = refl; first_entry = refl; second_entry = refl; some_inode = omega arith; inode_mark = refl; zone_mark = refl; from = omega arith; below = omega arith }
+root-read V1Short = refl
+root-read V1Long = refl
+root-read V2Short = refl
+root-read V2Long = refl
+
+root : (kind : Kind) → BareRoot (sample_layout kind) (parts_with kind used) 5 2
+root kind = read_bare (sample_layout kind) (parts_with kind used) 5 (root-read kind) (omega arith) (omega arith) (omega arith)
 
 first-sound : (kind : Kind) → Sound (sample_layout kind) (parts_with kind used)
-first-sound kind = root_only-sound (sample_layout kind) (parts_with kind used) 5 (root kind)
+first-sound kind = bare-sound (sample_layout kind) (parts_with kind used) 5 2 (root kind)
 
 module _ (kind : Kind) (marks : ℕ → Bool) (five : marks 5 ≡ true) where
   keeps : Keeps (sample_layout kind) (parts_with kind used) (parts_with kind marks)

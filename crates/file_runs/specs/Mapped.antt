@@ -8,7 +8,7 @@ use Rattle.lilo_model.specs.MinixFind.{TreeFault, NotFile, Zone, find}
 use Rattle.lilo_model.specs.Plan.{MappedFile}
 use Rattle.lilo_model.specs.Planned.{mapped_inode}
 use Rattle.slot_lists.specs.Runs.{places_in}
-use Rattle.file_runs.specs.declared.path.FileRuns.{FileRuns}
+use Rattle.file_runs.specs.declared.mapped.FileRuns.{FileRuns}
 use Rattle.file_runs.specs.Places.{file_places}
 
 -- a file as its runs say where its sectors lie

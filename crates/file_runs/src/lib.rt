@@ -7,8 +7,10 @@
 mod file;
 mod laws;
 mod list;
+mod mapped;
 mod path;
 
 pub use file::runs_of;
 pub use laws::{no_fewer_runs, sound_files_lie_as_planned, sound_paths_are_mapped_as_planned};
-pub use path::{FileRuns, map_file};
+pub use mapped::FileRuns;
+pub use path::map_file;

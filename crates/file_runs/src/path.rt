@@ -9,18 +9,11 @@ ghost use Rattle.file_runs.specs.Mapped.{file_view, file_mapped};
 ghost use Rattle.file_runs.specs.Needed.{runs_needed};
 
 use crate::file::runs_of;
+use crate::mapped::FileRuns;
 use disk_trait::Disks;
 use minix_tree::{TreeFault, is_file, lookup};
 use minix_zones::Volume;
-use slot_lists::RunList;
 use std::alloc::Global;
-
-/// A file as a map lists it: how many bytes it has, and where its sectors lie.
-#[derive(Drop)]
-pub struct FileRuns {
-    pub size: u32,
-    pub runs: RunList,
-}
 
 /// The regular file that a path leads to.
 ///

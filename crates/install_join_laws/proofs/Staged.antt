@@ -34,7 +34,7 @@ use Rattle.install_apart_laws.proofs.Surveyed.{surveyed_apart_law}
 use Rattle.install_laws.specs.Headline.{Means}
 use Rattle.install_laws.specs.InstallVerdict.{Begun}
 use Rattle.install_order.specs.Begins.{AreOwn, IsBegun}
-use Rattle.install_order.specs.Stageable.{HasSizes, MayStage, path_made}
+use Rattle.install_order.specs.Stageable.{MayStage, path_made}
 use Rattle.install_order.specs.States.{IsStagedFor, StagesFrom, is_forced}
 use Rattle.install_order.specs.declared.planned.Planned.{Planned}
 use Rattle.install_order.specs.declared.staged.Staged.{Staged}
@@ -164,7 +164,7 @@ module _ {D : Type 0} {disks : Ghosts D} (entry : Volume D disks) (config : conf
   accepted : IsAccepted Is M View S C surveyed.time Places
   accepted =
       forth (λ v b c t. IsAccepted Is M v (span_view b) (config_view c) t Places)
-      (may.accepted (subst (λ (v : model.Volume). HasSizes v Is) (sym (plan-view-same entry config boot time surveyed is planned has)) lies.sizes))
+      may.accepted
 
   free : AreFree View Is (room_zones planned.room)
   free = forth (λ v b c t. AreFree v Is (room_zones planned.room)) may.free

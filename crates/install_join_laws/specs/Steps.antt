@@ -18,7 +18,7 @@ use Rattle.install_order.specs.Answers.{IsFor, IsKnown, Leaves, Promises, Settle
 use Rattle.install_order.specs.Begins.{LiesThere}
 use Rattle.install_order.specs.Checks.{GivesExamined}
 use Rattle.install_order.specs.Plans.{AreSurveyed, IsPlannedFor, Surveys}
-use Rattle.install_order.specs.Stageable.{GivesStage, HasSizes, IsReady}
+use Rattle.install_order.specs.Stageable.{GivesStage, IsReady}
 use Rattle.install_order.specs.States.{IsStagedFor}
 use Rattle.install_order.specs.View.{begun_of}
 use Rattle.install_order.specs.declared.planned.Planned.{Planned}
@@ -69,10 +69,9 @@ pub record HasStaged {D : Type 0} {disks : Ghosts D} (planned : Planned D disks)
 -- ---- the disks
 
 -- At the entry each image that a stop may leave has 512 bytes in each sector that is there, and the boot device lies where the caller
--- found it. Once names are settled the devices lie where they lay, and the size of each inode has 32 bits.
+-- found it. Once names are settled the devices lie where they lay.
 pub record LiesOnDisks {D : Type 0} {disks : Ghosts D} (entry : Volume D disks) (surveyed : Surveyed D disks) : Type 0 where
   pub whole : IsWhole (sizes_of entry) (past_of entry)
   pub there : LiesThere (now (past_of entry)) (machine_on entry) (begun_from entry surveyed)
   pub devices : KeepsDevices (now (past_of entry)) (now (past_of surveyed.volume)) (machine_on entry) (config_view surveyed.config)
       (device_view surveyed.device)
-  pub sizes : HasSizes (volume_view entry) (now (past_of surveyed.volume))

@@ -14,13 +14,15 @@ use Rattle.lilo_model.specs.MinixEntries.{is_dots}
 use Rattle.lilo_model.specs.MinixNames.{IsSound}
 use Rattle.lilo_model.specs.MinixParts.{Parts, Volume, parts_of, is_directory}
 use Rattle.lilo_model.specs.NamePlaces.{with_tilde}
+use Rattle.lilo_model.specs.Plan.{Plan}
 use Rattle.lilo_model.specs.PlanRefusal.{plan_at}
 use Rattle.lilo_model.specs.Planned.{planned}
 use Rattle.lilo_model.specs.Settled as model
 use Rattle.lilo_conf.specs.View.{config_view}
 use Rattle.lilo_conf.specs.declared.config.Config as configs
-use Rattle.map_laws.specs.Accepted.{HasVolume, IsAccepted, IsInside}
+use Rattle.map_laws.specs.Accepted.{AreSmall, HasVolume, IsAccepted, IsInside}
 use Rattle.map_sectors.specs.Map.{plan_view}
+use Rattle.map_sectors.proofs.SmallLemmas.{plan_small}
 use Rattle.minix_bits.proofs.BitmapLemmas.{fits}
 use Rattle.minix_create.specs.Chosen.{Suits, new_inode}
 use Rattle.minix_create.specs.Several.{IsHeldIn}
@@ -51,7 +53,7 @@ use Rattle.install_stage.specs.Stages.{MayStageRoom}
 use Rattle.install_stage_laws.specs.Staged.{AreFree}
 use Rattle.install_order.specs.Answers.{IsKnown, begun_in}
 use Rattle.install_order.specs.Plans.{ArePlaced, AreSurveyed, IsBackupPlaced, IsPlanned, IsPlannedFor}
-use Rattle.install_order.specs.Stageable.{AreWhole, HasFiles, HasSizes, IsReady, IsWishedRoom, LieWhereSound, MayStage, MayStageNow, MayTakeMap, path_made, room_zones, wish_for}
+use Rattle.install_order.specs.Stageable.{AreWhole, HasFiles, IsReady, IsWishedRoom, LieWhereSound, MayStage, MayStageNow, MayTakeMap, path_made, room_zones, wish_for}
 use Rattle.install_order.specs.declared.planned.Planned.{Planned}
 use Rattle.install_order.specs.declared.surveyed.Surveyed.{Surveyed}
 use Rattle.install_order.proofs.BeginLemmas.{backup-apart, value-is}
@@ -245,8 +247,8 @@ module _ {D : Type 0} {disks : Ghosts D} (s : Surveyed D disks) (planned' : Plan
         (subst (λ (c : configs.Config). IsPlanAt (volume_view s.volume) s.boot c planned'.time) (sym held.config_is)
         (subst (IsPlanAt (volume_view s.volume) s.boot s.config) (sym held.time_is) at)))
 
-    accepted : HasSizes View Is → IsAccepted Is On View (span_view planned'.boot) (config_view planned'.plan.config) planned'.time (places_view planned'.room)
-    accepted sizes =
+    accepted : IsAccepted Is On View (span_view planned'.boot) (config_view planned'.plan.config) planned'.time (places_view planned'.room)
+    accepted =
         let v = planned'.volume in
         let zones = fits (super_view v.layout) v.span.count v.whole.passes in
         let first = zones.below in
@@ -256,7 +258,7 @@ module _ {D : Type 0} {disks : Ghosts D} (s : Surveyed D disks) (planned' : Plan
           lawful = subst (λ (c : configs.Config). IsLawful (config_view c)) (sym held.config_is) known.lawful;
           has = volume-there;
           devices = device_inside Is On;
-          sizes = sizes;
+          small = subst (λ (plan : Plan). AllByRecursion AreSmall plan.sections) planned-is (plan_small planned'.plan);
           time_fits = rw held.time_is small;
           plan = plan-at;
           inside = subst (AllByRecursion (IsInside On)) (sym wished.lies) places-on;

@@ -143,10 +143,6 @@ pub record MayTakeMap (super : Super) (parts : Parts) (path : List (List ℕ)) (
   pub named : is_dots own.name ≡ false
   pub former : IfSome (reached super parts path) (λ former. is_file (parts.node former) ≡ true)
 
--- the size of each inode has 32 bits, as it has where each byte is one
-abbrev pub HasSizes : Volume → Image → Type 0
-HasSizes volume image = (number : ℕ) → ((parts_of volume image).node number).size < 2 ^ 32
-
 -- In an image a plan may be staged, for names that are replaced and places that a boot of the map that was there may look at.
 pub record MayStage {D : Type 0} {disks : Ghosts D} (image : Image) (machine : Machine) (names : model.OwnNames) (places : List DiskSector)
     (plan : Planned D disks) : Type 0 where
@@ -156,8 +152,7 @@ pub record MayStage {D : Type 0} {disks : Ghosts D} (image : Image) (machine : M
   -- the plan is that of the image, and its checks accepted the map's places
   pub plan_is : plan_view plan.plan ≡ planned image machine (volume_view plan.volume) (config_view plan.plan.config) plan.time
   pub lies : MayLieAt machine plan.plan plan.room.places.items
-  pub accepted : HasSizes (volume_view plan.volume) image
-      → IsAccepted image machine (volume_view plan.volume) (span_view plan.boot) (config_view plan.plan.config) plan.time (places_view plan.room)
+  pub accepted : IsAccepted image machine (volume_view plan.volume) (span_view plan.boot) (config_view plan.plan.config) plan.time (places_view plan.room)
   -- each chosen zone is a data zone that isn't marked, and has none of the places
   pub free : AreFree (volume_view plan.volume) image (room_zones plan.room)
   pub avoids : AreAvoided (volume_view plan.volume) (room_zones plan.room) places

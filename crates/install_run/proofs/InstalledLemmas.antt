@@ -42,7 +42,6 @@ use Rattle.install_laws.specs.InstallVerdict.{Answer, Begun, InstallRefusal, ans
 use Rattle.install_laws.specs.Stopped.{BootsAsEither, StaysAsBefore}
 use Rattle.install_order.specs.Begins.{AreOwn, LiesThere}
 use Rattle.install_order.specs.Faults.{HasInstallCause, IsStopped, Refuses}
-use Rattle.install_order.specs.Stageable.{HasSizes}
 use Rattle.install_order.specs.States.{HaltsCommit, IsCommitted, TidiesFrom}
 use Rattle.install_order.specs.View.{begun_of}
 use Rattle.install_order.specs.declared.committed.Committed.{Committed}
@@ -70,7 +69,7 @@ use Rattle.install_join_laws.proofs.KeptInstalled.{commit_keeps_law, committed_b
 use Rattle.install_join_laws.proofs.LaidInstalled.{committed_lays_law}
 use Rattle.install_join_laws.proofs.Prepared.{staging_stops_law}
 use Rattle.install_run.specs.Answers.{AnswersInstall, Answered, GivesInstall, LostEarly, LostLater, Starved, IsDiskFault, IsSettledFrom, is_install_status, settled_answer}
-use Rattle.install_run.specs.Keeps.{HasInstalled, IsBefore, IsDone, IsFirm, KeepsMost, KeepsWith}
+use Rattle.install_run.specs.Keeps.{DevicesLieOutside, HasInstalled, IsBefore, IsDone, KeepsMost, KeepsWith}
 use Rattle.install_run.specs.Installs.{IsInstalled, Installs, InstallsBegun, LaysAsPlanned, Leaves, NoVolume, VolumeLost, meant_by}
 use Rattle.install_run.specs.Steps.{Finishes, FinishedEarly, FinishedWhole, HaltedCommit, HaltedStaging, HaltedTidying, IsHalted, IsPrepared, StaysBegun}
 use Rattle.install_run.proofs.CarriedLemmas.{tidies_some}
@@ -143,9 +142,9 @@ refused_leaves machine begun settled time entry ended status early stays keeps u
   };
   settles = λ at. absurd (none at);
   before = λ is. stays;
-  at_commit = λ nine firm. absurd (early.not_committing nine);
-  done = λ done firm. absurd (early.not_done done);
-  lays = λ done firm. absurd (early.not_done done);
+  at_commit = λ nine outside. absurd (early.not_committing nine);
+  done = λ done outside. absurd (early.not_done done);
+  lays = λ done outside. absurd (early.not_done done);
 }
   where
     none : (status ≡ 9) ⊎ IsDone status → ⊥
@@ -206,19 +205,18 @@ module _ {D : Type 0} {disks : Ghosts D} (entry : Volume D disks) (config : conf
       ∙ ap (λ (t : ℕ). plans.planned Settled-image (machine_on entry) From.volume From.config t) is.held.time_is
 
   module _ (there : LiesThere (now (past_of entry)) (machine_on entry) From) where
-    lies : IsFirm (now (past_of entry)) (machine_on entry) From Settled-image → LiesOnDisks entry S
-    lies firm = record {
+    lies : DevicesLieOutside (now (past_of entry)) (machine_on entry) From → LiesOnDisks entry S
+    lies outside = record {
       whole = whole;
       there = there;
-      devices = firm.devices (now (past_of S.volume)) (λ d s apart. (not_written_stays (past_of entry) (past_of S.volume) d s ((leaves entry config boot time S is).outside told d s apart)).0);
-      sizes = subst (HasSizes (volume_view entry)) same-settled firm.sizes;
+      devices = outside (now (past_of S.volume)) (λ d s apart. (not_written_stays (past_of entry) (past_of S.volume) d s ((leaves entry config boot time S is).outside told d s apart)).0);
     }
 
-    module _ (staged : Staged D disks) (stages : HasStaged planned staged) (firm : IsFirm (now (past_of entry)) (machine_on entry) From Settled-image) where
+    module _ (staged : Staged D disks) (stages : HasStaged planned staged) (outside : DevicesLieOutside (now (past_of entry)) (machine_on entry) From) where
       committing : (halt : Halt D disks) → HaltsCommit staged halt
           → (place : DiskSector) × BootsAsEither (machine_on entry) From.volume From.span place (meant_by (machine_on entry) From Settled-image) (past_of entry) (past_of halt.volume)
       committing halt halts =
-          let first = installation_commit_ends_law disks entry config boot time S planned staged halt is prepared.has (lies firm) stages halts in (
+          let first = installation_commit_ends_law disks entry config boot time S planned staged halt is prepared.has (lies outside) stages halts in (
             first.place,
             subst (λ m. BootsAsEither (machine_on entry) From.volume From.span first.place m (past_of entry) (past_of halt.volume)) meant-same first.is,
           )
@@ -227,7 +225,7 @@ module _ {D : Type 0} {disks : Ghosts D} (entry : Volume D disks) (config : conf
           → (path : List (List ℕ)) × Tidies committed.volume new path committed.map.tilde.directory result
           → (place : DiskSector) × IsInstalled (machine_on entry) From place Settled-image (past_of entry) (past_of new)
       installing new committed result commits tidies =
-          let first = installation_law disks entry new config boot time S planned staged committed tidies.0 committed.map.tilde.directory result is prepared.has (lies firm) stages commits tidies.1 in
+          let first = installation_law disks entry new config boot time S planned staged committed tidies.0 committed.map.tilde.directory result is prepared.has (lies outside) stages commits tidies.1 in
           let boots : BootsAsEither (machine_on entry) From.volume From.span first.place (meant_from entry S) (past_of entry) (past_of new) =
           record { any_moment = first.is.any_moment; boot_or_meant = first.is.boot_or_meant } in (
             first.place,
@@ -243,7 +241,7 @@ module _ {D : Type 0} {disks : Ghosts D} (entry : Volume D disks) (config : conf
       committing-keeps : (halt : Halt D disks) → HaltsCommit staged halt → (names : settles.OwnNames) → AreOwn (now (past_of entry)) From names → Kept names (past_of halt.volume)
       committing-keeps halt halts names own = record {
         bytes = map_of entry planned;
-        each = commit_keeps_law disks entry config boot time S planned staged halt names is prepared.has (lies firm) own stages halts;
+        each = commit_keeps_law disks entry config boot time S planned staged halt names is prepared.has (lies outside) own stages halts;
       }
 
       module _ (new : Volume D disks) (committed : Committed D disks) (result : Result (Unit {0}) WriteFault) (commits : IsCommitted staged committed) (tidies : TidiesFrom committed new result)
@@ -251,26 +249,26 @@ module _ {D : Type 0} {disks : Ghosts D} (entry : Volume D disks) (config : conf
         installing-keeps : Kept names (past_of new)
         installing-keeps = record {
           bytes = map_of entry planned;
-          each = installation_keeps_law disks entry new config boot time S planned staged committed names result is prepared.has (lies firm) own stages commits tidies;
+          each = installation_keeps_law disks entry new config boot time S planned staged committed names result is prepared.has (lies outside) own stages commits tidies;
         }
 
         installing-backup : (c : Image) → MayLeave (past_of new) c → HasBackup (now (past_of entry)) From names c
         installing-backup c left =
             end_of_run_law (HasBackup (now (past_of entry)) From names) (past_of committed.volume) (past_of new)
-            (committed_backup_law disks entry new config boot time S planned staged committed names result is prepared.has (lies firm) own stages commits tidies) c left
+            (committed_backup_law disks entry new config boot time S planned staged committed names result is prepared.has (lies outside) own stages commits tidies) c left
 
         installing-lays : (c : Image) → MayLeave (past_of new) c → LaysAsPlanned (machine_on entry) From Settled-image time names (past_of entry) c
         installing-lays c left =
             subst (λ (plan : Plan). Lays c (machine_on entry) From.volume From.span plan names.map (now (past_of entry) From.span.disk From.span.start)) plan-same
             (end_of_run_law (λ c. Lays c (machine_on entry) From.volume From.span (planned_on entry S) names.map (now (past_of entry) From.span.disk From.span.start))
             (past_of committed.volume) (past_of new)
-            (committed_lays_law disks entry new config boot time S planned staged committed names result is prepared.has (lies firm) own stages commits tidies) c left)
+            (committed_lays_law disks entry new config boot time S planned staged committed names result is prepared.has (lies outside) own stages commits tidies) c left)
 
       has-installed : (new : Volume D disks) (committed : Committed D disks) → IsCommitted staged committed → TidiesFrom committed new (Ok tt) → IsQuiet (past_of new)
           → (names : settles.OwnNames) → AreOwn (now (past_of entry)) From names → HasInstalled From names (past_of entry) (past_of new)
       has-installed new committed commits tidies still names own = record {
         bytes = map_of entry planned;
-        each = installed_law disks entry new config boot time S planned staged committed names is prepared.has (lies firm) own stages commits tidies still;
+        each = installed_law disks entry new config boot time S planned staged committed names is prepared.has (lies outside) own stages commits tidies still;
       }
 
     module _ (tie : IsSettledFrom (now (past_of entry)) (machine_on entry) From Settled-image) where
@@ -292,15 +290,15 @@ module _ {D : Type 0} {disks : Ghosts D} (entry : Volume D disks) (config : conf
             keeps = λ names own. record {
               before = λ early. absurd (early.not_committing nine);
               unstaged = λ early. absurd (early.not_committing nine);
-              later = λ at firm. committing-keeps staged stages firm halt halts names own;
+              later = λ at outside. committing-keeps staged stages outside halt halts names own;
               backup = λ done. absurd (none nine done);
               installed = λ zero. absurd (none nine (inl zero));
             };
             settles = λ at. tie;
             before = λ early. absurd (early.not_committing nine);
-            at_commit = λ at firm. committing staged stages firm halt halts;
-            done = λ done firm. absurd (none nine done);
-            lays = λ done firm. absurd (none nine done);
+            at_commit = λ at outside. committing staged stages outside halt halts;
+            done = λ done outside. absurd (none nine done);
+            lays = λ done outside. absurd (none nine done);
           }
         where
           none : status ≡ 9 → IsDone status → ⊥
@@ -312,15 +310,15 @@ module _ {D : Type 0} {disks : Ghosts D} (entry : Volume D disks) (config : conf
             keeps = λ names own. record {
               before = λ early. absurd (early.not_done (inr ten));
               unstaged = λ early. absurd (early.not_done (inr ten));
-              later = λ at firm. installing-keeps staged stages firm halt.volume committed (Err halts.fault) commits halts.tidies names own;
-              backup = λ done firm. installing-backup staged stages firm halt.volume committed (Err halts.fault) commits halts.tidies names own;
+              later = λ at outside. installing-keeps staged stages outside halt.volume committed (Err halts.fault) commits halts.tidies names own;
+              backup = λ done outside. installing-backup staged stages outside halt.volume committed (Err halts.fault) commits halts.tidies names own;
               installed = λ zero. absurd (omega (arith, ten, zero));
             };
             settles = λ at. tie;
             before = λ early. absurd (early.not_done (inr ten));
-            at_commit = λ nine firm. absurd (omega (arith, ten, nine));
-            done = λ done firm. installing staged stages firm halt.volume committed (Err halts.fault) commits (tidies_some committed may halt.volume (Err halts.fault) halts.tidies);
-            lays = λ done firm names own. installing-lays staged stages firm halt.volume committed (Err halts.fault) commits halts.tidies names own;
+            at_commit = λ nine outside. absurd (omega (arith, ten, nine));
+            done = λ done outside. installing staged stages outside halt.volume committed (Err halts.fault) commits (tidies_some committed may halt.volume (Err halts.fault) halts.tidies);
+            lays = λ done outside names own. installing-lays staged stages outside halt.volume committed (Err halts.fault) commits halts.tidies names own;
           }
 
       finished-leaves : (status : ℕ) (ended : Option Past) (old new : SinkState) → Finishes planned status ended old new
@@ -331,16 +329,16 @@ module _ {D : Type 0} {disks : Ghosts D} (entry : Volume D disks) (config : conf
             keeps = λ names own. record {
               before = λ early. absurd (early.not_done (inl zero));
               unstaged = λ early. absurd (early.not_done (inl zero));
-              later = λ at firm. installing-keeps carried.staged carried.stages firm tidied.volume carried.committed (Ok tt) carried.commits carried.tidies names own;
-              backup = λ done firm. installing-backup carried.staged carried.stages firm tidied.volume carried.committed (Ok tt) carried.commits carried.tidies names own;
-              installed = λ at firm. has-installed carried.staged carried.stages firm tidied.volume carried.committed carried.commits carried.tidies carried.quiet names own;
+              later = λ at outside. installing-keeps carried.staged carried.stages outside tidied.volume carried.committed (Ok tt) carried.commits carried.tidies names own;
+              backup = λ done outside. installing-backup carried.staged carried.stages outside tidied.volume carried.committed (Ok tt) carried.commits carried.tidies names own;
+              installed = λ at outside. has-installed carried.staged carried.stages outside tidied.volume carried.committed carried.commits carried.tidies carried.quiet names own;
             };
             settles = λ at. tie;
             before = λ early. absurd (early.not_done (inl zero));
-            at_commit = λ nine firm. absurd (omega (arith, zero, nine));
-            done = λ done firm. installing carried.staged carried.stages firm tidied.volume carried.committed (Ok tt) carried.commits
+            at_commit = λ nine outside. absurd (omega (arith, zero, nine));
+            done = λ done outside. installing carried.staged carried.stages outside tidied.volume carried.committed (Ok tt) carried.commits
                 (tidies_some carried.committed carried.may tidied.volume (Ok tt) carried.tidies);
-            lays = λ done firm names own. installing-lays carried.staged carried.stages firm tidied.volume carried.committed (Ok tt) carried.commits carried.tidies names own;
+            lays = λ done outside names own. installing-lays carried.staged carried.stages outside tidied.volume carried.committed (Ok tt) carried.commits carried.tidies names own;
           })
       finished-leaves status ended old new (FinishedEarly halt halted past device status-is said) =
           subst (λ (p : Option Past). Leaves (machine_on entry) From Settled-image time (past_of entry) p status) past

@@ -25,7 +25,7 @@ use Rattle.install_laws.specs.Stopped.{BootsAsEither, StaysAsBefore}
 use Rattle.install_order.specs.Begins.{AreOwn, LiesThere}
 use Rattle.install_preview.specs.Previews.{AnswersVerdict}
 use Rattle.install_run.specs.Answers.{AnswersInstall, IsSettledFrom, lost_line}
-pub use Rattle.install_run.specs.Keeps.{IsBefore, IsDone, IsFirm}
+pub use Rattle.install_run.specs.Keeps.{DevicesLieOutside, IsBefore, IsDone}
 use Rattle.install_run.specs.Keeps.{KeepsNames}
 
 -- ---- what is left
@@ -49,14 +49,14 @@ LaysAsPlanned machine begun settled time names entry c =
 -- commit, what boots as before; of one that failed in it, the same of the two; and of what is done, the headline, and a map that lies as
 -- planned. What it keeps of names.
 pub record Leaves (machine : Machine) (begun : Begun) (settled : Image) (time : ℕ) (entry ended : Option Past) (status : ℕ) : Type 0 where
-  pub keeps : (names : settles.OwnNames) → AreOwn (now entry) begun names → KeepsNames machine begun settled names entry ended status
-  pub lays : IsDone status → IsFirm (now entry) machine begun settled → (names : settles.OwnNames) → AreOwn (now entry) begun names
+  pub keeps : (names : settles.OwnNames) → AreOwn (now entry) begun names → KeepsNames machine begun names entry ended status
+  pub lays : IsDone status → DevicesLieOutside (now entry) machine begun → (names : settles.OwnNames) → AreOwn (now entry) begun names
       → (c : Image) → MayLeave ended c → LaysAsPlanned machine begun settled time names entry c
   pub settles : (status ≡ 9) ⊎ IsDone status → IsSettledFrom (now entry) machine begun settled
   pub before : IsBefore status → StaysAsBefore machine begun.volume begun.span entry ended
-  pub at_commit : status ≡ 9 → IsFirm (now entry) machine begun settled
+  pub at_commit : status ≡ 9 → DevicesLieOutside (now entry) machine begun
       → (place : DiskSector) × BootsAsEither machine begun.volume begun.span place (meant_by machine begun settled) entry ended
-  pub done : IsDone status → IsFirm (now entry) machine begun settled → (place : DiskSector) × IsInstalled machine begun place settled entry ended
+  pub done : IsDone status → DevicesLieOutside (now entry) machine begun → (place : DiskSector) × IsInstalled machine begun place settled entry ended
 
 -- ---- the whole
 

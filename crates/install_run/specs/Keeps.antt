@@ -10,7 +10,6 @@ use Rattle.install_apart_laws.specs.Plans.{AllPassBy}
 use Rattle.install_laws.specs.InstallVerdict.{Begun}
 use Rattle.install_laws.specs.Writes.{IsApartSector}
 use Rattle.install_order.specs.Begins.{AreOwn}
-use Rattle.install_order.specs.Stageable.{HasSizes}
 use Rattle.install_join_laws.specs.Kept.{HasBackup, IsInstalled, Keeps, KeepsUnstaged}
 
 -- ---- what it rests on
@@ -26,11 +25,6 @@ DevicesLieOutside image machine begun =
 pub record IsSteady (image : Image) (machine : Machine) (begun : Begun) : Type 0 where
   pub devices : DevicesLieOutside image machine begun
   pub paths : (names : model.OwnNames) → AreOwn image begun names → AllPassBy (names_in begun.volume image) names begun.config
-
--- devices lie so at the entry, and once names are settled the size of each inode has 32 bits, as it has where each byte is one
-pub record IsFirm (image : Image) (machine : Machine) (begun : Begun) (settled : Image) : Type 0 where
-  pub devices : DevicesLieOutside image machine begun
-  pub sizes : HasSizes begun.volume settled
 
 -- ---- the exit status
 
@@ -60,9 +54,9 @@ pub record HasInstalled (begun : Begun) (names : model.OwnNames) (entry ended : 
 
 -- By the status: sound and Held where it was, with the others as before, and the map and the backup as before, or whole; as before but for
 -- settling where it was refused and no disk failed; once it is done the backup, and after 0 the map too.
-pub record KeepsNames (machine : Machine) (begun : Begun) (settled : Image) (names : model.OwnNames) (entry ended : Option Past) (status : ℕ) : Type 0 where
+pub record KeepsNames (machine : Machine) (begun : Begun) (names : model.OwnNames) (entry ended : Option Past) (status : ℕ) : Type 0 where
   pub before : IsBefore status → KeepsMost machine begun names entry ended ⊎ KeepsWith machine begun names entry ended
   pub unstaged : IsBefore status → status ≢ 8 → KeepsMost machine begun names entry ended
-  pub later : (status ≡ 9) ⊎ IsDone status → IsFirm (now entry) machine begun settled → KeepsWith machine begun names entry ended
-  pub backup : IsDone status → IsFirm (now entry) machine begun settled → (c : Image) → MayLeave ended c → HasBackup (now entry) begun names c
-  pub installed : status ≡ 0 → IsFirm (now entry) machine begun settled → HasInstalled begun names entry ended
+  pub later : (status ≡ 9) ⊎ IsDone status → DevicesLieOutside (now entry) machine begun → KeepsWith machine begun names entry ended
+  pub backup : IsDone status → DevicesLieOutside (now entry) machine begun → (c : Image) → MayLeave ended c → HasBackup (now entry) begun names c
+  pub installed : status ≡ 0 → DevicesLieOutside (now entry) machine begun → HasInstalled begun names entry ended

@@ -264,14 +264,14 @@ module _ {D : Type 0} (g : Ghosts D) (old new : D) where
             before = λ is. inl (keeps_same found.machine begun names same quiet);
             unstaged = λ is other. keeps_same found.machine begun names same quiet;
             later = λ is. absurd (⊎_elim (not_nine own early) (not_done own early) is);
-            backup = λ is firm. absurd (not_done own early is);
-            installed = λ zero firm. absurd (not_done own early (inl zero));
+            backup = λ is outside. absurd (not_done own early is);
+            installed = λ zero outside. absurd (not_done own early (inl zero));
           };
           settles = λ is. absurd (⊎_elim (not_nine own early) (not_done own early) is);
           before = λ is. stays_same found.machine begun.volume begun.span same quiet;
-          at_commit = λ nine firm. absurd (not_nine own early nine);
-          done = λ is firm. absurd (not_done own early is);
-          lays = λ is firm. absurd (not_done own early is);
+          at_commit = λ nine outside. absurd (not_nine own early nine);
+          done = λ is outside. absurd (not_done own early is);
+          lays = λ is outside. absurd (not_done own early is);
         };
   }
 

@@ -18,7 +18,7 @@ use Rattle.lilo_model.specs.Planned.{sector_in_zone, inode_places, mapped_inode,
 use Rattle.lilo_model.specs.PlanRefusal.{each_passes, if_there, place_check, mapped_file_check, own_places_check, slots_limit}
 use Rattle.map_laws.specs.Lies.{IsNamed, AreNamed, IsNone, FileLies, OptionalLies}
 use Rattle.map_laws.specs.Files.{IsKept, AreKept}
-use Rattle.map_laws.specs.Accepted.{IsInside, HasVolume, HasZeros, PlacesLaw, IsOptionalLeft, AcceptedFileLaw, AcceptedOptionalLaw}
+use Rattle.map_laws.specs.Accepted.{IsSmall, IsInside, HasVolume, HasZeros, PlacesLaw, IsOptionalLeft, AcceptedFileLaw, AcceptedOptionalLaw}
 use Rattle.map_laws.proofs.Named.{named_again}
 use Rattle.map_laws.proofs.MeantFiles.{in-range, file_law, file-both, inode-named, length-content}
 
@@ -129,44 +129,46 @@ accepted_file_law before image machine volume config line_place zero_place optio
 
 -- ---- files that may be absent or empty
 
-module _ (before image : Image) (machine : Machine) (volume : Volume) (config : Config) (line_place zero_place : DiskSector) (option : Opt) (sound : IsSound volume before) (has : HasVolume machine volume) (z : HasZeros image machine config line_place zero_place)
-    (fit : (number : ℕ) → ((parts_of volume before).node number).size < 2 ^ 32) where
+module _ (before image : Image) (machine : Machine) (volume : Volume) (config : Config) (line_place zero_place : DiskSector) (option : Opt) (sound : IsSound volume before) (has : HasVolume machine volume) (z : HasZeros image machine config line_place zero_place) where
   abbrev check : Option MappedFile → Result (Unit {0}) Rattle.lilo_model.specs.PlanRefusal.PlanFault
   check file = if_there (mapped_file_check config machine option) file
 
   by-size : (number : ℕ) → Named volume.layout (parts_of volume before) number → is_file ((parts_of volume before).node number) ≡ true
       → (bytes : List ℕ) → content volume.layout (parts_of volume before) number ≡ bytes → (empty : Bool) → (((parts_of volume before).node number).size == 0) ≡ empty
+      → IfSome (if empty then None else Some (mapped_inode volume (parts_of volume before) number)) IsSmall
       → check (if empty then None else Some (mapped_inode volume (parts_of volume before) number)) ≡ Ok tt → IsOptionalLeft before image line_place (if empty then None else Some (mapped_inode volume (parts_of volume before) number))
       → OptionalLies image machine config line_place zero_place (if empty then None else Some (mapped_inode volume (parts_of volume before) number)) (some_bytes bytes)
-  by-size number named regular [] is true none accepted left = tt
-  by-size number named regular (byte ∷ bytes) is true none accepted left =
+  unfolding mapped_inode
+  by-size number named regular [] is true none small accepted left = tt
+  by-size number named regular (byte ∷ bytes) is true none small accepted left =
       let long : ((parts_of volume before).node number).size ≡ suc (length bytes) = sym (length-content volume before sound number named regular) ∙ ap length is in
       absurd (grind (arith, nat_tests, long))
-  by-size number named regular [] is false some accepted left =
+  by-size number named regular [] is false some small accepted left =
       let long : ((parts_of volume before).node number).size ≡ 0 = sym (length-content volume before sound number named regular) ∙ ap length is in
       absurd (grind (arith, nat_tests, long))
-  by-size number named regular (byte ∷ bytes) is false some accepted left =
+  by-size number named regular (byte ∷ bytes) is false some small accepted left =
       let more : 1 ≤ ((parts_of volume before).node number).size = grind (arith, nat_tests) in
       subst (FileLies image machine config line_place zero_place (mapped_inode volume (parts_of volume before) number)) is
-      (accepted_file_law before image machine volume config line_place zero_place option number sound has z named regular more (fit number) accepted left)
+      (accepted_file_law before image machine volume config line_place zero_place option number sound has z named regular more small accepted left)
 
   by-inode : (text : List ℕ) (inode : Option ℕ) → file_inode volume (parts_of volume before) text ≡ inode
+      → IfSome (option_and_then some_file (option_map (mapped_inode volume (parts_of volume before)) inode)) IsSmall
       → check (option_and_then some_file (option_map (mapped_inode volume (parts_of volume before)) inode)) ≡ Ok tt
       → IsOptionalLeft before image line_place (option_and_then some_file (option_map (mapped_inode volume (parts_of volume before)) inode))
       → OptionalLies image machine config line_place zero_place (option_and_then some_file (option_map (mapped_inode volume (parts_of volume before)) inode)) (option_and_then some_bytes (option_map (content volume.layout (parts_of volume before)) inode))
   unfolding mapped_inode
-  by-inode text None is accepted left = tt
-  by-inode text (Some number) is accepted left =
+  by-inode text None is small accepted left = tt
+  by-inode text (Some number) is small accepted left =
       let named = inode-named volume before sound text number is in
-      by-size number named.0 named.1 (content volume.layout (parts_of volume before) number) refl (((parts_of volume before).node number).size == 0) refl accepted left
+      by-size number named.0 named.1 (content volume.layout (parts_of volume before) number) refl (((parts_of volume before).node number).size == 0) refl small accepted left
 
-  pub optional-lies : (path : Option (List ℕ)) → check (optional_file volume (parts_of volume before) path) ≡ Ok tt → IsOptionalLeft before image line_place (optional_file volume (parts_of volume before) path)
+  pub optional-lies : (path : Option (List ℕ)) → IfSome (optional_file volume (parts_of volume before) path) IsSmall → check (optional_file volume (parts_of volume before) path) ≡ Ok tt → IsOptionalLeft before image line_place (optional_file volume (parts_of volume before) path)
       → OptionalLies image machine config line_place zero_place (optional_file volume (parts_of volume before) path) (filled_file (names_in volume before) path)
-  optional-lies None accepted left = tt
-  optional-lies (Some text) accepted left =
+  optional-lies None small accepted left = tt
+  optional-lies (Some text) small accepted left =
       subst (λ bytes. OptionalLies image machine config line_place zero_place (optional_file volume (parts_of volume before) (Some text)) (option_and_then some_bytes bytes)) (sym (file-both volume before sound text))
-      (by-inode text (file_inode volume (parts_of volume before) text) refl accepted left)
+      (by-inode text (file_inode volume (parts_of volume before) text) refl small accepted left)
 
 pub accepted_optional_law : AcceptedOptionalLaw
-accepted_optional_law before image machine volume config line_place zero_place option path sound has z fit accepted left =
-    optional-lies before image machine volume config line_place zero_place option sound has z fit path accepted left
+accepted_optional_law before image machine volume config line_place zero_place option path sound has z small accepted left =
+    optional-lies before image machine volume config line_place zero_place option sound has z path small accepted left

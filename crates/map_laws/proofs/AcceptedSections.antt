@@ -25,14 +25,13 @@ use Rattle.lilo_model.specs.PlanRefusal as plans
 use Rattle.lilo_model.specs.PlanRefusal.{PlanFault, each_passes, if_there, device_check, section_check, system_check, name_check, kernel_check, mapped_check, place_check, mapped_file_check, system_places_check, main_address_check, mapped_address_check}
 use Rattle.map_laws.specs.Lies.{FileLies, SystemLies, TargetLies}
 use Rattle.map_laws.specs.PlannedLies.{some_target, targets_for, FilesLie}
-use Rattle.map_laws.specs.Accepted.{IsInside, HasVolume, HasZeros, IsSystemLeft, IsSectionLeft}
+use Rattle.map_laws.specs.Accepted.{AreSmall, IsInside, HasVolume, HasZeros, IsSystemLeft, IsSectionLeft}
 use Rattle.map_again_laws.proofs.Parts.{part-after, part-prefix}
 use Rattle.map_laws.proofs.MeantFiles.{file-both, inode-named, length-content}
 use Rattle.map_laws.proofs.Accepted.{both-pass, told-ok, all-pass, place-named, accepted_file_law, optional-lies}
 use Rattle.map_laws.proofs.AcceptedKernels.{kernel-accepted}
 
 module _ (before image : Image) (machine : Machine) (volume : Volume) (span : Span) (config : Config) (line_place zero_place : DiskSector) (sound : IsSound volume before) (has : HasVolume machine volume) (z : HasZeros image machine config line_place zero_place)
-    (fit : (number : ℕ) → ((parts_of volume before).node number).size < 2 ^ 32)
     (devices : (device : Device) (found : Span) → IsDevice device → span_of before machine device ≡ Ok found → IsInside machine (record { disk = found.disk; sector = found.start }))
     (whole : (place : DiskSector) → IsInside machine place → length (bytes_at image place) ≡ 512) where
   -- what was checked of a section that is mapped, and what was left of it
@@ -40,6 +39,7 @@ module _ (before image : Image) (machine : Machine) (volume : Volume) (span : Sp
     address : mapped_address_check config machine mapped ≡ Ok tt
     held : mapped_check before volume span mapped ≡ Ok tt
     left : IsSectionLeft before image line_place mapped mapped.section.other
+    small : AreSmall mapped
 
   abbrev AreReady : List MappedSection → Type 0
   AreReady sections = AllByRecursion Ready sections
@@ -51,7 +51,7 @@ module _ (before image : Image) (machine : Machine) (volume : Volume) (span : Sp
       → (length (middle_text section) ≤ text_limit)
       × TargetLies image machine config line_place zero_place (record { section = section; main = mapped_inode volume (parts_of volume before) number; initrd = optional_file volume (parts_of volume before) section.initrd })
       (Kernel (content volume.layout (parts_of volume before) number) (filled_file (names_in volume before) section.initrd) (middle_text section) section.vga)
-  unfolding names_of_section
+  unfolding names_of_section mapped_inode
   kernel-lies section number is inode ready =
       let parts = parts_of volume before in
       let main = mapped_inode volume parts number in
@@ -73,8 +73,8 @@ module _ (before image : Image) (machine : Machine) (volume : Volume) (span : Sp
           is,
           refl,
           refl,
-          accepted_file_law before image machine volume config line_place zero_place options.Image number sound has z named.0 named.1 (omega (arith, some)) (fit number) main_is left.0,
-          optional-lies before image machine volume config line_place zero_place options.Initrd sound has z fit section.initrd address.2 left.1,
+          accepted_file_law before image machine volume config line_place zero_place options.Image number sound has z named.0 named.1 (omega (arith, some)) ready.small.0 main_is left.0,
+          optional-lies before image machine volume config line_place zero_place options.Initrd sound has z section.initrd ready.small.1 address.2 left.1,
         ),
       )
 
@@ -242,6 +242,6 @@ module _ (before image : Image) (machine : Machine) (volume : Volume) (span : Sp
       (λ rest. files-lie sections all.1 checks.1 rest)
 
   pub all-ready : (sections : List MappedSection) → AllByRecursion (λ mapped. mapped_address_check config machine mapped ≡ Ok tt) sections → AllByRecursion (λ mapped. mapped_check before volume span mapped ≡ Ok tt) sections
-      → AllByRecursion (λ (mapped : MappedSection). IsSectionLeft before image line_place mapped mapped.section.other) sections → AreReady sections
-  all-ready [] address held left = tt
-  all-ready (mapped ∷ sections) address held left = (record { address = address.0; held = held.0; left = left.0 }, all-ready sections address.1 held.1 left.1)
+      → AllByRecursion (λ (mapped : MappedSection). IsSectionLeft before image line_place mapped mapped.section.other) sections → AllByRecursion AreSmall sections → AreReady sections
+  all-ready [] address held left small = tt
+  all-ready (mapped ∷ sections) address held left small = (record { address = address.0; held = held.0; left = left.0; small = small.0 }, all-ready sections address.1 held.1 left.1 small.1)

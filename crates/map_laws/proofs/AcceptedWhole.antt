@@ -13,7 +13,7 @@ use Rattle.lilo_model.specs.Meant.{filled_file}
 use Rattle.lilo_model.specs.Plan.{MappedFile, MappedSection, plan_sectors, sectors_of_table}
 use Rattle.lilo_model.specs.Planned.{optional_file, mapped_section, devices_in, planned}
 use Rattle.lilo_model.specs.PlanRefusal.{NoImagesLeft, MessageTooLong, each_passes, if_there, file_check, section_check, default_check, left_check, file_checks, disk_check, message_limit, message_check, mapped_check, held_checks, mapped_file_check, mapped_address_check, address_checks, plan_at}
-use Rattle.map_laws.specs.Accepted.{HasZeros, AcceptedLiesLaw, AcceptedLiesLaw, AcceptedLaw}
+use Rattle.map_laws.specs.Accepted.{IsSmall, HasZeros, AcceptedLiesLaw, AcceptedLaw}
 use Rattle.map_laws.proofs.Accepted.{both-pass, required, all-pass, not-ok, places_law, optional-lies}
 use Rattle.map_laws.proofs.AcceptedSections.{files-lie, all-ready}
 use Rattle.map_laws.proofs.MeantFiles.{optional_file_law}
@@ -27,6 +27,13 @@ few (Some file) (Some bytes) same is =
     let long : file.size ≡ length bytes = ap (λ size. Rattle.std.specs.Prelude.unwrap_or size 0) same in
     let test = required (nat_le file.size message_limit) (MessageTooLong file.size) is in
     grind (arith, nat_tests, long, test)
+
+message-small : (file : Option MappedFile) → if_there message_check file ≡ Ok tt → IfSome file IsSmall
+message-small None is = tt
+message-small (Some file) is =
+    let test = required (nat_le file.size message_limit) (MessageTooLong file.size) is in
+    let most : file.size ≤ message_limit = grind (arith, nat_tests, test) in
+    omega (arith, most)
 
 some-left : (sections : List MappedSection) → left_check sections ≡ Ok tt → sections ≢ []
 some-left sections is none = not-ok NoImagesLeft tt (ap left_check (sym none) ∙ is)
@@ -54,7 +61,7 @@ accepted_lies_law before image machine volume span config time line p0 p1 p2 p3 
     let sent = both-pass (if_there (mapped_file_check config machine options.Message) message) (λ a. each_passes (mapped_address_check config machine) sections) tt addresses.1 in
     let named = places_law machine config (p0 ∷ (p1 ∷ (p2 ∷ (p3 ∷ (p4 ∷ rest))))) a.has.geometries a.inside a.own in
     let z : HasZeros image machine config p0 p4 = record { named = (named.1.1.1.1.0, tt); other = w.apart.1.1.1.0; zeros = w.lies.1.1.1.0 } in
-    let ready = all-ready before image machine volume span config p0 p4 sound a.has z a.sizes a.devices w.whole sections (all-pass (mapped_address_check config machine) sections sent.2) (all-pass (mapped_check before volume span) sections short.2) w.sections in
+    let ready = all-ready before image machine volume span config p0 p4 sound a.has z a.devices w.whole sections (all-pass (mapped_address_check config machine) sections sent.2) (all-pass (mapped_check before volume span) sections short.2) w.sections a.small in
     record {
       lawful = a.lawful;
       time_fits = a.time_fits;
@@ -66,8 +73,8 @@ accepted_lies_law before image machine volume span config time line p0 p1 p2 p3 
       apart = w.apart;
       left = some-left sections left.2;
       message_few = few message (filled_file (names_in volume before) config.message) (optional_file_law volume before config.message sound) short.1;
-      message = optional-lies before image machine volume config p0 p4 options.Message sound a.has z a.sizes config.message sent.1 w.message;
-      files = files-lie before image machine volume span config p0 p4 sound a.has z a.sizes a.devices w.whole config.sections (recursion_from_All _ config.sections a.lawful.sections)
+      message = optional-lies before image machine volume config p0 p4 options.Message sound a.has z config.message (message-small message short.1) sent.1 w.message;
+      files = files-lie before image machine volume span config p0 p4 sound a.has z a.devices w.whole config.sections (recursion_from_All _ config.sections a.lawful.sections)
           (all-pass (λ (section : ConfSection). section_check before machine volume section section.other) config.sections each.1) ready;
     }
 

@@ -1,5 +1,5 @@
 -- What the checks of a plan accept is what the law on planned maps asks of places and of files.
-use Rattle.std.specs.Prelude.{◌≡◌, ◌≢◌, ◌≤◌, ◌<◌, ℕ, ◌+◌, ◌*◌, ◌^◌, true, List, [], ◌∷◌, length, drop, Option, None, Some, Ok, replicate}
+use Rattle.std.specs.Prelude.{◌≡◌, ◌≢◌, ◌≤◌, ◌<◌, ℕ, ◌+◌, ◌*◌, ◌^◌, true, List, [], ◌∷◌, length, drop, Option, None, Some, IfSome, Ok, replicate}
 use Rattle.std.specs.List.{AllByRecursion}
 use Rattle.lilo_model.specs.Bytes.{part_of}
 use Rattle.lilo_model.specs.Disks.{Image, Machine, Span, DiskSector, IsGeometry, bytes_at}
@@ -49,6 +49,14 @@ abbrev pub IsOptionalLeft : Image → Image → DiskSector → Option MappedFile
 IsOptionalLeft before image line_place None = Unit {0}
 IsOptionalLeft before image line_place (Some file) = IsLeft before image line_place file
 
+-- the bytes of a file are counted in 32 bits, as an inode counts them
+abbrev pub IsSmall : MappedFile → Type 0
+IsSmall file = file.size < 2 ^ 32
+
+-- so are those of a section's files
+abbrev pub AreSmall : MappedSection → Type 0
+AreSmall mapped = IsSmall mapped.main × IfSome mapped.initrd IsSmall
+
 -- the zero sector of a map lies in an image: it has a slot, and isn't the default line's
 pub record HasZeros (image : Image) (machine : Machine) (config : Config) (line_place zero_place : DiskSector) : Type 0 where
   pub named : AreNamed machine (slot_to config.mode machine) (zero_place ∷ [])
@@ -72,7 +80,7 @@ abbrev pub AcceptedOptionalLaw : Type 0
 AcceptedOptionalLaw =
     (before image : Image) (machine : Machine) (volume : Volume) (config : Config) (line_place zero_place : DiskSector) (option : Opt) (path : Option (List ℕ))
     → IsSound volume before → HasVolume machine volume → HasZeros image machine config line_place zero_place
-    → ((number : ℕ) → ((parts_of volume before).node number).size < 2 ^ 32)
+    → IfSome (optional_file volume (parts_of volume before) path) IsSmall
     → if_there (mapped_file_check config machine option) (optional_file volume (parts_of volume before) path) ≡ Ok tt
     → IsOptionalLeft before image line_place (optional_file volume (parts_of volume before) path)
     → OptionalLies image machine config line_place zero_place (optional_file volume (parts_of volume before) path) (filled_file (names_in volume before) path)
@@ -104,7 +112,7 @@ pub record IsAccepted (before : Image) (machine : Machine) (volume : Volume) (sp
   pub has : HasVolume machine volume
   pub devices : (device : Device) (found : Span) → IsDevice device → span_of before machine device ≡ Ok found
       → IsInside machine (record { disk = found.disk; sector = found.start })
-  pub sizes : (number : ℕ) → ((parts_of volume before).node number).size < 2 ^ 32
+  pub small : AllByRecursion AreSmall (planned before machine volume config time).sections
   pub time_fits : time < 2 ^ 32
   pub plan : plan_at before machine volume span config time ≡ Ok (planned before machine volume config time)
   pub inside : AllByRecursion (IsInside machine) places

@@ -10,7 +10,7 @@ use Rattle.lilo_model.specs.Faults.{Rose}
 use Rattle.lilo_model.specs.BootSector.{is_bootable}
 use Rattle.lilo_model.specs.Checks.{◌>>=◌, require, with_fault}
 use Rattle.lilo_model.specs.Disks.{Image, Machine, Span, DiskSector, bytes_at}
-use Rattle.file_runs.specs.declared.path.FileRuns.{FileRuns}
+use Rattle.file_runs.specs.declared.mapped.FileRuns.{FileRuns}
 use Rattle.file_runs.specs.Mapped.{file_view}
 use Rattle.lilo_model.specs.Conf.{ConfSection}
 use Rattle.lilo_model.specs.ConfLawful.{IsOfKind, names_of_section}

@@ -12,7 +12,7 @@ use Rattle.lilo_model.specs.PlanRefusal.{PlanFault, Missing, path_fault, file_ch
 use Rattle.lilo_conf.specs.declared.section.Section.{Section}
 use Rattle.lilo_conf.specs.View.{section_view}
 use Rattle.slot_lists.specs.Runs.{IsRun, places_in}
-use Rattle.file_runs.specs.declared.path.FileRuns.{FileRuns}
+use Rattle.file_runs.specs.declared.mapped.FileRuns.{FileRuns}
 use Rattle.file_runs.specs.Mapped.{file_view}
 use Rattle.map_plan.specs.declared.file.KernelFiles.{KernelFiles}
 

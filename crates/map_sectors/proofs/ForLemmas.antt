@@ -22,7 +22,7 @@ use Rattle.lilo_model.specs.PlanRefusal.{each_passes, if_there, name_check, mess
 use Rattle.mbr_table.specs.View.{device_view}
 use Rattle.lilo_conf.specs.declared.section.Section.{Section}
 use Rattle.lilo_conf.specs.View.{config_view, section_view}
-use Rattle.file_runs.specs.declared.path.FileRuns.{FileRuns}
+use Rattle.file_runs.specs.declared.mapped.FileRuns.{FileRuns}
 use Rattle.file_runs.specs.Mapped.{file_view}
 use Rattle.map_laws.proofs.Accepted.{both-pass, required, told-ok, all-pass}
 use Rattle.map_laws.proofs.AcceptedKernels.{kernel-accepted}

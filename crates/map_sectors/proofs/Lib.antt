@@ -8,6 +8,7 @@ pub mod NeededLemmas
 pub mod OwnLemmas
 pub mod PlaceLemmas
 pub mod SectionLemmas
+pub mod SmallLemmas
 pub mod SlotLemmas
 pub mod SystemLemmas
 pub mod TableLemmas

@@ -5,7 +5,7 @@ use Rattle.std.specs.Coded.{×_prop, Π_prop, Unit-prop, le_prop}
 use Rattle.slot_lists.specs.declared.runs.Run.{Run}
 use Rattle.slot_lists.specs.declared.runs.Run.TheVariants.{Stretch, Hole}
 use Rattle.slot_lists.specs.Runs.{IsRun}
-use Rattle.file_runs.specs.declared.path.FileRuns.{FileRuns}
+use Rattle.file_runs.specs.declared.mapped.FileRuns.{FileRuns}
 use Rattle.map_plan.specs.declared.file.KernelFiles.{KernelFiles}
 use Rattle.map_plan.specs.declared.section.PlannedSection.{PlannedSection}
 use Rattle.map_plan.specs.declared.section.SectionFiles.{SectionFiles}

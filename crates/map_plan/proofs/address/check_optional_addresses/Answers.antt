@@ -3,7 +3,7 @@ use Rattle.std.specs.Option.{option_map}
 use Rattle.std.specs.Prelude.{IfSome}
 use Rattle.lilo_model.specs.PlanRefusal.{if_there, mapped_file_check}
 use Rattle.conf_settings.specs.View.{opt_view}
-use Rattle.file_runs.specs.declared.path.FileRuns.{FileRuns}
+use Rattle.file_runs.specs.declared.mapped.FileRuns.{FileRuns}
 use Rattle.file_runs.specs.Mapped.{file_view}
 use Rattle.map_plan.specs.Named.{LiesOnDisk}
 use Rattle.map_plan.specs.Sound.{machine_for}

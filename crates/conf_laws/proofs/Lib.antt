@@ -13,4 +13,5 @@ pub mod Lawful
 pub mod Sample
 pub mod First
 pub mod Reading
+pub mod OptionOrder
 pub mod Order

@@ -1,5 +1,6 @@
 // Refusals.
 use minix_tree::TreeFault;
+use minix_zones::ZoneFault;
 use std::alloc::AllocError;
 
 /// The first thing that is wrong with a volume.
@@ -34,5 +35,28 @@ impl From<AllocError> for SurveyFault {
 
     fn from(_: AllocError) -> SurveyFault {
         SurveyFault::Memory
+    }
+}
+
+impl From<TreeFault> for SurveyFault {
+    ghost use Rattle.std.specs.Prelude.{◌≡◌};
+    ghost use Rattle.minix_survey.specs.declared.survey_fault.SurveyFault.{SurveyFault};
+
+    ghost from_gives = { λ given fault. fault ≡ SurveyFault.Tree given };
+
+    fn from(fault: TreeFault) -> SurveyFault {
+        SurveyFault::Tree(fault)
+    }
+}
+
+impl From<ZoneFault> for SurveyFault {
+    ghost use Rattle.std.specs.Prelude.{◌≡◌};
+    ghost use Rattle.minix_survey.specs.declared.survey_fault.SurveyFault.{SurveyFault};
+    ghost use Rattle.minix_tree.specs.declared.tree_fault.TreeFault.TheVariants as trees;
+
+    ghost from_gives = { λ given fault. fault ≡ SurveyFault.Tree (trees.Zone given) };
+
+    fn from(fault: ZoneFault) -> SurveyFault {
+        SurveyFault::Tree(TreeFault::Zone(fault))
     }
 }

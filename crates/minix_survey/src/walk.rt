@@ -402,10 +402,7 @@ fn read_inode<D: Disks>(volume: &mut Volume<'_, D>, inode: u32) -> Result<Inode,
     ensures later { faults_of volume.old ≤ faults_of volume.new }
     ensures same { SameVolume volume.old volume.new }
 {
-    match stat_of(volume, inode) {
-        Ok(stat) => Ok(stat.node),
-        Err(fault) => Err(SurveyFault::Tree(fault)),
-    }
+    Ok(stat_of(volume, inode)?.node)
 }
 
 /// Reads a block of a directory.
@@ -424,10 +421,8 @@ fn read_block<D: Disks>(
     ensures later { faults_of volume.old ≤ faults_of volume.new }
     ensures same { SameVolume volume.old volume.new }
 {
-    match read_at(volume, node, index, into) {
-        Ok(()) => Ok(()),
-        Err(fault) => Err(SurveyFault::Tree(TreeFault::Zone(fault))),
-    }
+    read_at(volume, node, index, into)?;
+    Ok(())
 }
 
 /// The next zone of a walk.
@@ -447,8 +442,5 @@ fn next_zone<D: Disks>(
     ensures later { faults_of volume.old ≤ faults_of volume.new }
     ensures same { SameVolume volume.old volume.new }
 {
-    match walk.next_held(volume, held) {
-        Ok(visit) => Ok(visit),
-        Err(fault) => Err(SurveyFault::Tree(TreeFault::Zone(fault))),
-    }
+    Ok(walk.next_held(volume, held)?)
 }

@@ -19,7 +19,7 @@ ghost use Rattle.loader_core.specs.Kernel.{GivesHeader, GivesLayout};
 use bios_model::Ram;
 use boot_map::{Descriptor, flags};
 use disk_trait::Disks;
-use section_loader::{FileReader, Halt, Reason, load_bytes, place, read_cut};
+use section_loader::{FileReader, Halt, load_bytes, place, read_cut};
 use sector_parts::Sector;
 use setup_header::{Header, Layout, Region, patch, plan_memory};
 
@@ -47,10 +47,7 @@ fn read_header(first: &Sector, second: &Sector, length: u32) -> Result<Header, H
     ensures readable { IfOk result (λ header. IsHeaderFor header length) }
     ensures device { IsErrOf result Halt.Device → ⊥ }
 {
-    match Header::read(first, second, length) {
-        Ok(header) => Ok(header),
-        Err(fault) => Err(Halt::Refused(Reason::Header(fault))),
-    }
+    Ok(Header::read(first, second, length)?)
 }
 
 /// The length of an entry's initrd, if it has one.
@@ -80,10 +77,7 @@ fn plan(
     ensures apart { IfOk result AreApart }
     ensures device { IsErrOf result Halt.Device → ⊥ }
 {
-    match plan_memory(header, length, initrd, line, memory) {
-        Ok(layout) => Ok(layout),
-        Err(fault) => Err(Halt::Refused(Reason::Header(fault))),
-    }
+    Ok(plan_memory(header, length, initrd, line, memory)?)
 }
 
 /// Places a kernel of which the first two sectors are at hand and the others are read now: the real-mode part, and

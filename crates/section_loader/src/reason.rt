@@ -32,3 +32,15 @@ pub enum Halt {
     Device,
     Refused(Reason),
 }
+
+impl From<SetupFault> for Halt {
+    ghost use Rattle.std.specs.Prelude.{◌≡◌};
+    ghost use Rattle.section_loader.specs.declared.reason.Halt.TheVariants.{Refused};
+    ghost use Rattle.section_loader.specs.declared.reason.Reason.TheVariants as reasons;
+
+    ghost from_gives = { λ fault halt. halt ≡ Refused (reasons.Header fault) };
+
+    fn from(fault: SetupFault) -> Halt {
+        Halt::Refused(Reason::Header(fault))
+    }
+}

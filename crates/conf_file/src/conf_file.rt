@@ -13,14 +13,14 @@ ghost use Rattle.minix_layout.specs.View.{super_view};
 ghost use Rattle.minix_zones.specs.Volume.{volume_view, past_of, faults_of, SameVolume};
 ghost use Rattle.minix_search.specs.View.{HasRoom};
 ghost use Rattle.minix_tree.specs.File.{LeadsToFile};
-ghost use Rattle.conf_file.specs.View.{Gives, GivesText, HasCause, IsTreeFault, LeadsToFileOn, LeadsToConf};
+ghost use Rattle.conf_file.specs.View.{Gives, GivesText, HasCause, LeadsToFileOn, LeadsToConf};
 
 use crate::file_fault::FileFault;
 use conf_text::Text;
 use disk_trait::{Disks, Span};
 use mbr_table::Device;
 use minix_search::{VolumeFault, find_volume};
-use minix_tree::{TreeFault, read_file};
+use minix_tree::read_file;
 use minix_zones::{Volume, ZoneFault};
 use std::alloc::Global;
 
@@ -110,26 +110,5 @@ fn text_in<D: Disks>(
     ensures later { faults_of volume.old ≤ faults_of volume.new }
     ensures same { SameVolume volume.old volume.new }
 {
-    match read_file(alloc, volume, path) {
-        Ok(text) => Ok(text),
-        Err(fault) => Err(file_fault(&fault)),
-    }
-}
-
-// How a refusal of a path is reported.
-fn file_fault(fault: &TreeFault) -> FileFault
-    ensures told { IsTreeFault fault.now result }
-    ensures memory { result ≡ FileFault.Memory → fault.now ≡ TreeFault.Memory }
-{
-    match fault {
-        TreeFault::NotFound(_) => FileFault::Missing,
-        TreeFault::Zone(ZoneFault::Device) => FileFault::Device,
-        TreeFault::Zone(_) => FileFault::Layout,
-        TreeFault::Memory => FileFault::Memory,
-        TreeFault::NotDirectory(_)
-        | TreeFault::NotFile
-        | TreeFault::TooManyLinks
-        | TreeFault::BadEntry(_)
-        | TreeFault::PathTooLong => FileFault::BadPath,
-    }
+    Ok(read_file(alloc, volume, path)?)
 }

@@ -1,4 +1,6 @@
 use mbr_table::TableFault;
+use minix_tree::TreeFault;
+use minix_zones::ZoneFault;
 
 /// Why the file of a configuration can't be read.
 #[derive(Clone, Copy, Debug, PartialEq, Eq)]
@@ -17,4 +19,27 @@ pub enum FileFault {
     BadPath,
     /// There is no memory for the file.
     Memory,
+}
+
+impl From<TreeFault> for FileFault {
+    ghost use Rattle.std.specs.Prelude.{◌≡◌};
+    ghost use Rattle.minix_tree.specs.declared.tree_fault.TreeFault.TheVariants as trees;
+    ghost use Rattle.conf_file.specs.declared.file_fault.FileFault.TheVariants as faults;
+    ghost use Rattle.conf_file.specs.View.{IsTreeFault};
+
+    ghost from_gives = { λ fault told. IsTreeFault fault told × (told ≡ faults.Memory → fault ≡ trees.Memory) };
+
+    fn from(fault: TreeFault) -> FileFault {
+        match fault {
+            TreeFault::NotFound(_) => FileFault::Missing,
+            TreeFault::Zone(ZoneFault::Device) => FileFault::Device,
+            TreeFault::Zone(_) => FileFault::Layout,
+            TreeFault::Memory => FileFault::Memory,
+            TreeFault::NotDirectory(_)
+            | TreeFault::NotFile
+            | TreeFault::TooManyLinks
+            | TreeFault::BadEntry(_)
+            | TreeFault::PathTooLong => FileFault::BadPath,
+        }
+    }
 }

@@ -10,7 +10,7 @@ ghost use Rattle.sector_address.specs.Machine.{OnDisks};
 ghost use Rattle.boot_map.specs.View.{boot_view, table_view};
 ghost use Rattle.boot_map.specs.Ranges.{IsNamed, IsOneSector};
 ghost use Rattle.mbr_table.specs.View.{device_view};
-ghost use Rattle.lilo_run.specs.Run.{Gives, IsMapHalt, is_plain_status, DoesBeside};
+ghost use Rattle.lilo_run.specs.Run.{Gives, is_plain_status, DoesBeside};
 ghost use Rattle.lilo_model.specs.ConfVerdict.{place_at};
 ghost use Rattle.lilo_run.specs.Verdict.{early_at, query_effect};
 ghost use Rattle.bios_model.specs.Reads.{OnlyReads, ReadsAndShows};
@@ -80,10 +80,7 @@ fn read_boot<D: Disks>(disks: &mut D, span: &Span) -> Result<BootSector, Halt>
     if disks.read(span.disk, span.start, &mut sector).is_err() {
         return Err(Halt::Device);
     }
-    match BootSector::read(&sector) {
-        Ok(boot) => Ok(boot),
-        Err(fault) => Err(map_halt(fault)),
-    }
+    Ok(BootSector::read(&sector)?)
 }
 
 /// The names in the map of a boot sector, a line each.
@@ -98,10 +95,8 @@ fn read_names<D: Disks>(disks: &mut D, boot: &BootSector) -> Result<Listing, Hal
 {
     let mut sectors = [[0; 512]; 3];
     read_slots(disks, boot.table.as_slice(), &mut sectors)?;
-    match Table::read(boot, &sectors) {
-        Ok(table) => Ok(listing(boot.default_entry, &table)),
-        Err(fault) => Err(map_halt(fault)),
-    }
+    let table = Table::read(boot, &sectors)?;
+    Ok(listing(boot.default_entry, &table))
 }
 
 /// Reads the sectors of a table, in order.
@@ -119,14 +114,18 @@ fn read_slots<D: Disks>(disks: &mut D, slots: &[Slot], into: &mut [Sector]) -> R
     }
 }
 
-/// How `-q` reports what is wrong with a map.
-fn map_halt(fault: MapFault) -> Halt
-    ensures { IsMapHalt fault result }
-{
-    match fault {
-        MapFault::NotOurs | MapFault::BadVersion(_) => Halt::NotOurs,
-        MapFault::BadTable(entry) => Halt::Boot(Reason::BadTable(entry)),
-        MapFault::BadLine => Halt::Boot(Reason::BadLine),
+// How `-q` reports what is wrong with a map.
+impl From<MapFault> for Halt {
+    ghost use Rattle.lilo_run.specs.Run.{IsMapHalt};
+
+    ghost from_gives = { λ fault halt. IsMapHalt fault halt };
+
+    fn from(fault: MapFault) -> Halt {
+        match fault {
+            MapFault::NotOurs | MapFault::BadVersion(_) => Halt::NotOurs,
+            MapFault::BadTable(entry) => Halt::Boot(Reason::BadTable(entry)),
+            MapFault::BadLine => Halt::Boot(Reason::BadLine),
+        }
     }
 }
 

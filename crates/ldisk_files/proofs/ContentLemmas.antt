@@ -1,9 +1,9 @@
 -- The bytes of a file: from a source, and by blocks.
-use Rattle.std.proofs.Common.{All, ◌≡◌, ◌≢◌, ◌≤◌, ◌<◌, ◌+◌, ◌-◌, ◌*◌, ◌/◌, ◌++◌, ◌==◌, ℕ, zero, suc, Bool, true, false, List, [], ◌∷◌, length, take, drop, map, replicate, get_or, set, Option, Some, None, refl, sym, ◌∙◌, ap, subst, arith}
+use Rattle.std.proofs.Common.{All, ◌≡◌, ◌≢◌, ◌≤◌, ◌<◌, ◌+◌, ◌-◌, ◌*◌, ◌++◌, ⊎_elim, ℕ, zero, suc, Bool, true, false, List, [], ◌∷◌, length, take, drop, replicate, get_or, Option, Some, None, refl, sym, ◌∙◌, ap, subst, arith}
 use Rattle.std.specs.Prelude.{slice_set, if◌then◌else◌}
-use Rattle.std.specs.List.{range_with_len}
 use Rattle.std.proofs.Math.Seq.{take-add, take-append_seam}
-use Rattle.std.proofs.lemmas.List.{append_assoc, append-nil, take_all, take_rest, take-append-drop, length-append, length-drop, length-take-le, get_or-set_other}
+use Rattle.std.proofs.lemmas.Bool.{cases_eq}
+use Rattle.std.proofs.lemmas.List.{append_assoc, append-nil, take_all, take-append-drop, length-append, length-drop, length-take-le, get_or-set_other}
 use Rattle.std.proofs.lemmas.List.FromFn.{get_or-map-range_with_len}
 use Rattle.std.proofs.lemmas.List.Elements.{All-nil, All-push}
 use Rattle.std.proofs.lemmas.Slice.Eq.{bytes_eq-Decides}
@@ -46,6 +46,11 @@ module _ (taken : List ℕ) (left after : Option (List ℕ)) where
       omega (arith, long, many)
 
 -- ---- blocks
+
+set-none : (made : List Bool) (at : ℕ) → get_or (slice_set made at false) at false ≡ false
+set-none [] at = refl
+set-none (one ∷ made) zero = refl
+set-none (one ∷ made) (suc at) = set-none made at
 
 without-last : (holes : List ℕ) (hole : ℕ) (made : List Bool) → without_holes (holes ++ hole ∷ []) made ≡ slice_set (without_holes holes made) hole false
 without-last [] hole made = refl
@@ -127,6 +132,30 @@ module _ (bytes : List ℕ) where
           (λ same. let t : is_zero_block (stored_block bytes index) ≡ true = subst (λ (i : ℕ). is_zero_block (stored_block bytes i) ≡ true) (sym same) e in cc)
           ∙ before))
       by false e before = ap (λ (test : Bool). get_or (without_holes (More test) made) index false) e ∙ before
+
+  -- and one of them gets none
+  pub hole-made : (count index : ℕ) (made : List Bool) → index < count → is_zero_block (stored_block bytes index) ≡ true
+      → get_or (without_holes (zero_blocks bytes count) made) index false ≡ false
+  unfolding zero_blocks
+  hole-made zero index made low is = absurd (omega (arith, low))
+  hole-made (suc count) index made low is = by (is_zero_block (stored_block bytes count)) refl (λ (below : index < count). hole-made count index made below is)
+    where
+      More : Bool → List ℕ
+      More test = if test then zero_blocks bytes count ++ count ∷ [] else zero_blocks bytes count
+
+      by : (test : Bool) → is_zero_block (stored_block bytes count) ≡ test → (index < count → get_or (without_holes (zero_blocks bytes count) made) index false ≡ false)
+          → get_or (without_holes (zero_blocks bytes (suc count)) made) index false ≡ false
+      by true e before =
+          ap (λ (test : Bool). get_or (without_holes (More test) made) index false) e
+          ∙ (ap (λ (list : List Bool). get_or list index false) (without-last (zero_blocks bytes count) count made)
+          ∙ ⊎_elim
+          (λ (same : index ≡ count). ap (λ (i : ℕ). get_or (slice_set (without_holes (zero_blocks bytes count) made) count false) i false) same ∙ set-none (without_holes (zero_blocks bytes count) made) count)
+          (λ (apart : index ≢ count).
+          get_or-set_other (without_holes (zero_blocks bytes count) made) count index false false apart ∙ before (omega (arith, low, apart)))
+          (cases_eq index count))
+      by false e before =
+          let apart : index ≢ count = λ same. let t : is_zero_block (stored_block bytes count) ≡ true = subst (λ (i : ℕ). is_zero_block (stored_block bytes i) ≡ true) same is in cc in
+          ap (λ (test : Bool). get_or (without_holes (More test) made) index false) e ∙ before (omega (arith, low, apart))
 
   -- each is below the count
   pub holes-below : (count most : ℕ) → count ≤ most → All (λ hole. hole < most) (zero_blocks bytes count)

@@ -1,17 +1,24 @@
 -- The inode of what was made, from the creation up to the span.
-use Rattle.std.proofs.Common.{◌≡◌, ℕ, List, ◌∷◌, Result, Ok, refl, sym, ◌∙◌, ap, subst}
-use Rattle.std.specs.Prelude.{OnOk}
+use Rattle.std.proofs.Common.{◌≡◌, ◌≢◌, ◌≤◌, ◌<◌, ℕ, true, List, ◌∷◌, length, Result, Ok, refl, sym, ◌∙◌, ap, subst, arith}
+use Rattle.std.specs.Prelude.{OnOk, slice_index}
+use Rattle.std.proofs.lemmas.List.Elements.{All-get_or}
 use Rattle.disk_trait.specs.declared.disks.Disks.{Ghosts}
 use Rattle.disk_trait.specs.Calls.{SameOf}
 use Rattle.disk_trait.specs.Moments.{IsTold, now}
 use Rattle.disk_trait.specs.Past.{Image, Told}
 use Rattle.disk_trait.proofs.MomentLemmas.{told_now, on_ok}
 use Rattle.lilo_model.specs.Disks.{Span}
-use Rattle.lilo_model.specs.MinixLayout.{Inode}
+use Rattle.lilo_model.specs.MinixLayout.{Inode, reach}
 use Rattle.lilo_model.specs.MinixParts as model
-use Rattle.lilo_model.specs.MinixParts.{volume_at}
+use Rattle.lilo_model.specs.MinixParts.{Pointer, has_zones, parts_of, volume_at}
+use Rattle.lilo_model.specs.MinixNames.{Named, PointsTo, IsSound}
+use Rattle.minix_choice_laws.specs.Choice.{file_of}
+use Rattle.minix_fill_laws.proofs.Given.{given_length}
+use Rattle.minix_layout.specs.View.{kind_view}
+use Rattle.minix_zones.specs.View.{IsDataZone}
+use Rattle.minix_create.specs.Linked.{Creates}
 use Rattle.ldisk_model.specs.FileVerdict.{Making, NewDirectory, NewLink, NewFile}
-use Rattle.minix_create.specs.Chosen.{block_of, new_inode}
+use Rattle.minix_create.specs.Chosen.{Suits, block_of, new_inode}
 use Rattle.minix_create.specs.States.{CreatesOn}
 use Rattle.minix_create.specs.declared.chosen.Chosen.{Chosen}
 use Rattle.minix_zones.specs.Volume.{volume_view, past_of, SameVolume, Syncs}
@@ -19,10 +26,11 @@ use Rattle.minix_zones.specs.declared.volume.Volume.{Volume}
 use Rattle.minix_zones.specs.declared.zone_fault.ZoneFault.{ZoneFault}
 use Rattle.minix_zones.specs.declared.zone_fault.ZoneFault.TheVariants as zones
 use Rattle.minix_zones.proofs.SameLemmas.{same_view}
-use Rattle.ldisk_files.specs.Inode.{links_made, HasInode, HasInodeAt, MakesInode, MakesInodeAt, MakesInodeBy}
+use Rattle.ldisk_files.specs.Inode.{links_made, HasHoles, HasInode, HasInodeAt, MakesInode, MakesInodeAt, MakesInodeBy}
 use Rattle.ldisk_files.specs.Made.{MayMake, MayMakeAt, mode_made}
 use Rattle.ldisk_files.specs.declared.fault.FileFault.{FileFault}
 use Rattle.ldisk_files.proofs.FlushLemmas.{flushed-view}
+use Rattle.ldisk_files.proofs.HoleLemmas.{needed, gets-zone, hole-stays}
 use Rattle.ldisk_files.proofs.MakeLemmas.{told-mid, may-forth}
 
 links-by : (making : Making) (chosen : Chosen) → chosen.mode ≡ mode_made making → (new_inode chosen).links ≡ links_made making
@@ -30,9 +38,44 @@ links-by NewDirectory chosen mode = rw mode refl
 links-by (NewLink target) chosen mode = rw mode refl
 links-by (NewFile bytes) chosen mode = rw mode refl
 
+-- an inode of a file has zones
+zones-by : (inode : Inode) → inode.mode ≡ 33188 → has_zones inode ≡ true
+zones-by inode mode = rw mode refl
+
+-- a zone is pointed to once on a sound volume
+once-in : (volume : model.Volume) (image : Image) (number : ℕ) → IsSound volume image → Named volume.layout (parts_of volume image) number → (at there : Pointer) (zone : ℕ)
+    → PointsTo volume.layout (parts_of volume image) number at zone → PointsTo volume.layout (parts_of volume image) number there zone → at ≡ there
+unfolding IsSound
+once-in volume image number sound named at there zone one other = (sound.parts.once number number at there zone (record { named = named; to = one }) (record { named = named; to = other })).1
+
+-- its blocks of zeros take none
+holes-created : {D : Type 0} {disks : Ghosts D} (start new : Volume D disks) (outer : List (List ℕ)) (making : Making) (chosen : Chosen) (blocks : List (List ℕ))
+    → Suits start.layout start.span chosen → MayMake start outer making chosen blocks → Creates start new outer chosen (block_of blocks) (Ok tt) → IsTold (past_of start)
+    → HasHoles (volume_view start) (now (past_of new)) chosen.choice.inode making
+holes-created start new outer NewDirectory chosen blocks suits may one told = tt
+holes-created start new outer (NewLink target) chosen blocks suits may one told = tt
+holes-created start new outer (NewFile bytes) chosen blocks suits may one told = λ index low zero-block.
+    let view = volume_view start in
+    let image = now (past_of new) in
+    let kind = kind_view start.layout.kind in
+    let hole = may.holes index low zero-block in
+    let long : length chosen.choice.blocks ≡ length suits.made = ap length suits.file.blocks_are ∙ given_length suits.made chosen.choice.zones in
+    let short : length chosen.choice.blocks ≤ reach kind = may.free.file.few in
+    let are_some : (i : ℕ) → i < length chosen.choice.zones → slice_index chosen.choice.zones i ≢ 0 = λ i small.
+    let some = (All-get_or (IsDataZone start.layout) chosen.choice.zones i 0 small suits.are_data).some in omega (arith, some) in
+    let mode : ((parts_of view image).node chosen.choice.inode).mode ≡ 33188 = ap (λ (i : Inode). i.mode) (one.node told) ∙ may.mode in
+    hole-stays view.layout (parts_of view image) chosen.choice.inode (file_of chosen.choice) suits.made (omega (arith, long, short)) short
+    (needed kind suits.made chosen.choice suits.file are_some)
+    (gets-zone kind suits.made chosen.choice suits.file are_some)
+    (zones-by ((parts_of view image).node chosen.choice.inode) mode)
+    (once-in view image chosen.choice.inode (one.leads.done told).sound (record { path = chosen.name ∷ outer; leads = (one.leads.done told).tree.here }))
+    (one.lies told (zones-by (new_inode chosen) may.mode))
+    (one.made told).own
+    index (let there = hole.0 in omega (arith, there, short)) hole.1
+
 pub inode-created : {D : Type 0} {disks : Ghosts D} (start new : Volume D disks) (outer : List (List ℕ)) (making : Making) (chosen : Chosen) (blocks : List (List ℕ))
-    → (IsTold (past_of start) → MayMake start outer making chosen blocks) → CreatesOn start new chosen (block_of blocks) (Ok tt) → MakesInodeBy start new (chosen.name ∷ outer) making (Ok tt)
-inode-created start new outer making chosen blocks may creates told =
+    → Suits start.layout start.span chosen → (IsTold (past_of start) → MayMake start outer making chosen blocks) → CreatesOn start new chosen (block_of blocks) (Ok tt) → MakesInodeBy start new (chosen.name ∷ outer) making (Ok tt)
+inode-created start new outer making chosen blocks suits may creates told =
     let one = creates outer (may told).nests (λ t. (may t).links) in
     let node = one.node told in
     record {
@@ -40,6 +83,7 @@ inode-created start new outer making chosen blocks may creates told =
       leads = (one.leads.done told).tree.here;
       mode = ap (λ (i : Inode). i.mode) node ∙ (may told).mode;
       links = ap (λ (i : Inode). i.links) node ∙ links-by making chosen (may told).mode;
+      holes = holes-created start new outer making chosen blocks suits (may told) one told;
     }
 
 -- what was written before was made durable first

@@ -11,6 +11,7 @@ pub mod RoomLemmas
 pub mod MadeLemmas
 pub mod MakeLemmas
 pub mod NamedLemmas
+pub mod HoleLemmas
 pub mod InodeLemmas
 pub mod ContentLemmas
 pub mod StoredLemmas

@@ -29,7 +29,7 @@ use Rattle.minix_zones.specs.declared.volume.Volume.{Volume}
 use Rattle.write_model.specs.Places.{is_overlooked}
 use Rattle.ldisk_model.specs.FileVerdict as makings
 use Rattle.ldisk_model.specs.FileVerdict.{NewDirectory, NewLink, TooDeep, nothing_taken, checked_status, making_check, size_made, thing_made}
-use Rattle.ldisk_files.specs.Made.{IsNewPlace, IsShort, IsFirstBlock, MayMake, MayMakeSome, making_view, mode_made}
+use Rattle.ldisk_files.specs.Made.{IsNewPlace, IsShort, IsFirstBlock, KeepsHoles, MayMake, MayMakeSome, making_view, mode_made}
 use Rattle.ldisk_files.specs.declared.making.Making.{Making}
 use Rattle.ldisk_files.specs.declared.making.Making.TheVariants as declared
 use Rattle.ldisk_files.proofs.FlushLemmas.{flushed-view}
@@ -60,6 +60,7 @@ module _ {D : Type 0} {disks : Ghosts D} (old new : Volume D disks) (view : volu
       mode = may.mode;
       made = back (λ v i. MayBeMade v.layout.kind chosen (block_of given)) may.made;
       is = may.is;
+      holes = may.holes;
     }
 
 -- the same once what was written before is durable
@@ -97,6 +98,11 @@ promised-now volume outer place chosen sound new stat node in_it =
     }
 
 -- ---- its block
+
+-- only a file has holes
+pub no-holes-kept : (making : Making) (chosen : Chosen) → KeepsHoles (making_view making) chosen
+no-holes-kept declared.Directory chosen = tt
+no-holes-kept (declared.Link target) chosen = tt
 
 -- it is a size that a volume can have
 pub size-fits : (kind : Kind) (making : Making) → IsShort (making_view making) → is_size kind (size_made kind (making_view making)).bytes ≡ true

@@ -29,7 +29,7 @@ use Rattle.ldisk_files.specs.Answer.{Answers}
 use Rattle.ldisk_files.specs.Made.{Fits, GivesLength, GivesChoice, IsNewPlace, IsWishFor, IsFirstBlock, IsSoundNow, MayMake, MayMakeNamed, making_view, mode_made}
 use Rattle.ldisk_files.specs.declared.fault.FileFault.{FileFault}
 use Rattle.ldisk_files.specs.declared.making.Making.{Making}
-use Rattle.ldisk_files.proofs.MadeLemmas.{promised-now, nests-by, one-block, made-by, thing-by}
+use Rattle.ldisk_files.proofs.MadeLemmas.{promised-now, nests-by, no-holes-kept, one-block, made-by, thing-by}
 use Rattle.ldisk_files.proofs.MakeLemmas.{told-mid, sound-mid, place-mid, may-back}
 use Rattle.ldisk_files.proofs.RoomLemmas.{no-holes, room-refused, room-passes, room-short}
 
@@ -79,6 +79,7 @@ module _ {D : Type 0} {disks : Ghosts D} (old last : Volume D disks) (same : Sam
         mode = mode-is;
         made = made-by (kind_view last.layout.kind) making chosen block some is.wish_is.short mode-is long-is first;
         is = thing-by (kind_view last.layout.kind) making chosen block some is.wish_is.short mode-is long-is first;
+        holes = no-holes-kept making chosen;
       } in
       record {
         named = is.made.name ∙ is.wish_is.name;

@@ -1,5 +1,5 @@
 -- What a source gives, and what may be stored of it.
-use Rattle.std.proofs.Common.{◌≡◌, ◌≢◌, ◌≤◌, ◌<◌, ◌+◌, ◌==◌, ℕ, zero, suc, Bool, true, false, List, [], ◌∷◌, ◌++◌, length, take, get_or, replicate, Option, Some, None, Result, Ok, Err, refl, sym, ◌∙◌, ap, subst, inl, arith}
+use Rattle.std.proofs.Common.{◌≡◌, ◌≢◌, ◌≤◌, ◌<◌, ◌==◌, ℕ, zero, suc, Bool, true, false, List, [], ◌∷◌, ◌++◌, length, take, get_or, replicate, Option, Some, None, Result, Ok, Err, refl, sym, ◌∙◌, ap, subst, inl, arith}
 use Rattle.std.specs.Prelude.{slice_index, nat_le, IfOk}
 use Rattle.std.proofs.lemmas.Bool.{eqb-true, le-leb, lt-leb}
 use Rattle.std.proofs.lemmas.List.{get_or-replicate}
@@ -16,10 +16,10 @@ use Rattle.lilo_model.specs.MinixParts as model
 use Rattle.lilo_model.specs.MinixParts.{parts_of, blocks_for, is_directory}
 use Rattle.lilo_model.specs.MinixSurvey.{survey}
 use Rattle.minix_bits.proofs.BitmapLemmas.{fits}
-use Rattle.minix_choice_laws.proofs.Choose.{choice_law}
+use Rattle.minix_choice_laws.proofs.Choose.{choice_law, blocks_length}
 use Rattle.minix_create.specs.Chosen.{IsMade, Suits, IsFreeWhereSound, LinksWhereSound, MayBeMade, MayNest, block_of, block_with, content_with, new_inode, thing_with}
 use Rattle.minix_create.specs.declared.chosen.Chosen.{Chosen}
-use Rattle.minix_fill_laws.proofs.Given.{given_at, given_length, count_before}
+use Rattle.minix_fill_laws.proofs.Given.{given_at, given_hole, given_length, count_before}
 use Rattle.minix_fill_laws.specs.Sources.{FileZones}
 use Rattle.minix_layout.specs.View.{kind_view, super_view, inode_view}
 use Rattle.minix_layout.specs.declared.superblock.Super as layouts
@@ -27,22 +27,22 @@ use Rattle.minix_names.specs.declared.place.NamePlace.{NamePlace}
 use Rattle.minix_tree.specs.View.{IsStat, IsNode}
 use Rattle.minix_write.specs.View.{wish_view}
 use Rattle.minix_write.specs.declared.wish.Wish.{Wish}
-use Rattle.minix_zones.specs.Volume.{volume_view, past_of, faults_of, SameVolume}
+use Rattle.minix_zones.specs.Volume.{volume_view, past_of, SameVolume}
 use Rattle.minix_zones.specs.declared.volume.Volume.{Volume}
 use Rattle.minix_zones.proofs.SameLemmas.{told_back, told_forth}
 use Rattle.write_model.specs.Choice.{Choice, choose, choose_blocks, file_need}
 use Rattle.write_model.specs.FileZones.{count_made, data_blocks, without_holes}
 use Rattle.write_model.specs.Wish.{Refusal}
-use Rattle.ldisk_model.specs.FileVerdict.{FileRefusal, NewFile, NotSound, NoSpace, most_stored, stored_block, is_zero_block, zero_blocks, nothing_taken, checked_status, thing_made, making_check, sound_check, new_check, room_check, made_check}
-use Rattle.ldisk_files.specs.Answer.{Answers, HasFileCause, IsSurveyed}
-use Rattle.ldisk_files.specs.Made.{GivesNew, GivesChoice, IsNewPlace, IsSoundNow, MayMake, MayMakeNamed, MayMakeAt}
-use Rattle.ldisk_files.specs.Stored.{padded_block, padded_blocks, IsGiven, OnGiven, IsReadFault, IsFileWish, IsFreeAt, GivesFree, GivesRoom, TakesRoom, GivesStored, TakesStored, IsStorable, IsUnread, file_fault}
+use Rattle.ldisk_model.specs.FileVerdict.{FileRefusal, NewFile, NotSound, NoSpace, most_stored, stored_block, is_zero_block, zero_blocks, nothing_taken, checked_status, thing_made, making_check, new_check, room_check, made_check}
+use Rattle.ldisk_files.specs.Answer.{Answers, IsSurveyed}
+use Rattle.ldisk_files.specs.Made.{GivesNew, GivesChoice, IsNewPlace, IsSoundNow, KeepsHoles, MayMake, MayMakeNamed, MayMakeAt}
+use Rattle.ldisk_files.specs.Stored.{padded_block, padded_blocks, IsGiven, OnGiven, IsReadFault, IsFileWish, GivesFree, GivesRoom, TakesRoom, GivesStored, TakesStored, IsStorable, IsUnread, file_fault}
 use Rattle.ldisk_files.specs.declared.fault.FileFault.{FileFault}
 use Rattle.ldisk_files.specs.declared.fault.FileFault.TheVariants as faults
 use Rattle.ldisk_files.specs.declared.put_fault.PutFault.{PutFault}
 use Rattle.ldisk_files.specs.declared.put_fault.PutFault.TheVariants.{Source, File as OfFile}
 use Rattle.ldisk_files.specs.declared.stored.Stored.{Stored}
-use Rattle.ldisk_files.proofs.ContentLemmas.{whole-file, block-there, hole-zeros, kept-made}
+use Rattle.ldisk_files.proofs.ContentLemmas.{whole-file, block-there, hole-zeros, kept-made, hole-made}
 use Rattle.ldisk_files.proofs.MadeLemmas.{promised-now}
 use Rattle.ldisk_files.proofs.MakeLemmas.{told-mid, sound-mid, place-mid, may-back, may-at, new-place, new-answers}
 use Rattle.ldisk_files.proofs.NameLemmas.{after-survey, answers-surveyed}
@@ -149,6 +149,18 @@ module _ (volume : model.Volume) (image : Image) (place : NamePlace) (bytes : Li
           ∙ get_or-replicate (blocks_for (length bytes)) index true false low) in
           absurd (some-zone index one none)
 
+  -- and a block of zeros gets none
+  pub holes-kept : KeepsHoles (NewFile bytes) chosen
+  unfolding choose
+  holes-kept index low zero-block =
+      let free = choice_law volume.layout (parts_of volume image) nothing_taken (wish_view wish) chosen.choice first choice in
+      let hole : get_or Made index false ≡ false = ap (λ (list : List Bool). get_or list index false) made-is
+      ∙ hole-made bytes (blocks_for (length bytes)) index (replicate (blocks_for (length bytes)) true) low zero-block in
+      let long : length chosen.choice.blocks ≡ length Made = ap (λ (zones : FileZones). length zones.blocks) free.file ∙ given_length Made chosen.choice.zones in
+      let many : length Made ≡ blocks_for wish.length = blocks_length wish.length wish.holes.now in
+      let same : blocks_for wish.length ≡ blocks_for (length bytes) = ap blocks_for is.long in
+      (omega (arith, low, long, many, same), ap (λ (zones : FileZones). slice_index zones.blocks index) free.file ∙ given_hole Made chosen.choice.zones index hole)
+
 -- ---- it may be made
 
 -- what is known of the choice on a volume once it was made
@@ -184,6 +196,7 @@ module _ {D : Type 0} {disks : Ghosts D} (old last : Volume D disks) (same : Sam
         made = file-may (kind_view last.layout.kind) chosen bytes mode;
         is = file-is (kind_view last.layout.kind) chosen bytes mode (is.made.size ∙ is.wish_is.long)
             (holes-zero (volume_view last) (now (past_of last)) place bytes wish is.wish_is chosen first choice);
+        holes = holes-kept (volume_view last) (now (past_of last)) place bytes wish is.wish_is chosen first choice;
       } in
       record {
         named = is.made.name ∙ is.wish_is.name;

@@ -6,12 +6,11 @@ use Rattle.disk_trait.specs.declared.disks.Disks.{Ghosts}
 use Rattle.disk_trait.specs.declared.disks.Span as declared
 use Rattle.disk_trait.specs.Calls.{SameOf}
 use Rattle.disk_trait.specs.Moments.{IsTold, IsQuiet}
-use Rattle.disk_trait.specs.Past.{Image, Past, Told}
+use Rattle.disk_trait.specs.Past.{Past, Told}
 use Rattle.disk_trait.proofs.ToldLemmas.{told_all, told_map, told_both}
 use Rattle.lilo_model.specs.Disks.{Span}
 use Rattle.lilo_model.specs.Faults.{Rose}
 use Rattle.lilo_model.specs.MinixNames.{File}
-use Rattle.lilo_model.specs.MinixParts as model
 use Rattle.lilo_model.specs.MinixParts.{volume_at, blocks_for}
 use Rattle.minix_create.proofs.StateLemmas.{next_is}
 use Rattle.minix_create.specs.Chosen.{Suits, block_of}
@@ -23,12 +22,12 @@ use Rattle.minix_zones.specs.Volume.{volume_view, past_of, faults_of, SameVolume
 use Rattle.minix_zones.specs.declared.volume.Volume.{Volume}
 use Rattle.minix_zones.specs.declared.zone_fault.ZoneFault.{ZoneFault}
 use Rattle.minix_zones.specs.declared.zone_fault.ZoneFault.TheVariants as zones
-use Rattle.ldisk_model.specs.FileVerdict.{Making, NewFile, FileRefusal, checked_status, thing_made, volume_check, sound_check, new_check, made_check}
-use Rattle.ldisk_files.specs.Answer.{Answers, HasFileCause, zone_fault}
+use Rattle.ldisk_model.specs.FileVerdict.{Making, NewFile, checked_status, thing_made, sound_check, new_check, made_check}
+use Rattle.ldisk_files.specs.Answer.{HasFileCause, zone_fault}
 use Rattle.ldisk_files.specs.Inode.{MakesInodeBy}
 use Rattle.ldisk_files.specs.Left.{ChangesName}
 use Rattle.ldisk_files.specs.Made.{MayMake, MayMakeSome, MayMakeAt}
-use Rattle.ldisk_files.specs.Stored.{padded_block, padded_blocks, IsGiven, OnGiven, HasDiskCause, GivesStored, IsStorable, IsUnread, IsUnreadAt, StoresOn, Stores, file_fault, file_answer}
+use Rattle.ldisk_files.specs.Stored.{padded_block, padded_blocks, IsGiven, OnGiven, HasDiskCause, GivesStored, IsStorable, IsUnread, IsUnreadAt, StoresOn, Stores, file_fault}
 use Rattle.ldisk_files.specs.declared.fault.FileFault.{FileFault}
 use Rattle.ldisk_files.specs.declared.put_fault.PutFault.{PutFault}
 use Rattle.ldisk_files.specs.declared.stored.Stored.{Stored}

@@ -1,13 +1,13 @@
--- The inode of what is made at a path: its mode, and how many links it has. A path is a list of components, the last one
--- first.
-use Rattle.std.specs.Prelude.{◌≡◌, ℕ, List, Some, Result, Ok, OnOk}
+-- The inode of what is made at a path: its mode, how many links it has, and the holes of a file. A path is a list of
+-- components, the last one first.
+use Rattle.std.specs.Prelude.{◌≡◌, ◌<◌, ℕ, true, List, length, Some, Result, Ok, OnOk}
 use Rattle.disk_trait.specs.declared.disks.Disks.{Ghosts}
 use Rattle.disk_trait.specs.Moments.{IsTold, now}
 use Rattle.lilo_model.specs.Disks.{Image, Span}
-use Rattle.lilo_model.specs.MinixNames.{reached, names_in}
-use Rattle.lilo_model.specs.MinixParts.{Volume, parts_of, volume_at}
+use Rattle.lilo_model.specs.MinixNames.{reached, names_in, zone_number}
+use Rattle.lilo_model.specs.MinixParts.{Volume, parts_of, volume_at, blocks_for}
 use Rattle.lilo_model.specs.NamePlaces.{name_path}
-use Rattle.ldisk_model.specs.FileVerdict.{Making, NewDirectory, NewLink, NewFile}
+use Rattle.ldisk_model.specs.FileVerdict.{Making, NewDirectory, NewLink, NewFile, is_zero_block, stored_block}
 use Rattle.minix_zones.specs.Volume.{volume_view, past_of}
 use Rattle.minix_zones.specs.declared.volume.Volume as held
 use Rattle.ldisk_files.specs.Made.{mode_made}
@@ -19,12 +19,21 @@ links_made NewDirectory = 2
 links_made (NewLink target) = 1
 links_made (NewFile bytes) = 1
 
--- in an image a path leads to an inode with the mode and the links of what is made
+-- in an image each block of a file that is 1024 zero bytes takes no zone
+abbrev pub HasHoles : Volume → Image → ℕ → Making → Type 0
+HasHoles volume image number NewDirectory = Unit {0}
+HasHoles volume image number (NewLink target) = Unit {0}
+HasHoles volume image number (NewFile bytes) =
+    (index : ℕ) → index < blocks_for (length bytes) → is_zero_block (stored_block bytes index) ≡ true
+    → zone_number volume.layout (parts_of volume image) number index ≡ 0
+
+-- in an image a path leads to an inode with the mode, the links and the holes of what is made
 pub record HasInode (volume : Volume) (image : Image) (path : List (List ℕ)) (making : Making) : Type 0 where
   pub number : ℕ
   pub leads : reached volume.layout (parts_of volume image) path ≡ Some number
   pub mode : ((parts_of volume image).node number).mode ≡ mode_made making
   pub links : ((parts_of volume image).node number).links ≡ links_made making
+  pub holes : HasHoles volume image number making
 
 -- so does the path that a text had in another image
 pub record HasInodeAt (volume : Volume) (old : Image) (text : List ℕ) (making : Making) (image : Image) : Type 0 where

@@ -1,6 +1,6 @@
 -- What is checked and chosen for something new (a rule of this project's own). A path is a list of components, the last
 -- one first.
-use Rattle.std.specs.Prelude.{◌≡◌, ◌≤◌, ◌-◌, ℕ, Bool, nat_le, List, [], ◌∷◌, ◌++◌, length, replicate, None, Result, Ok, Err}
+use Rattle.std.specs.Prelude.{◌≡◌, ◌≤◌, ◌<◌, ◌-◌, ℕ, Bool, true, nat_le, List, [], ◌∷◌, ◌++◌, length, replicate, slice_index, None, Result, Ok, Err}
 use Rattle.disk_trait.specs.declared.disks.Disks.{Ghosts}
 use Rattle.disk_trait.specs.declared.disks.Span.{Span}
 use Rattle.disk_trait.specs.Moments.{now}
@@ -9,11 +9,11 @@ use Rattle.lilo_model.specs.Disks.{Image}
 use Rattle.lilo_model.specs.MinixLayout.{Kind}
 use Rattle.lilo_model.specs.MinixNames.{reached, names_in, IsSound}
 use Rattle.lilo_model.specs.MinixParts as model
-use Rattle.lilo_model.specs.MinixParts.{parts_of}
+use Rattle.lilo_model.specs.MinixParts.{parts_of, blocks_for}
 use Rattle.lilo_model.specs.NamePlaces.{name_path, plain_path}
 use Rattle.ldisk_model.specs.FileVerdict as makings
 use Rattle.ldisk_model.specs.FileVerdict.{NewDirectory, NewLink, NewFile, NoSpace, new_check, making_check, checked_status, size_made, nothing_taken}
-use Rattle.ldisk_model.specs.FileVerdict.{thing_made}
+use Rattle.ldisk_model.specs.FileVerdict.{thing_made, is_zero_block, stored_block}
 use Rattle.minix_create.specs.Chosen.{Suits, HasDots, IsFreeNow, MayLinkNow, MayNest, MayBeMade, block_of, thing_with}
 use Rattle.minix_create.specs.declared.chosen.Chosen.{Chosen}
 use Rattle.minix_layout.specs.View.{kind_view}
@@ -124,6 +124,14 @@ pub record IsReady (layout : layouts.Super) (span : Span) (ready : Ready) : Type
 abbrev pub IsSoundNow : {D : Type 0} {disks : Ghosts D} → Volume D disks → Type 0
 IsSoundNow volume = IsSound (volume_view volume) (now (past_of volume))
 
+-- each block of a file that is 1024 zero bytes is a hole of what was chosen
+abbrev pub KeepsHoles : makings.Making → Chosen → Type 0
+KeepsHoles NewDirectory chosen = Unit {0}
+KeepsHoles (NewLink target) chosen = Unit {0}
+KeepsHoles (NewFile bytes) chosen =
+    (index : ℕ) → index < blocks_for (length bytes) → is_zero_block (stored_block bytes index) ≡ true
+    → (index < length chosen.choice.blocks) × (slice_index chosen.choice.blocks index ≡ 0)
+
 -- on a volume it may be made now of these blocks, in the directory that a path leads to
 pub record MayMake {D : Type 0} {disks : Ghosts D} (volume : Volume D disks) (outer : List (List ℕ)) (making : makings.Making) (chosen : Chosen)
     (blocks : List (List ℕ)) : Type 0 where
@@ -133,6 +141,7 @@ pub record MayMake {D : Type 0} {disks : Ghosts D} (volume : Volume D disks) (ou
   pub mode : chosen.mode ≡ mode_made making
   pub made : MayBeMade (kind_view volume.layout.kind) chosen (block_of blocks)
   pub is : thing_with chosen (block_of blocks) ≡ thing_made making
+  pub holes : KeepsHoles making chosen
 
 -- something may be made somewhere
 pub record MayMakeSome {D : Type 0} {disks : Ghosts D} (volume : Volume D disks) (chosen : Chosen) (blocks : List (List ℕ)) : Type 0 where

@@ -1,6 +1,5 @@
 -- A command on a device, and the whole call.
-use Rattle.std.proofs.Common.{◌≡◌, ◌≤◌, ◌==◌, ◌&&◌, ◌∙◌, ◌⊎◌, if◌then◌else◌, ℕ, inl, inr, Bool, true, false, List, [], ◌++◌, Option, Ok, Err, refl, sym, ap, subst, arith}
-use Rattle.lilo_model.specs.Faults.{Rose}
+use Rattle.std.proofs.Common.{◌≡◌, ◌==◌, ◌&&◌, ◌∙◌, ◌⊎◌, if◌then◌else◌, ℕ, inl, inr, Bool, true, false, List, [], ◌++◌, Option, Ok, Err, refl, sym, ap, subst}
 use Rattle.stream_trait.specs.Sink.{Takes, TakesFront}
 use Rattle.stream_trait.specs.Shows.{SinkState, Shows, Prints, answer_of}
 use Rattle.stream_trait.proofs.SinkLemmas.{TakesFront-whole, TakesFront-before}

@@ -30,7 +30,7 @@ use Rattle.ldisk_files.specs.Left.{HasSoundVolume, IsNamed, IsEither, LeavesName
 use Rattle.ldisk_files.specs.declared.fault.FileFault.{FileFault}
 use Rattle.ldisk_files.specs.declared.fault.FileFault.TheVariants as faults
 use Rattle.std.proofs.lemmas.Bool.{eq-eqb, leb-false, ltb-false}
-use Rattle.ldisk_run.specs.Left.{AnswersAs, HasSoundOn, HasVolumeOf, IsAfter, IsAfterChange, IsChanged, IsChanging, LeavesBy, LeavesChanging, is_refusal}
+use Rattle.ldisk_run.specs.Left.{AnswersAs, HasSoundOn, HasInodeOf, HasVolumeOf, IsAfter, IsAfterChange, IsChanged, IsChanging, LeavesBy, LeavesChanging, is_refusal}
 use Rattle.ldisk_run.specs.Made.{file_status}
 use Rattle.ldisk_run.specs.Run.{Halts, HasCause, is_command_status, status_of}
 use Rattle.ldisk_run.specs.declared.halt.Halt.{Halt}
@@ -208,6 +208,14 @@ module _ (given : List ℕ) (command : Command) (change : NameChange) (check : V
 -- ---- a name was changed
 
 module _ (result : Result (Unit {0}) FileFault) where
+  -- where a name goes, no inode is made
+  pub nothing_made : OnOk result (Unit {0})
+  nothing_made = by result
+    where
+      by : (r : Result (Unit {0}) FileFault) → OnOk r (Unit {0})
+      by (Ok done) = tt
+      by (Err fault) = tt
+
   zero-of : {P : Type 0} → OnOk result P → file_status result ≡ 0 → P
   zero-of {P} ok is = by result ok is
     where
@@ -245,7 +253,8 @@ module _ (given : List ℕ) (command : Command) (change : NameChange) (check : V
     {D : Type 0} (disks : Ghosts D) (old mid new : D) (same : SameOf disks old mid) (later : disks.faults old ≤ disks.faults mid)
     (span : declared.Span) (result : Result (Unit {0}) FileFault)
     (room : Told (disks.past old) (λ now. room_of now (machine_of disks old) change.device ≡ Ok (span_view span)))
-    (leaves : LeavesNames disks mid new (span_view span) change.path change.what result) where
+    (leaves : LeavesNames disks mid new (span_view span) change.path change.what result)
+    (makes : IsTold (disks.past mid) → OnOk result (HasInodeOf (span_view span) (now (disks.past mid)) change.path change.what (now (disks.past new)))) where
   abbrev I : Image
   I = now (disks.past old)
 
@@ -266,6 +275,7 @@ module _ (given : List ℕ) (command : Command) (change : NameChange) (check : V
     span = span_view span;
     room = room-now told;
     named = subst (λ (i : Image). IsNamed (span_view span) i change.path change.what (now (disks.past new))) now-mid (zero-of result (leaves.done (told-mid told)) is);
+    inode = subst (λ (i : Image). HasInodeOf (span_view span) i change.path change.what (now (disks.past new))) now-mid (zero-of result (makes (told-mid told)) is);
   }
 
   moment : IsTold (disks.past old) → IsQuiet (disks.past old) → HasSoundOn I M change.device → LeavesOnly (disks.past old) (disks.past new) (IsChanging I M change)

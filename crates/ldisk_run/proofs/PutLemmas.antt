@@ -1,5 +1,5 @@
 -- `put`: its status, what it leaves, and when the source is asked.
-use Rattle.std.proofs.Common.{◌≡◌, ◌≢◌, ◌≤◌, ◌==◌, ◌∙◌, inr, ℕ, Bool, true, false, List, [], Option, Some, None, Result, Ok, Err, refl, sym, ap, subst}
+use Rattle.std.proofs.Common.{◌≡◌, ◌≢◌, ◌≤◌, ◌∙◌, inr, ℕ, true, false, List, [], Option, Some, None, Result, Ok, Err, refl, sym, ap}
 use Rattle.std.specs.Prelude.{IsTrue, IfErr}
 use Rattle.std.proofs.lemmas.Bool.{eq-eqb}
 use Rattle.disk_trait.specs.declared.disks.Disks.{Ghosts}
@@ -162,6 +162,6 @@ module _ {D : Type 0} (disks : Ghosts D) (old : D) (device : Device) (path : Lis
       put_leaves time = given-map (λ given. Stores disks mid new (span_view span) path given (file_answer result)) (λ given. LeavesBy disks old new time given (Put device path) (put_status result)) left
           (λ given it.
           left_as disks old new time given (Put device path) result
-          (file_leaves given (Put device path) (addition device path (NewFile given)) (made_check (NewFile given) path) (makes_file given device path) disks old mid new same later span (file_answer result) room it.leaves
+          (file_leaves given (Put device path) (addition device path (NewFile given)) (made_check (NewFile given) path) (makes_file given device path) disks old mid new same later span (file_answer result) room it.leaves it.inode
           time))
           stores

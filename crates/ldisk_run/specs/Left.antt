@@ -9,12 +9,14 @@ use Rattle.lilo_model.specs.Devices.{Device}
 use Rattle.lilo_model.specs.Disks.{Image, Machine, Span}
 use Rattle.lilo_model.specs.Faults.{Rose}
 use Rattle.lilo_model.specs.LdiskVerdict.{room_of}
+use Rattle.lilo_model.specs.MinixNames.{Thing, File, Link, Directory, Other}
 use Rattle.lilo_model.specs.Partitions.{span_of}
 use Rattle.lilo_model.specs.Verdict.{Verdict}
 use Rattle.sector_address.specs.Machine.{OnDisks}
 use Rattle.ldisk_model.specs.Arguments.{Command, Mkfs, Asked}
-use Rattle.ldisk_model.specs.FileVerdict.{NameChange}
+use Rattle.ldisk_model.specs.FileVerdict.{NameChange, NewDirectory, NewLink, NewFile}
 use Rattle.ldisk_model.specs.Verdict.{image_after, may_write, name_change, only_reads}
+use Rattle.ldisk_files.specs.Inode.{HasInodeIn}
 use Rattle.ldisk_files.specs.Left.{HasSoundVolume, IsNamed, IsEither}
 use Rattle.ldisk_make.specs.Answer.{HasEmptyVolume}
 use Rattle.ldisk_run.specs.Run.{IsFailure}
@@ -45,11 +47,21 @@ HasAskedVolume old machine None image = Unit {0}
 abbrev pub held_now : {D : Type 0} → Ghosts D → D → Image
 held_now disks new = now (disks.past new)
 
--- the volume of a device in an image has its Names in another one, but for the one that was changed
+-- in an image what was made at the path of a text has its inode: the mode, the links, and the holes of a file
+abbrev pub HasInodeOf : Span → Image → List ℕ → Option Thing → Image → Type 0
+HasInodeOf span old text (Some (File bytes)) image = HasInodeIn span old text (NewFile bytes) image
+HasInodeOf span old text (Some (Link target)) image = HasInodeIn span old text (NewLink target) image
+HasInodeOf span old text (Some Directory) image = HasInodeIn span old text NewDirectory image
+HasInodeOf span old text (Some Other) image = Unit {0}
+HasInodeOf span old text None image = Unit {0}
+
+-- the volume of a device in an image has its Names in another one, but for the one that was changed, and the inode of
+-- what was made
 pub record IsChanged (old : Image) (machine : Machine) (change : NameChange) (image : Image) : Type 0 where
   pub span : Span
   pub room : room_of old machine change.device ≡ Ok span
   pub named : IsNamed span old change.path change.what image
+  pub inode : HasInodeOf span old change.path change.what image
 
 -- it has the Names before the change, or those after it
 pub record IsChanging (old : Image) (machine : Machine) (change : NameChange) (image : Image) : Type 0 where

@@ -1,8 +1,6 @@
 -- The block was copied over zeros.
 use Rattle.std.proofs.Common.{◌++◌, ◌-◌, ℕ, List, length, drop, replicate, ap, ◌∙◌}
 use Rattle.std.proofs.lemmas.List.{drop-replicate}
-use Rattle.ldisk_model.specs.FileVerdict.{stored_block}
-use Rattle.ldisk_files.specs.Stored.{padded_block}
 use Rattle.ldisk_files.proofs.content.padded_block.Goals as goal
 
 pub returns : goal.returns

@@ -1,4 +1,4 @@
-use Rattle.std.proofs.Common.{◌+◌, ◌-◌, ◌≤◌, ℕ, length}
+use Rattle.std.proofs.Common.{◌+◌, ◌-◌, ◌≤◌, length}
 use Rattle.ldisk_model.specs.FileVerdict.{most_stored}
 use Rattle.ldisk_files.proofs.ContentLemmas.{HasTaken}
 use Rattle.ldisk_files.proofs.content.read_all.Given as goal

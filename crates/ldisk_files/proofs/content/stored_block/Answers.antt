@@ -1,5 +1,5 @@
 -- The rest is cut, or is short.
-use Rattle.std.proofs.Common.{◌≡◌, ◌≤◌, ◌*◌, length, drop, sym, ◌∙◌, arith}
+use Rattle.std.proofs.Common.{◌*◌, drop, sym, ◌∙◌, arith}
 use Rattle.std.proofs.lemmas.List.{take_all, take_rest, length-drop}
 use Rattle.ldisk_files.proofs.content.stored_block.Goals as goal
 

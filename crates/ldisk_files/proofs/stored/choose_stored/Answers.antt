@@ -1,9 +1,5 @@
 -- The name, then the bytes and the choice.
-use Rattle.std.proofs.Common.{◌≡◌, ◌∷◌, []}
-use Rattle.std.proofs.lemmas.Result.{IfOk-weaker}
 use Rattle.minix_zones.specs.Volume.{volume_view, past_of}
-use Rattle.ldisk_model.specs.FileVerdict.{NewFile}
-use Rattle.ldisk_files.specs.Stored.{padded_blocks}
 use Rattle.ldisk_files.proofs.StoredLemmas.{no-place-stored, read-after, unread-same, takes-stored, may-stored, storable-back}
 use Rattle.ldisk_files.proofs.stored.choose_stored.Goals as goal
 

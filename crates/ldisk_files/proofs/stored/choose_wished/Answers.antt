@@ -1,19 +1,12 @@
 -- The wish is one of a file.
-use Rattle.std.proofs.Common.{◌≡◌, ◌<◌, ◌≤◌, ℕ, true, All, length, sym, subst, ap, ◌∙◌, arith}
-use Rattle.std.proofs.lemmas.Result.{IfOk-weaker}
+use Rattle.std.proofs.Common.{◌≡◌, ◌<◌, ℕ, true, All, length, sym, subst, arith}
 use Rattle.lilo_model.specs.MinixLayout.{is_size}
 use Rattle.lilo_model.specs.MinixParts.{blocks_for}
-use Rattle.minix_create.specs.declared.chosen.Chosen.{Chosen}
 use Rattle.minix_layout.specs.View.{kind_view}
 use Rattle.minix_names.specs.Component.{HasNoZero}
 use Rattle.minix_zones.specs.Volume.{volume_view, past_of}
-use Rattle.minix_zones.proofs.SameLemmas.{told_forth}
-use Rattle.ldisk_files.specs.Made.{GivesChoice}
 use Rattle.ldisk_files.proofs.ContentLemmas.{holes-below}
 use Rattle.ldisk_files.proofs.StoredLemmas.{file-made-all, file-room, file-size, file-blocks}
-use Rattle.std.proofs.Common.{Ok, List}
-use Rattle.disk_trait.specs.Past.{Image}
-use Rattle.lilo_model.specs.MinixParts as model
 use Rattle.ldisk_files.proofs.stored.choose_wished.Goals as goal
 
 pub choose_wish-requires : goal.choose_wish-requires

@@ -1,5 +1,4 @@
 -- The survey, then the name.
-use Rattle.std.proofs.Common.{Err, ◌≡◌, rules}
 use Rattle.disk_trait.proofs.ToldLemmas.{told_both}
 use Rattle.disk_trait.specs.Past.{Image}
 use Rattle.lilo_model.specs.MinixNames.{IsSound}

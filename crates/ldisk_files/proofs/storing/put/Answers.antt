@@ -3,7 +3,7 @@ use Rattle.std.proofs.Common.{Some, Err, [], refl, ap, rules, List, ℕ}
 use Rattle.minix_zones.specs.View.{span_view}
 use Rattle.lilo_model.specs.MinixNames.{File}
 use Rattle.ldisk_files.specs.Answer.{zone_fault}
-use Rattle.ldisk_files.specs.Stored.{OnGiven, Stores, IsUnreadAt, file_answer}
+use Rattle.ldisk_files.specs.Stored.{OnGiven, Stores, file_answer}
 use Rattle.ldisk_files.proofs.PathLemmas.{held-of, laid-told}
 use Rattle.ldisk_files.proofs.StoringLemmas.{not-there, stores-at, unread-at, unread-none}
 use Rattle.ldisk_files.proofs.storing.put.Goals as goal

@@ -1,11 +1,11 @@
 -- Each command by itself.
-use Rattle.std.proofs.Common.{◌≡◌, ◌↔◌, map, true, false, refl, inl, sym, ◌∙◌, subst, arith, rules}
+use Rattle.std.proofs.Common.{◌≡◌, ◌↔◌, map, true, false, refl, subst, rules}
 use Rattle.disk_trait.proofs.ToldLemmas.{told_all, told_map}
 use Rattle.sector_address.specs.Machine.{OnDisks, machine_of}
 use Rattle.ldisk_model.specs.Arguments as model
 use Rattle.ldisk_model.specs.DiskTable.{are_placed}
 use Rattle.ldisk_model.specs.Verdict.{command_verdict, is_carried_out, only_reads}
-use Rattle.ldisk_words.specs.View.{part_view, command_view}
+use Rattle.ldisk_words.specs.View.{part_view}
 use Rattle.mbr_table.specs.View.{device_view}
 use Rattle.minix_layout.specs.View.{kind_view}
 use Rattle.ldisk_files.proofs.StoredLemmas.{given-all, given-map}

@@ -6,7 +6,6 @@ use Rattle.std.proofs.lemmas.List.{append-nil}
 use Rattle.lilo_model.specs.Bytes.{part_of, filled_bytes}
 use Rattle.lilo_model.specs.Header as headers
 use Rattle.lilo_model.specs.Header.{patch}
-use Rattle.lilo_model.specs.Table.{Descriptor}
 use Rattle.lilo_model.specs.Place.{Memory, Written, with_bytes, memory_after, initrd_written, written_by}
 use Rattle.lilo_model.specs.Boot.{Loaded}
 use Rattle.bios_model.specs.Memory.{memory_of}
@@ -14,11 +13,10 @@ use Rattle.setup_header.specs.declared.layout.Region.{Region}
 use Rattle.setup_header.specs.declared.layout.Layout.{Layout}
 use Rattle.setup_header.specs.View.{region_view, layout_view}
 use Rattle.setup_header.specs.Words.{EndsBy, LiesIn, IsApartFrom, AreApart}
-use Rattle.section_loader.specs.Reading.{FileRest}
 use Rattle.loader_core.specs.Kernel.{IsPlaced, IsSized, IsInitrd, region_in, optional_region, regions_in, IsKernel}
-use Rattle.loader_core.specs.Report.{initrd_read, loaded_by}
+use Rattle.loader_core.specs.Report.{initrd_read}
 use Rattle.section_loader.proofs.LoadLemmas.{with_bytes-join}
-use Rattle.loader_core.proofs.LoadedLemmas.{IsPlanned, loaded_whole, written_pieces}
+use Rattle.loader_core.proofs.LoadedLemmas.{Loading, ending, IsPlanned, loaded_whole, written_pieces}
 use Rattle.loader_core.proofs.MemoryLemmas.{IsApart, AreApartFrom, held, memory_after-append}
 
 -- ---- apart
@@ -123,44 +121,43 @@ filled-all : (bytes : List ℕ) → length bytes ≡ 1024 → filled_bytes 1024 
 filled-all bytes long = let none : 1024 - length bytes ≡ 0 = omega arith in rw none (append-nil bytes)
 
 pub kernel_whole :
-    (entry : Descriptor) (main rest : FileRest) (sectors : List ℕ) (initrd : Option FileRest) (line : List ℕ) (video : Option ℕ) (memory : ℕ)
-    (header : headers.Header) (layout : Layout) (patched : List ℕ) (m0 m1 m2 m3 : Memory) (ram : List ℕ)
-    → IsPlanned entry main sectors rest line memory header (layout_view layout)
-    → patched ≡ patch header (layout_view layout) video sectors → length patched ≡ 1024 → 1024 ≤ entry.main_length
-    → IsPlaced layout patched rest m0 m1
-    → IsInitrd (option_map region_view layout.initrd) (initrd_read initrd) m1 m2
-    → m3 ≡ with_bytes m2 (record { address = layout.line.address; bytes = line })
-    → memory_of ram ≡ with_bytes m3 (record { address = layout.line.address + length line; bytes = 0 ∷ [] })
-    → layout.line.length ≡ length line + 1 → LiesIn (length ram) layout → AreApart layout
-    → IsKernel layout (loaded_by entry main initrd line video memory) m0 ram
-kernel_whole entry main rest sectors initrd line video memory header layout patched m0 m1 m2 m3 ram planned is size least placed read at end long inside apart =
+    (load : Loading) (header : headers.Header) (layout : Layout) (patched : List ℕ) (m0 m1 m2 m3 : Memory) (ram : List ℕ)
+    → IsPlanned load header (layout_view layout)
+    → patched ≡ patch header (layout_view layout) load.video load.sectors → length patched ≡ 1024 → 1024 ≤ load.entry.main_length
+    → IsPlaced layout patched load.rest m0 m1
+    → IsInitrd (option_map region_view layout.initrd) (initrd_read load.initrd) m1 m2
+    → m3 ≡ with_bytes m2 (record { address = layout.line.address; bytes = load.line })
+    → memory_of ram ≡ with_bytes m3 (record { address = layout.line.address + length load.line; bytes = 0 ∷ [] })
+    → layout.line.length ≡ length load.line + 1 → LiesIn (length ram) layout → AreApart layout
+    → IsKernel layout (ending load) m0 ram
+kernel_whole load header layout patched m0 m1 m2 m3 ram planned is size least placed read at end long inside apart =
     let two = planned.begun.two in
     let first : length two.bytes ≡ 1024 = omega (arith, two.long) in
-    let same : sectors ≡ two.bytes = two.filled ∙ filled-all two.bytes first in
-    let sized : length sectors ≡ 1024 = ap length same ∙ first in
-    let bytes : main.bytes ≡ sectors ++ (placed.real ++ placed.protected) =
+    let same : load.sectors ≡ two.bytes = two.filled ∙ filled-all two.bytes first in
+    let sized : length load.sectors ≡ 1024 = ap length same ∙ first in
+    let bytes : load.main.bytes ≡ load.sectors ++ (placed.real ++ placed.protected) =
     ap (λ r. r.bytes) two.read ∙ ap (λ r. two.bytes ++ r.bytes) placed.read ∙ ap (λ b. b ++ (placed.real ++ placed.protected)) (sym same) in
-    let pieces = written_pieces header (layout_view layout) sectors patched placed.real placed.protected line read.bytes video sized is size placed.real_long in
+    let pieces = written_pieces header (layout_view layout) load.sectors patched placed.real placed.protected load.line read.bytes load.video sized is size placed.real_long in
     let w1 : Written = record { address = layout.real.address; bytes = patched ++ placed.real } in
     let w2 : Written = record { address = layout.protected.address; bytes = placed.protected } in
     let w3 = initrd_written (option_map region_view layout.initrd) read.bytes in
-    let w4 : Written = record { address = layout.line.address; bytes = line ++ (0 ∷ []) } in
+    let w4 : Written = record { address = layout.line.address; bytes = load.line ++ (0 ∷ []) } in
     let joined : memory_of ram ≡ with_bytes m2 w4 =
-    end ∙ ap (λ m. with_bytes m (record { address = layout.line.address + length line; bytes = 0 ∷ [] })) at
-    ∙ with_bytes-join m2 layout.line.address line (0 ∷ []) in
+    end ∙ ap (λ m. with_bytes m (record { address = layout.line.address + length load.line; bytes = 0 ∷ [] })) at
+    ∙ with_bytes-join m2 layout.line.address load.line (0 ∷ []) in
     let all : memory_of ram ≡ memory_after m0 (w1 ∷ (w2 ∷ (w3 ++ (w4 ∷ [])))) =
     joined ∙ ap (λ m. with_bytes m w4) (read.placed ∙ ap (λ m. memory_after m w3) placed.placed)
     ∙ sym (memory_after-append (with_bytes (with_bytes m0 w1) w2) w3 (w4 ∷ [])) in
     record {
       written = w1 ∷ (w2 ∷ (w3 ++ (w4 ∷ [])));
       is =
-          loaded_whole entry main rest sectors initrd line video memory header (layout_view layout) read.bytes planned (ap (λ r. r.stop) placed.read) read.is
-          ∙ ap (λ b. Ok (record { outcome = Loaded (layout_view layout); written = written_by header (layout_view layout) b read.bytes line video })) bytes
+          loaded_whole load header (layout_view layout) read.bytes planned (ap (λ r. r.stop) placed.read) read.is
+          ∙ ap (λ b. Ok (record { outcome = Loaded (layout_view layout); written = written_by header (layout_view layout) b read.bytes load.line load.video })) bytes
           ∙ ap (λ w. Ok (record { outcome = Loaded (layout_view layout); written = w })) pieces;
       placed = all;
       held =
           whole_regions ram layout
-          (held_all ram m0 layout.real layout.protected layout.line layout.initrd (patched ++ placed.real) placed.protected (line ++ (0 ∷ [])) read.bytes
+          (held_all ram m0 layout.real layout.protected layout.line layout.initrd (patched ++ placed.real) placed.protected (load.line ++ (0 ∷ [])) read.bytes
           (rw length-append (omega (arith, size, placed.real_long))) placed.protected_long read.fits (rw length-append (omega (arith, long)))
           inside.real_inside inside.protected_inside inside.initrd_inside inside.line_inside
           apart.real_line apart.real_protected apart.line_protected apart.initrd_others all);

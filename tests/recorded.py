@@ -74,7 +74,7 @@ def made(start, run):
 
 
 def mistakes(fsck, test, volume, mode):
-    """What fsck.minix finds in a volume, but for bits without a use, and a link more of inodes of this mode."""
+    """What fsck.minix finds in a volume, but for bits without a use, and a link more of inodes of this mode, or of none."""
     said = subprocess.run([fsck, '-f', test.image('v.img', volume)], stdin=subprocess.DEVNULL, stdout=subprocess.PIPE,
                           stderr=subprocess.STDOUT, timeout=60).stdout
 

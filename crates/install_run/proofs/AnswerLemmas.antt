@@ -1,5 +1,7 @@
 -- What is begun and planned is what the model's checks answer, on the image that settling left.
-use Rattle.std.proofs.Common.{◌≡◌, ℕ, Bool, false, List, Option, Result, Ok, Err, refl, ◌∙◌}
+use Rattle.std.proofs.Common.{◌≡◌, ℕ, Bool, true, false, List, Option, Result, Ok, Err, refl, sym, ◌∙◌}
+use Rattle.std.proofs.lemmas.Bool.{false≢true}
+use Rattle.std.specs.Prelude.{IsErr}
 use Rattle.lilo_model.specs.Apart.{apart_checks}
 use Rattle.lilo_model.specs.Checks.{◌>>=◌, require, with_fault}
 use Rattle.lilo_model.specs.Disks.{Image, Machine, DiskSector}
@@ -25,6 +27,20 @@ use Rattle.install_room.specs.Room.{room_for}
 use Rattle.install_preview.proofs.PreviewLemmas.{first_refuses, later_refuses, same_skipped, same_clear}
 use Rattle.install_run.specs.Answers.{settled_answer, settled_report}
 
+-- where a chain of checks passes, its first ones don't refuse
+first_pass : {R : Type 0} (met : Result (List Met) R) (apart : Result (Unit {0}) R) (names : Result model.OwnNames R) (may : model.OwnNames → Result (Unit {0}) R)
+    (more : List Met → model.OwnNames → Result Answer R) (answer : Answer)
+    → (met >>= λ m. apart >>= λ a. names >>= λ n. may n >>= λ b. more m n) ≡ Ok answer
+    → IsErr (met >>= λ m. apart >>= λ a. names >>= λ n. may n >>= λ b. Ok n) → ⊥
+first_pass (Err why) apart names may more answer is refused = cc
+first_pass (Ok met) (Err why) names may more answer is refused = cc
+first_pass (Ok met) (Ok apart) (Err why) may more answer is refused = cc
+first_pass {R} (Ok met) (Ok apart) (Ok names) may more answer is refused = by (may names) is refused
+  where
+    by : (done : Result (Unit {0}) R) → (done >>= λ b. more met names) ≡ Ok answer → IsErr (done >>= λ b. Ok names) → ⊥
+    by (Err why) passes refuses = cc
+    by (Ok done) passes refuses = let is : false ≡ true = refuses in false≢true is
+
 module _ (image : Image) (machine : Machine) (settled : Image) (begun : Begun) (time : ℕ) where
   -- the checks from the plan on
   abbrev pub Rest : List Met → model.OwnNames → Result Answer InstallRefusal
@@ -45,6 +61,17 @@ module _ (image : Image) (machine : Machine) (settled : Image) (begun : Begun) (
   pub all-is : settled_answer image machine settled begun time ≡ First
   unfolding settled_answer
   all-is = refl
+
+  -- what passes all checks passes the first ones
+  pub passes_begun : (answer : Answer) → settled_answer image machine settled begun time ≡ Ok answer
+      → IsErr (begin_checks image machine begun.volume begun.config begun.boot begun.span) → ⊥
+  unfolding begin_checks
+  passes_begun answer is =
+      first_pass (with_fault NotSound (survey begun.volume.layout (parts_of begun.volume image)))
+      (with_fault NotApart (apart_checks image machine begun.volume begun.config begun.boot))
+      (with_fault BadName (own_names (names_in begun.volume image) begun.config begun.boot (is_foreign (image begun.span.disk begun.span.start))))
+      (λ names. require (may_settle image machine begun.volume (visits begun.volume.layout (parts_of begun.volume image)) begun.span names.map) NoLink) Rest answer
+      (sym all-is ∙ is)
 
   -- what refuses to begin refuses it
   pub begin_refused : (fault : InstallFault) → Refuses fault (begin_checks image machine begun.volume begun.config begun.boot begun.span)

@@ -43,7 +43,7 @@ skipped_same one other [] all = refl
 skipped_same one other (section ∷ sections) (first, rest) = rw (first, skipped_same one other sections rest) refl
 
 module _ (image : Image) (machine : Machine) (settled : Image) (begun : Begun) (time : ℕ) (from : IsSettledFrom image machine begun settled)
-    (steady : IsSteady image machine begun) where
+    (steady : IsSteady image settled machine begun) where
   -- the checks from the plan on, by the image at the entry
   abbrev EntryRest : List Met → model.OwnNames → Result Answer InstallRefusal
   EntryRest met names =
@@ -69,7 +69,7 @@ module _ (image : Image) (machine : Machine) (settled : Image) (begun : Begun) (
   module _ (found : Examined) (is : IsBegun image machine begun found settled) (apart : Apart image machine begun.volume begun.config begun.boot) where
     both : (plan_at settled machine begun.volume begun.span begun.config time ≡ plan_at image machine begun.volume begun.span begun.config time)
         × AllByRecursion (MapsAsIn image settled machine begun.volume) begun.config.sections
-    both = begun_plans_law image settled machine begun found time is (steady.devices settled is.outside) apart (steady.paths is.names is.are)
+    both = begun_plans_law image settled machine begun found time is steady.devices apart (steady.paths is.names is.are)
 
     reported : (met : List Met) (plan : Plan) → settled_report image machine settled begun met plan ≡ answer_of image machine begun met plan
     unfolding answer_of

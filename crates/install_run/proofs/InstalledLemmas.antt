@@ -2,21 +2,22 @@
 use Rattle.std.proofs.Common.{◌≡◌, ◌⊎◌, ◌++◌, ◌∙◌, ℕ, ◌==◌, List, [], ◌∷◌, Bool, true, not, Option, Some, None, Result, Ok, Err, codes, refl, sym, ap, subst, inl, inr, arith, append-nil}
 use Rattle.std.proofs.lemmas.Bool.{false≢true}
 use Rattle.std.specs.Prelude.{◌≢◌, IfSome, IsTrue, is_some}
-use Rattle.std.specs.List.{list_any}
+use Rattle.std.specs.List.{concat, list_any}
 use Rattle.disk_trait.specs.declared.disks.Disks.{Ghosts}
 use Rattle.disk_trait.specs.declared.disks.Phase.TheVariants.{Before}
 use Rattle.disk_trait.specs.declared.disks.Span as spans
 use Rattle.disk_trait.specs.Calls.{GoesOn}
-use Rattle.disk_trait.specs.Moments.{IsTold, now, IsQuiet, IsWhole, MayLeave}
+use Rattle.disk_trait.specs.Moments.{IsTold, now, IsQuiet, IsWhole, LeavesOnly, MayLeave}
 use Rattle.disk_trait.proofs.LawLemmas.{end_of_run_law}
 use Rattle.disk_trait.specs.Past.{Past}
 use Rattle.disk_trait.proofs.MomentLemmas.{told_now}
-use Rattle.disk_trait.proofs.NotWrittenLemmas.{not_written_stays}
 use Rattle.lilo_model.specs.Disks.{Image, Machine, DiskSector}
 use Rattle.lilo_model.specs.Lays.{Lays}
+use Rattle.lilo_model.specs.Mapped.{mapped_sectors}
 use Rattle.lilo_model.specs.Meant.{meant}
 use Rattle.lilo_model.specs.MinixNames.{names_in}
-use Rattle.lilo_model.specs.Plan.{Plan}
+use Rattle.lilo_model.specs.MinixParts as parts
+use Rattle.lilo_model.specs.Plan.{Plan, plan_sectors}
 use Rattle.lilo_model.specs.Planned as plans
 use Rattle.lilo_model.specs.Planned.{devices_in}
 use Rattle.lilo_model.specs.Settled as settles
@@ -40,6 +41,7 @@ use Rattle.install_answers.proofs.StatusLemmas.{of_status}
 use Rattle.install_laws.specs.Headline.{Means}
 use Rattle.install_laws.specs.InstallVerdict.{Answer, Begun, InstallRefusal, answer_text, verdict_by}
 use Rattle.install_laws.specs.Stopped.{BootsAsEither, StaysAsBefore}
+use Rattle.install_apart_laws.specs.Laws.{KeepsDevices}
 use Rattle.install_order.specs.Begins.{AreOwn, LiesThere}
 use Rattle.install_order.specs.Faults.{HasInstallCause, IsStopped, Refuses}
 use Rattle.install_order.specs.States.{HaltsCommit, IsCommitted, TidiesFrom}
@@ -57,20 +59,24 @@ use Rattle.install_begin.specs.Begin as begins
 use Rattle.install_preview.specs.Previews.{AnswersVerdict, answer_to, zone_verdict}
 use Rattle.install_preview.proofs.StateLemmas.{told_from}
 use Rattle.install_preview.proofs.TrialLemmas.{of_some}
-use Rattle.install_join_laws.specs.Kept.{HasBackup}
+use Rattle.install_join_laws.specs.Kept.{HasBackup, Keeps}
 use Rattle.install_join_laws.specs.KeptLaws.{map_of}
 use Rattle.install_join_laws.specs.LaidLaws.{planned_on}
 use Rattle.install_join_laws.specs.Laws.{meant_from}
 use Rattle.install_join_laws.specs.Steps.{HasStaged, IsBegunWith, LiesOnDisks, begun_from, machine_on}
-use Rattle.install_join_laws.proofs.Begun.{leaves}
+use Rattle.install_join_laws.proofs.Begun as beginnings
+use Rattle.install_join_laws.proofs.Begun.{examined, leaves, may-stage, plan-view-same}
 use Rattle.install_join_laws.proofs.Installed.{installation_commit_ends_law, installation_law}
 use Rattle.install_join_laws.proofs.Kept.{staging_keeps_law}
 use Rattle.install_join_laws.proofs.KeptInstalled.{commit_keeps_law, committed_backup_law, installation_keeps_law, installed_law}
 use Rattle.install_join_laws.proofs.LaidInstalled.{committed_lays_law}
 use Rattle.install_join_laws.proofs.Prepared.{staging_stops_law}
-use Rattle.install_run.specs.Answers.{AnswersInstall, Answered, GivesInstall, LostEarly, LostLater, Starved, IsDiskFault, IsSettledFrom, is_install_status, settled_answer}
-use Rattle.install_run.specs.Keeps.{DevicesLieOutside, HasInstalled, IsBefore, IsDone, KeepsMost, KeepsWith}
-use Rattle.install_run.specs.Installs.{IsInstalled, Installs, InstallsBegun, LaysAsPlanned, Leaves, NoVolume, VolumeLost, meant_by}
+use Rattle.install_run.specs.Answers.{AnswersInstall, Answered, GivesInstall, LostEarly, LostLater, Starved, StaysUnbegun, IsDiskFault, IsSettledFrom, is_install_status, settled_answer}
+use Rattle.install_room.specs.Room.{places_view}
+use Rattle.map_sectors.specs.Map.{plan_view}
+use Rattle.install_run.specs.Keeps.{DevicesStay, HasInstalled, IsBefore, IsDone, KeepsMost, KeepsWith, new_map}
+use Rattle.install_run.specs.Installs.{IsInstalled, Installs, InstallsBegun, LaysAsPlanned, Leaves, NoVolume, Passes, VolumeLost, meant_by}
+use Rattle.install_run.proofs.AnswerLemmas.{passes_begun}
 use Rattle.install_run.specs.Steps.{Finishes, FinishedEarly, FinishedWhole, HaltedCommit, HaltedStaging, HaltedTidying, IsHalted, IsPrepared, StaysBegun}
 use Rattle.install_run.proofs.CarriedLemmas.{tidies_some}
 
@@ -127,13 +133,15 @@ refused_answers image machine settled begun time faults.Device before after caus
 refused_answers image machine settled begun time faults.Memory before after cause status old new is shown refuses = Starved is shown
 
 -- a refusal leaves what boots as before
-pub refused_leaves : (machine : Machine) (begun : Begun) (settled : Image) (time : ℕ) (entry ended : Option Past) (status : ℕ) → IsBefore status
+pub refused_leaves : (machine : Machine) (begun : Begun) (settled : Image) (time : ℕ) (places : List DiskSector) (entry ended : Option Past) (status : ℕ) → IsBefore status
     → StaysAsBefore machine begun.volume begun.span entry ended
-    → ((names : settles.OwnNames) → AreOwn (now entry) begun names → KeepsMost machine begun names entry ended ⊎ KeepsWith machine begun names entry ended)
+    → ((names : settles.OwnNames) → AreOwn (now entry) begun names
+    → KeepsMost machine begun names entry ended ⊎ KeepsWith machine begun names (new_map machine begun settled time places) entry ended)
     → ((names : settles.OwnNames) → AreOwn (now entry) begun names → status ≢ 8 → KeepsMost machine begun names entry ended)
     → Leaves machine begun settled time entry ended status
-refused_leaves machine begun settled time entry ended status early stays keeps unstaged = record {
+refused_leaves machine begun settled time places entry ended status early stays keeps unstaged = record {
   keeps = λ names own. record {
+    places = places;
     before = λ is. keeps names own;
     unstaged = λ is. unstaged names own;
     later = λ at. absurd (none at);
@@ -141,10 +149,12 @@ refused_leaves machine begun settled time entry ended status early stays keeps u
     installed = λ zero. absurd (early.not_done (inl zero));
   };
   settles = λ at. absurd (none at);
+  passes = λ at. absurd (none at);
   before = λ is. stays;
   at_commit = λ nine outside. absurd (early.not_committing nine);
   done = λ done outside. absurd (early.not_done done);
   lays = λ done outside. absurd (early.not_done done);
+  quiet = λ zero. absurd (early.not_done (inl zero));
 }
   where
     none : (status ≡ 9) ⊎ IsDone status → ⊥
@@ -204,15 +214,40 @@ module _ {D : Type 0} {disks : Ghosts D} (entry : Volume D disks) (config : conf
       ap (λ (image : Image). plans.planned image (machine_on entry) From.volume From.config S.time) (sym same-settled)
       ∙ ap (λ (t : ℕ). plans.planned Settled-image (machine_on entry) From.volume From.config t) is.held.time_is
 
+  -- the plan that was made is the model's, of the settled image
+  plan-is : plan_view planned.plan ≡ plans.planned Settled-image (machine_on entry) From.volume From.config time
+  plan-is =
+      let did = beginnings.begun entry config boot time S is in
+      let may = may-stage entry config boot time S is planned prepared.has did.names (mapped_sectors (now (past_of entry)) (machine_on entry) From.span) did.are
+      (examined entry config boot time S is).old.zones in
+      may.plan_is
+      ∙ (ap (λ (v : parts.Volume). plans.planned (now (past_of S.volume)) (machine_on entry) v (config_view planned.plan.config) planned.time)
+      (plan-view-same entry config boot time S is planned prepared.has)
+      ∙ (ap (λ (c : configs.Config). plans.planned (now (past_of S.volume)) (machine_on entry) From.volume (config_view c) planned.time) prepared.has.held.config_is
+      ∙ (ap (λ (t : ℕ). plans.planned (now (past_of S.volume)) (machine_on entry) From.volume From.config t) prepared.has.held.time_is ∙ plan-same)))
+
+  abbrev Map : List ℕ
+  Map = new_map (machine_on entry) From Settled-image time (places_view planned.room)
+
+  map-is : map_of entry planned ≡ Map
+  map-is = ap (λ (plan : Plan). concat (plan_sectors plan (machine_on entry) (places_view planned.room))) plan-is
+
   module _ (there : LiesThere (now (past_of entry)) (machine_on entry) From) where
-    lies : DevicesLieOutside (now (past_of entry)) (machine_on entry) From → LiesOnDisks entry S
-    lies outside = record {
+    lies : DevicesStay (now (past_of entry)) Settled-image (machine_on entry) From → LiesOnDisks entry S
+    lies stay = record {
       whole = whole;
       there = there;
-      devices = outside (now (past_of S.volume)) (λ d s apart. (not_written_stays (past_of entry) (past_of S.volume) d s ((leaves entry config boot time S is).outside told d s apart)).0);
+      devices = subst (λ (image : Image). KeepsDevices (now (past_of entry)) image (machine_on entry) From.config From.boot) same-settled stay;
     }
 
-    module _ (staged : Staged D disks) (stages : HasStaged planned staged) (outside : DevicesLieOutside (now (past_of entry)) (machine_on entry) From) where
+    abbrev Kept : settles.OwnNames → Option Past → Type 0
+    Kept names ended = KeepsWith (machine_on entry) From names Map (past_of entry) ended
+
+    kept-by : (names : settles.OwnNames) (ended : Option Past)
+        → LeavesOnly (past_of entry) ended (Keeps (now (past_of entry)) (machine_on entry) From names (map_of entry planned)) → Kept names ended
+    kept-by names ended = subst (λ (bytes : List ℕ). KeepsWith (machine_on entry) From names bytes (past_of entry) ended) map-is
+
+    module _ (staged : Staged D disks) (stages : HasStaged planned staged) (outside : DevicesStay (now (past_of entry)) Settled-image (machine_on entry) From) where
       committing : (halt : Halt D disks) → HaltsCommit staged halt
           → (place : DiskSector) × BootsAsEither (machine_on entry) From.volume From.span place (meant_by (machine_on entry) From Settled-image) (past_of entry) (past_of halt.volume)
       committing halt halts =
@@ -235,22 +270,17 @@ module _ {D : Type 0} {disks : Ghosts D} (entry : Volume D disks) (config : conf
             },
           )
 
-      abbrev Kept : settles.OwnNames → Option Past → Type 0
-      Kept names ended = KeepsWith (machine_on entry) From names (past_of entry) ended
-
       committing-keeps : (halt : Halt D disks) → HaltsCommit staged halt → (names : settles.OwnNames) → AreOwn (now (past_of entry)) From names → Kept names (past_of halt.volume)
-      committing-keeps halt halts names own = record {
-        bytes = map_of entry planned;
-        each = commit_keeps_law disks entry config boot time S planned staged halt names is prepared.has (lies outside) own stages halts;
-      }
+      committing-keeps halt halts names own =
+          kept-by names (past_of halt.volume)
+          (commit_keeps_law disks entry config boot time S planned staged halt names is prepared.has (lies outside) own stages halts)
 
       module _ (new : Volume D disks) (committed : Committed D disks) (result : Result (Unit {0}) WriteFault) (commits : IsCommitted staged committed) (tidies : TidiesFrom committed new result)
           (names : settles.OwnNames) (own : AreOwn (now (past_of entry)) From names) where
         installing-keeps : Kept names (past_of new)
-        installing-keeps = record {
-          bytes = map_of entry planned;
-          each = installation_keeps_law disks entry new config boot time S planned staged committed names result is prepared.has (lies outside) own stages commits tidies;
-        }
+        installing-keeps =
+            kept-by names (past_of new)
+            (installation_keeps_law disks entry new config boot time S planned staged committed names result is prepared.has (lies outside) own stages commits tidies)
 
         installing-backup : (c : Image) → MayLeave (past_of new) c → HasBackup (now (past_of entry)) From names c
         installing-backup c left =
@@ -265,29 +295,27 @@ module _ {D : Type 0} {disks : Ghosts D} (entry : Volume D disks) (config : conf
             (committed_lays_law disks entry new config boot time S planned staged committed names result is prepared.has (lies outside) own stages commits tidies) c left)
 
       has-installed : (new : Volume D disks) (committed : Committed D disks) → IsCommitted staged committed → TidiesFrom committed new (Ok tt) → IsQuiet (past_of new)
-          → (names : settles.OwnNames) → AreOwn (now (past_of entry)) From names → HasInstalled From names (past_of entry) (past_of new)
-      has-installed new committed commits tidies still names own = record {
-        bytes = map_of entry planned;
-        each = installed_law disks entry new config boot time S planned staged committed names is prepared.has (lies outside) own stages commits tidies still;
-      }
+          → (names : settles.OwnNames) → AreOwn (now (past_of entry)) From names → HasInstalled From names Map (past_of entry) (past_of new)
+      has-installed new committed commits tidies still names own =
+          subst (λ (bytes : List ℕ). HasInstalled From names bytes (past_of entry) (past_of new)) map-is
+          (installed_law disks entry new config boot time S planned staged committed names is prepared.has (lies outside) own stages commits tidies still)
 
-    module _ (tie : IsSettledFrom (now (past_of entry)) (machine_on entry) From Settled-image) where
+    module _ (tie : IsSettledFrom (now (past_of entry)) (machine_on entry) From Settled-image)
+        (passed : Passes (now (past_of entry)) (machine_on entry) Settled-image From time) where
       halted-leaves : (status : ℕ) (halt : Halt D disks) → IsHalted planned halt → status ≡ fault_status halt.fault halt.phase → halt.fault ≡ faults.Device
           → Leaves (machine_on entry) From Settled-image time (past_of entry) (past_of halt.volume) status
       halted-leaves status halt (HaltedStaging phase halts) status-is lost =
           let eight : status ≡ 8 = status-is ∙ (ap (λ fault. fault_status fault halt.phase) lost ∙ ap device_status phase) in
-          refused_leaves (machine_on entry) From Settled-image time (past_of entry) (past_of halt.volume) status
+          refused_leaves (machine_on entry) From Settled-image time (places_view planned.room) (past_of entry) (past_of halt.volume) status
           (subst IsBefore (sym eight) (before_by 8 refl))
           (staging_stops_law disks entry config boot time S planned halt is prepared.has there halts)
-          (λ names own. inr (record {
-            bytes = map_of entry planned;
-            each = staging_keeps_law disks entry config boot time S planned halt names is prepared.has there own halts;
-          }))
+          (λ names own. inr (kept-by names (past_of halt.volume) (staging_keeps_law disks entry config boot time S planned halt names is prepared.has there own halts)))
           (λ names own other. absurd (other eight))
       halted-leaves status halt (HaltedCommit phase staged stages halts) status-is lost =
           let nine : status ≡ 9 = status-is ∙ (ap (λ fault. fault_status fault halt.phase) lost ∙ ap device_status phase) in
           record {
             keeps = λ names own. record {
+              places = places_view planned.room;
               before = λ early. absurd (early.not_committing nine);
               unstaged = λ early. absurd (early.not_committing nine);
               later = λ at outside. committing-keeps staged stages outside halt halts names own;
@@ -295,10 +323,12 @@ module _ {D : Type 0} {disks : Ghosts D} (entry : Volume D disks) (config : conf
               installed = λ zero. absurd (none nine (inl zero));
             };
             settles = λ at. tie;
+            passes = λ at. passed;
             before = λ early. absurd (early.not_committing nine);
             at_commit = λ at outside. committing staged stages outside halt halts;
             done = λ done outside. absurd (none nine done);
             lays = λ done outside. absurd (none nine done);
+            quiet = λ zero. absurd (none nine (inl zero));
           }
         where
           none : status ≡ 9 → IsDone status → ⊥
@@ -308,6 +338,7 @@ module _ {D : Type 0} {disks : Ghosts D} (entry : Volume D disks) (config : conf
           let ten : status ≡ 10 = status-is ∙ (ap (λ fault. fault_status fault halt.phase) lost ∙ ap device_status phase) in
           record {
             keeps = λ names own. record {
+              places = places_view planned.room;
               before = λ early. absurd (early.not_done (inr ten));
               unstaged = λ early. absurd (early.not_done (inr ten));
               later = λ at outside. installing-keeps staged stages outside halt.volume committed (Err halts.fault) commits halts.tidies names own;
@@ -315,10 +346,12 @@ module _ {D : Type 0} {disks : Ghosts D} (entry : Volume D disks) (config : conf
               installed = λ zero. absurd (omega (arith, ten, zero));
             };
             settles = λ at. tie;
+            passes = λ at. passed;
             before = λ early. absurd (early.not_done (inr ten));
             at_commit = λ nine outside. absurd (omega (arith, ten, nine));
             done = λ done outside. installing staged stages outside halt.volume committed (Err halts.fault) commits (tidies_some committed may halt.volume (Err halts.fault) halts.tidies);
             lays = λ done outside names own. installing-lays staged stages outside halt.volume committed (Err halts.fault) commits halts.tidies names own;
+            quiet = λ zero. absurd (omega (arith, ten, zero));
           }
 
       finished-leaves : (status : ℕ) (ended : Option Past) (old new : SinkState) → Finishes planned status ended old new
@@ -327,6 +360,7 @@ module _ {D : Type 0} {disks : Ghosts D} (entry : Volume D disks) (config : conf
           subst (λ (p : Option Past). Leaves (machine_on entry) From Settled-image time (past_of entry) p status) past
           (record {
             keeps = λ names own. record {
+              places = places_view planned.room;
               before = λ early. absurd (early.not_done (inl zero));
               unstaged = λ early. absurd (early.not_done (inl zero));
               later = λ at outside. installing-keeps carried.staged carried.stages outside tidied.volume carried.committed (Ok tt) carried.commits carried.tidies names own;
@@ -334,11 +368,13 @@ module _ {D : Type 0} {disks : Ghosts D} (entry : Volume D disks) (config : conf
               installed = λ at outside. has-installed carried.staged carried.stages outside tidied.volume carried.committed carried.commits carried.tidies carried.quiet names own;
             };
             settles = λ at. tie;
+            passes = λ at. passed;
             before = λ early. absurd (early.not_done (inl zero));
             at_commit = λ nine outside. absurd (omega (arith, zero, nine));
             done = λ done outside. installing carried.staged carried.stages outside tidied.volume carried.committed (Ok tt) carried.commits
                 (tidies_some carried.committed carried.may tidied.volume (Ok tt) carried.tidies);
             lays = λ done outside names own. installing-lays carried.staged carried.stages outside tidied.volume carried.committed (Ok tt) carried.commits carried.tidies names own;
+            quiet = λ done. carried.quiet;
           })
       finished-leaves status ended old new (FinishedEarly halt halted past device status-is said) =
           subst (λ (p : Option Past). Leaves (machine_on entry) From Settled-image time (past_of entry) p status) past
@@ -356,12 +392,14 @@ module _ {D : Type 0} {disks : Ghosts D} (entry : Volume D disks) (config : conf
         ∙ ap (λ (b : spans.Span). begun_of entry config device b) is.held.boot_is)
 
     pub finished_leaves : IsSettledFrom (now (past_of entry)) (machine_on entry) (begun_of entry config device boot) Settled-image
+        → Passes (now (past_of entry)) (machine_on entry) Settled-image (begun_of entry config device boot) time
         → LiesThere (now (past_of entry)) (machine_on entry) (begun_of entry config device boot) → (status : ℕ) (ended : Option Past) (old new : SinkState)
         → Finishes planned status ended old new → Leaves (machine_on entry) (begun_of entry config device boot) Settled-image time (past_of entry) ended status
-    finished_leaves tie there status ended old new finishes =
+    finished_leaves tie passed there status ended old new finishes =
         subst (λ (b : Begun). Leaves (machine_on entry) b Settled-image time (past_of entry) ended status) same-begun
         (finished-leaves (subst (LiesThere (now (past_of entry)) (machine_on entry)) (sym same-begun) there)
-        (subst (λ (b : Begun). IsSettledFrom (now (past_of entry)) (machine_on entry) b Settled-image) (sym same-begun) tie) status ended old new finishes)
+        (subst (λ (b : Begun). IsSettledFrom (now (past_of entry)) (machine_on entry) b Settled-image) (sym same-begun) tie)
+        (subst (λ (b : Begun). Passes (now (past_of entry)) (machine_on entry) Settled-image b time) (sym same-begun) passed) status ended old new finishes)
 
 -- ---- the whole, for the boot device that there is
 
@@ -391,14 +429,17 @@ module _ {D : Type 0} {disks : Ghosts D} (entry : Volume D disks) (config : conf
         settled = now (past_of planned.volume);
         answers = finished_answers (now (past_of entry)) machine (now (past_of planned.volume)) begun time planned (answer_to planned clear) status ended old mid new given.0 given.1
             (goes_on.told told) shown finishes;
-        leaves = λ quiet there. finished_leaves entry config boot time planned prepared told quiet whole device some.1 given.0 there status ended mid new finishes;
+        refused = λ other checks. absurd (passes_begun (now (past_of entry)) machine (now (past_of planned.volume)) begun time (answer_to planned clear) given.1 checks);
+        leaves = λ quiet there. finished_leaves entry config boot time planned prepared told quiet whole device some.1 given.0 (answer_to planned clear, given.1) there
+            status ended mid new finishes;
       }))
 
   pub refused_installs : (halt : Halt D disks) → ended ≡ past_of halt.volume → HasInstallCause (faults_of entry) (faults_of halt.volume) halt.fault
       → IfSome config.boot (λ device. OnDisks disks entry.disks.now (λ image machine. GivesInstall image machine (begun_of entry config device boot) time (Err halt)))
+      → IfSome config.boot (λ device. OnDisks disks entry.disks.now (λ image machine. StaysUnbegun image machine (begun_of entry config device boot) (past_of entry) (Err halt)))
       → IfSome config.boot (λ device. StaysBegun entry (begun_of entry config device boot) halt.volume)
       → status ≡ fault_status halt.fault Before → Shows old (codes "lilo: " ++ fault_text halt.fault Before) new → IfSome config.boot Whole
-  refused_installs halt same cause gives stays status-is shown =
+  refused_installs halt same cause gives unbegun stays status-is shown =
       let some = some_is config.boot named in
       let device = some.0 in
       let begun = begun_of entry config device boot in
@@ -412,9 +453,14 @@ module _ {D : Type 0} {disks : Ghosts D} (entry : Volume D disks) (config : conf
       record {
         settled = now (past_of halt.volume);
         answers = refused_answers (now (past_of entry)) machine (now (past_of halt.volume)) begun time halt.fault (faults_of entry) (faults_of halt.volume) cause status old new status-is shown given;
+        refused = λ other checks.
+            same
+            ∙ told_now (past_of entry) (λ image. StaysUnbegun image machine begun (past_of entry) (Err halt))
+            (of_some config.boot device (λ d. OnDisks disks entry.disks.now (λ image m. StaysUnbegun image m (begun_of entry config d boot) (past_of entry) (Err halt))) some.1 unbegun) told
+            (λ lost. other (status-is ∙ ap (λ fault. fault_status fault Before) lost)) checks;
         leaves = λ quiet there.
             subst (λ (p : Option Past). Leaves machine begun (now (past_of halt.volume)) time (past_of entry) p status) (sym same)
-            (refused_leaves machine begun (now (past_of halt.volume)) time (past_of entry) (past_of halt.volume) status early
+            (refused_leaves machine begun (now (past_of halt.volume)) time [] (past_of entry) (past_of halt.volume) status early
             ((of_some config.boot device (λ d. StaysBegun entry (begun_of entry config d boot) halt.volume) some.1 stays).boots quiet there)
             (λ names own. inl ((of_some config.boot device (λ d. StaysBegun entry (begun_of entry config d boot) halt.volume) some.1 stays).keeps quiet there names own))
             (λ names own other. (of_some config.boot device (λ d. StaysBegun entry (begun_of entry config d boot) halt.volume) some.1 stays).keeps quiet there names own));

@@ -1,6 +1,7 @@
 -- What is begun and planned, as values.
 use Rattle.std.proofs.Common.{◌≡◌, ◌≤◌, ◌⊎◌, ℕ, Bool, true, not, List, Option, Some, None, Result, Ok, Err, refl, sym, ◌∙◌, ap, subst, subst₂, inl, inr, arith}
-use Rattle.std.specs.Prelude.{IfSome, is_some}
+use Rattle.std.proofs.lemmas.Bool.{false≢true}
+use Rattle.std.specs.Prelude.{IfSome, IsErr, is_some}
 use Rattle.disk_trait.specs.declared.disks.Disks.{Ghosts}
 use Rattle.disk_trait.specs.declared.disks.Span as spans
 use Rattle.disk_trait.specs.Calls.{GoesOn}
@@ -49,7 +50,7 @@ use Rattle.install_preview.specs.Previews.{answer_to}
 use Rattle.install_preview.proofs.StateLemmas.{told_from}
 use Rattle.install_preview.proofs.TrialLemmas.{of_some}
 use Rattle.install_room.specs.Room.{room_for, places_view}
-use Rattle.install_run.specs.Answers.{GivesInstall, IsSettledFrom, settled_answer}
+use Rattle.install_run.specs.Answers.{GivesInstall, IsSettledFrom, StaysUnbegun, settled_answer}
 use Rattle.install_run.specs.Keeps.{KeepsMost}
 use Rattle.install_run.specs.Steps.{IsReadyToStage, StaysBegun}
 use Rattle.install_run.proofs.AnswerLemmas.{begin_refused, plan_refused, plan_passes, report_is}
@@ -157,6 +158,14 @@ module _ {D : Type 0} {disks : Ghosts D} (entry : Volume D disks) (config : conf
     pub tie : IsSettledFrom Was M Beg Is
     tie names passes = (s.found, at (λ device. Settled entry (begun_of entry config device boot) s) begins.settled told)
 
+    -- the checks up to settling passed
+    begun-is : begin_checks Was M Beg.volume Beg.config Beg.boot Beg.span ≡ Ok ex.names
+    unfolding begin_checks
+    begun-is = rw (ex.surveyed, ex.apart, ex.are, ex.may) refl
+
+    pub none_refused : IsErr (begin_checks Was M Beg.volume Beg.config Beg.boot Beg.span) → ⊥
+    none_refused refused = false≢true (subst (λ (r : Result settles.OwnNames Rattle.install_laws.specs.InstallVerdict.InstallRefusal). IsErr r) begun-is refused)
+
     pub told_after : IsTold (past_of s.volume)
     told_after = begun_leaves.goes_on.told told
 
@@ -190,6 +199,12 @@ module _ {D : Type 0} {disks : Ghosts D} (entry : Volume D disks) (config : conf
   gives_back result gives =
       back (λ device. OnDisks disks entry.disks.now (λ image machine. GivesInstall image machine (begun_of entry config device boot) time result))
       (told_from (past_of entry) (λ image. GivesInstall image M Beg time result) gives)
+
+  pub unbegun_back : (result : Result (Planned D disks × Option Bool) (Halt D disks)) → (IsTold (past_of entry) → StaysUnbegun Was M Beg (past_of entry) result)
+      → IfSome config.boot (λ device. OnDisks disks entry.disks.now (λ image machine. StaysUnbegun image machine (begun_of entry config device boot) (past_of entry) result))
+  unbegun_back result stays =
+      back (λ device. OnDisks disks entry.disks.now (λ image machine. StaysUnbegun image machine (begun_of entry config device boot) (past_of entry) result))
+      (told_from (past_of entry) (λ image. StaysUnbegun image M Beg (past_of entry) result) stays)
 
   pub gives_refused : (halt : Halt D disks) → SameVolume s.volume halt.volume
       → ((told : IsTold (past_of entry)) → Refuses halt.fault (checks_of Is (machine_of disks s.volume.disks.now) s (ex told).names (Places told)))

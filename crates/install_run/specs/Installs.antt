@@ -1,5 +1,5 @@
 -- What an installation does, by its exit status: what it answers, and what a stop at any moment leaves.
-use Rattle.std.specs.Prelude.{◌≡◌, ◌⊎◌, ℕ, List, Option, Ok, Err}
+use Rattle.std.specs.Prelude.{◌≡◌, ◌≢◌, ◌⊎◌, ℕ, List, Option, Ok, Err, IsErr}
 use Rattle.disk_trait.specs.declared.disks.Phase.TheVariants.{Before}
 use Rattle.disk_trait.specs.Past.{Past}
 use Rattle.disk_trait.specs.Moments.{now, IsQuiet, MayLeave}
@@ -20,12 +20,13 @@ use Rattle.stream_trait.specs.Shows.{SinkState, Shows}
 use Rattle.install_begin.specs.Begin as begins
 use Rattle.install_begin.specs.Begin.{begun_with}
 use Rattle.install_laws.specs.Headline.{Means}
-use Rattle.install_laws.specs.InstallVerdict.{Begun}
+use Rattle.install_laws.specs.InstallVerdict.{Answer, Begun}
 use Rattle.install_laws.specs.Stopped.{BootsAsEither, StaysAsBefore}
 use Rattle.install_order.specs.Begins.{AreOwn, LiesThere}
+use Rattle.install_order.specs.Checks.{begin_checks}
 use Rattle.install_preview.specs.Previews.{AnswersVerdict}
-use Rattle.install_run.specs.Answers.{AnswersInstall, IsSettledFrom, lost_line}
-pub use Rattle.install_run.specs.Keeps.{DevicesLieOutside, IsBefore, IsDone}
+use Rattle.install_run.specs.Answers.{AnswersInstall, IsSettledFrom, lost_line, settled_answer}
+pub use Rattle.install_run.specs.Keeps.{DevicesLieOutside, DevicesStay, IsBefore, IsDone}
 use Rattle.install_run.specs.Keeps.{KeepsNames}
 
 -- ---- what is left
@@ -45,25 +46,37 @@ abbrev pub LaysAsPlanned : Machine → Begun → Image → ℕ → settles.OwnNa
 LaysAsPlanned machine begun settled time names entry c =
     Lays c machine begun.volume begun.span (planned settled machine begun.volume begun.config time) names.map (now entry begun.span.disk begun.span.start)
 
+-- all checks pass: those up to settling of what there was, and those after it of what it left
+abbrev pub Passes : Image → Machine → Image → Begun → ℕ → Type 0
+Passes image machine settled begun time = (answer : Answer) × (settled_answer image machine settled begun time ≡ Ok answer)
+
 -- What a stop leaves, by the status, with the place of the new map's default line: of a refusal, or of a disk that failed before the
 -- commit, what boots as before; of one that failed in it, the same of the two; and of what is done, the headline, and a map that lies as
--- planned. What it keeps of names.
+-- planned. What it keeps of names. A commit begins only where all checks passed; and once all is done, all is durable.
 pub record Leaves (machine : Machine) (begun : Begun) (settled : Image) (time : ℕ) (entry ended : Option Past) (status : ℕ) : Type 0 where
-  pub keeps : (names : settles.OwnNames) → AreOwn (now entry) begun names → KeepsNames machine begun names entry ended status
-  pub lays : IsDone status → DevicesLieOutside (now entry) machine begun → (names : settles.OwnNames) → AreOwn (now entry) begun names
+  pub keeps : (names : settles.OwnNames) → AreOwn (now entry) begun names → KeepsNames machine begun settled time names entry ended status
+  pub lays : IsDone status → DevicesStay (now entry) settled machine begun → (names : settles.OwnNames) → AreOwn (now entry) begun names
       → (c : Image) → MayLeave ended c → LaysAsPlanned machine begun settled time names entry c
   pub settles : (status ≡ 9) ⊎ IsDone status → IsSettledFrom (now entry) machine begun settled
+  pub passes : (status ≡ 9) ⊎ IsDone status → Passes (now entry) machine settled begun time
   pub before : IsBefore status → StaysAsBefore machine begun.volume begun.span entry ended
-  pub at_commit : status ≡ 9 → DevicesLieOutside (now entry) machine begun
+  pub at_commit : status ≡ 9 → DevicesStay (now entry) settled machine begun
       → (place : DiskSector) × BootsAsEither machine begun.volume begun.span place (meant_by machine begun settled) entry ended
-  pub done : IsDone status → DevicesLieOutside (now entry) machine begun → (place : DiskSector) × IsInstalled machine begun place settled entry ended
+  pub done : IsDone status → DevicesStay (now entry) settled machine begun → (place : DiskSector) × IsInstalled machine begun place settled entry ended
+  pub quiet : status ≡ 0 → IsQuiet ended
 
 -- ---- the whole
+
+-- Where a check up to settling refuses, nothing is written, unless a disk fails.
+abbrev pub StaysRefused : Image → Machine → Begun → Option Past → Option Past → ℕ → Type 0
+StaysRefused image machine begun entry ended status =
+    status ≢ 8 → IsErr (begin_checks image machine begun.volume begun.config begun.boot begun.span) → ended ≡ entry
 
 -- An installation answers, and leaves, by the image that its settling leaves. What it leaves rests on a quiet entry.
 pub record Installs (image : Image) (machine : Machine) (begun : Begun) (time : ℕ) (entry ended : Option Past) (status : ℕ) (old new : SinkState) : Type 0 where
   pub settled : Image
   pub answers : AnswersInstall image machine settled begun time status old new
+  pub refused : StaysRefused image machine begun entry ended status
   pub leaves : IsQuiet entry → LiesThere (now entry) machine begun → Leaves machine begun settled time entry ended status
 
 -- So it does by what was read, where a volume lies there; else that is answered, and nothing is done.

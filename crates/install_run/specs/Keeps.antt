@@ -1,9 +1,12 @@
 -- What an installation keeps of the volume and its names, by its exit status (install_join_laws' definitions).
 use Rattle.std.specs.Prelude.{◌≡◌, ◌⊎◌, ◌≢◌, ℕ, List, Option}
+use Rattle.std.specs.List.{concat}
 use Rattle.disk_trait.specs.Past.{Past}
 use Rattle.disk_trait.specs.Moments.{now, MayLeave, LeavesOnly}
-use Rattle.lilo_model.specs.Disks.{Image, Machine}
+use Rattle.lilo_model.specs.Disks.{Image, Machine, DiskSector}
 use Rattle.lilo_model.specs.MinixNames.{names_in}
+use Rattle.lilo_model.specs.Plan.{plan_sectors}
+use Rattle.lilo_model.specs.Planned.{planned}
 use Rattle.lilo_model.specs.Settled as model
 use Rattle.install_apart_laws.specs.Laws.{KeepsDevices}
 use Rattle.install_apart_laws.specs.Plans.{AllPassBy}
@@ -14,6 +17,11 @@ use Rattle.install_join_laws.specs.Kept.{HasBackup, IsInstalled, Keeps, KeepsUns
 
 -- ---- what it rests on
 
+-- Once names are settled the devices of the configuration lie where they lay: so it is where settling changes no sector of a table that
+-- one of them is found by.
+abbrev pub DevicesStay : Image → Image → Machine → Begun → Type 0
+DevicesStay image settled machine begun = KeepsDevices image settled machine begun.config begun.boot
+
 -- Where a device lies is read outside the volume, but for its block 0: in each image that is the same there, the devices lie where they
 -- lie in this one.
 abbrev pub DevicesLieOutside : Image → Machine → Begun → Type 0
@@ -22,8 +30,8 @@ DevicesLieOutside image machine begun =
 
 -- Nothing that is read rests on what settling changes: neither where the devices lie, nor which paths of the configuration can't be followed,
 -- as none of them leads to a name that is replaced, or goes on after it.
-pub record IsSteady (image : Image) (machine : Machine) (begun : Begun) : Type 0 where
-  pub devices : DevicesLieOutside image machine begun
+pub record IsSteady (image settled : Image) (machine : Machine) (begun : Begun) : Type 0 where
+  pub devices : DevicesStay image settled machine begun
   pub paths : (names : model.OwnNames) → AreOwn image begun names → AllPassBy (names_in begun.volume image) names begun.config
 
 -- ---- the exit status
@@ -42,21 +50,27 @@ pub record IsBefore (status : ℕ) : Type 0 where
 abbrev pub KeepsMost : Machine → Begun → model.OwnNames → Option Past → Option Past → Type 0
 KeepsMost machine begun names entry ended = LeavesOnly entry ended (KeepsUnstaged (now entry) machine begun names)
 
--- or, with some bytes of the new map, the others, and the map and the backup as they were or whole
-pub record KeepsWith (machine : Machine) (begun : Begun) (names : model.OwnNames) (entry ended : Option Past) : Type 0 where
-  pub bytes : List ℕ
-  pub each : LeavesOnly entry ended (Keeps (now entry) machine begun names bytes)
+-- or the others, and the map and the backup as they were or whole, the map with these bytes
+abbrev pub KeepsWith : Machine → Begun → model.OwnNames → List ℕ → Option Past → Option Past → Type 0
+KeepsWith machine begun names map entry ended = LeavesOnly entry ended (Keeps (now entry) machine begun names map)
 
--- the new map is there alone, with some bytes, and the backup, in each image that a stop leaves at the end
-pub record HasInstalled (begun : Begun) (names : model.OwnNames) (entry ended : Option Past) : Type 0 where
-  pub bytes : List ℕ
-  pub each : (c : Image) → MayLeave ended c → IsInstalled (now entry) begun names bytes c
+-- the new map is there alone, with these bytes, and the backup, in each image that a stop leaves at the end
+abbrev pub HasInstalled : Begun → model.OwnNames → List ℕ → Option Past → Option Past → Type 0
+HasInstalled begun names map entry ended = (c : Image) → MayLeave ended c → IsInstalled (now entry) begun names map c
+
+-- the bytes of the new map, whole: the sectors of what is planned on the settled image, where they lie at these places
+abbrev pub new_map : Machine → Begun → Image → ℕ → List DiskSector → List ℕ
+new_map machine begun settled time places = concat (plan_sectors (planned settled machine begun.volume begun.config time) machine places)
 
 -- By the status: sound and Held where it was, with the others as before, and the map and the backup as before, or whole; as before but for
--- settling where it was refused and no disk failed; once it is done the backup, and after 0 the map too.
-pub record KeepsNames (machine : Machine) (begun : Begun) (names : model.OwnNames) (entry ended : Option Past) (status : ℕ) : Type 0 where
-  pub before : IsBefore status → KeepsMost machine begun names entry ended ⊎ KeepsWith machine begun names entry ended
+-- settling where it was refused and no disk failed; once it is done the backup, and after 0 the map too. The map is the one that is planned.
+pub record KeepsNames (machine : Machine) (begun : Begun) (settled : Image) (time : ℕ) (names : model.OwnNames) (entry ended : Option Past) (status : ℕ) : Type 0 where
+  pub places : List DiskSector
+  pub before : IsBefore status
+      → KeepsMost machine begun names entry ended ⊎ KeepsWith machine begun names (new_map machine begun settled time places) entry ended
   pub unstaged : IsBefore status → status ≢ 8 → KeepsMost machine begun names entry ended
-  pub later : (status ≡ 9) ⊎ IsDone status → DevicesLieOutside (now entry) machine begun → KeepsWith machine begun names entry ended
-  pub backup : IsDone status → DevicesLieOutside (now entry) machine begun → (c : Image) → MayLeave ended c → HasBackup (now entry) begun names c
-  pub installed : status ≡ 0 → DevicesLieOutside (now entry) machine begun → HasInstalled begun names entry ended
+  pub later : (status ≡ 9) ⊎ IsDone status → DevicesStay (now entry) settled machine begun
+      → KeepsWith machine begun names (new_map machine begun settled time places) entry ended
+  pub backup : IsDone status → DevicesStay (now entry) settled machine begun → (c : Image) → MayLeave ended c → HasBackup (now entry) begun names c
+  pub installed : status ≡ 0 → DevicesStay (now entry) settled machine begun
+      → HasInstalled begun names (new_map machine begun settled time places) entry ended

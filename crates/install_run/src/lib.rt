@@ -8,4 +8,4 @@ mod laws;
 mod prepare;
 
 pub use install::install_begun;
-pub use laws::installations_answer_by_their_entry;
+pub use laws::{devices_outside_the_volume_stay, installations_answer_by_their_entry};

@@ -11,7 +11,7 @@ ghost use Rattle.install_order.specs.Checks.{IsLaid};
 ghost use Rattle.install_order.specs.Faults.{HasInstallCause};
 ghost use Rattle.install_order.specs.View.{begun_of};
 ghost use Rattle.install_preview.specs.Previews.{volume_left};
-ghost use Rattle.install_run.specs.Answers.{GivesInstall};
+ghost use Rattle.install_run.specs.Answers.{GivesInstall, StaysUnbegun};
 ghost use Rattle.install_run.specs.Steps.{IsPrepared, IsReadyToStage, StaysBegun};
 
 use disk_trait::{Disks, Phase, Span};
@@ -36,6 +36,8 @@ pub(crate) fn prepare<'d, D: Disks>(
         LiesThere image machine (begun_of volume config device boot))) }
     ensures gives { IfSome config.boot (λ device. OnDisks D.Disks volume.entry.disks.now (λ image machine.
         GivesInstall image machine (begun_of volume.entry config device boot) now result)) }
+    ensures unbegun { IfSome config.boot (λ device. OnDisks D.Disks volume.entry.disks.now (λ image machine.
+        StaysUnbegun image machine (begun_of volume.entry config device boot) (past_of volume.entry) result)) }
     ensures prepared { IfOk result (λ made. IsPrepared volume.entry config boot now made.0) }
     ensures ready { IfOk result (λ made. IsReadyToStage made.0) }
     ensures stays { IfSome config.boot (λ device. StaysBegun volume.entry (begun_of volume.entry config device boot)

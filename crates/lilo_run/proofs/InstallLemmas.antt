@@ -261,6 +261,7 @@ module _ {D : Type 0} (g : Ghosts D) (old new : D) where
     leaves =
         λ quiet. record {
           keeps = λ names are. record {
+            places = [];
             before = λ is. inl (keeps_same found.machine begun names same quiet);
             unstaged = λ is other. keeps_same found.machine begun names same quiet;
             later = λ is. absurd (⊎_elim (not_nine own early) (not_done own early) is);
@@ -268,11 +269,14 @@ module _ {D : Type 0} (g : Ghosts D) (old new : D) where
             installed = λ zero outside. absurd (not_done own early (inl zero));
           };
           settles = λ is. absurd (⊎_elim (not_nine own early) (not_done own early) is);
+          passes = λ is. absurd (⊎_elim (not_nine own early) (not_done own early) is);
           before = λ is. stays_same found.machine begun.volume begun.span same quiet;
           at_commit = λ nine outside. absurd (not_nine own early nine);
           done = λ is outside. absurd (not_done own early is);
           lays = λ is outside. absurd (not_done own early is);
+          quiet = λ zero. absurd (not_done own early (inl zero));
         };
+    refused = λ other refuses. same;
   }
 
   -- an installation that did nothing
@@ -358,7 +362,7 @@ module _ {D : Type 0} (g : Ghosts D) (machine : Machine) (root : Option Device) 
           → (own ≢ 8 → own ≢ 13 → answered ≡ true) → EndsAs g (installing_by (finds done.settled answered)) own old new
       ends answered settled owed =
           ends_on g old new (installing_by (finds done.settled answered)) own read volume is there
-          (record { settled = settled; leaves = λ quiet. done.leaves quiet lies }) owed refl goes_on
+          (record { settled = settled; leaves = λ quiet. done.leaves quiet lies; refused = done.refused }) owed refl goes_on
 
       effect_is :
           (answered : Bool) → install_effect (now (g.past old)) machine root path time (finds done.settled answered)
@@ -553,7 +557,7 @@ module _ {D : Type 0} (g : Ghosts D) (image : Image) (machine : Machine) (root :
   Room = install_room image machine found.settled time
 
   module _ (own : ℕ) (old new : D) (ends : EndsAs g (installation image machine root path time found) own old new) (so : found.answered ≡ true)
-      (steady : ReadsSteady image machine root path) where
+      (steady : ReadsSteady image found.settled machine root path) where
     on_read : (read : begins.Begun) → begun_at image machine root path ≡ Ok read
         → install_on image machine found.settled time read ≡ answer_on Room image machine time read
     unfolding install_on

@@ -76,6 +76,7 @@ module _ {D : Type 0} (g : Ghosts D) where
       leaves =
           λ quiet. subst (λ (p : Option Past). Leaves found.machine begun found.left.settled found.time p (g.past new) own) same.same_past
           (left.leaves (subst (λ (p : Option Past). IsQuiet p) (sym same.same_past) quiet));
+      refused = λ other refuses. left.refused other refuses ∙ same.same_past;
     }
 
     pub ends_after : (found : Installation) (own : ℕ) → EndsAs g found own old new → EndsAs g found own first new

@@ -24,16 +24,16 @@ abbrev pub IsInstallRun : List (List ℕ) → Option Device → List ℕ → Typ
 IsInstallRun words root path =
     (part : Part) × (run_at words ≡ Ok (part ∷ [])) × (part.command ≡ Install) × (part.root ≡ root) × (conf_path part.config ≡ path)
 
--- where a volume and a configuration are read, nothing that is read then rests on what settling changes
-abbrev pub ReadsSteady : Image → Machine → Option Device → List ℕ → Type 0
-ReadsSteady image machine root path =
+-- where a volume and a configuration are read, nothing that is read then rests on what settling changes, which leaves this image
+abbrev pub ReadsSteady : Image → Image → Machine → Option Device → List ℕ → Type 0
+ReadsSteady image settled machine root path =
     (read : begins.Begun) → begun_at image machine root path ≡ Ok read → (volume : Volume) → volume_at image read.volume ≡ Ok volume
-    → IsSteady image machine (begun_with read volume)
+    → IsSteady image settled machine (begun_with read volume)
 
 -- then what is answered is the model's verdict, by the image at the entry: of what settling leaves it takes the room alone
 abbrev pub IsModelled : Image → Machine → Option Device → List ℕ → ℕ → Left → Type 0
 IsModelled image machine root path time found =
-    found.answered ≡ true → ReadsSteady image machine root path
+    found.answered ≡ true → ReadsSteady image found.settled machine root path
     → (install_effect image machine root path time found).verdict ≡ install_verdict image machine root path found.settled time
 
 -- the status, the text, the keys left and what the disks hold go with what is found out, by which the verdict is the model's

@@ -26,7 +26,7 @@ returns-in-Ok-clause-goes_on g c = goes_on_join g.D.Disks _ _ _ c.in-Ok.ensures.
 pub returns-in-Err-clause-installs : goal.returns-in-Err-clause-installs
 returns-in-Err-clause-installs g c =
     refused_installs c.args.volume c.args.config c.args.boot c.args.now c.requires.device c.say_halt.result.0 (g.D.Disks.past c.say_halt.result.1.now) _ _ c.in-Err.halt
-    (ap g.D.Disks.past c.say_halt.ensures.disks) c.in-Err.ensures.cause c.in-Err.ensures.gives c.in-Err.ensures.stays
+    (ap g.D.Disks.past c.say_halt.ensures.disks) c.in-Err.ensures.cause c.in-Err.ensures.gives c.in-Err.ensures.unbegun c.in-Err.ensures.stays
     (rw c.in-Err.ensures.phase at c.say_halt.ensures.status) (rw c.in-Err.ensures.phase at c.say_halt.ensures.shown)
 
 pub returns-in-Err-clause-cause : goal.returns-in-Err-clause-cause

@@ -7,7 +7,7 @@ use Rattle.minix_zones.specs.Volume.{past_of, faults_of}
 use Rattle.sector_address.specs.Machine.{machine_of}
 use Rattle.install_order.specs.Answers.{Leaves}
 use Rattle.install_order.specs.View.{begun_of}
-use Rattle.install_run.proofs.PreparedLemmas.{Begins, are, begin_stays, begun_leaves, cause_from, gives_back, gives_planned, gives_refused, planned_goes_on, planned_reference, planned_stays, ready_to_stage, refused_begin, some_of, told_after}
+use Rattle.install_run.proofs.PreparedLemmas.{Begins, are, begin_stays, begun_leaves, cause_from, gives_back, gives_planned, gives_refused, none_refused, planned_goes_on, planned_reference, planned_stays, ready_to_stage, refused_begin, some_of, told_after, unbegun_back}
 use Rattle.install_run.proofs.prepare.prepare.Goals as goal
 
 pub returns-in_err-surveyed-clause-gives : goal.returns-in_err-surveyed-clause-gives
@@ -19,6 +19,38 @@ returns-in_err-surveyed-clause-gives g c =
     (λ device found.
     told_map (past_of c.args.volume) _ _
     (λ now refused. refused_begin now (machine_of g.D.Disks c.args.volume.disks.now) (begun_of c.args.volume c.args.config device c.args.boot) c.args.now _ halt.fault refused) found))
+
+-- ---- nothing was written where a check up to settling refused
+
+pub returns-in_err-surveyed-clause-unbegun : goal.returns-in_err-surveyed-clause-unbegun
+returns-in_err-surveyed-clause-unbegun g c =
+    let halt = c.in_err-surveyed.field-0.0 in
+    let is : c.from_residual.result ≡ Err halt = search rules in
+    rw is
+    (IfSome_then c.args.config.boot c.in_err-surveyed.ensures.found
+    (λ device found. told_map (past_of c.args.volume) _ _ (λ now refuses other checks. c.in_err-surveyed.ensures.refused other) found))
+
+pub returns-in_err-planned-clause-unbegun : goal.returns-in_err-planned-clause-unbegun
+returns-in_err-planned-clause-unbegun g c =
+    let halt = c.in_err-planned.field-0.0 in
+    let is : c.from_residual-in_err-planned.result ≡ Err halt = search rules in
+    let s = c.in_ok-surveyed.surveyed in
+    let did = c.in_ok-surveyed.ensures in
+    let begins : Begins c.args.volume c.args.config c.args.boot c.args.now s =
+    record { found = did.found; held = did.held; leaves = did.leaves; settled = did.settled; surveys = did.surveyed } in
+    rw is
+    (unbegun_back c.args.volume c.args.config c.args.boot c.args.now s begins (Err halt)
+    (λ told other checks. absurd (none_refused c.args.volume c.args.config c.args.boot c.args.now s begins told checks)))
+
+pub returns-clause-unbegun : goal.returns-clause-unbegun
+returns-clause-unbegun g c =
+    let s = c.in_ok-surveyed.surveyed in
+    let did = c.in_ok-surveyed.ensures in
+    let begins : Begins c.args.volume c.args.config c.args.boot c.args.now s =
+    record { found = did.found; held = did.held; leaves = did.leaves; settled = did.settled; surveys = did.surveyed } in
+    unbegun_back c.args.volume c.args.config c.args.boot c.args.now s begins (Ok (c.in_ok-planned.planned, c.clear-clear.result)) (λ told. tt)
+
+-- ---- what is left, and the disks
 
 pub returns-in_err-surveyed-clause-stays : goal.returns-in_err-surveyed-clause-stays
 returns-in_err-surveyed-clause-stays g c =

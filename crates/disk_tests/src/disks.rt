@@ -1,9 +1,8 @@
 mod files;
 mod left;
 
-use disk_trait::{
-    DiskFault, Disks, Failing, FileDisk, FileDisks, Geometry, MemDisk, MemDisks, flush, read, write,
-};
+use disk_trait::{DiskFault, Disks, Failing, Geometry, MemDisk, MemDisks, flush, read, write};
+use file_disks::{FileDisk, FileDisks};
 use sector_parts::Sector;
 use std::alloc::{AllocError, Global};
 use std::fs::{File, OpenOptions};

@@ -5,5 +5,4 @@ pub mod NotWrittenLemmas
 pub mod CallLemmas
 pub mod Changed
 pub mod LeftLemmas
-pub mod Streams
 pub mod ToldLemmas

@@ -9,4 +9,3 @@ pub mod Count
 pub mod Absent
 pub mod MemDisks
 pub mod Left
-pub mod FileDisks

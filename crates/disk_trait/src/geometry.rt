@@ -47,7 +47,7 @@ impl Geometry {
     }
 
     /// What is said of a disk that isn't there: 16 heads of 63 sectors.
-    pub(crate) fn absent() -> Geometry
+    pub fn absent() -> Geometry
         ensures { result ≡ absent_geometry }
     {
         Geometry {

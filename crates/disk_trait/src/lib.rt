@@ -3,15 +3,11 @@
 //! A disk is numbered from 0 and has sectors of 512 bytes, numbered from 0 too. The trait says what a
 //! call does to the past: what the disks held at first and each write and flush since. The functions
 //! `read`, `write` and `flush`, and those made of them, say the same in terms of moments: what the disks
-//! hold now, and what a stop may leave. `MemDisks` keeps disks in memory, and `FileDisks` goes to opened
-//! image files.
+//! hold now, and what a stop may leave. `MemDisks` keeps disks in memory.
 #![tactic(auto)]
 
-mod ahead;
 mod disks;
 mod event;
-mod file_disk;
-mod file_disks;
 mod geometry;
 mod held_disk;
 mod laws;
@@ -20,12 +16,9 @@ mod left;
 mod mem_disk;
 mod mem_disks;
 mod range;
-mod sector_file;
 
 pub use disks::{DiskFault, Disks, Phase, Span};
 pub use event::Event;
-pub use file_disk::FileDisk;
-pub use file_disks::FileDisks;
 pub use geometry::{Geometry, GeometryFault};
 pub use laws::{
     Claim, end_of_run, joining, last_moment, leaves_only, left_images, may_hold, not_written,

@@ -1,7 +1,8 @@
 // Disk images.
 ghost use Rattle.std.specs.Prelude.{◌≤◌, IfSome};
 
-use disk_trait::{FileDisk, Geometry};
+use disk_trait::Geometry;
+use file_disks::FileDisk;
 use std::fs::{File, OpenFile, OpenOptions};
 use std::io;
 

@@ -8,7 +8,8 @@
 //! suffice.
 #![tactic(auto)]
 
-use disk_trait::{FileDisk, FileDisks, Geometry, untold};
+use disk_trait::{Geometry, untold};
+use file_disks::{FileDisk, FileDisks};
 use host_parts::{StartFault, arguments, create_image, now_seconds, open_image};
 use ldisk_make::are_placed;
 use ldisk_run::ldisk;

@@ -1,7 +1,8 @@
 // An IMAGE argument of the command line.
 ghost use Rattle.std.specs.Prelude.{◌≤◌, IfSome};
 
-use disk_trait::{FileDisk, Geometry};
+use disk_trait::Geometry;
+use file_disks::FileDisk;
 use std::fs::File;
 
 /// Opens the image that an argument names. One that can't be opened, or is too large for a disk, can't be used.

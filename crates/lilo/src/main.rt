@@ -8,7 +8,8 @@
 
 mod image;
 
-use disk_trait::{Disks, FileDisks, untold};
+use disk_trait::{Disks, untold};
+use file_disks::FileDisks;
 use host_parts::{StartFault, arguments, now_seconds};
 use image::open_image;
 use lilo_run::{Ram, boots, lilo};

@@ -3,7 +3,8 @@
 #![tactic(auto)]
 
 use arrayvec::ArrayVec;
-use disk_trait::{FileDisk, FileDisks, Geometry};
+use disk_trait::Geometry;
+use file_disks::{FileDisk, FileDisks};
 use mbr_table::{Partition, partitions};
 use std::fs::File;
 use std::process::ExitCode;

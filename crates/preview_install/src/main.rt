@@ -7,7 +7,8 @@
 ghost use Rattle.std.specs.Prelude.{◌<◌, IfSome};
 ghost use Rattle.minix_zones.specs.Volume.{sizes_of};
 
-use disk_trait::{Disks, FileDisk, FileDisks, Geometry, Span};
+use disk_trait::{Disks, Geometry, Span};
+use file_disks::{FileDisk, FileDisks};
 use install_preview::preview;
 use lilo_conf::parse;
 use mbr_table::{Device, device_of, place_of};

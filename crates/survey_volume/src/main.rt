@@ -3,7 +3,8 @@
 //! can't be used.
 #![tactic(auto)]
 
-use disk_trait::{Disks, FileDisk, FileDisks, Geometry};
+use disk_trait::{Disks, Geometry};
+use file_disks::{FileDisk, FileDisks};
 use mbr_table::{Device, device_of, place_of};
 use minix_survey::{SurveyFault, survey};
 use minix_tree::TreeFault;

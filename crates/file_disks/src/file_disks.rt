@@ -1,9 +1,10 @@
 // Disks over opened image files.
 ghost use Rattle.std.specs.Prelude.{◌≡◌, ◌<◌, ◌≤◌, [], ◌∷◌, ◌++◌, length, OnOk, OnErr, None};
 ghost use Rattle.disk_trait.specs.Count.{risen};
-ghost use Rattle.disk_trait.specs.FileDisks.{FileState, file_sizes_of, file_geometries_of};
+ghost use Rattle.file_disks.specs.FileDisks.{FileState, file_sizes_of, file_geometries_of};
 
-use crate::{DiskFault, Disks, FileDisk, Geometry};
+use crate::FileDisk;
+use disk_trait::{DiskFault, Disks, Geometry};
 use sector_parts::Sector;
 use std::alloc::{AllocError, Global};
 use std::fs::OpenFile;

@@ -2,7 +2,7 @@
 ghost use Rattle.std.specs.Prelude.{◌≡◌, ◌≢◌, ◌*◌, ◌+◌, ◌<◌, ◌≤◌, ◌^◌, IfOk, OnOk, OnErr, IsOk, Some, None};
 ghost use Rattle.std.specs.Io.Seek.{MovesTo};
 ghost use Rattle.std.specs.Io.KnownBytes.{Appends};
-ghost use Rattle.disk_trait.specs.FileDisks.{IsHeld, held_sector};
+ghost use Rattle.file_disks.specs.FileDisks.{IsHeld, held_sector};
 
 use crate::ahead::Ahead;
 use sector_parts::Sector;

@@ -1,5 +1,5 @@
 use Rattle.std.proofs.Common.{◌≡◌}
-use Rattle.disk_trait.proofs.file_disks.FileDisks.forget_all.Given as goal
+use Rattle.file_disks.proofs.file_disks.FileDisks.forget_all.Given as goal
 
 -- nothing changes that is known of the disks
 abbrev pub invariant-loop-disk : goal.invariant-loop-disk

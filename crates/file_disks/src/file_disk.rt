@@ -1,9 +1,9 @@
 // One disk over an opened image file.
 ghost use Rattle.std.specs.Prelude.{◌≡◌, ◌*◌, ◌/◌, ◌<◌, ◌≤◌, ◌^◌, length, IfOk, IfSome, OnSome};
-ghost use Rattle.disk_trait.specs.FileDisks.{DiskShape};
+ghost use Rattle.file_disks.specs.FileDisks.{DiskShape};
 
-use crate::Geometry;
 use crate::sector_file::SectorFile;
+use disk_trait::Geometry;
 use sector_parts::Sector;
 use std::fs::OpenFile;
 use std::io;

@@ -2,8 +2,8 @@ use Rattle.std.proofs.Common.{rules, ◌∙◌, subst, take_all, ◌≤◌, leng
 use Rattle.std.specs.Io.KnownBytes.{Consumes}
 use borrow.Rule.Slice.PartMut.{same_len_mid}
 use Rattle.std.proofs.KnownBytes.{Consumes-trans}
-use Rattle.disk_trait.proofs.Streams.{take-put_mid_more}
-use Rattle.disk_trait.proofs.ahead.read_whole.Goals as goal
+use Rattle.file_disks.proofs.Streams.{take-put_mid_more}
+use Rattle.file_disks.proofs.ahead.read_whole.Goals as goal
 
 pub loop-at-preserved : goal.loop-at-preserved
 loop-at-preserved g c =

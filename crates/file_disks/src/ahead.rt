@@ -1,7 +1,7 @@
 // Sectors of a file that were read at once.
 ghost use Rattle.std.specs.Prelude.{◌≡◌, ◌*◌, ◌+◌, ◌<◌, ◌≤◌, OnOk, OnErr, IfSome, IfNone, take};
 ghost use Rattle.std.specs.Io.KnownBytes.{Consumes};
-ghost use Rattle.disk_trait.specs.FileDisks.{ReadSectors, IsHeld, held_sector};
+ghost use Rattle.file_disks.specs.FileDisks.{ReadSectors, IsHeld, held_sector};
 
 use sector_parts::Sector;
 use std::io;

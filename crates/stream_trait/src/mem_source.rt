@@ -1,5 +1,5 @@
 // A source in memory.
-use crate::source::{Next, Source};
+use crate::source::{Next, Source, Taken};
 use std::alloc::{AllocError, Global};
 use std::marker::Model;
 
@@ -35,9 +35,9 @@ impl MemSource {
     ghost use Rattle.std.specs.Prelude.{◌≡◌, false, IfOk};
     ghost use Rattle.stream_trait.specs.MemSource.{MemSourceState};
 
-    /// A source of these bytes. The calls of `next_byte` are counted from 0, and the one whose
-    /// number is in `failing` fails, unless the source has already answered `End`: from then on
-    /// no call is counted. The counts stay at `u64::MAX`.
+    /// A source of these bytes. The calls of `next_byte` and `next_bytes` are counted together from 0,
+    /// and the one whose number is in `failing` fails, unless the source has already answered `End`:
+    /// from then on no call is counted. The counts stay at `u64::MAX`.
     ///
     /// # Errors
     ///
@@ -61,8 +61,8 @@ impl Source for MemSource {
     ghost use Rattle.std.specs.Prelude.{◌≡◌, ℕ, ◌<◌, ◌≤◌, ◌↔◌, length, true, false, Some, IsTrue, IsFalse};
     ghost use Rattle.lilo_model.specs.Faults.{Rose};
     ghost use Rattle.stream_trait.specs.Fault.{is_listed};
-    ghost use Rattle.stream_trait.specs.Source.{Gives};
-    ghost use Rattle.stream_trait.specs.MemSource.{source_after};
+    ghost use Rattle.stream_trait.specs.Source.{Gives, GivesMany};
+    ghost use Rattle.stream_trait.specs.MemSource.{source_after, source_after_many};
 
     ghost left = { λ s. Some s.left };
 
@@ -106,6 +106,36 @@ impl Source for MemSource {
                 self.given += 1;
                 Next::Got(byte)
             }
+        }
+    }
+
+    // It gives one byte a call, as `next_byte` would, whatever there is room for.
+    fn next_bytes(&mut self, into: &mut [u8]) -> Taken
+        requires room { 0 < length into.old }
+        ensures later { self.old.faults ≤ self.new.faults }
+        ensures failed { result ≡ Taken.Failed → Rose self.old.faults self.new.faults }
+        ensures some { (count : ℕ) → result ≡ Taken.Got count → (0 < count) × (count ≤ length into.new) }
+        ensures length { length into.new ≡ length into.old }
+        ensures gives { GivesMany (Some self.old.left) result into.new (Some self.new.left) }
+        ensures fewer { (count : ℕ) → result ≡ Taken.Got count → length self.new.left < length self.old.left }
+        ensures no_more { length self.new.left ≤ length self.old.left }
+        ensures end { IsTrue self.new.ended ↔ (result ≡ Taken.End) }
+        ensures stays { IsTrue self.old.ended → (result ≡ Taken.End) × (self.new.faults ≡ self.old.faults)
+            × (Some self.new.left ≡ Some self.old.left) }
+
+        ensures one { (count : ℕ) → result ≡ Taken.Got count → count ≡ 1 }
+        ensures fails { IsFalse self.old.ended
+            → (result ≡ Taken.Failed) ↔ IsTrue (is_listed self.old.failing self.old.calls) }
+        ensures after { IsFalse self.old.ended → self.new ≡ source_after_many self.old result }
+        ensures unchanged { IsTrue self.old.ended → self.new ≡ self.old }
+    {
+        match self.next_byte() {
+            Next::Got(byte) => {
+                into[0] = byte;
+                Taken::Got(1)
+            }
+            Next::End => Taken::End,
+            Next::Failed => Taken::Failed,
         }
     }
 }

@@ -1,17 +1,17 @@
 // A source over a reader of std.
-use crate::source::{Next, Source};
+use crate::source::{Next, Source, Taken};
 use std::io::Read;
 use std::marker::Model;
 
 // How many bytes one read asks for.
-const BUFFER: usize = 4096;
+const BUFFER: usize = 16_384;
 
 // How many bytes a source can give in all, 2 ^ 40.
 const CAN_GIVE: u64 = 1_099_511_627_776;
 
 /// Gives the bytes of a reader, of which it reports nothing beforehand.
 ///
-/// It reads up to 4096 bytes at a time. It can give 1,099,511,627,776 bytes in all, and then answers
+/// It reads up to 16,384 bytes at a time. It can give 1,099,511,627,776 bytes in all, and then answers
 /// `Failed`, which is a fault. A read that fails is a fault too, also one that was interrupted. A
 /// read that gives no byte ends the source for good. The count of faults stays at `u64::MAX`.
 #[derive(Drop)]
@@ -40,7 +40,7 @@ impl<R: Read + Drop> Model for StdSource<R> {
       faults = s.faults;
     } };
 
-    ghost invariant = { λ s. (s.at ≤ s.filled) × (s.filled ≤ 4096)
+    ghost invariant = { λ s. (s.at ≤ s.filled) × (s.filled ≤ 16384)
         × (IsTrue s.ended → (s.at ≡ s.filled) × IsAtEnd (R.remaining s.reader)) };
 }
 
@@ -65,10 +65,10 @@ impl<R: Read + Drop> StdSource<R> {
 }
 
 impl<R: Read + Drop> Source for StdSource<R> {
-    ghost use Rattle.std.specs.Prelude.{◌≡◌, ℕ, ◌<◌, ◌≤◌, ◌↔◌, None, IsTrue, IsFalse};
+    ghost use Rattle.std.specs.Prelude.{◌≡◌, ℕ, ◌<◌, ◌≤◌, ◌↔◌, length, None, IsTrue, IsFalse};
     ghost use Rattle.lilo_model.specs.Faults.{Rose};
-    ghost use Rattle.stream_trait.specs.Source.{Gives};
-    ghost use Rattle.stream_trait.specs.StdSource.{GivesKnown, Counts};
+    ghost use Rattle.stream_trait.specs.Source.{Gives, GivesMany};
+    ghost use Rattle.stream_trait.specs.StdSource.{GivesKnown, GivesManyKnown, Counts, CountsMany};
 
     ghost left = { λ _. None };
 
@@ -93,18 +93,44 @@ impl<R: Read + Drop> Source for StdSource<R> {
         ensures spent { IsFalse self.old.ended → self.old.can_give ≡ 0 → result ≡ Next.Failed }
         ensures unchanged { IsTrue self.old.ended → self.new ≡ self.old }
     {
+        let mut one = [0];
+        match self.next_bytes(&mut one) {
+            Taken::Got(_) => Next::Got(one[0]),
+            Taken::End => Next::End,
+            Taken::Failed => Next::Failed,
+        }
+    }
+
+    fn next_bytes(&mut self, into: &mut [u8]) -> Taken
+        requires room { 0 < length into.old }
+        ensures later { self.old.faults ≤ self.new.faults }
+        ensures failed { result ≡ Taken.Failed → Rose self.old.faults self.new.faults }
+        ensures some { (count : ℕ) → result ≡ Taken.Got count → (0 < count) × (count ≤ length into.new) }
+        ensures length { length into.new ≡ length into.old }
+        ensures fewer { (count : ℕ) → result ≡ Taken.Got count → self.new.can_give < self.old.can_give }
+        ensures no_more { self.new.can_give ≤ self.old.can_give }
+        ensures end { IsTrue self.new.ended ↔ (result ≡ Taken.End) }
+        ensures stays { IsTrue self.old.ended → (result ≡ Taken.End) × (self.new.faults ≡ self.old.faults) }
+
+        // Where the reader reports its bytes, they come in their order.
+        ensures known { GivesManyKnown self.old.unread result into.new self.new.unread }
+
+        ensures counts { CountsMany self.old result self.new }
+        ensures spent { IsFalse self.old.ended → self.old.can_give ≡ 0 → result ≡ Taken.Failed }
+        ensures unchanged { IsTrue self.old.ended → self.new ≡ self.old }
+    {
         if self.ended {
-            return Next::End;
+            return Taken::End;
         }
         if self.can_give == 0 {
             self.faults = self.faults.saturating_add(1);
-            return Next::Failed;
+            return Taken::Failed;
         }
         if self.at == self.filled {
             match self.reader.read(&mut self.buffer) {
                 Ok(0) => {
                     self.ended = true;
-                    return Next::End;
+                    return Taken::End;
                 }
                 Ok(count) => {
                     self.at = 0;
@@ -112,13 +138,15 @@ impl<R: Read + Drop> Source for StdSource<R> {
                 }
                 Err(_) => {
                     self.faults = self.faults.saturating_add(1);
-                    return Next::Failed;
+                    return Taken::Failed;
                 }
             }
         }
-        let byte = self.buffer[self.at];
-        self.at += 1;
-        self.can_give -= 1;
-        Next::Got(byte)
+        let room = into.len().min(self.can_give as usize);
+        let count = room.min(self.filled - self.at);
+        into[..count].copy_from_slice(&self.buffer[self.at..self.at + count]);
+        self.at += count;
+        self.can_give -= count as u64;
+        Taken::Got(count)
     }
 }

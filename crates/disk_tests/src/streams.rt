@@ -4,7 +4,7 @@ use std::path::PathBuf;
 use std::test::Fail;
 use std::{env, fs, io};
 use stream_trait::{
-    MemSink, MemSource, Next, Shown, Sink, SinkFailed, Source, StdSink, StdSource, Words,
+    MemSink, MemSource, Next, Shown, Sink, SinkFailed, Source, StdSink, StdSource, Taken, Words,
 };
 
 // The bytes up to the first answer that is none, and that answer.
@@ -101,6 +101,61 @@ fn std_source_goes_on_after_a_fault_and_not_after_the_end(rt: HostRuntime) {
         Next::End,
     ] {
         assert_eq!(rt; source.next_byte(), want);
+    }
+}
+
+#[test]
+fn mem_source_gives_a_byte_where_several_are_asked_for(rt: HostRuntime) -> Result<(), Fail> {
+    let mut source = MemSource::new(rt.alloc(), b"abc", &[1, 3, 6])?;
+    let mut into = [b'-'; 2];
+    assert_eq!(rt; source.next_bytes(&mut into), Taken::Got(1));
+    assert_eq!(rt; into.as_slice(), b"a-".as_slice());
+    assert_eq!(rt; source.next_bytes(&mut into), Taken::Failed);
+    assert_eq!(rt; into.as_slice(), b"a-".as_slice());
+    assert_eq!(rt; source.next_byte(), Next::Got(b'b'));
+    // The calls of both methods are counted together.
+    assert_eq!(rt; source.next_byte(), Next::Failed);
+    assert_eq!(rt; source.next_bytes(&mut into[..1]), Taken::Got(1));
+    assert_eq!(rt; into.as_slice(), b"c-".as_slice());
+    // The call of number 6 would fail, had the source not ended.
+    for _ in 0..3 {
+        assert_eq!(rt; source.next_bytes(&mut into), Taken::End);
+    }
+    assert_eq!(rt; source.next_byte(), Next::End);
+    Ok(())
+}
+
+#[test]
+fn std_source_gives_as_many_bytes_as_there_is_room_for(rt: HostRuntime) {
+    let mut source = StdSource::new(b"abcdefg".as_slice());
+    let mut into = [b'-'; 3];
+    assert_eq!(rt; source.next_bytes(&mut into), Taken::Got(3));
+    assert_eq!(rt; into.as_slice(), b"abc".as_slice());
+    assert_eq!(rt; source.next_bytes(&mut into[..1]), Taken::Got(1));
+    assert_eq!(rt; into.as_slice(), b"dbc".as_slice());
+    assert_eq!(rt; source.next_byte(), Next::Got(b'e'));
+    assert_eq!(rt; source.next_bytes(&mut into), Taken::Got(2));
+    assert_eq!(rt; into.as_slice(), b"fgc".as_slice());
+    for _ in 0..2 {
+        assert_eq!(rt; source.next_bytes(&mut into), Taken::End);
+    }
+    assert_eq!(rt; source.next_byte(), Next::End);
+    assert_eq!(rt; into.as_slice(), b"fgc".as_slice());
+}
+
+#[test]
+fn std_source_gives_several_after_a_fault_and_none_after_the_end(rt: HostRuntime) {
+    let mut source = StdSource::new(Keys(0));
+    let mut into = [b'-'; 2];
+    for (want, held) in [
+        (Taken::Got(1), b"k-"),
+        (Taken::Failed, b"k-"),
+        (Taken::Got(1), b"l-"),
+        (Taken::End, b"l-"),
+        (Taken::End, b"l-"),
+    ] {
+        assert_eq!(rt; source.next_bytes(&mut into), want);
+        assert_eq!(rt; into.as_slice(), held.as_slice());
     }
 }
 

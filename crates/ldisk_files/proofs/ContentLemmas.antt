@@ -7,8 +7,8 @@ use Rattle.std.proofs.lemmas.List.{append_assoc, append-nil, take_all, take-appe
 use Rattle.std.proofs.lemmas.List.FromFn.{get_or-map-range_with_len}
 use Rattle.std.proofs.lemmas.List.Elements.{All-nil, All-push}
 use Rattle.std.proofs.lemmas.Slice.Eq.{bytes_eq-Decides}
-use Rattle.stream_trait.specs.Source.{Gives}
-use Rattle.stream_trait.specs.declared.source.Next.TheVariants.{Got, End}
+use Rattle.stream_trait.specs.Source.{GivesMany}
+use Rattle.stream_trait.specs.declared.source.Taken.TheVariants.{Got, End}
 use Rattle.lilo_model.specs.MinixNames.{blocks}
 use Rattle.lilo_model.specs.MinixParts.{blocks_for}
 use Rattle.write_model.specs.FileZones.{without_holes}
@@ -27,16 +27,18 @@ took-none None = refl
 took-none (Some all) = (all, refl, refl)
 
 module _ (taken : List ℕ) (left after : Option (List ℕ)) where
-  pub took-byte : (all : Option (List ℕ)) (byte : ℕ) → HasTaken all taken left → Gives left (Got byte) after → HasTaken all (taken ++ byte ∷ []) after
-  took-byte None byte had gives = let is : Gives None (Got byte) after = subst (λ (l : Option (List ℕ)). Gives l (Got byte) after) had gives in is
-  took-byte (Some all) byte had gives =
-      let is : Gives (Some had.0) (Got byte) after = subst (λ (l : Option (List ℕ)). Gives l (Got byte) after) had.1 gives in
-      (drop 1 had.0, is.1, had.2 ∙ (ap (λ (rest : List ℕ). taken ++ rest) is.0 ∙ sym (append_assoc taken (byte ∷ []) (drop 1 had.0))))
+  pub took-bytes : (all : Option (List ℕ)) (count : ℕ) (into : List ℕ) → HasTaken all taken left → GivesMany left (Got count) into after
+      → HasTaken all (taken ++ take count into) after
+  took-bytes None count into had gives =
+      let is : GivesMany None (Got count) into after = subst (λ (l : Option (List ℕ)). GivesMany l (Got count) into after) had gives in is
+  took-bytes (Some all) count into had gives =
+      let is : GivesMany (Some had.0) (Got count) into after = subst (λ (l : Option (List ℕ)). GivesMany l (Got count) into after) had.1 gives in
+      (drop count had.0, is.1, had.2 ∙ (ap (λ (rest : List ℕ). taken ++ rest) is.0 ∙ sym (append_assoc taken (take count into) (drop count had.0))))
 
-  pub took-all : (all : Option (List ℕ)) → HasTaken all taken left → Gives left End after → IsGiven all taken
-  took-all None had gives = tt
-  took-all (Some all) had gives =
-      let is : Gives (Some had.0) End after = subst (λ (l : Option (List ℕ)). Gives l End after) had.1 gives in
+  pub took-all : (all : Option (List ℕ)) (into : List ℕ) → HasTaken all taken left → GivesMany left End into after → IsGiven all taken
+  took-all None into had gives = tt
+  took-all (Some all) into had gives =
+      let is : GivesMany (Some had.0) End into after = subst (λ (l : Option (List ℕ)). GivesMany l End into after) had.1 gives in
       had.2 ∙ (ap (λ (rest : List ℕ). taken ++ rest) is.0 ∙ append-nil taken)
 
   pub took-many : (all : Option (List ℕ)) → HasTaken all taken left → most_stored < length taken → OnGiven all (λ given. most_stored < length given)

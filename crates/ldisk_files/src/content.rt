@@ -7,10 +7,13 @@ ghost use Rattle.ldisk_files.specs.Stored.{padded_block, IsGiven, IsReadFault, H
 use crate::fault::FileFault;
 use crate::put_fault::PutFault;
 use std::alloc::{AllocError, Global};
-use stream_trait::{Next, Source};
+use stream_trait::{Source, Taken};
 
 /// The most bytes of a file.
 const MOST: usize = 67_108_864;
+
+// How many bytes one call asks a source for.
+const BUFFER: usize = 4096;
 
 /// The bytes that a source gives: it is read to its end, or one byte past the most.
 pub(crate) fn read_all<I: Source>(alloc: Global, source: &mut I) -> Result<Vec<u8>, PutFault>
@@ -20,15 +23,17 @@ pub(crate) fn read_all<I: Source>(alloc: Global, source: &mut I) -> Result<Vec<u
     ensures cause { IfErr result (HasSourceCause (I.faults source.old) (I.faults source.new)) }
 {
     let mut bytes = Vec::new(alloc);
+    let mut buffer = [0; BUFFER];
     while bytes.len() <= MOST {
-        match source.next_byte() {
-            Next::Got(byte) => {
-                if bytes.push(byte).is_err() {
+        let room = BUFFER.min(MOST + 1 - bytes.len());
+        match source.next_bytes(&mut buffer[..room]) {
+            Taken::Got(count) => {
+                if bytes.extend_from_slice(&buffer[..count]).is_err() {
                     return Err(PutFault::File(FileFault::Memory));
                 }
             }
-            Next::End => return Ok(bytes),
-            Next::Failed => return Err(PutFault::Source),
+            Taken::End => return Ok(bytes),
+            Taken::Failed => return Err(PutFault::Source),
         }
     }
     Err(PutFault::File(FileFault::BadLength))

@@ -203,21 +203,29 @@ fn expect_ends(rt: &impl Abort, disks: &mut FileDisks<File>, bytes: &[u8]) {
     }
 }
 
+// Opens a file for reading alone, as the only disk.
+fn open_for_reading(rt: &HostRuntime, name: &str) -> io::Result<FileDisks<File>> {
+    let file = OpenOptions::new().read(true).open(rt, name)?;
+    let geometry = Geometry {
+        heads: 1,
+        sectors: 1,
+    };
+    let mut disks = FileDisks::new(rt.alloc());
+    disks.push(Some(FileDisk::new(file, geometry)?))?;
+    Ok(disks)
+}
+
 #[test]
 fn a_file_that_fails_is_a_fault(rt: HostRuntime) -> Result<(), Fail> {
     let name = "disk_trait_cut_image";
     fs::write(&rt, name, [1; 1024].as_slice())?;
-    let file = OpenOptions::new().read(true).open(&rt, name)?;
-    let mut disks = FileDisks::new(rt.alloc());
-    disks.push(Some(FileDisk::new(
-        file,
-        Geometry {
-            heads: 1,
-            sectors: 1,
-        },
-    )?))?;
-    // The file is opened for reading alone, and then cut short behind the disk's back.
-    assert_eq!(rt; disks.write(0, 0, &filled(2)), Err(DiskFault::Failed));
+    // A file that is opened for reading alone takes nothing, which shows when it is to be written.
+    let mut disks = open_for_reading(&rt, name)?;
+    assert_eq!(rt; disks.write(0, 0, &filled(2)), Ok(()));
+    assert_eq!(rt; disks.flush(), Err(DiskFault::Failed));
+    assert_eq!(rt; disks.flush(), Err(DiskFault::Failed));
+    // A file that is cut short behind the disk's back.
+    let mut disks = open_for_reading(&rt, name)?;
     fs::write(&rt, name, [1; 700].as_slice())?;
     expect_byte(&rt, &mut disks, 0, 0, 1);
     let mut bytes = filled(0xEE);

@@ -1,8 +1,9 @@
 // Sectors of a file that were read at once.
 ghost use Rattle.std.specs.Prelude.{◌≡◌, ◌*◌, ◌+◌, ◌<◌, ◌≤◌, OnOk, OnErr, IfSome, IfNone, take};
 ghost use Rattle.std.specs.Io.KnownBytes.{Consumes};
-ghost use Rattle.file_disks.specs.FileDisks.{ReadSectors, IsHeld, held_sector};
+ghost use Rattle.file_disks.specs.FileDisks.{HeldSectors, IsHeld, held_sector};
 
+use crate::held::held_at;
 use sector_parts::Sector;
 use std::io;
 use std::io::{ErrorKind, Read};
@@ -17,7 +18,7 @@ pub(crate) struct Ahead {
 }
 
 impl Model for Ahead {
-    ghost Value = { ReadSectors };
+    ghost Value = { HeldSectors };
 
     ghost view = { λ held. record { first = held.first; count = held.count; bytes = held.bytes } };
 
@@ -41,13 +42,7 @@ impl Ahead {
         ensures some { IfSome result (λ bytes. IsHeld self.now sector × (bytes ≡ held_sector self.now sector)) }
         ensures none { IfNone result (IsHeld self.now sector → ⊥) }
     {
-        if sector < self.first || self.count <= sector - self.first {
-            return None;
-        }
-        let at = (sector - self.first) as usize * 512;
-        let mut bytes = [0; 512];
-        bytes.copy_from_slice(&self.bytes[at..at + 512]);
-        Some(bytes)
+        held_at(&self.bytes, self.first, self.count, sector)
     }
 
     /// How many sectors to read from one on, of a file with so many: only one that follows those that are held

@@ -70,7 +70,8 @@ impl<F: Read + Write + Seek + OpenFile> FileDisk<F> {
         self.file.read(sector, self.sectors)
     }
 
-    /// Writes a sector. After an error any part of it may be written.
+    /// Takes a sector, which later reads give. An error is of the sectors that were taken before: they stay taken, and
+    /// this one isn't.
     pub(crate) fn write(&mut self, sector: u64, from: &Sector) -> io::Result<()>
         requires { sector < self.old.sectors }
         ensures { self.new ≡ self.old }
@@ -85,8 +86,17 @@ impl<F: Read + Write + Seek + OpenFile> FileDisk<F> {
         self.file.forget();
     }
 
-    /// Makes the writes so far durable.
-    pub(crate) fn sync(&self) -> io::Result<()> {
+    /// Writes the sectors that were taken to the file. After an error they stay taken.
+    pub(crate) fn write_out(&mut self) -> io::Result<()>
+        ensures { self.new ≡ self.old }
+    {
+        self.file.write_out()
+    }
+
+    /// Writes the sectors that were taken, and makes the writes so far durable.
+    pub(crate) fn sync(&mut self) -> io::Result<()>
+        ensures { self.new ≡ self.old }
+    {
         self.file.sync()
     }
 }

@@ -1,5 +1,6 @@
 // Disks over opened image files.
 ghost use Rattle.std.specs.Prelude.{◌≡◌, ◌<◌, ◌≤◌, [], ◌∷◌, ◌++◌, length, OnOk, OnErr, None};
+ghost use Rattle.disk_trait.specs.Cause.{HasFlushCause};
 ghost use Rattle.disk_trait.specs.Count.{risen};
 ghost use Rattle.file_disks.specs.FileDisks.{FileState, file_sizes_of, file_geometries_of};
 
@@ -65,23 +66,43 @@ impl<F: Drop> FileDisks<F> {
 }
 
 impl<F: Read + Write + Seek + OpenFile> FileDisks<F> {
+    /// Hands the files what was written and is still gathered, as a flush does, and syncs none. A program that may end
+    /// without a flush calls it last, so that nothing is lost that was written before a fault.
+    ///
+    /// # Errors
+    ///
+    /// `Failed` alone, where a file failed. What it didn't take stays gathered.
+    pub fn write_out(&mut self) -> Result<(), DiskFault>
+        ensures cause { HasFlushCause self.old.faults self.new.faults result }
+        ensures disks { self.new.disks ≡ self.old.disks }
+    {
+        if !self.write_out_all() {
+            return Err(self.failure());
+        }
+        Ok(())
+    }
+
+    // Two disks may be over the same file, so that a read finds what was written by any of them.
     fn read_sector(&mut self, disk: u8, sector: u64) -> io::Result<Sector>
         requires { sector < file_sizes_of self.old disk }
         ensures { self.new ≡ self.old }
     {
+        self.write_out_others(usize::from(disk))?;
         match &mut self.disks[usize::from(disk)] {
             Some(file) => file.read(sector),
             None => unreachable!(),
         }
     }
 
-    // Two disks may be over the same file, so that a write leaves nothing that any of them has read ahead.
+    // Two disks may be over the same file, so that a write leaves nothing that any of them has read ahead, and comes
+    // after all that the others have gathered: no more than one of them has any.
     fn write_sector(&mut self, disk: u8, sector: u64, from: &Sector) -> io::Result<()>
         requires { sector < file_sizes_of self.old disk }
         ensures { self.new ≡ self.old }
     {
         self.forget_all();
         self.durable = false;
+        self.write_out_others(usize::from(disk))?;
         match &mut self.disks[usize::from(disk)] {
             Some(file) => file.write(sector, from),
             None => unreachable!(),
@@ -107,17 +128,60 @@ impl<F: Read + Write + Seek + OpenFile> FileDisks<F> {
         }
     }
 
-    // Syncs each file, also after one has failed, and says whether all did.
-    fn sync_all(&self) -> bool {
-        let mut done = true;
-        for disk in &self.disks {
-            if let Some(file) = disk
-                && file.sync().is_err()
-            {
-                done = false;
+    // Writes out what each file but one has gathered.
+    fn write_out_others(&mut self, disk: usize) -> io::Result<()>
+        ensures { self.new ≡ self.old }
+    {
+        for other in 0..self.disks.len() {
+            if other != disk {
+                self.write_out_one(other)?;
             }
         }
+        Ok(())
+    }
+
+    // Writes out what each file has gathered, also after one has failed, and says whether all did.
+    fn write_out_all(&mut self) -> bool
+        ensures { self.new ≡ self.old }
+    {
+        let mut done = true;
+        for disk in 0..self.disks.len() {
+            done &= self.write_out_one(disk).is_ok();
+        }
         done
+    }
+
+    // Writes out what one file has gathered.
+    fn write_out_one(&mut self, disk: usize) -> io::Result<()>
+        requires { disk < length self.old.disks }
+        ensures { self.new ≡ self.old }
+    {
+        match &mut self.disks[disk] {
+            Some(file) => file.write_out(),
+            None => Ok(()),
+        }
+    }
+
+    // Writes out and syncs each file, also after one has failed, and says whether all did.
+    fn sync_all(&mut self) -> bool
+        ensures { self.new ≡ self.old }
+    {
+        let mut done = true;
+        for disk in 0..self.disks.len() {
+            done &= self.sync(disk).is_ok();
+        }
+        done
+    }
+
+    // Writes out and syncs one file.
+    fn sync(&mut self, disk: usize) -> io::Result<()>
+        requires { disk < length self.old.disks }
+        ensures { self.new ≡ self.old }
+    {
+        match &mut self.disks[disk] {
+            Some(file) => file.sync(),
+            None => Ok(()),
+        }
     }
 }
 
@@ -155,13 +219,15 @@ impl<F: Read + Write + Seek + OpenFile + Drop> Disks for FileDisks<F> {
         }
     }
 
-    /// Syncs each file that is there, also after one has failed. Where nothing was written to these disks since all were
-    /// synced, or at all, there is nothing to sync.
+    /// Writes out what each file that is there has gathered, and syncs it, also after one has failed. What failed a
+    /// later flush tries again. Where nothing was written to these disks since all were synced, or at all, there is
+    /// nothing to sync.
     fn flush(&mut self) -> Result<(), DiskFault> {
-        if !self.durable {
-            self.durable = self.sync_all();
-        }
         if self.durable {
+            return Ok(());
+        }
+        if self.sync_all() {
+            self.durable = true;
             return Ok(());
         }
         Err(self.failure())

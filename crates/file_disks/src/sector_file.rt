@@ -1,22 +1,24 @@
 // A file that is read and written by sectors.
-ghost use Rattle.std.specs.Prelude.{◌≡◌, ◌≢◌, ◌*◌, ◌+◌, ◌<◌, ◌≤◌, ◌^◌, IfOk, OnOk, OnErr, IsOk, Some, None};
+ghost use Rattle.std.specs.Prelude.{◌≡◌, ◌≢◌, ◌⊎◌, ◌*◌, ◌+◌, ◌<◌, ◌≤◌, ◌^◌, IfOk, IsOkAnd, OnOk, OnErr, IsOk, Some, None};
 ghost use Rattle.std.specs.Io.Seek.{MovesTo};
-ghost use Rattle.std.specs.Io.KnownBytes.{Appends};
-ghost use Rattle.file_disks.specs.FileDisks.{IsHeld, held_sector};
+ghost use Rattle.file_disks.specs.FileDisks.{IsHeld, held_sector, HasRoom, IsPut, IsWritten, emptied};
 
 use crate::ahead::Ahead;
+use crate::gathered::Gathered;
 use sector_parts::Sector;
 use std::fs::OpenFile;
 use std::io;
-use std::io::{ErrorKind, Read, Seek, SeekFrom, Write};
+use std::io::{Read, Seek, SeekFrom, Write};
 
 /// A file, and the sector at whose start it is, where that is known. Neighbouring sectors need no seek, and are
-/// read at once.
+/// read and written at once. While sectors are gathered, none is held that was read ahead.
 #[derive(Drop)]
 pub(crate) struct SectorFile<F> {
     file: F,
     at: Option<u64>,
     ahead: Ahead,
+    gathered: Gathered,
+    ghost apart: { 0 < gathered.count → ahead.count ≡ 0 },
 }
 
 impl<F> SectorFile<F> {
@@ -25,28 +27,40 @@ impl<F> SectorFile<F> {
         ensures file { result.file ≡ file }
         ensures at { result.at ≡ None }
         ensures ahead { result.ahead.count ≡ 0 }
+        ensures gathered { result.gathered.count ≡ 0 }
     {
         SectorFile {
             file,
             at: None,
             ahead: Ahead::new(),
+            gathered: Gathered::new(),
         }
     }
 }
 
 impl<F: Read + Write + Seek + OpenFile> SectorFile<F> {
-    /// Reads a sector of a file with so many. An error is the file's, or says that it ends within the sector; where
-    /// the file is then isn't known. What is read with the sector doesn't fail it.
+    /// Reads a sector of a file with so many. One that is gathered or was read ahead needs no call of the file; before
+    /// any other is read, what is gathered is written out. An error is that write's or the read's, or says that the
+    /// file ends within the sector; where the file is then isn't known. What is read with the sector doesn't fail it.
     pub(crate) fn read(&mut self, sector: u64, sectors: u64) -> io::Result<Sector>
         requires within { sector < sectors }
         requires addressed { sectors * 512 < 2 ^ 64 }
-        ensures ok { IfOk result (λ bytes. IsHeld self.new.ahead sector × (bytes ≡ held_sector self.new.ahead sector)) }
+        ensures gathered { IsHeld self.old.gathered sector → (self.new ≡ self.old)
+            × IsOkAnd result (λ bytes. bytes ≡ held_sector self.old.gathered sector) }
+        ensures ok { (IsHeld self.old.gathered sector → ⊥) → IfOk result
+            (λ bytes. IsHeld self.new.ahead sector × (bytes ≡ held_sector self.new.ahead sector)) }
+        ensures written { (IsHeld self.old.gathered sector → ⊥) → OnOk result (self.new.gathered.count ≡ 0) }
         ensures held { IsHeld self.old.ahead sector → IsOk result × (self.new ≡ self.old) }
         ensures err { OnErr result (self.new.at ≡ None) }
+        ensures kept { OnErr result ((self.new.gathered ≡ self.old.gathered) ⊎ (self.new.gathered.count ≡ 0)) }
     {
+        if let Some(bytes) = self.gathered.get(sector) {
+            return Ok(bytes);
+        }
         if let Some(bytes) = self.ahead.get(sector) {
             return Ok(bytes);
         }
+        self.write_out()?;
         let count = self.ahead.count_from(sector, sectors);
         if count > 1
             && let Ok(bytes) = self.read_ahead(sector, count)
@@ -58,12 +72,14 @@ impl<F: Read + Write + Seek + OpenFile> SectorFile<F> {
 
     // Reads sectors at once, and holds them.
     fn read_ahead(&mut self, sector: u64, count: u64) -> io::Result<Sector>
+        requires written { self.old.gathered.count ≡ 0 }
         requires some { 0 < count }
         requires few { count ≤ 8 }
         requires addressed { (sector + count) * 512 < 2 ^ 64 }
         ensures ok { IfOk result (λ bytes. IsHeld self.new.ahead sector × (bytes ≡ held_sector self.new.ahead sector)) }
         ensures at { OnOk result (self.new.at ≡ Some (sector + count)) }
         ensures err { OnErr result (self.new.at ≡ None) }
+        ensures gathered { self.new.gathered ≡ self.old.gathered }
     {
         self.go_to(sector)?;
         self.ahead.fill(&mut self.file, sector, count)?;
@@ -74,17 +90,49 @@ impl<F: Read + Write + Seek + OpenFile> SectorFile<F> {
         }
     }
 
-    /// Writes a sector. After an error any part of it may be written, and where the file is isn't known.
+    /// Takes a sector, which every later read gives and the next `write_out` writes at the latest. Where the gathered
+    /// ones have no room for it, they are written out first: an error is that write's, and then it isn't taken.
     pub(crate) fn write(&mut self, sector: u64, from: &Sector) -> io::Result<()>
         requires { sector * 512 < 2 ^ 64 }
-        ensures ok { OnOk result (self.new.at ≡ Some (sector + 1)) }
+        ensures near { HasRoom self.old.gathered sector → IsOk result
+            × IsPut self.old.gathered sector from.now self.new.gathered
+            × (self.new.file ≡ self.old.file) × (self.new.at ≡ self.old.at) }
+        ensures far { (HasRoom self.old.gathered sector → ⊥) → OnOk result
+            (IsPut (emptied self.old.gathered) sector from.now self.new.gathered
+            × (self.new.at ≡ Some (self.old.gathered.first + self.old.gathered.count))
+            × IsWritten self.old.gathered self.old.at (F.contents self.old.file) (F.contents self.new.file)) }
         ensures err { OnErr result (self.new.at ≡ None) }
+        ensures kept { OnErr result (self.new.gathered ≡ self.old.gathered) }
         ensures ahead { self.new.ahead.count ≡ 0 }
     {
         self.forget();
-        self.go_to(sector)?;
-        write_sector(&mut self.file, from)?;
-        self.at = Some(sector + 1);
+        if !self.gathered.takes(sector) {
+            self.write_out()?;
+        }
+        self.gathered.put(sector, from);
+        Ok(())
+    }
+
+    /// Writes what is gathered to the file. After an error any part of it may be written, all of it stays gathered, so
+    /// that a later call tries again, and where the file is isn't known.
+    pub(crate) fn write_out(&mut self) -> io::Result<()>
+        ensures nothing { self.old.gathered.count ≡ 0 → IsOk result × (self.new ≡ self.old) }
+        ensures emptied { OnOk result (self.new.gathered ≡ emptied self.old.gathered) }
+        ensures at { 0 < self.old.gathered.count → OnOk result
+            (self.new.at ≡ Some (self.old.gathered.first + self.old.gathered.count)) }
+        ensures written { OnOk result
+            (IsWritten self.old.gathered self.old.at (F.contents self.old.file) (F.contents self.new.file)) }
+        ensures err { OnErr result (self.new.at ≡ None) }
+        ensures kept { OnErr result (self.new.gathered ≡ self.old.gathered) }
+        ensures ahead { self.new.ahead ≡ self.old.ahead }
+    {
+        let Some(first) = self.gathered.first() else {
+            return Ok(());
+        };
+        let end = self.gathered.end();
+        self.go_to(first)?;
+        self.gathered.write_to(&mut self.file)?;
+        self.at = Some(end);
         Ok(())
     }
 
@@ -93,13 +141,21 @@ impl<F: Read + Write + Seek + OpenFile> SectorFile<F> {
         ensures ahead { self.new.ahead.count ≡ 0 }
         ensures file { self.new.file ≡ self.old.file }
         ensures at { self.new.at ≡ self.old.at }
+        ensures gathered { self.new.gathered ≡ self.old.gathered }
     {
         self.ahead.clear();
     }
 
-    /// Makes the writes so far durable.
-    pub(crate) fn sync(&self) -> io::Result<()> {
-        self.file.sync_all()
+    /// Writes out what is gathered, and makes the writes so far durable. The file is synced also where it didn't take
+    /// them all.
+    pub(crate) fn sync(&mut self) -> io::Result<()>
+        ensures ok { OnOk result (self.new.gathered ≡ emptied self.old.gathered) }
+        ensures err { OnErr result ((self.new.gathered ≡ self.old.gathered) ⊎ (self.new.gathered.count ≡ 0)) }
+        ensures ahead { self.new.ahead ≡ self.old.ahead }
+    {
+        let written = self.write_out();
+        self.file.sync_all()?;
+        written
     }
 
     // Goes to the start of a sector, where the file isn't there already, and forgets where it was.
@@ -110,6 +166,7 @@ impl<F: Read + Write + Seek + OpenFile> SectorFile<F> {
             (F.stream_position self.new.file) (sector * 512) result }
         ensures at { self.new.at ≡ None }
         ensures ahead { self.new.ahead ≡ self.old.ahead }
+        ensures gathered { self.new.gathered ≡ self.old.gathered }
     {
         if self.at.take() == Some(sector) {
             return Ok(());
@@ -117,18 +174,4 @@ impl<F: Read + Write + Seek + OpenFile> SectorFile<F> {
         self.file.seek(SeekFrom::Start(sector * 512))?;
         Ok(())
     }
-}
-
-// Writes a sector at the file's position.
-fn write_sector<F: Write>(file: &mut F, from: &Sector) -> io::Result<()>
-    ensures { OnOk result (Appends (F.contents file.old) (F.contents file.new) from.now) }
-{
-    let mut rest = from.as_slice();
-    while !rest.is_empty() {
-        match file.write(rest)? {
-            0 => return Err(io::Error::from(ErrorKind::WriteZero)),
-            count => rest = &rest[count..],
-        }
-    }
-    Ok(())
 }

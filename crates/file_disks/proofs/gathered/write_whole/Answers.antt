@@ -1,7 +1,7 @@
 use Rattle.std.proofs.Common.{◌++◌, take}
 use Rattle.std.proofs.KnownBytes.{Appends-trans}
 use Rattle.file_disks.proofs.Streams.{moves_front}
-use Rattle.file_disks.proofs.sector_file.write_sector.Goals as goal
+use Rattle.file_disks.proofs.gathered.write_whole.Goals as goal
 
 pub loop-rest-preserved : goal.loop-rest-preserved
 loop-rest-preserved g c =

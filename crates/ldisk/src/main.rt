@@ -47,7 +47,10 @@ fn run(rt: &HostRuntime) -> Result<u8, StartFault> {
     let mut out = StdSink::new(rt.stdout());
     let now = now_seconds(rt);
     untold();
-    Ok(ldisk(alloc, &words, &mut disks, &mut source, &mut out, now))
+    let status = ldisk(alloc, &words, &mut disks, &mut source, &mut out, now);
+    // What was written before a fault isn't lost. The status stays: where it is 0 all was flushed already.
+    let _ = disks.write_out();
+    Ok(status)
 }
 
 fn read_arguments(rt: &HostRuntime, words: &mut Words) -> Result<(), StartFault> {

@@ -47,9 +47,12 @@ fn run(rt: &HostRuntime) -> Result<u8, StartFault> {
     let mut ram = Ram::new(alloc, memory)?;
     let now = now_seconds(rt);
     untold();
-    Ok(lilo(
+    let status = lilo(
         alloc, &words, &mut disks, &mut keys, &mut out, &mut ram, now,
-    ))
+    );
+    // What was written before a fault isn't lost. The status stays: where it is 0 all was flushed already.
+    let _ = disks.write_out();
+    Ok(status)
 }
 
 /// Opens the images, and keeps the arguments after the first `--`.

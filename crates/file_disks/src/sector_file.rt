@@ -11,14 +11,13 @@ use std::io;
 use std::io::{Read, Seek, SeekFrom, Write};
 
 /// A file, and the sector at whose start it is, where that is known. Neighbouring sectors need no seek, and are
-/// read and written at once. While sectors are gathered, none is held that was read ahead.
+/// read and written at once.
 #[derive(Drop)]
 pub(crate) struct SectorFile<F> {
     file: F,
     at: Option<u64>,
     ahead: Ahead,
     gathered: Gathered,
-    ghost apart: { 0 < gathered.count → ahead.count ≡ 0 },
 }
 
 impl<F> SectorFile<F> {
@@ -39,9 +38,9 @@ impl<F> SectorFile<F> {
 }
 
 impl<F: Read + Write + Seek + OpenFile> SectorFile<F> {
-    /// Reads a sector of a file with so many. One that is gathered or was read ahead needs no call of the file; before
-    /// any other is read, what is gathered is written out. An error is that write's or the read's, or says that the
-    /// file ends within the sector; where the file is then isn't known. What is read with the sector doesn't fail it.
+    /// Reads a sector of a file with so many. One that is gathered or was read ahead needs no call of the file. An error
+    /// is the file's, or says that it ends within the sector; where the file is then isn't known. What is read with the
+    /// sector doesn't fail it.
     pub(crate) fn read(&mut self, sector: u64, sectors: u64) -> io::Result<Sector>
         requires within { sector < sectors }
         requires addressed { sectors * 512 < 2 ^ 64 }
@@ -49,10 +48,9 @@ impl<F: Read + Write + Seek + OpenFile> SectorFile<F> {
             × IsOkAnd result (λ bytes. bytes ≡ held_sector self.old.gathered sector) }
         ensures ok { (IsHeld self.old.gathered sector → ⊥) → IfOk result
             (λ bytes. IsHeld self.new.ahead sector × (bytes ≡ held_sector self.new.ahead sector)) }
-        ensures written { (IsHeld self.old.gathered sector → ⊥) → OnOk result (self.new.gathered.count ≡ 0) }
         ensures held { IsHeld self.old.ahead sector → IsOk result × (self.new ≡ self.old) }
         ensures err { OnErr result (self.new.at ≡ None) }
-        ensures kept { OnErr result ((self.new.gathered ≡ self.old.gathered) ⊎ (self.new.gathered.count ≡ 0)) }
+        ensures kept { self.new.gathered ≡ self.old.gathered }
     {
         if let Some(bytes) = self.gathered.get(sector) {
             return Ok(bytes);
@@ -60,7 +58,6 @@ impl<F: Read + Write + Seek + OpenFile> SectorFile<F> {
         if let Some(bytes) = self.ahead.get(sector) {
             return Ok(bytes);
         }
-        self.write_out()?;
         let count = self.ahead.count_from(sector, sectors);
         if count > 1
             && let Ok(bytes) = self.read_ahead(sector, count)
@@ -72,7 +69,6 @@ impl<F: Read + Write + Seek + OpenFile> SectorFile<F> {
 
     // Reads sectors at once, and holds them.
     fn read_ahead(&mut self, sector: u64, count: u64) -> io::Result<Sector>
-        requires written { self.old.gathered.count ≡ 0 }
         requires some { 0 < count }
         requires few { count ≤ 8 }
         requires addressed { (sector + count) * 512 < 2 ^ 64 }
@@ -113,8 +109,9 @@ impl<F: Read + Write + Seek + OpenFile> SectorFile<F> {
         Ok(())
     }
 
-    /// Writes what is gathered to the file. After an error any part of it may be written, all of it stays gathered, so
-    /// that a later call tries again, and where the file is isn't known.
+    /// Writes what is gathered to the file, and forgets what was read ahead, which may be of the same sectors. After an
+    /// error any part may be written, all stays gathered, so that a later call tries again, and where the file is isn't
+    /// known.
     pub(crate) fn write_out(&mut self) -> io::Result<()>
         ensures nothing { self.old.gathered.count ≡ 0 → IsOk result × (self.new ≡ self.old) }
         ensures emptied { OnOk result (self.new.gathered ≡ emptied self.old.gathered) }
@@ -124,11 +121,12 @@ impl<F: Read + Write + Seek + OpenFile> SectorFile<F> {
             (IsWritten self.old.gathered self.old.at (F.contents self.old.file) (F.contents self.new.file)) }
         ensures err { OnErr result (self.new.at ≡ None) }
         ensures kept { OnErr result (self.new.gathered ≡ self.old.gathered) }
-        ensures ahead { self.new.ahead ≡ self.old.ahead }
+        ensures ahead { 0 < self.old.gathered.count → self.new.ahead.count ≡ 0 }
     {
         let Some(first) = self.gathered.first() else {
             return Ok(());
         };
+        self.ahead.clear();
         let end = self.gathered.end();
         self.go_to(first)?;
         self.gathered.write_to(&mut self.file)?;
@@ -151,7 +149,7 @@ impl<F: Read + Write + Seek + OpenFile> SectorFile<F> {
     pub(crate) fn sync(&mut self) -> io::Result<()>
         ensures ok { OnOk result (self.new.gathered ≡ emptied self.old.gathered) }
         ensures err { OnErr result ((self.new.gathered ≡ self.old.gathered) ⊎ (self.new.gathered.count ≡ 0)) }
-        ensures ahead { self.new.ahead ≡ self.old.ahead }
+        ensures ahead { 0 < self.old.gathered.count → self.new.ahead.count ≡ 0 }
     {
         let written = self.write_out();
         self.file.sync_all()?;

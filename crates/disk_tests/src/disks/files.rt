@@ -197,31 +197,33 @@ fn expect_taken(
     }
 }
 
-// Sectors 0 and 1 are written at once, before sector 2 is read; 1 to 3 are read at once. A sector that was read isn't
-// read again until one is written, and one that was written isn't written before another is read.
-const NEIGHBOURS: [Row; 21] = [
+// Sectors 0 and 1 are written at once, before the other file is read; 1 to 3 are read at once, of which 3 waits to be
+// written and is as it was written also once it needn't wait. A sector that was read isn't read again until one is
+// written.
+const NEIGHBOURS: [Row; 23] = [
     (Call::Write(0, 0, 9), Ok(0), [0, 0, 0]),
     (Call::Write(0, 1, 8), Ok(0), [0, 0, 0]),
-    (Call::Read(0, 2), Ok(3), [1, 1, 1]),
-    (Call::Read(1, 1), Ok(2), [0, 0, 0]),
+    (Call::Read(0, 2), Ok(3), [1, 1, 0]),
+    (Call::Read(1, 1), Ok(2), [1, 0, 1]),
     (Call::Flush, Ok(0), [0, 0, 0]),
     (Call::Write(0, 3, 7), Ok(0), [0, 0, 0]),
     (Call::Read(0, 3), Ok(7), [0, 0, 0]),
     (Call::Read(0, 4), OUT_OF_RANGE, [0, 0, 0]),
-    // The file is at sector 3, which is written without a seek.
-    (Call::Read(0, 0), Ok(9), [1, 1, 1]),
+    (Call::Read(0, 0), Ok(9), [1, 1, 0]),
     (Call::Read(0, 1), Ok(8), [0, 1, 0]),
     (Call::Read(0, 1), Ok(8), [0, 0, 0]),
     (Call::Read(0, 3), Ok(7), [0, 0, 0]),
     (Call::Read(0, 2), Ok(3), [0, 0, 0]),
+    (Call::Flush, Ok(0), [1, 0, 1]),
+    (Call::Read(0, 3), Ok(7), [1, 1, 0]),
     (Call::Write(0, 2, 6), Ok(0), [0, 0, 0]),
-    (Call::Read(0, 3), Ok(7), [1, 1, 1]),
-    (Call::Read(0, 2), Ok(6), [1, 1, 0]),
-    (Call::Read(0, 3), Ok(7), [0, 1, 0]),
+    (Call::Read(0, 3), Ok(7), [1, 1, 0]),
+    (Call::Read(0, 2), Ok(6), [0, 0, 0]),
+    (Call::Read(0, 3), Ok(7), [0, 0, 0]),
     (Call::Write(0, 3, 5), Ok(0), [0, 0, 0]),
     (Call::Read(0, 3), Ok(5), [0, 0, 0]),
-    (Call::Read(0, 1), Ok(8), [2, 1, 1]),
-    (Call::Read(0, 3), Ok(5), [1, 1, 0]),
+    (Call::Read(0, 1), Ok(8), [1, 1, 0]),
+    (Call::Read(0, 3), Ok(5), [0, 0, 0]),
 ];
 
 #[test]
@@ -294,15 +296,21 @@ fn files_that_are_short_or_fail(rt: HostRuntime) -> Result<(), Fail> {
     for fault in [ErrorKind::Other, ErrorKind::Interrupted] {
         first.fault.set(fault);
         // A seek and three parts: any of the four may fail, and then the place is sought anew. A sector that can't be
-        // written fails what would come after it, and is written once the file takes it.
+        // written fails what may only come after it, and is written once the file takes it.
         for (granted, byte) in [(0, 5), (1, 6), (2, 7), (3, 8)] {
             expect_byte(&rt, &mut disks, 0, 0, 1);
             expect_fault(&rt, &mut disks, &first, Call::Read(0, 3), granted);
             expect_byte(&rt, &mut disks, 0, 1, 2);
             assert_eq!(rt; make(&mut disks, Call::Write(0, 3, byte)), Ok(0));
-            for call in [Call::Read(0, 0), Call::Write(0, 0, 9), Call::Flush] {
+            for call in [
+                Call::Write(0, 0, 9),
+                Call::Write(1, 0, 9),
+                Call::Read(1, 0),
+                Call::Flush,
+            ] {
                 expect_fault(&rt, &mut disks, &first, call, granted);
             }
+            expect_byte(&rt, &mut disks, 0, 0, 1);
             let _ = first.taken();
             let rows = [
                 (Call::Read(0, 3), Ok(byte), [0, 0, 0]),
@@ -325,6 +333,7 @@ fn a_file_that_takes_nothing(rt: HostRuntime) -> Result<(), Fail> {
         (Call::Read(0, 1), FAILED),
         (Call::Write(0, 1, 6), Ok(0)),
         (Call::Read(0, 1), Ok(6)),
+        (Call::Read(0, 2), FAILED),
         (Call::Read(1, 1), FAILED),
         (Call::Write(1, 1, 7), FAILED),
         (Call::Flush, FAILED),

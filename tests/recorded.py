@@ -9,6 +9,7 @@ import itertools
 import re
 import subprocess
 
+SECTOR = 512
 BEGUN = re.compile(r'(\w+)\(\d+<([^>]*)>(.*)')
 CALL = re.compile(r'(\w+)\(\d+<([^>]*)>(.*)\)\s*= (-?\d+)')
 BYTES = re.compile(r', "((?:[^"\\]|\\.)*)"')
@@ -17,11 +18,18 @@ UNUSED = re.compile(rb'Inode \d+ marked (as )?(in use|used)|Inode \d+ not used, 
                     rb'Zone \d+: marked in use, no file uses it|^fsck|^Forcing|^$|FILE SYSTEM HAS BEEN CHANGED|^-+$')
 # .. and of an inode that got a link before it has a name for it.
 RAISED = re.compile(rb'Inode \d+ \(mode = (\d+)\), i_nlinks=(\d+), counted=(\d+)\.')
-TRACE = ['-y', '-x', '-s', '520', '-e', 'trace=lseek,read,pread64,write,pwrite64,fsync,fdatasync']
+# Up to 64 sectors are written at once.
+TRACE = ['-y', '-x', '-s', str(64 * SECTOR), '-e', 'trace=lseek,read,pread64,write,pwrite64,fsync,fdatasync']
+
+
+def sectors_of(place, data):
+    """A write as one of each sector, since a stop may leave any of them."""
+    return [(place + at, data[at:at + SECTOR]) for at in range(0, len(data), SECTOR)]
 
 
 def events(log, path):
-    """The writes to a file, each its place and its bytes, and its syncs, each None, as strace recorded them."""
+    """The writes of sectors to a file, each its place and its bytes, and its syncs, each None, as strace recorded
+    them."""
     found, place = [], 0
     for name, where, rest, said in (call.groups() for call in map(CALL.match, log) if call):
         if where != path or int(said) < 0:
@@ -31,10 +39,10 @@ def events(log, path):
         elif name == 'read':
             place += int(said)
         elif name == 'write':
-            found.append((place, codecs.escape_decode(BYTES.search(rest)[1])[0][:int(said)]))
+            found += sectors_of(place, codecs.escape_decode(BYTES.search(rest)[1])[0][:int(said)])
             place += int(said)
         elif name == 'pwrite64':
-            found.append((int(rest.rsplit(',', 1)[1]), codecs.escape_decode(BYTES.search(rest)[1])[0][:int(said)]))
+            found += sectors_of(int(rest.rsplit(',', 1)[1]), codecs.escape_decode(BYTES.search(rest)[1])[0][:int(said)])
         elif name in ('fsync', 'fdatasync'):
             found.append(None)
     return found
@@ -57,6 +65,31 @@ def calls(log, path):
         names.append(call[1])
         found.append((call[1], names.count(call[1]), call[2] == path, call[3]))
     return found
+
+
+def made_by(call):
+    """How many events a call of `calls` is: one for each sector that it wrote, one for a sync, and none for a read."""
+    name, _, _, rest = call
+    return int(rest.rsplit('= ', 1)[1].split()[0]) // SECTOR if 'write' in name else int('sync' in name)
+
+
+def call_of(own, event):
+    """Which of the calls on a file, by its place in their list, makes an event, by its number from 0."""
+    return next(at for at, count in enumerate(itertools.accumulate(map(made_by, own))) if count > event)
+
+
+def injected(path, own, at, only=False):
+    """Options of strace by which the calls on a file fail from one of these on, or it alone."""
+    options = ['-P', path]
+    for name in {own[at][0]} if only else sorted({call[0] for call in own}):
+        number = 1 + sum(call[0] == name for call in own[:at])
+        options += ['-e', f'inject={name}:error=EIO:when={number}' + '+' * (not only)]
+    return options
+
+
+def own_calls(log, path):
+    """Those on a file but its seeks."""
+    return [call for call in calls(log, path) if call[2] and call[0] != 'lseek']
 
 
 def record(strace, test, program, image, words, content=b''):

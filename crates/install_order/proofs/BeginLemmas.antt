@@ -1,5 +1,5 @@
 -- What a beginning leaves, from what settling does.
-use Rattle.std.proofs.Common.{◌≡◌, ◌&&◌, ◌↔◌, ℕ, Bool, true, false, List, Option, None, Some, Result, Ok, Err, OnOk, refl, sym, ◌∙◌, ap, subst, inr}
+use Rattle.std.proofs.Common.{◌≡◌, ◌&&◌, ◌||◌, ◌↔◌, ℕ, Bool, true, false, not, List, Option, None, Some, Result, Ok, Err, OnOk, refl, sym, ◌∙◌, ap, subst, inr}
 use Rattle.std.proofs.lemmas.Bool.{and_parts}
 use Rattle.std.specs.Prelude.{IfSome, is_some}
 use Rattle.disk_trait.specs.declared.disks.Disks.{Ghosts}
@@ -8,6 +8,7 @@ use Rattle.disk_trait.specs.NotWritten.{NotWritten}
 use Rattle.disk_trait.specs.Past.{Image}
 use Rattle.disk_trait.proofs.MomentLemmas.{leaves_weaker}
 use Rattle.disk_trait.proofs.NotWrittenLemmas.{not_written_stays}
+use Rattle.lilo_model.specs.BootSector.{boot_at}
 use Rattle.lilo_model.specs.Clear.{Clear}
 use Rattle.lilo_model.specs.Conf.{Config}
 use Rattle.lilo_model.specs.Devices.{Device}
@@ -15,8 +16,9 @@ use Rattle.lilo_model.specs.Disks.{Machine, DiskSector}
 use Rattle.lilo_model.specs.MinixFindNames.{Names}
 use Rattle.lilo_model.specs.MinixNames.{names_in}
 use Rattle.lilo_model.specs.MinixParts as volumes
-use Rattle.lilo_model.specs.MinixParts.{parts_of}
-use Rattle.lilo_model.specs.MinixWalk.{visits}
+use Rattle.lilo_model.specs.MinixParts.{parts_of, ZoneFault}
+use Rattle.lilo_model.specs.MinixLayout.{Inode}
+use Rattle.lilo_model.specs.MinixWalk.{Visit, visits}
 use Rattle.lilo_model.specs.NamePlaces.{with_tilde}
 use Rattle.lilo_model.specs.Settled as model
 use Rattle.lilo_model.specs.Settled.{PathRefusal, Finishes, Held, is_foreign, own_names, stale_backup, settled}
@@ -26,7 +28,7 @@ use Rattle.minix_write.specs.declared.write_fault.WriteFault.{WriteFault}
 use Rattle.minix_zones.specs.Volume.{volume_view, past_of}
 use Rattle.minix_zones.specs.declared.volume.Volume.{Volume}
 use Rattle.install_laws.specs.Boots.{HasBootOf}
-use Rattle.install_laws.specs.InstallVerdict.{Begun, is_clear, is_to_finish, inode_of, is_of_places}
+use Rattle.install_laws.specs.InstallVerdict.{Begun, holds_table, is_clear, is_holder, is_to_finish, inode_of, is_of_places}
 use Rattle.install_laws.specs.Writes.{IsWritable, IsApartSector}
 use Rattle.install_laws.proofs.ClearTest.{clear_test_law}
 use Rattle.install_laws.proofs.Writes.{writes_only_law}
@@ -36,9 +38,12 @@ use Rattle.install_begin_laws.proofs.Spared.{leaves_both, outside_stays_law, spa
 use Rattle.install_holder_laws.proofs.Holder.{finish_law}
 use Rattle.old_map.specs.Clear.{clear_answer}
 use Rattle.old_map.specs.Old.{IsOldMap}
-use Rattle.install_settle.specs.Found.{IsApartCopy, is_copy_there, left_map}
+use Rattle.install_settle.specs.Found.{IsApartCopy, is_anything, is_copy_there, is_some_left, left_map}
 use Rattle.install_settle.specs.Settles.{finishes, stale_of, SettlesRight, IsSettling, IsSettledIn, Settles}
-use Rattle.install_order.specs.Begins.{AreApartNames, LiesThere, IsBeginning, IsBegun, AnswersClear}
+use Rattle.install_settle.specs.declared.settling.LeftMap.{LeftMap}
+use Rattle.install_settle.specs.declared.settling.LeftMap.TheVariants.{Absent}
+use Rattle.install_settle.proofs.FoundLemmas.{none-holds}
+use Rattle.install_order.specs.Begins.{AreApartNames, HasNothingLeft, LiesThere, IsBeginning, IsBegun, AnswersClear}
 use Rattle.install_order.specs.Checks.{IsExamined}
 use Rattle.install_order.specs.declared.examination.Examined.{Examined}
 
@@ -98,6 +103,33 @@ module _ (image : Image) (machine : Machine) (begun : Begun) (found : Examined) 
       by : (f : Bool) → foreign ≡ f → found.settling.copy ≡ true → foreign ≡ true
       by true same copy = same
       by false same copy = let none = no-copy same in cc
+
+  -- ---- where nothing is left
+
+  abbrev Walk : Inode → List (Result Visit ZoneFault)
+  Walk = visits begun.volume.layout (parts_of begun.volume image)
+
+  not-finished : (there : Option ℕ) → inode_of image begun.volume (with_tilde is.names.map) ≡ there → is_some there ≡ false
+      → is_to_finish image machine begun.volume Walk begun.span is.names.map ≡ false
+  unfolding is_holder
+  not-finished None same absent =
+      ap (λ (h : Bool). h && not (is_holder image machine begun.volume Walk begun.span is.names.map))
+      (ap (λ (o : Option ℕ). holds_table image machine begun.volume Walk (boot_at (image begun.span.disk begun.span.start)) o) same
+      ∙ none-holds image machine begun.volume Walk (boot_at (image begun.span.disk begun.span.start)))
+  not-finished (Some number) same absent = cc
+
+  -- there is nothing to settle
+  pub nothing_to_settle : HasNothingLeft image begun → is_anything found.settling ≡ false
+  nothing_to_settle none =
+      let same : none.names ≡ is.names = value-is none.names is.names (sym none.are ∙ is.are) in
+      let absent = subst (λ (n : model.OwnNames). is_some (inode_of image begun.volume (with_tilde n.map)) ≡ false) same none.map in
+      let copy = subst (λ (n : model.OwnNames). (forced && is_copy_there image begun.volume n.backup) ≡ false) same none.copy in
+      let map-is : found.settling.map ≡ Absent =
+          is.settling.map
+          ∙ (ap (λ (f : Bool). left_map f (is_some (inode_of image begun.volume (with_tilde is.names.map))))
+          (not-finished (inode_of image begun.volume (with_tilde is.names.map)) refl absent)
+          ∙ ap (left_map false) absent) in
+      ap (λ (m : LeftMap). is_some_left m || found.settling.copy) map-is ∙ (is.settling.copy ∙ copy)
 
   -- ---- what is known of what may be settled
 

@@ -17,9 +17,9 @@ use Rattle.minix_sees_laws.specs.Tree.{KeepsNamed}
 use Rattle.install_apart.specs.Own.{AreInside, AreOwnTwins, AreReplaceable, IsBackupNamed}
 use Rattle.install_begin_laws.specs.Laws.{GainsNothing, IsNoneOfMap}
 use Rattle.install_laws.specs.Boots.{HasBootOf}
-use Rattle.install_laws.specs.InstallVerdict.{Begun}
+use Rattle.install_laws.specs.InstallVerdict.{Begun, inode_of}
 use Rattle.install_laws.specs.Writes.{IsApartSector}
-use Rattle.install_settle.specs.Found.{IsCopyLeft, IsLeft, has_copy}
+use Rattle.install_settle.specs.Found.{IsCopyLeft, IsLeft, has_copy, is_copy_there}
 use Rattle.install_settle.specs.Settles.{HasNames, AreSettling, KeepsPaths, KeepsMap, finishes, stale_of}
 use Rattle.install_settle.specs.declared.settling.LeftMap.{LeftMap}
 use Rattle.old_map.specs.Old.{IsOldMap}
@@ -36,6 +36,13 @@ LiesThere image machine begun = span_of image machine begun.boot ≡ Ok begun.sp
 abbrev pub AreOwn : Image → Begun → model.OwnNames → Type 0
 AreOwn image begun names =
     own_names (names_in begun.volume image) begun.config begun.boot (is_foreign (image begun.span.disk begun.span.start)) ≡ Ok names
+
+-- nothing is left that settling changes: `map~` isn't there, nor a copy of a forced backup
+pub record HasNothingLeft (image : Image) (begun : Begun) : Type 0 where
+  pub names : model.OwnNames
+  pub are : AreOwn image begun names
+  pub map : is_some (inode_of image begun.volume (with_tilde names.map)) ≡ false
+  pub copy : (is_some begun.config.force_backup && is_copy_there image begun.volume names.backup) ≡ false
 
 -- what was found fits a volume with this superblock, whatever the disks report
 pub record FitsVolume (layout : Super) (forced : Bool) (found : Examined) : Type 0 where

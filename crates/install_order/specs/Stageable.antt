@@ -7,7 +7,7 @@ use Rattle.lilo_model.specs.Disks.{Image, Machine, DiskSector}
 use Rattle.lilo_model.specs.MinixEntries.{is_dots}
 use Rattle.lilo_model.specs.MinixLayout.{Super, is_size}
 use Rattle.lilo_model.specs.MinixNames.{reached, IsSound}
-use Rattle.lilo_model.specs.MinixParts.{Parts, Volume, parts_of, is_file}
+use Rattle.lilo_model.specs.MinixParts.{Parts, is_file}
 use Rattle.lilo_model.specs.Planned.{planned}
 use Rattle.lilo_model.specs.Settled as model
 use Rattle.lilo_conf.specs.View.{config_view}

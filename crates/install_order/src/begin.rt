@@ -20,6 +20,7 @@ ghost use Rattle.mbr_table.specs.View.{device_view};
 ghost use Rattle.minix_zones.specs.View.{span_view};
 ghost use Rattle.minix_zones.specs.Volume.{volume_view, past_of, sizes_of, faults_of, SameVolume};
 ghost use Rattle.sector_address.specs.Machine.{OnDisks};
+ghost use Rattle.install_settle.specs.Found.{is_anything};
 ghost use Rattle.install_order.specs.Answers.{
   volume_in,
   found_in,
@@ -31,6 +32,7 @@ ghost use Rattle.install_order.specs.Answers.{
   SaysClear,
   Settled,
 };
+ghost use Rattle.install_order.specs.Begins.{HasNothingLeft};
 ghost use Rattle.install_order.specs.Checks.{IsLaid, GivesExamined};
 ghost use Rattle.install_order.specs.Faults.{HasInstallCause};
 ghost use Rattle.install_order.specs.Plans.{Surveys};
@@ -129,6 +131,8 @@ impl<'d, D: Disks> Surveyed<'d, D> {
     fn settle_names(self) -> Result<Surveyed<'d, D>, Halt<'d, D>>
         requires looked { self.settled ≡ false }
         requires known { IsKnown self }
+        ensures nothing { is_anything self.entry.found.settling ≡ false
+            → past_of (volume_in result) ≡ past_of self.entry.volume }
         ensures leaves { Leaves self.entry.volume (volume_in result)
             (begun_of self.entry.volume self.entry.config self.entry.device self.entry.boot) }
         ensures settled { IfOk result (Settled self.entry.volume
@@ -196,7 +200,10 @@ impl<'d, D: Disks> Surveyed<'d, D> {
             HasInstallCause (faults_of volume.entry) (faults_of halt.volume) halt.fault) }
         ensures phase { IfErr result (λ halt. halt.phase ≡ Phase.Before) }
 
-        // What is settled, at any moment and in the end.
+        // What is settled, at any moment and in the end. Where nothing is left to settle, nothing is written.
+        ensures nothing { IfSome config.boot (λ device. OnDisks D.Disks volume.entry.disks.now (λ image _.
+            HasNothingLeft image (begun_of volume.entry config device boot)
+            → past_of (volume_in result) ≡ past_of volume.entry)) }
         ensures leaves { IfSome config.boot (λ device.
             Leaves volume.entry (volume_in result) (begun_of volume.entry config device boot)) }
         ensures settled { IfSome config.boot (λ device.

@@ -4,7 +4,8 @@ use Rattle.std.proofs.lemmas.Bool.{false≢true}
 use Rattle.std.specs.Prelude.{◌≢◌, IfSome, IsTrue, is_some}
 use Rattle.std.specs.List.{concat, list_any}
 use Rattle.disk_trait.specs.declared.disks.Disks.{Ghosts}
-use Rattle.disk_trait.specs.declared.disks.Phase.TheVariants.{Before}
+use Rattle.disk_trait.specs.declared.disks.Phase.{Phase}
+use Rattle.disk_trait.specs.declared.disks.Phase.TheVariants.{Before, Commit, After}
 use Rattle.disk_trait.specs.declared.disks.Span as spans
 use Rattle.disk_trait.specs.Calls.{GoesOn}
 use Rattle.disk_trait.specs.Moments.{IsTold, now, IsQuiet, IsWhole, LeavesOnly, MayLeave}
@@ -42,7 +43,7 @@ use Rattle.install_laws.specs.Headline.{Means}
 use Rattle.install_laws.specs.InstallVerdict.{Answer, Begun, InstallRefusal, answer_text, verdict_by}
 use Rattle.install_laws.specs.Stopped.{BootsAsEither, StaysAsBefore}
 use Rattle.install_apart_laws.specs.Laws.{KeepsDevices}
-use Rattle.install_order.specs.Begins.{AreOwn, LiesThere}
+use Rattle.install_order.specs.Begins.{AreOwn, HasNothingLeft, LiesThere}
 use Rattle.install_order.specs.Faults.{HasInstallCause, IsStopped, Refuses}
 use Rattle.install_order.specs.States.{HaltsCommit, IsCommitted, TidiesFrom}
 use Rattle.install_order.specs.View.{begun_of}
@@ -79,6 +80,7 @@ use Rattle.install_run.specs.Installs.{IsInstalled, Installs, InstallsBegun, Lay
 use Rattle.install_run.proofs.AnswerLemmas.{passes_begun}
 use Rattle.install_run.specs.Steps.{Finishes, FinishedEarly, FinishedWhole, HaltedCommit, HaltedStaging, HaltedTidying, IsHalted, IsPrepared, StaysBegun}
 use Rattle.install_run.proofs.CarriedLemmas.{tidies_some}
+use Rattle.install_run.proofs.DeviceLemmas.{devices_lie}
 
 -- ---- a value that there is
 
@@ -165,16 +167,16 @@ refused_leaves machine begun settled time places entry ended status early stays 
 
 -- what is answered of it, once it was reported
 pub finished_answers : {D : Type 0} {disks : Ghosts D} → (image : Image) (machine : Machine) (settled : Image) (begun : Begun) (time : ℕ) (planned : Planned D disks) (answer : Answer)
-    (status : ℕ) (ended : Option Past) (old mid new : SinkState) → IsSettledFrom image machine begun settled → settled_answer image machine settled begun time ≡ Ok answer
+    (status : ℕ) (ended : D) (old mid new : SinkState) → IsSettledFrom image machine begun settled → settled_answer image machine settled begun time ≡ Ok answer
     → IsTold (past_of planned.volume) → Shows old (answer_text answer) mid → Finishes planned status ended mid new → AnswersInstall image machine settled begun time status old new
-finished_answers image machine settled begun time planned answer status ended old mid new tie is told shown (FinishedWhole tidied carried past zero rest) =
+finished_answers image machine settled begun time planned answer status ended old mid new tie is told shown (FinishedWhole tidied carried same zero rest) =
     Answered tie
     (rw is
     (record {
       status_is = zero;
       shown = subst (λ text. Shows old text new) (append-nil (answer_text answer)) (shows_join old mid new (answer_text answer) [] shown rest);
     }))
-finished_answers image machine settled begun time planned answer status ended old mid new tie is told shown (FinishedEarly halt halted past device status-is said) =
+finished_answers image machine settled begun time planned answer status ended old mid new tie is told shown (FinishedEarly halt halted same device status-is said) =
     let lost = device told in
     LostLater tie (record {
       answer = answer;
@@ -184,6 +186,18 @@ finished_answers image machine settled begun time planned answer status ended ol
       shown = shows_join old mid new (answer_text answer) (codes "lilo: " ++ device_line halt.phase) shown
           (subst (λ fault. Shows mid (codes "lilo: " ++ fault_text fault halt.phase) new) lost said);
     })
+
+-- a disk that failed as the files were staged, and no other refusal, ends it before the commit
+not_early : {D : Type 0} {disks : Ghosts D} → (status : ℕ) (planned : Planned D disks) (ended : D) (old new : SinkState) → Finishes planned status ended old new
+    → IsTold (past_of planned.volume) → IsBefore status → status ≢ 8 → ⊥
+not_early status planned ended old new (FinishedWhole tidied carried same zero rest) told early other = early.not_done (inl zero)
+not_early status planned ended old new (FinishedEarly halt halted same device status-is said) told early other =
+    by halt.phase (status-is ∙ ap (λ fault. fault_status fault halt.phase) (device told))
+  where
+    by : (phase : Phase) → status ≡ device_status phase → ⊥
+    by Before is = other is
+    by Commit is = early.not_committing is
+    by After is = early.not_done (inr is)
 
 -- what is left of it
 module _ {D : Type 0} {disks : Ghosts D} (entry : Volume D disks) (config : configs.Config) (boot : spans.Span) (time : ℕ) (planned : Planned D disks)
@@ -354,10 +368,10 @@ module _ {D : Type 0} {disks : Ghosts D} (entry : Volume D disks) (config : conf
             quiet = λ zero. absurd (omega (arith, ten, zero));
           }
 
-      finished-leaves : (status : ℕ) (ended : Option Past) (old new : SinkState) → Finishes planned status ended old new
-          → Leaves (machine_on entry) From Settled-image time (past_of entry) ended status
-      finished-leaves status ended old new (FinishedWhole tidied carried past zero rest) =
-          subst (λ (p : Option Past). Leaves (machine_on entry) From Settled-image time (past_of entry) p status) past
+      finished-leaves : (status : ℕ) (ended : D) (old new : SinkState) → Finishes planned status ended old new
+          → Leaves (machine_on entry) From Settled-image time (past_of entry) (disks.past ended) status
+      finished-leaves status ended old new (FinishedWhole tidied carried same zero rest) =
+          subst (λ (d : D). Leaves (machine_on entry) From Settled-image time (past_of entry) (disks.past d) status) same
           (record {
             keeps = λ names own. record {
               places = places_view planned.room;
@@ -376,15 +390,15 @@ module _ {D : Type 0} {disks : Ghosts D} (entry : Volume D disks) (config : conf
             lays = λ done outside names own. installing-lays carried.staged carried.stages outside tidied.volume carried.committed (Ok tt) carried.commits carried.tidies names own;
             quiet = λ done. carried.quiet;
           })
-      finished-leaves status ended old new (FinishedEarly halt halted past device status-is said) =
-          subst (λ (p : Option Past). Leaves (machine_on entry) From Settled-image time (past_of entry) p status) past
+      finished-leaves status ended old new (FinishedEarly halt halted same device status-is said) =
+          subst (λ (d : D). Leaves (machine_on entry) From Settled-image time (past_of entry) (disks.past d) status) same
           (halted-leaves status halt halted status-is (device told-planned))
 
   -- ---- by what was begun with
 
   module _ (device : devices.Device) (has : config.boot ≡ Some device) where
-    same-begun : From ≡ begun_of entry config device boot
-    same-begun =
+    pub same_begun : From ≡ begun_of entry config device boot
+    same_begun =
         let both : Some S.device ≡ Some device = sym is.held.device_is ∙ has in
         let same : S.device ≡ device = cc in
         ap (λ (c : configs.Config). begun_of entry c S.device S.boot) is.held.config_is
@@ -393,13 +407,13 @@ module _ {D : Type 0} {disks : Ghosts D} (entry : Volume D disks) (config : conf
 
     pub finished_leaves : IsSettledFrom (now (past_of entry)) (machine_on entry) (begun_of entry config device boot) Settled-image
         → Passes (now (past_of entry)) (machine_on entry) Settled-image (begun_of entry config device boot) time
-        → LiesThere (now (past_of entry)) (machine_on entry) (begun_of entry config device boot) → (status : ℕ) (ended : Option Past) (old new : SinkState)
-        → Finishes planned status ended old new → Leaves (machine_on entry) (begun_of entry config device boot) Settled-image time (past_of entry) ended status
+        → LiesThere (now (past_of entry)) (machine_on entry) (begun_of entry config device boot) → (status : ℕ) (ended : D) (old new : SinkState)
+        → Finishes planned status ended old new → Leaves (machine_on entry) (begun_of entry config device boot) Settled-image time (past_of entry) (disks.past ended) status
     finished_leaves tie passed there status ended old new finishes =
-        subst (λ (b : Begun). Leaves (machine_on entry) b Settled-image time (past_of entry) ended status) same-begun
-        (finished-leaves (subst (LiesThere (now (past_of entry)) (machine_on entry)) (sym same-begun) there)
-        (subst (λ (b : Begun). IsSettledFrom (now (past_of entry)) (machine_on entry) b Settled-image) (sym same-begun) tie)
-        (subst (λ (b : Begun). Passes (now (past_of entry)) (machine_on entry) Settled-image b time) (sym same-begun) passed) status ended old new finishes)
+        subst (λ (b : Begun). Leaves (machine_on entry) b Settled-image time (past_of entry) (disks.past ended) status) same_begun
+        (finished-leaves (subst (LiesThere (now (past_of entry)) (machine_on entry)) (sym same_begun) there)
+        (subst (λ (b : Begun). IsSettledFrom (now (past_of entry)) (machine_on entry) b Settled-image) (sym same_begun) tie)
+        (subst (λ (b : Begun). Passes (now (past_of entry)) (machine_on entry) Settled-image b time) (sym same_begun) passed) status ended old new finishes)
 
 -- ---- the whole, for the boot device that there is
 
@@ -407,21 +421,31 @@ for_device : {A : Type 0} → (option : Option A) (value : A) (P : A → Type 0)
 for_device option value P is holds = subst (λ o. IfSome o P) (sym is) holds
 
 module _ {D : Type 0} {disks : Ghosts D} (entry : Volume D disks) (config : configs.Config) (boot : spans.Span) (time : ℕ) (named : is_some config.boot ≡ true)
-    (status : ℕ) (ended : Option Past) (old new : SinkState) where
+    (status : ℕ) (ended : D) (old new : SinkState) where
   abbrev Whole : devices.Device → Type 0
-  Whole device = OnDisks disks entry.disks.now (λ image machine. Installs image machine (begun_of entry config device boot) time (past_of entry) ended status old new)
+  Whole device = OnDisks disks entry.disks.now (λ image machine. Installs image machine (begun_of entry config device boot) time (past_of entry) (disks.past ended) status old new)
+
+  -- where nothing is left to settle, nothing was written before the plan was carried out
+  abbrev pub WroteNothing : Option Past → Type 0
+  WroteNothing left = IfSome config.boot (λ device. OnDisks disks entry.disks.now (λ image machine. HasNothingLeft image (begun_of entry config device boot) → left ≡ past_of entry))
+
+  wrote-nothing : (left : Option Past) (device : devices.Device) → config.boot ≡ Some device → WroteNothing left → IsTold (past_of entry)
+      → HasNothingLeft (now (past_of entry)) (begun_of entry config device boot) → left ≡ past_of entry
+  wrote-nothing left device is stays told =
+      told_now (past_of entry) (λ image. HasNothingLeft image (begun_of entry config device boot) → left ≡ past_of entry)
+      (of_some config.boot device (λ d. OnDisks disks entry.disks.now (λ image machine. HasNothingLeft image (begun_of entry config d boot) → left ≡ past_of entry)) is stays) told
 
   pub planned_installs : (planned : Planned D disks) (clear : Option Bool) → IsPrepared entry config boot time planned → IsWhole (sizes_of entry) (past_of entry)
       → IfSome config.boot (λ device. OnDisks disks entry.disks.now (λ image machine. GivesInstall image machine (begun_of entry config device boot) time (Ok (planned, clear))))
-      → GoesOn disks entry.disks.now planned.volume.disks.now → (mid : SinkState) → Shows old (answer_text (answer_to planned clear)) mid
+      → WroteNothing (past_of planned.volume) → GoesOn disks entry.disks.now planned.volume.disks.now → (mid : SinkState) → Shows old (answer_text (answer_to planned clear)) mid
       → Finishes planned status ended mid new → IfSome config.boot Whole
-  planned_installs planned clear prepared whole gives goes_on mid shown finishes =
+  planned_installs planned clear prepared whole gives unsettled goes_on mid shown finishes =
       let some = some_is config.boot named in
       let device = some.0 in
       let begun = begun_of entry config device boot in
       let machine = machine_of disks entry.disks.now in
       for_device config.boot device Whole some.1
-      (told_from (past_of entry) (λ image. Installs image machine begun time (past_of entry) ended status old new)
+      (told_from (past_of entry) (λ image. Installs image machine begun time (past_of entry) (disks.past ended) status old new)
       (λ told.
       let given = told_now (past_of entry) (λ image. GivesInstall image machine begun time (Ok (planned, clear)))
       (of_some config.boot device (λ d. OnDisks disks entry.disks.now (λ image m. GivesInstall image m (begun_of entry config d boot) time (Ok (planned, clear)))) some.1 gives) told in
@@ -430,23 +454,32 @@ module _ {D : Type 0} {disks : Ghosts D} (entry : Volume D disks) (config : conf
         answers = finished_answers (now (past_of entry)) machine (now (past_of planned.volume)) begun time planned (answer_to planned clear) status ended old mid new given.0 given.1
             (goes_on.told told) shown finishes;
         refused = λ other checks. absurd (passes_begun (now (past_of entry)) machine (now (past_of planned.volume)) begun time (answer_to planned clear) given.1 checks);
+        unsettled =
+            λ none.
+            let same = ap now (wrote-nothing (past_of planned.volume) device some.1 unsettled told none) in
+            record {
+              same = same;
+              devices = subst (λ (image : Image). DevicesStay (now (past_of entry)) image machine begun) (sym same) (devices_lie (now (past_of entry)) machine begun);
+              refused = λ early other. absurd (not_early status planned ended mid new finishes (goes_on.told told) early other);
+            };
         leaves = λ quiet there. finished_leaves entry config boot time planned prepared told quiet whole device some.1 given.0 (answer_to planned clear, given.1) there
             status ended mid new finishes;
       }))
 
-  pub refused_installs : (halt : Halt D disks) → ended ≡ past_of halt.volume → HasInstallCause (faults_of entry) (faults_of halt.volume) halt.fault
+  pub refused_installs : (halt : Halt D disks) → ended ≡ halt.volume.disks.now → HasInstallCause (faults_of entry) (faults_of halt.volume) halt.fault
       → IfSome config.boot (λ device. OnDisks disks entry.disks.now (λ image machine. GivesInstall image machine (begun_of entry config device boot) time (Err halt)))
       → IfSome config.boot (λ device. OnDisks disks entry.disks.now (λ image machine. StaysUnbegun image machine (begun_of entry config device boot) (past_of entry) (Err halt)))
-      → IfSome config.boot (λ device. StaysBegun entry (begun_of entry config device boot) halt.volume)
+      → WroteNothing (past_of halt.volume) → IfSome config.boot (λ device. StaysBegun entry (begun_of entry config device boot) halt.volume)
       → status ≡ fault_status halt.fault Before → Shows old (codes "lilo: " ++ fault_text halt.fault Before) new → IfSome config.boot Whole
-  refused_installs halt same cause gives unbegun stays status-is shown =
+  refused_installs halt end cause gives unbegun unsettled stays status-is shown =
+      let same : disks.past ended ≡ past_of halt.volume = ap disks.past end in
       let some = some_is config.boot named in
       let device = some.0 in
       let begun = begun_of entry config device boot in
       let machine = machine_of disks entry.disks.now in
       let early = refusal_before halt.fault status status-is in
       for_device config.boot device Whole some.1
-      (told_from (past_of entry) (λ image. Installs image machine begun time (past_of entry) ended status old new)
+      (told_from (past_of entry) (λ image. Installs image machine begun time (past_of entry) (disks.past ended) status old new)
       (λ told.
       let given = told_now (past_of entry) (λ image. GivesInstall image machine begun time (Err halt))
       (of_some config.boot device (λ d. OnDisks disks entry.disks.now (λ image m. GivesInstall image m (begun_of entry config d boot) time (Err halt))) some.1 gives) told in
@@ -458,6 +491,14 @@ module _ {D : Type 0} {disks : Ghosts D} (entry : Volume D disks) (config : conf
             ∙ told_now (past_of entry) (λ image. StaysUnbegun image machine begun (past_of entry) (Err halt))
             (of_some config.boot device (λ d. OnDisks disks entry.disks.now (λ image m. StaysUnbegun image m (begun_of entry config d boot) (past_of entry) (Err halt))) some.1 unbegun) told
             (λ lost. other (status-is ∙ ap (λ fault. fault_status fault Before) lost)) checks;
+        unsettled =
+            λ none.
+            let stays = wrote-nothing (past_of halt.volume) device some.1 unsettled told none in
+            record {
+              same = ap now stays;
+              devices = subst (λ (image : Image). DevicesStay (now (past_of entry)) image machine begun) (sym (ap now stays)) (devices_lie (now (past_of entry)) machine begun);
+              refused = λ early other. same ∙ stays;
+            };
         leaves = λ quiet there.
             subst (λ (p : Option Past). Leaves machine begun (now (past_of halt.volume)) time (past_of entry) p status) (sym same)
             (refused_leaves machine begun (now (past_of halt.volume)) time [] (past_of entry) (past_of halt.volume) status early

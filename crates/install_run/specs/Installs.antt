@@ -22,7 +22,7 @@ use Rattle.install_begin.specs.Begin.{begun_with}
 use Rattle.install_laws.specs.Headline.{Means}
 use Rattle.install_laws.specs.InstallVerdict.{Answer, Begun}
 use Rattle.install_laws.specs.Stopped.{BootsAsEither, StaysAsBefore}
-use Rattle.install_order.specs.Begins.{AreOwn, LiesThere}
+use Rattle.install_order.specs.Begins.{AreOwn, HasNothingLeft, LiesThere}
 use Rattle.install_order.specs.Checks.{begin_checks}
 use Rattle.install_preview.specs.Previews.{AnswersVerdict}
 use Rattle.install_run.specs.Answers.{AnswersInstall, IsSettledFrom, lost_line, settled_answer}
@@ -72,11 +72,23 @@ abbrev pub StaysRefused : Image → Machine → Begun → Option Past → Option
 StaysRefused image machine begun entry ended status =
     status ≢ 8 → IsErr (begin_checks image machine begun.volume begun.config begun.boot begun.span) → ended ≡ entry
 
+-- Where nothing is left that settling changes, it changes nothing: so each device of the configuration stays where it lay, and a refusal
+-- writes nothing.
+pub record IsUnsettled (machine : Machine) (begun : Begun) (entry ended : Option Past) (settled : Image) (status : ℕ) : Type 0 where
+  pub same : settled ≡ now entry
+  pub devices : DevicesStay (now entry) settled machine begun
+  pub refused : IsBefore status → status ≢ 8 → ended ≡ entry
+
+abbrev pub StaysUnsettled : Machine → Begun → Image → Option Past → Option Past → ℕ → Type 0
+StaysUnsettled machine begun settled entry ended status =
+    HasNothingLeft (now entry) begun → IsUnsettled machine begun entry ended settled status
+
 -- An installation answers, and leaves, by the image that its settling leaves. What it leaves rests on a quiet entry.
 pub record Installs (image : Image) (machine : Machine) (begun : Begun) (time : ℕ) (entry ended : Option Past) (status : ℕ) (old new : SinkState) : Type 0 where
   pub settled : Image
   pub answers : AnswersInstall image machine settled begun time status old new
   pub refused : StaysRefused image machine begun entry ended status
+  pub unsettled : StaysUnsettled machine begun settled entry ended status
   pub leaves : IsQuiet entry → LiesThere (now entry) machine begun → Leaves machine begun settled time entry ended status
 
 -- So it does by what was read, where a volume lies there; else that is answered, and nothing is done.

@@ -3,3 +3,4 @@ pub mod Steps
 pub mod Keeps
 pub mod Entry
 pub mod Installs
+pub mod Phases

@@ -1,10 +1,9 @@
 -- What the steps of an installation ensured together (by install_order's and install_join_laws' definitions).
-use Rattle.std.specs.Prelude.{◌≡◌, ◌++◌, ℕ, true, [], codes, Option, Result, Ok, Err}
+use Rattle.std.specs.Prelude.{◌≡◌, ◌++◌, ℕ, true, [], codes, Result, Ok, Err}
 use Rattle.disk_trait.specs.declared.disks.Disks.{Ghosts}
 use Rattle.disk_trait.specs.declared.disks.Phase.TheVariants.{Before, Commit, After}
 use Rattle.disk_trait.specs.declared.disks.Span.{Span}
 use Rattle.disk_trait.specs.Moments.{IsTold, now, IsQuiet}
-use Rattle.disk_trait.specs.Past.{Past}
 use Rattle.lilo_conf.specs.declared.config.Config.{Config}
 use Rattle.minix_zones.specs.Volume.{volume_view, past_of}
 use Rattle.minix_zones.specs.declared.volume.Volume.{Volume}
@@ -78,9 +77,9 @@ volume_after (Ok tidied) = tidied.volume
 volume_after (Err halt) = halt.volume
 
 -- It was carried out, and nothing more is shown; or it ended, and that is reported. On disks that report their past it ended as one failed.
-pub data Finishes {D : Type 0} {disks : Ghosts D} (planned : Planned D disks) (status : ℕ) (ended : Option Past) (old new : SinkState) : Type 0 where
-  FinishedWhole : (tidied : Tidied D disks) → IsCarriedOut planned tidied → past_of tidied.volume ≡ ended → status ≡ 0 → Shows old [] new
+pub data Finishes {D : Type 0} {disks : Ghosts D} (planned : Planned D disks) (status : ℕ) (ended : D) (old new : SinkState) : Type 0 where
+  FinishedWhole : (tidied : Tidied D disks) → IsCarriedOut planned tidied → tidied.volume.disks.now ≡ ended → status ≡ 0 → Shows old [] new
       → Finishes planned status ended old new
-  FinishedEarly : (halt : Halt D disks) → IsHalted planned halt → past_of halt.volume ≡ ended → (IsTold (past_of planned.volume) → halt.fault ≡ Device)
+  FinishedEarly : (halt : Halt D disks) → IsHalted planned halt → halt.volume.disks.now ≡ ended → (IsTold (past_of planned.volume) → halt.fault ≡ Device)
       → status ≡ fault_status halt.fault halt.phase → Shows old (codes "lilo: " ++ fault_text halt.fault halt.phase) new
       → Finishes planned status ended old new

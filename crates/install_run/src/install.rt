@@ -1,7 +1,7 @@
 // An installation, from what was read to its end.
 ghost use Rattle.std.specs.Prelude.{◌≡◌, ◌<◌, true, is_some, IfSome, IsTrue, Some, Ok};
 ghost use Rattle.disk_trait.specs.Calls.{GoesOn};
-ghost use Rattle.disk_trait.specs.Moments.{IsWhole};
+ghost use Rattle.disk_trait.specs.Moments.{IsQuiet, IsTold, IsWhole};
 ghost use Rattle.disk_trait.specs.Past.{Told};
 ghost use Rattle.lilo_model.specs.Faults.{Rose};
 ghost use Rattle.lilo_model.specs.ConfLawful.{IsLawful};
@@ -18,6 +18,7 @@ ghost use Rattle.install_order.specs.Checks.{IsLaid};
 ghost use Rattle.install_order.specs.View.{begun_of};
 ghost use Rattle.install_run.specs.Answers.{is_install_status, IsDiskFault};
 ghost use Rattle.install_run.specs.Installs.{Installs, InstallsBegun};
+ghost use Rattle.install_run.specs.Phases.{FailsBy};
 ghost use Rattle.install_run.specs.Steps.{Finishes, IsReadyToStage};
 
 use crate::carry::carry_out;
@@ -35,8 +36,7 @@ use stream_trait::{Shown, Sink};
 // Carries out what is planned, and gives the exit status and the disks.
 fn finish<'d, D: Disks, O: Sink>(planned: Planned<'d, D>, out: &mut Shown<'_, O>) -> (u8, &'d mut D)
     requires { IsReadyToStage planned }
-    ensures finishes { Finishes planned.entry result.0 (D.past result.1.now) (sink_of O.Sink out.old)
-        (sink_of O.Sink out.new) }
+    ensures finishes { Finishes planned.entry result.0 result.1.now (sink_of O.Sink out.old) (sink_of O.Sink out.new) }
     ensures cause { IsDiskFault result.0 → Rose (faults_of planned.entry.volume) (D.faults result.1.now) }
     ensures statuses { IsTrue (is_install_status result.0) }
     ensures goes_on { GoesOn D.Disks planned.entry.volume.disks.now result.1.now }
@@ -69,6 +69,8 @@ fn install<'d, D: Disks, O: Sink>(
     ensures installs { IfSome config.boot (λ device. OnDisks D.Disks volume.entry.disks.now (λ image machine.
         Installs image machine (begun_of volume.entry config device boot) now (past_of volume.entry)
         (D.past result.1.now) result.0 (sink_of O.Sink out.old) (sink_of O.Sink out.new))) }
+    ensures phase { IsTold (past_of volume.entry) → IsQuiet (past_of volume.entry)
+        → FailsBy D.Disks result.0 (span_view boot) volume.entry.disks.now result.1.now }
     ensures cause { IsDiskFault result.0 → Rose (faults_of volume.entry) (D.faults result.1.now) }
     ensures statuses { IsTrue (is_install_status result.0) }
     ensures goes_on { GoesOn D.Disks volume.entry.disks.now result.1.now }
@@ -115,6 +117,9 @@ pub fn install_begun<D: Disks, O: Sink>(
         (D.past disks.old) (D.past disks.new) result (sink_of O.Sink out.old) (sink_of O.Sink out.new)) }
     ensures statuses { IsTrue (is_install_status result) }
     ensures cause { IsDiskFault result → Rose (D.faults disks.old) (D.faults disks.new) }
+    // The phase in which a disk failed, by the status.
+    ensures phase { IsTold (D.past disks.old) → IsQuiet (D.past disks.old)
+        → FailsBy D.Disks result (span_view begun.boot) disks.old disks.new }
 
     // What stays.
     ensures goes_on { GoesOn D.Disks disks.old disks.new }

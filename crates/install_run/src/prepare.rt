@@ -6,7 +6,7 @@ ghost use Rattle.lilo_model.specs.ConfLawful.{IsLawful};
 ghost use Rattle.lilo_conf.specs.View.{config_view};
 ghost use Rattle.minix_zones.specs.Volume.{volume_view, past_of, sizes_of, faults_of};
 ghost use Rattle.sector_address.specs.Machine.{OnDisks};
-ghost use Rattle.install_order.specs.Begins.{LiesThere};
+ghost use Rattle.install_order.specs.Begins.{HasNothingLeft, LiesThere};
 ghost use Rattle.install_order.specs.Checks.{IsLaid};
 ghost use Rattle.install_order.specs.Faults.{HasInstallCause};
 ghost use Rattle.install_order.specs.View.{begun_of};
@@ -38,6 +38,9 @@ pub(crate) fn prepare<'d, D: Disks>(
         GivesInstall image machine (begun_of volume.entry config device boot) now result)) }
     ensures unbegun { IfSome config.boot (λ device. OnDisks D.Disks volume.entry.disks.now (λ image machine.
         StaysUnbegun image machine (begun_of volume.entry config device boot) (past_of volume.entry) result)) }
+    ensures nothing { IfSome config.boot (λ device. OnDisks D.Disks volume.entry.disks.now (λ image _.
+        HasNothingLeft image (begun_of volume.entry config device boot)
+        → past_of (volume_left result) ≡ past_of volume.entry)) }
     ensures prepared { IfOk result (λ made. IsPrepared volume.entry config boot now made.0) }
     ensures ready { IfOk result (λ made. IsReadyToStage made.0) }
     ensures stays { IfSome config.boot (λ device. StaysBegun volume.entry (begun_of volume.entry config device boot)

@@ -29,7 +29,7 @@ use Rattle.install_settle.specs.declared.settling.Settling.{Settling}
 use Rattle.install_settle.proofs.LeadLemmas.{plain-at, tilde-at}
 
 -- nothing holds no table
-none-holds : (image : Image) (machine : Machine) (volume : Volume) (walk : Inode → List (Result Visit ZoneFault)) (boot : Result BootSector MapFault) → holds_table image machine volume walk boot None ≡ false
+pub none-holds : (image : Image) (machine : Machine) (volume : Volume) (walk : Inode → List (Result Visit ZoneFault)) (boot : Result BootSector MapFault) → holds_table image machine volume walk boot None ≡ false
 none-holds image machine volume walk (Ok boot) = refl
 none-holds image machine volume walk (Err fault) = refl
 

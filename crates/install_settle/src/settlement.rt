@@ -1,5 +1,5 @@
 // What was left behind is settled.
-ghost use Rattle.std.specs.Prelude.{◌≡◌, true, ℕ, List, Bool, Ok, Err, IfOk, IfErr};
+ghost use Rattle.std.specs.Prelude.{◌≡◌, true, false, ℕ, List, Bool, Ok, Err, IfOk, IfErr};
 ghost use Rattle.disk_trait.specs.Moments.{IsTold, IsQuiet};
 ghost use Rattle.lilo_model.specs.Settled as model;
 ghost use Rattle.minix_layout.specs.View.{kind_view, super_view};
@@ -10,7 +10,15 @@ ghost use Rattle.minix_zones.specs.Volume.{past_of, faults_of};
 ghost use Rattle.install_apart.specs.Names.{IsInside, ArePairsInside, AreTwins, IsPair, is_replaceable};
 ghost use Rattle.install_apart.specs.Own.{AreInside, IsReplaceable};
 ghost use Rattle.install_settle.specs.At.{IsAt};
-ghost use Rattle.install_settle.specs.Found.{AreNamesNow, IsCopyLeft, IsLeft, MaySettle, has_link_left, is_there};
+ghost use Rattle.install_settle.specs.Found.{
+  AreNamesNow,
+  IsCopyLeft,
+  IsLeft,
+  MaySettle,
+  has_link_left,
+  is_anything,
+  is_there,
+};
 ghost use Rattle.install_settle.specs.Settles.{Settles};
 ghost use Rattle.install_settle.specs.Steps.{DoesMap, DoesRemove, IsSomePair, IsSomewhere};
 
@@ -159,6 +167,7 @@ pub fn settle<'d, D: Disks>(
     requires found { IsTold (past_of volume) → AreNamesNow volume own.now }
 
     // What is done.
+    ensures nothing { is_anything settling ≡ false → result ≡ Ok volume.entry }
     ensures settled { IfOk result (λ new. (names : model.OwnNames) (forced : Bool)
         → (IsTold (past_of volume.entry) → MaySettle volume.entry names forced own.now settling)
         → Settles volume.entry new names forced settling (Ok tt)) }

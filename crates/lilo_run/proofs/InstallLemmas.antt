@@ -1,7 +1,7 @@
 -- What an installation does, by what it began with.
 use Rattle.std.proofs.Common.{◌≡◌, ◌≢◌, ◌⊎◌, ⊎_elim, ◌∙◌, ◌++◌, ℕ, inl, inr, Bool, true, false, List, [], ◌∷◌, Option, None, Some, Result, Ok, Err, refl, sym, ap, subst, arith}
 use Rattle.std.specs.Prelude.{if◌then◌else◌, IfSome, IsErr}
-use Rattle.std.proofs.lemmas.Bool.{false≢true, ne_eqb}
+use Rattle.std.proofs.lemmas.Bool.{false≢true}
 use Rattle.boot_laws.proofs.Checks.{bind-same, told-given}
 use Rattle.disk_trait.specs.Past.{Past}
 use Rattle.disk_trait.specs.Moments.{now, IsQuiet}
@@ -21,8 +21,6 @@ use Rattle.lilo_model.specs.MinixParts.{Volume, ZoneFault, volume_at}
 use Rattle.lilo_model.specs.Partitions.{TableFault, device_fault, span_of}
 use Rattle.lilo_model.specs.Place.{Memory}
 use Rattle.lilo_model.specs.Plan.{Plan}
-use Rattle.lilo_model.specs.PlanRefusal as plans
-use Rattle.lilo_model.specs.PlanRefusal.{PlanFault, plan_status}
 use Rattle.lilo_model.specs.Prompt.{Key}
 use Rattle.lilo_model.specs.Refusal as refusals
 use Rattle.lilo_model.specs.Refusal.{Refusal, refusal_status}
@@ -47,10 +45,13 @@ use Rattle.install_laws.specs.Stopped.{StaysAsBefore}
 use Rattle.install_preview.specs.Previews.{AnswersVerdict}
 use Rattle.install_run.specs.Answers as outcomes
 use Rattle.install_run.specs.Answers.{AnswersInstall, IsDiskFault, IsLostIn, IsSettledFrom, install_on, lost_line, settled_answer}
-use Rattle.install_run.specs.Keeps.{KeepsMost}
+use Rattle.install_run.specs.Keeps.{DevicesStay, KeepsMost}
+use Rattle.install_run.specs.Phases.{FailsBy}
+use Rattle.install_run.proofs.DeviceLemmas.{devices_lie}
 use Rattle.install_run.proofs.EntryLemmas.{entry_answer_law}
-use Rattle.install_run.specs.Installs.{Installs, InstallsBegun, OnVolume, NoVolume, VolumeLost, Leaves}
-use Rattle.lilo_run.specs.Install.{ReadsSteady, IsInstallRun, IsModelled, InstallHolds, done_status}
+use Rattle.install_run.proofs.PhaseLemmas.{fails_still}
+use Rattle.install_run.specs.Installs.{Installs, InstallsBegun, OnVolume, NoVolume, VolumeLost}
+use Rattle.lilo_run.specs.Install.{ReadsSteady, IsInstallRun, IsModelled}
 use Rattle.lilo_run.specs.Refusal.{ConfRefuses, conf_verdict, device_failed, no_memory, table_verdict, text_verdict}
 use Rattle.lilo_run.specs.Run.{State, Scene, Carries, CarriedOut, LostBefore, LostAtCommit, LostAfter, Starved, IsLeftBy, EndsAs, Tells, TellsVerdict, TellsLost, TellsLostAtCommit, TellsLostAfter, TellsUnheard, TellsStarved, TellsCut, TellsRun}
 use Rattle.lilo_run.specs.Verdict.{Effect, Installation, Left, command_effect, effects_of, failed_behind, first_left, install_effect, installed_answer, installing, leaving}
@@ -60,7 +61,7 @@ use Rattle.lilo_run.proofs.TellLemmas.{told_alone}
 
 -- ---- where the boot device lies
 
-ok_same : {A F : Type 0} (r : Result A F) (a b : A) → r ≡ Ok a → r ≡ Ok b → a ≡ b
+pub ok_same : {A F : Type 0} (r : Result A F) (a b : A) → r ≡ Ok a → r ≡ Ok b → a ≡ b
 ok_same r a b first second = cc
 
 ok_or_err : {A F : Type 0} (r : Result A F) (a : A) (fault : F) → r ≡ Ok a → r ≡ Err fault → ⊥
@@ -242,8 +243,16 @@ module _ {D : Type 0} (g : Ghosts D) (old new : D) where
       same (Some path) = refl
 
   -- a disk failed, or memory ended, before anything was done
-  abbrev pub IsEarly : Installation → ℕ → Type 0
-  IsEarly found own = ((own ≡ 8) ⊎ (own ≡ 13)) × (found.left.answered ≡ false)
+  pub record IsEarly (found : Installation) (own : ℕ) : Type 0 where
+    pub status : (own ≡ 8) ⊎ (own ≡ 13)
+    pub rose : own ≡ 8 → Rose (g.faults old) (g.faults new)
+    pub unanswered : found.left.answered ≡ false
+    pub settled : found.left.settled ≡ now (g.past old)
+
+  none-13 : (phase : Phase) → 13 ≡ device_status phase → ⊥
+  none-13 Before is = omega (arith, is)
+  none-13 Commit is = omega (arith, is)
+  none-13 After is = omega (arith, is)
 
   not_done : (own : ℕ) → (own ≡ 8) ⊎ (own ≡ 13) → (own ≡ 0) ⊎ (own ≡ 10) → ⊥
   not_done own (inl early) (inl is) = omega (arith, early, is)
@@ -256,8 +265,8 @@ module _ {D : Type 0} (g : Ghosts D) (old new : D) where
   not_nine own (inr early) is = omega (arith, early, is)
 
   left_early : (found : Installation) (begun : installs.Begun) (own : ℕ) → IsEarly found own → g.past new ≡ g.past old → IsLeftBy g found begun own old new
-  left_early found begun own (early, none) same = record {
-    settled = λ so. absurd (false≢true (sym none ∙ so));
+  left_early found begun own is-early same = record {
+    settled = λ so. absurd (false≢true (sym is-early.unanswered ∙ so));
     leaves =
         λ quiet. record {
           keeps = λ names are. record {
@@ -277,7 +286,24 @@ module _ {D : Type 0} (g : Ghosts D) (old new : D) where
           quiet = λ zero. absurd (not_done own early (inl zero));
         };
     refused = λ other refuses. same;
+    unsettled =
+        λ none. record {
+          same = is-early.settled;
+          devices =
+              subst (λ (image : Image). DevicesStay (now (g.past old)) image found.machine begun) (sym is-early.settled)
+              (devices_lie (now (g.past old)) found.machine begun);
+          refused = λ is other. same;
+        };
+    phase = λ quiet. by early quiet;
   }
+    where
+      early : (own ≡ 8) ⊎ (own ≡ 13)
+      early = is-early.status
+
+      by : (own ≡ 8) ⊎ (own ≡ 13) → IsQuiet (g.past old) → FailsBy g own begun.span old new
+      by (inl eight) quiet =
+          subst (λ (n : ℕ). FailsBy g n begun.span old new) (sym eight) (fails_still g begun.span old new same quiet (is-early.rose eight))
+      by (inr thirteen) quiet = λ phase is. absurd (none-13 phase (sym thirteen ∙ is))
 
   -- an installation that did nothing
   pub ends_still :
@@ -350,9 +376,9 @@ module _ {D : Type 0} (g : Ghosts D) (machine : Machine) (root : Option Device) 
   -- it began on a volume
   on_volume :
       (read : begins.Begun) (volume : Volume) → begun_at (now (g.past old)) machine root path ≡ Ok read → volume_at (now (g.past old)) read.volume ≡ Ok volume
-      → (IsDiskFault own → Rose (g.faults old) (g.faults new))
+      → (IsDiskFault own → Rose (g.faults old) (g.faults new)) → (IsQuiet (g.past old) → FailsBy g own read.span old new)
       → Installs (now (g.past old)) machine (begun_with read volume) time (g.past old) (g.past new) own sink sink' → FindsOut
-  on_volume read volume is there cause done = by done.answers
+  on_volume read volume is there cause fails done = by done.answers
     where
       lies : span_of (now (g.past old)) machine read.named.boot ≡ Ok read.span
       lies = begun_there (now (g.past old)) machine root path read is
@@ -362,7 +388,7 @@ module _ {D : Type 0} (g : Ghosts D) (machine : Machine) (root : Option Device) 
           → (own ≢ 8 → own ≢ 13 → answered ≡ true) → EndsAs g (installing_by (finds done.settled answered)) own old new
       ends answered settled owed =
           ends_on g old new (installing_by (finds done.settled answered)) own read volume is there
-          (record { settled = settled; leaves = λ quiet. done.leaves quiet lies; refused = done.refused }) owed refl goes_on
+          (record { settled = settled; leaves = λ quiet. done.leaves quiet lies; refused = done.refused; unsettled = done.unsettled; phase = fails }) owed refl goes_on
 
       effect_is :
           (answered : Bool) → install_effect (now (g.past old)) machine root path time (finds done.settled answered)
@@ -396,10 +422,11 @@ module _ {D : Type 0} (g : Ghosts D) (machine : Machine) (root : Option Device) 
   -- it began
   pub begun_found :
       (read : begins.Begun) → begun_at (now (g.past old)) machine root path ≡ Ok read → (IsDiskFault own → Rose (g.faults old) (g.faults new))
+      → (IsQuiet (g.past old) → FailsBy g own read.span old new)
       → InstallsBegun (now (g.past old)) machine time read (g.past old) (g.past new) own sink sink' → FindsOut
   unfolding install_effect
-  begun_found read is cause (OnVolume volume there done) = on_volume read volume is there cause done
-  begun_found read is cause (NoVolume fault there answers same) =
+  begun_found read is cause fails (OnVolume volume there done) = on_volume read volume is there cause fails done
+  begun_found read is cause fails (NoVolume fault there answers same) =
       let left = finds (now (g.past old)) true in
       found_by left _ (effect_without (now (g.past old)) machine root path time left read fault is there)
       (λ keys key_faults. verdict_carried g (installing_by left) own keys (at_entry key_faults) (at_end key_faults) refl
@@ -413,13 +440,14 @@ module _ {D : Type 0} (g : Ghosts D) (machine : Machine) (root : Option Device) 
           let same : read' ≡ read = ok_same _ read' read is' is in
           let there_too = subst (λ (r : begins.Begun). volume_at (now (g.past old)) r.volume ≡ Ok volume) same there' in
           ok_or_err _ volume fault there_too there
-  begun_found read is cause (VolumeLost eight shown same) =
+  begun_found read is cause fails (VolumeLost eight shown same) =
       let left = finds (now (g.past old)) false in (
         left,
         λ keys key_faults. lost_carried g (installing_by left) own keys (at_entry key_faults) (at_end key_faults) refl
             _ refl eight shown
             (ends_still g old new (installing_by left) own same goes_on refl
-            (λ read' is' volume there'. (inl eight, refl)) (λ not_8 not_13. absurd (not_8 eight))) (cause (inl eight)),
+            (λ read' is' volume there'. record { status = inl eight; rose = λ is. cause (inl is); unanswered = refl; settled = refl })
+            (λ not_8 not_13. absurd (not_8 eight))) (cause (inl eight)),
       )
 
   -- ---- it didn't begin
@@ -480,7 +508,8 @@ module _ {D : Type 0} (g : Ghosts D) (machine : Machine) (root : Option Device) 
         λ keys key_faults. lost_carried g (installing_by left) own keys (at_entry key_faults) (at_end key_faults) refl
             _ refl eight shown
             (ends_still g old new (installing_by left) own same goes_on refl
-            (λ read is volume there. (inl eight, refl)) (λ not_8 not_13. absurd (not_8 eight))) (cause eight),
+            (λ read is volume there. record { status = inl eight; rose = cause; unanswered = refl; settled = refl })
+            (λ not_8 not_13. absurd (not_8 eight))) (cause eight),
       )
   found_so same cause (inr (inr (thirteen, shown))) =
       let left = finds (now (g.past old)) false in (
@@ -488,7 +517,8 @@ module _ {D : Type 0} (g : Ghosts D) (machine : Machine) (root : Option Device) 
         λ keys key_faults. starved_carried g (installing_by left) own keys (at_entry key_faults) (at_end key_faults) refl
             _ thirteen shown
             (ends_still g old new (installing_by left) own same goes_on refl
-            (λ read is volume there. (inr thirteen, refl)) (λ not_8 not_13. absurd (not_13 thirteen))),
+            (λ read is volume there. record { status = inr thirteen; rose = cause; unanswered = refl; settled = refl })
+            (λ not_8 not_13. absurd (not_13 thirteen))),
       )
 
   pub refused_found :
@@ -506,49 +536,6 @@ install_alone :
     → effects_of now machine size time words lefts keys ≡ leaving keys (install_effect now machine root path time (first_left now lefts)) ∷ []
 unfolding effects_of command_effect
 install_alone now machine size time words lefts keys root path (part, is, command, rooted, called) = rw (is, command, rooted, called) refl
-
--- 12 is no answer
-plan_not_12 : (fault : PlanFault) → plan_status fault ≢ 12
-plan_not_12 (plans.Missing text) is = omega (arith, is)
-plan_not_12 plans.NoImagesLeft is = omega (arith, is)
-plan_not_12 (plans.Header path fault) is = omega (arith, is)
-plan_not_12 (plans.Address which fault) is = omega (arith, is)
-plan_not_12 (plans.TooManySlots which slots) is = omega (arith, is)
-plan_not_12 (plans.GeometryDiffers which have) is = omega (arith, is)
-plan_not_12 (plans.OtherIsBoot path) is = omega (arith, is)
-plan_not_12 (plans.NoSignature path) is = omega (arith, is)
-plan_not_12 (plans.MessageTooLong size) is = omega (arith, is)
-plan_not_12 (plans.Table fault) is = omega (arith, is)
-plan_not_12 (plans.Tree path fault) is = omega (arith, is)
-
-reading_not_12 : (refusal : Refusal) → refusal_status refusal ≢ 12
-reading_not_12 (refusals.Device fault) is = omega (arith, is)
-reading_not_12 refusals.NotOurs is = omega (arith, is)
-reading_not_12 (refusals.Boot reason) is = omega (arith, is)
-reading_not_12 refusals.NoVolume is = omega (arith, is)
-reading_not_12 refusals.Layout is = omega (arith, is)
-reading_not_12 (refusals.Missing path) is = omega (arith, is)
-reading_not_12 (refusals.BadPath path) is = omega (arith, is)
-reading_not_12 (refusals.Config refusal) is = omega (arith, is)
-
-refusal_not_12 : (refusal : InstallRefusal) → install_status refusal ≢ 12
-refusal_not_12 (Reading refusal) is = reading_not_12 refusal is
-refusal_not_12 (NotSound fault) is = omega (arith, is)
-refusal_not_12 (NotApart which) is = omega (arith, is)
-refusal_not_12 (BadName refusal) is = omega (arith, is)
-refusal_not_12 (NoPlan fault) is = plan_not_12 fault is
-refusal_not_12 NoLink is = omega (arith, is)
-refusal_not_12 (NoRoom fault) is = omega (arith, is)
-
-answer_not_12 : (given : Result Answer InstallRefusal) → (verdict_by answer_text given).status ≢ 12
-answer_not_12 (Ok answer) is = omega (arith, is)
-answer_not_12 (Err refusal) is = refusal_not_12 refusal is
-
-done_own : (status : ℕ) → status ≢ 12 → done_status status ≡ status
-done_own status other = rw (ne_eqb status 12 other) refl
-
-done_as : (status own : ℕ) → status ≡ own → own ≢ 12 → done_status status ≡ own
-done_as status own is other = done_own status (λ twelve. other (sym is ∙ twelve)) ∙ is
 
 -- ---- by the image at the entry
 
@@ -599,38 +586,3 @@ install_tells g now machine size time words root path lefts keys left status old
     told_alone g (leaving keys (install_effect now machine root path time (first_left now lefts))) status keys left old new
     (subst (λ parts. TellsRun g parts status keys left old new) (install_alone now machine size time words lefts keys root path run) told) in
     (first_left now lefts, (tells_modelled g now machine root path time (first_left now lefts) keys status left old new alone, alone))
-
-module _ {D : Type 0} (g : Ghosts D) (image : Image) (machine : Machine) (root : Option Device) (path : List ℕ) (time : ℕ) (found : Left) where
-  own_holds :
-      (own status : ℕ) (old new : D) → done_status status ≡ own → EndsAs g (installation image machine root path time found) own old new
-      → InstallHolds image machine root path time (g.past old) (g.past new) status
-  own_holds own status old new same ends = λ read is volume there quiet. (
-    found.settled,
-    subst (λ n. Leaves machine (begun_with read volume) found.settled time (g.past old) (g.past new) n) (sym same) ((ends.begun read is volume there).leaves quiet),
-  )
-
-  pub install_holds :
-      (keys : List Key) (status : ℕ) (left : List Key) (old new : Scene D) → Tells g (leaving keys (install_effect image machine root path time found)) status left old new
-      → InstallHolds image machine root path time (g.past old.disks) (g.past new.disks) status
-  unfolding install_effect
-  install_holds keys status left old new (TellsVerdict is kept printed ends) =
-      own_holds status status old.disks new.disks
-      (done_own status (λ twelve. answer_not_12 (installed_answer image machine root path time found) (sym is ∙ twelve))) ends
-  install_holds keys status left old new (TellsLost is printed (ends, rose)) =
-      own_holds 8 status old.disks new.disks (done_as status 8 is (λ same. omega (arith, same))) ends
-  install_holds keys status left old new (TellsLostAtCommit is printed (ends, rose)) =
-      own_holds 9 status old.disks new.disks (done_as status 9 is (λ same. omega (arith, same))) ends
-  install_holds keys status left old new (TellsLostAfter is printed (ends, rose)) =
-      own_holds 10 status old.disks new.disks (done_as status 10 is (λ same. omega (arith, same))) ends
-  install_holds keys status left old new (TellsUnheard is printed rose same) = absurd printed
-  install_holds keys status left old new (TellsStarved is printed ends) =
-      own_holds 13 status old.disks new.disks (done_as status 13 is (λ same. omega (arith, same))) ends
-  install_holds keys status left old new (TellsCut is zero kept rose front ends) = own_holds 0 status old.disks new.disks (rw is refl) ends
-
--- the same by what was found out
-pub install_found :
-    {D : Type 0} → (g : Ghosts D) (image : Image) (machine : Machine) (root : Option Device) (path : List ℕ) (time : ℕ)
-    (keys : List Key) (status : ℕ) (left : List Key) (old new : Scene D)
-    → (found : Left) × (IsModelled image machine root path time found × Tells g (leaving keys (install_effect image machine root path time found)) status left old new)
-    → InstallHolds image machine root path time (g.past old.disks) (g.past new.disks) status
-install_found g image machine root path time keys status left old new (found, (modelled, tells)) = install_holds g image machine root path time found keys status left old new tells

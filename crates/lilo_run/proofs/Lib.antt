@@ -1,3 +1,4 @@
+pub mod AloneLemmas
 pub mod BackupLemmas
 pub mod ConfLemmas
 pub mod EffectLemmas

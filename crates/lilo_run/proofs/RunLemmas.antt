@@ -22,6 +22,7 @@ use Rattle.stream_trait.proofs.ShowsLemmas.{zero_before}
 use Rattle.loader_core.specs.Start.{OnKeys}
 use Rattle.loader_core.specs.Report.{LineWrite, image_with}
 use Rattle.bios_model.specs.Reads.{OnlyReads}
+use Rattle.bios_model.proofs.WriteLemmas.{goes_on_read}
 use Rattle.loader_core.specs.Leaves.{HasPut}
 use Rattle.lilo_model.proofs.RoseLemmas.{rose_after}
 use Rattle.loader_core.proofs.LeavesLemmas.{same_self, same_join, leaves_after, goes_on_after}
@@ -29,7 +30,8 @@ use Rattle.disk_trait.specs.Moments.{IsQuiet}
 use Rattle.disk_trait.specs.declared.disks.Phase.{Phase}
 use Rattle.install_begin.specs.Begin.{begun_with}
 use Rattle.install_laws.specs.InstallVerdict as verdicts
-use Rattle.install_run.specs.Installs.{Leaves}
+use Rattle.install_run.specs.Installs.{Leaves, StaysUnsettled}
+use Rattle.install_run.proofs.PhaseLemmas.{fails_since}
 use Rattle.lilo_run.specs.Run.{State, IsDone, Does, Carries, CarriedOut, LostBefore, LostAtCommit, LostAfter, Starved, Unheard, EndsAt, IsPassed, IsOver, Runs, IsLost, IsWriteLost, is_plain_status, is_conf_status, is_install_status, is_test_status, is_part_status}
 use Rattle.lilo_run.specs.Run.{IsLeftBy, EndsAs, MakesBy, Makes, ComesBy, StarvesBy}
 use Rattle.lilo_run.specs.Verdict.{Effect, Installation, Left, keeping, early_status, early_parts, parts_effects, effects_of, image_by, image_after, is_boot, has_boot, is_write, has_write, works_on, has_work_on}
@@ -77,6 +79,10 @@ module _ {D : Type 0} (g : Ghosts D) where
           λ quiet. subst (λ (p : Option Past). Leaves found.machine begun found.left.settled found.time p (g.past new) own) same.same_past
           (left.leaves (subst (λ (p : Option Past). IsQuiet p) (sym same.same_past) quiet));
       refused = λ other refuses. left.refused other refuses ∙ same.same_past;
+      unsettled = subst (λ (p : Option Past). StaysUnsettled found.machine begun found.left.settled p (g.past new) own) same.same_past left.unsettled;
+      phase =
+          λ quiet. fails_since g own begun.span first old new same.same_past (goes_on_read g first old same later)
+          (left.phase (subst (λ (p : Option Past). IsQuiet p) (sym same.same_past) quiet));
     }
 
     pub ends_after : (found : Installation) (own : ℕ) → EndsAs g found own old new → EndsAs g found own first new

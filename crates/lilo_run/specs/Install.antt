@@ -9,12 +9,13 @@ use Rattle.lilo_model.specs.Disks.{Image, Machine}
 use Rattle.lilo_model.specs.MinixParts.{Volume, volume_at}
 use Rattle.lilo_model.specs.Prompt.{Key}
 use Rattle.lilo_model.specs.Words.{Part, Install, run_at}
+use Rattle.sector_address.specs.Machine.{OnDisks}
 use Rattle.stream_trait.specs.declared.sink.Sink.{Ghosts}
 use Rattle.stream_trait.specs.declared.source.Source as sources
 use Rattle.install_begin.specs.Begin as begins
 use Rattle.install_begin.specs.Begin.{begun_at, begun_with}
-use Rattle.install_laws.specs.InstallVerdict.{install_verdict}
-use Rattle.install_run.specs.Installs.{Leaves}
+use Rattle.install_laws.specs.InstallVerdict.{Begun, install_verdict}
+use Rattle.install_run.specs.Installs.{Leaves, StaysUnsettled}
 use Rattle.install_run.specs.Keeps.{IsSteady}
 use Rattle.lilo_run.specs.Run.{Tells, scene_of}
 use Rattle.lilo_run.specs.Verdict.{Left, leaving, install_effect}
@@ -47,9 +48,24 @@ TellsInstall g i o now machine root path time keys left status old new =
 abbrev pub done_status : ℕ → ℕ
 done_status status = if status == 12 then 0 else status
 
--- From a quiet moment, where a volume and a configuration are read, there is an image by which a stop at any moment leaves what the
--- status says: where the commit began, the image that settling left.
-abbrev pub InstallHolds : Image → Machine → Option Device → List ℕ → ℕ → Option Past → Option Past → ℕ → Type 0
-InstallHolds image machine root path time entry ended status =
+-- There is an image by which a stop at any moment leaves what the status says: where the commit began, the image that settling left,
+-- which is that of the entry where nothing is left to settle.
+pub record LeavesBy (machine : Machine) (begun : Begun) (time : ℕ) (entry ended : Option Past) (status : ℕ) : Type 0 where
+  pub settled : Image
+  pub leaves : Leaves machine begun settled time entry ended status
+  pub unsettled : StaysUnsettled machine begun settled entry ended status
+
+-- so it is from a quiet moment, where a volume and a configuration are read
+abbrev pub InstallLeaves : Image → Machine → Option Device → List ℕ → ℕ → Option Past → Option Past → ℕ → Type 0
+InstallLeaves image machine root path time entry ended status =
     (read : begins.Begun) → begun_at image machine root path ≡ Ok read → (volume : Volume) → volume_at image read.volume ≡ Ok volume
-    → IsQuiet entry → (settled : Image) × Leaves machine (begun_with read volume) settled time entry ended (done_status status)
+    → IsQuiet entry → LeavesBy machine (begun_with read volume) time entry ended status
+
+abbrev pub InstallHolds : Image → Machine → Option Device → List ℕ → ℕ → Option Past → Option Past → ℕ → Type 0
+InstallHolds image machine root path time entry ended status = InstallLeaves image machine root path time entry ended (done_status status)
+
+-- the same of a part that installs, on disks that report what they hold
+abbrev pub PartLeaves : {D : Type 0} → disks.Ghosts D → ℕ → Part → ℕ → D → D → Type 0
+PartLeaves g time part status old new =
+    part.command ≡ Install → OnDisks g old (λ image machine.
+    InstallLeaves image machine part.root (conf_path part.config) time (g.past old) (g.past new) status)

@@ -4,6 +4,7 @@ ghost use Rattle.lilo_words.specs.View.{command_view, part_view};
 ghost use Rattle.disk_trait.specs.Calls.{SameOf};
 ghost use Rattle.disk_trait.specs.Moments.{IsWhole};
 ghost use Rattle.loader_core.specs.Leaves.{WritesAndAsks};
+ghost use Rattle.lilo_run.specs.Install.{PartLeaves};
 ghost use Rattle.lilo_run.specs.Run.{is_part_status, CarriesPart, IsLost, IsWriteLost};
 ghost use Rattle.lilo_run.specs.Verdict.{part_effect, early_status, is_boot, is_write, reads_conf, works_on};
 
@@ -36,6 +37,8 @@ pub(crate) fn carry_out<D: Disks, I: Source, O: Sink>(
         (bios.old.disks.now, bios.old.keys.now, ram.old, out.old)
         (bios.new.disks.now, bios.new.keys.now, ram.new, out.new)
         (λ now machine memory. part_effect machine memory time now (part_view words.now part.entry)) }
+    ensures leaves { PartLeaves D.Disks time (part_view words.now part.entry) result
+        bios.old.disks.now bios.new.disks.now }
     ensures early { (words : List (List ℕ)) → IfSome (early_status (D.size_of bios.old.disks.now)
         (command_view words part.entry.command)) (λ status. result ≡ status) }
     ensures known { IsTrue (is_part_status result) }

@@ -1,12 +1,12 @@
 // The top call: what the program `lilo` does with its arguments.
 ghost use Rattle.std.specs.Prelude.{◌≡◌, true, Bool, ◌↔◌, ◌++◌, codes, false, length, IfSome, IfOk, IsOk};
-ghost use Rattle.std.specs.Prelude.{ℕ, List, Option, IsErr, IsTrue};
+ghost use Rattle.std.specs.Prelude.{ℕ, List, [], ◌∷◌, Option, Ok, IsErr, IsTrue};
 ghost use Rattle.disk_trait.specs.Calls.{GoesOn, SameOf};
 ghost use Rattle.disk_trait.specs.Moments.{IsWhole};
 ghost use Rattle.lilo_model.specs.Faults.{Rose};
 ghost use Rattle.stream_trait.specs.Sink.{Takes};
 ghost use Rattle.lilo_model.specs.Place.{memory_after};
-ghost use Rattle.lilo_model.specs.Words.{run_at, usage_text};
+ghost use Rattle.lilo_model.specs.Words.{Part, run_at, usage_text};
 ghost use Rattle.lilo_model.specs.Devices.{Device};
 ghost use Rattle.sector_address.specs.Machine.{OnDisks};
 ghost use Rattle.bios_model.specs.Memory.{memory_of};
@@ -28,7 +28,7 @@ ghost use Rattle.lilo_model.specs.ConfVerdict.{place_at};
 ghost use Rattle.lilo_run.specs.Verdict.{part_effect, parts_effects, run_verdict, run_left, run_written, Left};
 ghost use Rattle.lilo_run.specs.Verdict.{early_answer, early_parts, has_boot, has_write, has_conf, has_work_on};
 ghost use Rattle.lilo_run.specs.Laws.{IsBootRun, TellsBoot};
-ghost use Rattle.lilo_run.specs.Install.{IsInstallRun, InstallHolds, TellsInstall};
+ghost use Rattle.lilo_run.specs.Install.{IsInstallRun, InstallHolds, PartLeaves, TellsInstall, done_status};
 ghost use Rattle.loader_core.specs.Leaves.{WritesAndAsks};
 
 use crate::part::carry_out;
@@ -133,8 +133,8 @@ pub fn lilo<D: Disks, I: Source, O: Sink>(
     // What a stop leaves of it at any moment: what boots as before until the commit, in it the one or the other, and
     // from then on what boots as the configuration means.
     ensures headline { (root : Option Device) (path : List ℕ) → IsInstallRun words.now root path
-        → OnDisks D.Disks disks.old (λ image machine. OnKeys I.Source (keys.old, keys.new) (λ _ _.
-        InstallHolds image machine root path now (D.past disks.old) (D.past disks.new) result)) }
+        → OnDisks D.Disks disks.old (λ image machine.
+        InstallHolds image machine root path now (D.past disks.old) (D.past disks.new) result) }
 
     // Each part that answers 0 wrote its default line or boot sector, or installed. Where none installs, a stop at any
     // moment leaves what the disks held before one of the parts or after it: that sector has its old bytes or its new
@@ -189,6 +189,8 @@ fn run_words<D: Disks, I: Source, O: Sink>(
         time words.now (λ parts all left. RunsAll D.Disks I.Source O.Sink parts result all left
         (bios.old.disks.now, bios.old.keys.now, ram.old, out.old)
         (bios.new.disks.now, bios.new.keys.now, ram.new, out.new)) }
+    ensures alone { (part : Part) → run_at words.now ≡ Ok (part ∷ [])
+        → PartLeaves D.Disks time part (done_status result) bios.old.disks.now bios.new.disks.now }
     ensures usage { (result ≡ 1) ↔ IsErr (run_at words.now) }
     ensures usage_line { IsErr (run_at words.now)
         → Shows (sink_of O.Sink out.old) (usage_text words.now) (sink_of O.Sink out.new) }
@@ -236,6 +238,8 @@ fn run_parts<D: Disks, I: Source, O: Sink>(
         result all left
         (bios.old.disks.now, bios.old.keys.now, ram.old, out.old)
         (bios.new.disks.now, bios.new.keys.now, ram.new, out.new))) }
+    ensures alone { (part : Part) → parts_behind words.now 0 ≡ part ∷ []
+        → PartLeaves D.Disks time part (done_status result) bios.old.disks.now bios.new.disks.now }
     ensures early { IfSome (early_parts (D.size_of bios.old.disks.now) (parts_behind words.now 0))
         (λ status. result ≡ status) }
     ensures known { IsTrue (is_run_status result) }

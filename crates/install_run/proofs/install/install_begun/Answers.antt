@@ -1,6 +1,7 @@
 -- The volume is as it was found.
 use Rattle.std.proofs.Common.{◌≡◌, ◌∙◌, refl, sym, ap, subst, rules}
 use Rattle.disk_trait.specs.Calls.{GoesOn}
+use Rattle.disk_trait.specs.Moments.{IsTold, IsQuiet}
 use Rattle.disk_trait.specs.Past.{Told}
 use Rattle.disk_trait.proofs.CallLemmas.{goes_on_same}
 use Rattle.lilo_model.specs.Faults.{Rose}
@@ -12,7 +13,9 @@ use Rattle.stream_trait.specs.Shows.{sink_of}
 use Rattle.install_begin.specs.View.{begun_view}
 use Rattle.install_preview.proofs.TrialLemmas.{laid_told, of_some}
 use Rattle.install_run.specs.Installs.{InstallsBegun, OnVolume}
+use Rattle.install_run.specs.Phases.{FailsBy, FailsIn}
 use Rattle.install_run.proofs.InstalledLemmas.{no_volume, zone_known, zone_lost}
+use Rattle.install_run.proofs.PhaseLemmas.{disk_fault_at, fails_since, fails_still}
 use Rattle.install_run.proofs.install.install_begun.Goals as goal
 
 pub install-requires-clause-whole : goal.install-requires-clause-whole
@@ -71,3 +74,27 @@ returns-in-Err-clause-goes_on g c =
     subst (λ disks. GoesOn g.D.Disks c.args.disks.now disks) (sym end)
     (goes_on_same g.D.Disks c.args.disks.now c.in-Err.disks.now same.same_past
     record { later = c.in-Err.ensures.later; size = same.same_size; count = same.same_count; geometry = same.same_geometry })
+
+-- ---- in which phase a disk failed
+
+pub returns-in-Ok-clause-phase : goal.returns-in-Ok-clause-phase
+returns-in-Ok-clause-phase g c told quiet =
+    let same = c.in-Ok.ensures.same in
+    let end : c.install.result.1.now ≡ c.disks-1.given.0 = search rules in
+    let fails =
+    c.install.ensures.phase (subst IsTold (sym same.same_past) told) (subst IsQuiet (sym same.same_past) quiet) in
+    subst (λ disks. FailsBy g.D.Disks c.install.result.0 (span_view c.args.begun.boot) c.args.disks.now disks) end
+    (fails_since g.D.Disks c.install.result.0 (span_view c.args.begun.boot) c.args.disks.now c.in-Ok.volume.disks.now c.install.result.1.now same.same_past
+    (goes_on_same g.D.Disks c.args.disks.now c.in-Ok.volume.disks.now same.same_past
+    record { later = c.in-Ok.ensures.later; size = same.same_size; count = same.same_count; geometry = same.same_geometry })
+    fails)
+
+pub returns-in-Err-clause-phase : goal.returns-in-Err-clause-phase
+returns-in-Err-clause-phase g c told quiet phase is =
+    let lost = disk_fault_at c.say_zone.result phase is in
+    let device = zone_lost c.in-Err.fault c.say_zone.result c.say_zone.ensures.answers.status_is lost in
+    let end : c.disks-in-Err-4-1.given.0 ≡ c.in-Err.disks.now = search rules in
+    let eight : c.say_zone.result ≡ 8 = rw device at c.say_zone.ensures.answers.status_is in
+    subst (λ disks. FailsIn g.D.Disks phase (span_view c.args.begun.boot) c.args.disks.now disks) (sym end)
+    (fails_still g.D.Disks (span_view c.args.begun.boot) c.args.disks.now c.in-Err.disks.now c.in-Err.ensures.same.same_past quiet (c.in-Err.ensures.device (rw device refl)) phase
+    (sym eight ∙ is))

@@ -1,5 +1,5 @@
 -- What is begun and planned is answered so.
-use Rattle.std.proofs.Common.{◌≡◌, Ok, Err, rules}
+use Rattle.std.proofs.Common.{◌≡◌, ◌∙◌, Ok, Err, rules}
 use Rattle.std.proofs.lemmas.Option.{IfSome_then}
 use Rattle.disk_trait.proofs.MomentLemmas.{told_now}
 use Rattle.disk_trait.proofs.ToldLemmas.{told_map}
@@ -49,6 +49,25 @@ returns-clause-unbegun g c =
     let begins : Begins c.args.volume c.args.config c.args.boot c.args.now s =
     record { found = did.found; held = did.held; leaves = did.leaves; settled = did.settled; surveys = did.surveyed } in
     unbegun_back c.args.volume c.args.config c.args.boot c.args.now s begins (Ok (c.in_ok-planned.planned, c.clear-clear.result)) (λ told. tt)
+
+pub returns-in_err-surveyed-clause-nothing : goal.returns-in_err-surveyed-clause-nothing
+returns-in_err-surveyed-clause-nothing g c =
+    let halt = c.in_err-surveyed.field-0.0 in
+    let is : c.from_residual.result ≡ Err halt = search rules in
+    rw is c.in_err-surveyed.ensures.nothing
+
+pub returns-in_err-planned-clause-nothing : goal.returns-in_err-planned-clause-nothing
+returns-in_err-planned-clause-nothing g c =
+    let halt = c.in_err-planned.field-0.0 in
+    let is : c.from_residual-in_err-planned.result ≡ Err halt = search rules in
+    rw is
+    (IfSome_then c.args.config.boot c.in_ok-surveyed.ensures.nothing
+    (λ device stays. told_map (past_of c.args.volume) _ _ (λ image same none. c.in_err-planned.ensures.same.same_disks.same_past ∙ same none) stays))
+
+pub returns-clause-nothing : goal.returns-clause-nothing
+returns-clause-nothing g c =
+    IfSome_then c.args.config.boot c.in_ok-surveyed.ensures.nothing
+    (λ device stays. told_map (past_of c.args.volume) _ _ (λ image same none. c.in_ok-planned.ensures.same.same_disks.same_past ∙ same none) stays)
 
 -- ---- what is left, and the disks
 

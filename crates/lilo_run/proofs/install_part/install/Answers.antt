@@ -1,14 +1,18 @@
 -- What it begins with is read, and then it is installed.
-use Rattle.std.proofs.Common.{rules}
+use Rattle.std.proofs.Common.{[], sym, subst, rules}
 use Rattle.std.specs.Prelude.{option_map}
 use Rattle.bios_model.proofs.WriteLemmas.{goes_on_read}
+use Rattle.bios_model.specs.Memory.{memory_of}
+use Rattle.disk_trait.specs.Moments.{IsTold, IsQuiet}
 use Rattle.disk_trait.proofs.MomentLemmas.{told_now}
 use Rattle.disk_trait.proofs.ToldLemmas.{told_map}
 use Rattle.install_begin.specs.View.{begun_view}
 use Rattle.lilo_model.proofs.RoseLemmas.{rose_after}
 use Rattle.loader_core.proofs.LeavesLemmas.{goes_on_after}
-use Rattle.mbr_table.specs.View.{device_view}
+use Rattle.mbr_table.specs.View.{device_view, span_view}
+use Rattle.install_run.proofs.PhaseLemmas.{fails_since}
 use Rattle.sector_address.specs.Machine.{machine_of}
+use Rattle.lilo_run.proofs.AloneLemmas.{carried_leaves}
 use Rattle.lilo_run.proofs.InstallLemmas.{begun_there, begun_found, refused_found}
 use Rattle.install_preview.proofs.StateLemmas.{told_from}
 use Rattle.lilo_run.proofs.RunLemmas.{conf_part_lost}
@@ -38,7 +42,17 @@ returns-in-Ok-clause-does g c =
     (λ is. begun_found g.D.Disks machine (option_map device_view c.args.root) c.args.path.now c.args.time c.install_begun.result memory disks c.install_begun.new.disks _ _ goes_on
     (begun_view c.in-Ok.begun) (told_now (g.D.Disks.past disks) _ c.in-Ok.ensures.begun is)
     (λ lost. rose_after _ _ _ later (c.install_begun.ensures.cause lost))
+    (λ quiet. fails_since g.D.Disks c.install_begun.result (span_view c.in-Ok.begun.boot) disks c.begin.new.disks c.install_begun.new.disks same.same_past
+    (goes_on_read g.D.Disks disks c.begin.new.disks same later)
+    (c.install_begun.ensures.phase (subst IsTold (sym same.same_past) is) (subst IsQuiet (sym same.same_past) quiet)))
     (told_now (g.D.Disks.past disks) _ installs is))
+
+pub returns-in-Ok-clause-leaves : goal.returns-in-Ok-clause-leaves
+returns-in-Ok-clause-leaves g c =
+    told_map (g.D.Disks.past c.args.disks.now) _ _
+    (λ now found. carried_leaves g.D.Disks now (machine_of g.D.Disks c.args.disks.now) (option_map device_view c.args.root) c.args.path.now c.args.time found.0
+    [] [] c.install_begun.result _ _ (found.1 [] 0))
+    (returns-in-Ok-clause-does g c (memory_of []))
 
 pub returns-in-Err-clause-does : goal.returns-in-Err-clause-does
 returns-in-Err-clause-does g c =
@@ -53,6 +67,13 @@ returns-in-Err-clause-does g c =
     (begin_refuses c.args.path.now c.in-Err.fault c.begin_halt.result _ c.begin_halt.ensures (told_now (g.D.Disks.past disks) _ c.in-Err.ensures.begun is))
     c.say_conf.ensures.status c.say_conf.ensures.shown same.same_past
     (λ eight. begin_lost c.args.path.now c.say_conf.result _ _ c.in-Err.fault c.begin_halt.result eight c.begin_halt.ensures c.in-Err.ensures.cause c.say_conf.ensures.status))
+
+pub returns-in-Err-clause-leaves : goal.returns-in-Err-clause-leaves
+returns-in-Err-clause-leaves g c =
+    told_map (g.D.Disks.past c.args.disks.now) _ _
+    (λ now found. carried_leaves g.D.Disks now (machine_of g.D.Disks c.args.disks.now) (option_map device_view c.args.root) c.args.path.now c.args.time found.0
+    [] [] c.say_conf.result _ _ (found.1 [] 0))
+    (returns-in-Err-clause-does g c (memory_of []))
 
 pub returns-in-Err-clause-known : goal.returns-in-Err-clause-known
 returns-in-Err-clause-known g c = install_refusal_known c.args.path.now c.begin_halt.result c.say_conf.result c.say_conf.ensures.status

@@ -1,14 +1,15 @@
 -- The sink hadn't failed before.
-use Rattle.std.proofs.Common.{List, ap, rules}
+use Rattle.std.proofs.Common.{◌≡◌, ℕ, List, Option, ap, subst, rules}
 use Rattle.std.specs.Prelude.{length}
 use Rattle.disk_trait.specs.Past.{Told}
-use Rattle.sector_address.specs.Machine.{machine_of}
-use Rattle.disk_trait.proofs.ToldLemmas.{told_map}
+use Rattle.lilo_model.specs.Devices.{Device}
+use Rattle.sector_address.specs.Machine.{OnDisks, machine_of}
 use Rattle.loader_core.specs.Start.{OnKeys}
-use Rattle.loader_core.proofs.BootLemmas.{keys_map}
+use Rattle.lilo_run.specs.Install.{InstallHolds}
 use Rattle.lilo_run.specs.Run.{TellsRun, scene_of}
 use Rattle.lilo_run.specs.Verdict.{Left, effects_of}
-use Rattle.lilo_run.proofs.InstallLemmas.{install_tells, install_found}
+use Rattle.lilo_run.proofs.AloneLemmas.{of_run}
+use Rattle.lilo_run.proofs.InstallLemmas.{install_tells}
 use Rattle.lilo_run.proofs.LawLemmas.{boot_tells}
 use Rattle.lilo_run.proofs.LineLemmas.{told_leaves, told_others, told_holds}
 use Rattle.lilo_run.proofs.PartLemmas.{parts_then, parts_alone}
@@ -72,9 +73,12 @@ returns-clause-install g c =
     (λ now all left lefts told. install_tells g.D.Disks now _ _ _ c.args.words.now root path lefts all left _ _ _ run told)
 
 pub returns-clause-headline : goal.returns-clause-headline
-returns-clause-headline g c =
-    λ root path run.
-    told_map (g.D.Disks.past c.args.disks.now) _ _
-    (λ now tells. keys_map g.I.Source _ _ _
-    (λ all left told. install_found g.D.Disks now (machine_of g.D.Disks c.args.disks.now) root path c.args.now all c.run_words.result left _ _ told) tells)
-    (returns-clause-install g c root path run)
+returns-clause-headline g c = λ root path run.
+    let end : c.run_words.new.bios.disks.now ≡ c.disks-1.given.0 = search rules in
+    subst
+    (λ disks. OnDisks g.D.Disks c.args.disks.now (λ image machine.
+    InstallHolds image machine root path c.args.now (g.D.Disks.past c.args.disks.now) (g.D.Disks.past disks) c.run_words.result)) end
+    (of_run c.args.words.now root path
+    (λ (r : Option Device) (p : List ℕ). OnDisks g.D.Disks c.args.disks.now (λ image machine.
+    InstallHolds image machine r p c.args.now (g.D.Disks.past c.args.disks.now) (g.D.Disks.past c.run_words.new.bios.disks.now) c.run_words.result))
+    run c.run_words.ensures.alone)

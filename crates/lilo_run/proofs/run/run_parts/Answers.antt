@@ -8,10 +8,12 @@ use Rattle.bios_model.specs.Memory.{memory_of}
 use Rattle.lilo_words.specs.Run.{parts_behind, parts_of_next}
 use Rattle.lilo_words.specs.View.{part_view}
 use Rattle.stream_trait.specs.Shows.{sink_of, answer_of}
-use Rattle.stream_trait.proofs.ShowsLemmas.{has_failed_twice}
+use Rattle.stream_trait.proofs.ShowsLemmas.{has_failed_twice, zero_before}
 use Rattle.loader_core.specs.Start.{OnKeys}
 use Rattle.lilo_run.specs.Run.{Carries, state_of}
 use Rattle.lilo_run.specs.Verdict.{Left, part_effect, early_status}
+use Rattle.lilo_run.specs.Install.{done_status}
+use Rattle.lilo_run.proofs.AloneLemmas.{alone_end, alone_last, alone_more, done_answer}
 use Rattle.lilo_run.proofs.ConfLemmas.{read_first, read_more}
 use Rattle.lilo_model.specs.ConfVerdict.{conf_path}
 use Rattle.lilo_run.proofs.MemoryLemmas.{boots_by}
@@ -58,6 +60,18 @@ returns-in_default-answer-clause-early g c =
     (begun_last _ (parts_behind words 0) behind part c.in-Some.from c.carry_out-own.result c.carry_out-own.new.out.failed begun
     (λ zero. subst (λ n. parts_behind words n ≡ part ∷ behind) zero c.part_at-read.ensures.part)
     (subst (λ size. IfSome (early_status size part.command) (λ status. c.carry_out-own.result ≡ status)) c.loop-next.invariant.keeps.size (c.carry_out-own.ensures.early words)))
+
+pub returns-in_default-answer-clause-alone : goal.returns-in_default-answer-clause-alone
+returns-in_default-answer-clause-alone g c =
+    let words = c.args.words.now in
+    let run = c.carry_out-own in
+    let part = part_view words c.part_at-read.result.part in
+    let behind = parts_of_next words c.part_at-read.result.next in
+    let rest : parts_of_next words c.loop-next.next ≡ part ∷ behind = rw c.in-Some.is c.part_at-read.ensures.part in
+    let answer : c.answer.result ≡ answer_of run.result run.new.out.failed = rw c.failed.ensures at c.answer.ensures in
+    alone_last g.D.Disks c.args.time (parts_behind words 0) _ behind part c.args.bios.now.disks.now c.loop-next.bios.disks.now run.new.bios.disks.now
+    c.loop-next.invariant.alone rest run.result run.ensures.leaves c.answer.result
+    (ap done_status answer ∙ done_answer run.result run.new.out.failed run.ensures.known)
 
 pub returns-in_default-answer-clause-no_boot : goal.returns-in_default-answer-clause-no_boot
 returns-in_default-answer-clause-no_boot g c =
@@ -168,6 +182,9 @@ loop-next-preserved g c =
           begun_more _ (parts_behind words 0) behind part c.in-Some.from run.result run.new.out.failed c.part_at-read.result.next begun
           (λ zero. subst (λ n. parts_behind words n ≡ part ∷ behind) zero c.part_at-read.ensures.part)
           early zero;
+      alone =
+          alone_more g.D.Disks c.args.time (parts_behind words 0) _ behind part c.args.bios.now.disks.now c.loop-next.bios.disks.now run.new.bios.disks.now
+          invariant.alone rest run.result run.ensures.leaves (zero_before run.result run.new.out.failed zero);
       keeps = goes_on_join g.D.Disks c.args.bios.now.disks.now c.loop-next.bios.disks.now run.new.bios.disks.now invariant.keeps run.ensures.asks.keeps;
       keys_later = let before = invariant.keys_later in let after = run.ensures.asks.later in omega (arith, before, after);
       sink = has_failed_twice _ old new invariant.sink run.ensures.asks.sink;
@@ -194,12 +211,18 @@ returns-clause-does g c =
     told_from (g.D.Disks.past c.args.bios.now.disks.now) _
     (λ is. continues_end g.D.Disks g.I.Source (part_effect machine (length c.args.ram.now) c.args.time) _ _ _ _ _ _ (c.loop-next.invariant.does is) rest)
 
+pub returns-clause-alone : goal.returns-clause-alone
+returns-clause-alone g c =
+    let rest : parts_of_next c.args.words.now c.loop-next.next ≡ [] = rw c.in_default.is refl in
+    alone_end g.D.Disks c.args.time (parts_behind c.args.words.now 0) _ c.args.bios.now.disks.now c.loop-next.bios.disks.now c.loop-next.invariant.alone rest
+
 pub loop-next-init : goal.loop-next-init
 loop-next-init g c = record {
   place = omega arith;
   run = c.requires.begins;
   does = λ is. continues_start g.D.Disks g.I.Source (part_effect (machine_of g.D.Disks c.args.bios.now.disks.now) (length c.args.ram.now) c.args.time) _ _ _;
   begun = inl refl;
+  alone = λ part only. inl (only, refl);
   keeps = goes_on_self g.D.Disks c.args.bios.now.disks.now;
   keys_later = omega arith;
   sink = record { later = omega arith; failed = λ is. inl is };

@@ -7,6 +7,7 @@ use Rattle.lilo_words.specs.Run.{run_behind, parts_behind, parts_of_next}
 use Rattle.stream_trait.specs.Shows.{sink_of, HasFailed}
 use Rattle.lilo_run.specs.Run.{state_of}
 use Rattle.lilo_run.specs.Verdict.{part_effect}
+use Rattle.lilo_run.proofs.AloneLemmas.{IsAlone}
 use Rattle.lilo_run.proofs.ConfLemmas.{AreRead}
 use Rattle.lilo_run.proofs.RunLemmas.{turns_left, Continues, Begun, AreLong, AreWrites, Stays, StaysUnwritten}
 use Rattle.lilo_run.proofs.run.run_parts.Given as goal
@@ -21,6 +22,7 @@ invariant-loop-next g l = record {
       (parts_behind l.words 0) (parts_of_next l.words l.next) l.fn.bios.keys.now l.bios.keys.now
       (state_of g.I.Source g.O.Sink (l.fn.bios.disks.now, l.fn.bios.keys.now, l.fn.ram, l.fn.out)) (state_of g.I.Source g.O.Sink (l.bios.disks.now, l.bios.keys.now, l.ram, l.out));
   begun : Begun (g.D.Disks.size_of l.fn.bios.disks.now) (parts_behind l.words 0) l.next;
+  alone : IsAlone g.D.Disks l.fn.time (parts_behind l.words 0) (parts_of_next l.words l.next) l.fn.bios.disks.now l.bios.disks.now;
   keeps : GoesOn g.D.Disks l.fn.bios.disks.now l.bios.disks.now;
   keys_later : g.I.Source.faults l.fn.bios.keys.now ≤ g.I.Source.faults l.bios.keys.now;
   sink :

@@ -1,10 +1,15 @@
 -- What was looked at is settled.
-use Rattle.std.proofs.Common.{◌≡◌, false, Some, Err, rules}
+use Rattle.std.proofs.Common.{◌≡◌, ◌∙◌, false, Some, Err, rules}
+use Rattle.std.proofs.lemmas.Option.{IfSome_then}
 use Rattle.std.specs.Prelude.{IfSome, Option, None}
+use Rattle.disk_trait.proofs.ToldLemmas.{told_all, told_map}
 use Rattle.mbr_table.specs.declared.device.Device.{Device}
+use Rattle.minix_zones.specs.Volume.{past_of}
+use Rattle.sector_address.specs.Machine.{machine_of}
 use Rattle.install_order.specs.Answers.{volume_in}
 use Rattle.install_order.specs.View.{begun_of}
 use Rattle.install_order.proofs.AnswerLemmas.{leaves_nothing, quiet_forth, leaves_back, settled_back, clear_back, found_back, refused_back, cause_back, promises_of}
+use Rattle.install_order.proofs.BeginLemmas.{nothing_to_settle}
 use Rattle.install_order.proofs.NamedLemmas.{surveys_of}
 use Rattle.install_order.proofs.surveyed.Surveyed.begin.Goals as goal
 
@@ -18,6 +23,22 @@ returns-in_err-looked-clause-leaves g c =
     rw given
     (some-all c.args.config.boot _
     (λ device. leaves_nothing c.args.volume c.in_err-looked.field-0.0.volume c.in_err-looked.ensures.same c.in_err-looked.ensures.later (begun_of c.args.volume c.args.config device c.args.boot)))
+
+pub returns-in_err-looked-clause-nothing : goal.returns-in_err-looked-clause-nothing
+returns-in_err-looked-clause-nothing g c =
+    let given : c.from_residual.result ≡ Err c.in_err-looked.field-0.0 = search rules in
+    rw given
+    (some-all c.args.config.boot _ (λ device. told_all (past_of c.args.volume) _ (λ image none. c.in_err-looked.ensures.same.same_disks.same_past)))
+
+pub returns-clause-nothing : goal.returns-clause-nothing
+returns-clause-nothing g c =
+    let e = c.in_ok-looked.ensures in
+    IfSome_then c.args.config.boot e.found
+    (λ device found. told_map (past_of c.args.volume) _ _
+    (λ image examined none.
+    c.settle_names.ensures.nothing
+    (nothing_to_settle image (machine_of g.D.Disks c.args.volume.disks.now) (begun_of c.args.volume c.args.config device c.args.boot) c.in_ok-looked.looked.found examined none)
+    ∙ e.same.same_disks.same_past) found)
 
 pub returns-clause-found : goal.returns-clause-found
 returns-clause-found g c =

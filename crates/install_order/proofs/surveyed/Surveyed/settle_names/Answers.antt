@@ -1,5 +1,6 @@
 -- The names are settled.
-use Rattle.std.proofs.Common.{◌≡◌, ◌<◌, ℕ, Ok, Err, rules, refl, sym, ◌∙◌, ap, subst}
+use Rattle.std.proofs.Common.{◌≡◌, ◌<◌, Result, ℕ, Ok, Err, rules, refl, sym, ◌∙◌, ap, subst}
+use Rattle.minix_zones.specs.Volume.{past_of}
 use Rattle.install_order.specs.Answers.{Leaves}
 use Rattle.install_order.specs.Faults.{write_refusal}
 use Rattle.install_order.proofs.SurveyedLemmas.{begun_here, names_now, settles_told, leaves_of, settled_of, fits_of, surveyed_of}
@@ -12,6 +13,15 @@ pub invariant_of-result : goal.invariant_of-result
 invariant_of-result g c =
     let left = leaves_of c.args.self c.requires.looked c.requires.known c.in-Ok.volume (Ok tt) c.in-Ok.ensures.settled in
     record { on_disk = subst (λ (size : ℕ → ℕ). c.args.self.boot.start < size c.args.self.boot.disk) (sym left.goes_on.size) c.args.self.on_disk }
+
+pub returns-in-Ok-clause-nothing : goal.returns-in-Ok-clause-nothing
+returns-in-Ok-clause-nothing g c = λ none. let result = c.in-Ok.ensures.nothing none in let same : c.in-Ok.volume ≡ c.args.self.volume = cc in ap past_of same
+
+err-not-ok : {A F : Type 0} (fault : F) (value : A) (result : Result A F) → result ≡ Err fault → result ≡ Ok value → ⊥
+err-not-ok fault value result is other = cc
+
+pub returns-clause-nothing : goal.returns-clause-nothing
+returns-clause-nothing g c = λ none. absurd (err-not-ok _ _ _ refl (c.in-Err.ensures.nothing none))
 
 pub returns-in-Ok-clause-leaves : goal.returns-in-Ok-clause-leaves
 returns-in-Ok-clause-leaves g c = leaves_of c.args.self c.requires.looked c.requires.known c.in-Ok.volume (Ok tt) c.in-Ok.ensures.settled

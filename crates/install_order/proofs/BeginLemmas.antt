@@ -125,10 +125,10 @@ module _ (image : Image) (machine : Machine) (begun : Begun) (found : Examined) 
       let absent = subst (λ (n : model.OwnNames). is_some (inode_of image begun.volume (with_tilde n.map)) ≡ false) same none.map in
       let copy = subst (λ (n : model.OwnNames). (forced && is_copy_there image begun.volume n.backup) ≡ false) same none.copy in
       let map-is : found.settling.map ≡ Absent =
-          is.settling.map
-          ∙ (ap (λ (f : Bool). left_map f (is_some (inode_of image begun.volume (with_tilde is.names.map))))
-          (not-finished (inode_of image begun.volume (with_tilde is.names.map)) refl absent)
-          ∙ ap (left_map false) absent) in
+      is.settling.map
+      ∙ (ap (λ (f : Bool). left_map f (is_some (inode_of image begun.volume (with_tilde is.names.map))))
+      (not-finished (inode_of image begun.volume (with_tilde is.names.map)) refl absent)
+      ∙ ap (left_map false) absent) in
       ap (λ (m : LeftMap). is_some_left m || found.settling.copy) map-is ∙ (is.settling.copy ∙ copy)
 
   -- ---- what is known of what may be settled

@@ -74,7 +74,7 @@ holes-created start new outer (NewFile bytes) chosen blocks suits may one told =
     index (let there = hole.0 in omega (arith, there, short)) hole.1
 
 pub inode-created : {D : Type 0} {disks : Ghosts D} (start new : Volume D disks) (outer : List (List ℕ)) (making : Making) (chosen : Chosen) (blocks : List (List ℕ))
-    → Suits start.layout start.span chosen → (IsTold (past_of start) → MayMake start outer making chosen blocks) → CreatesOn start new chosen (block_of blocks) (Ok tt) → MakesInodeBy start new (chosen.name ∷ outer) making (Ok tt)
+    → Suits start.layout start.span chosen → (IsTold (past_of start) → MayMake start outer making chosen blocks) → CreatesOn start new chosen (block_of blocks) (Ok tt) → MakesInodeBy start new (chosen.name ∷ outer) making chosen.time (Ok tt)
 inode-created start new outer making chosen blocks suits may creates told =
     let one = creates outer (may told).nests (λ t. (may t).links) in
     let node = one.node told in
@@ -83,34 +83,38 @@ inode-created start new outer making chosen blocks suits may creates told =
       leads = (one.leads.done told).tree.here;
       mode = ap (λ (i : Inode). i.mode) node ∙ (may told).mode;
       links = ap (λ (i : Inode). i.links) node ∙ links-by making chosen (may told).mode;
+      user = ap (λ (i : Inode). i.uid) node;
+      group = ap (λ (i : Inode). i.gid) node;
+      times = ap (λ (i : Inode). i.times) node;
       holes = holes-created start new outer making chosen blocks suits (may told) one told;
     }
 
 -- what was written before was made durable first
 pub inode-flushed : {D : Type 0} {disks : Ghosts D} (old mid : Volume D disks) (first : Result (Unit {0}) ZoneFault) → Syncs old mid zones.Device first
-    → (new : Volume D disks) (path : List (List ℕ)) (making : Making) (result : Result (Unit {0}) FileFault) → MakesInodeBy mid new path making result → MakesInodeBy old new path making result
-inode-flushed old mid first syncs new path making result makes told =
-    subst (λ (v : model.Volume). OnOk result (HasInode v (now (past_of new)) path making)) (flushed-view old mid first syncs) (makes (syncs.flushes.goes_on.told told))
+    → (new : Volume D disks) (path : List (List ℕ)) (making : Making) (time : ℕ) (result : Result (Unit {0}) FileFault) → MakesInodeBy mid new path making time result → MakesInodeBy old new path making time result
+inode-flushed old mid first syncs new path making time result makes told =
+    subst (λ (v : model.Volume). OnOk result (HasInode v (now (past_of new)) path making time)) (flushed-view old mid first syncs) (makes (syncs.flushes.goes_on.told told))
 
--- the path is that of the text
+-- the path is that of the text, and the time the one that was wished
 pub inode-at : {D : Type 0} {disks : Ghosts D} (old mid : Volume D disks) (same : SameVolume old mid) (text : List ℕ) (making : Making) (chosen : Chosen) (blocks : List (List ℕ))
-    → (IsTold (past_of old) → MayMakeAt old text making chosen blocks) → (new : Volume D disks) (result : Result (Unit {0}) FileFault)
-    → ((made : Making) (outer : List (List ℕ)) → (IsTold (past_of mid) → MayMake mid outer made chosen blocks) → MakesInodeBy mid new (chosen.name ∷ outer) made result)
-    → MakesInodeAt old new text making result
-inode-at old mid same text making chosen blocks may new result makes told =
+    → (IsTold (past_of old) → MayMakeAt old text making chosen blocks) → (time : ℕ) → chosen.time ≡ time → (new : Volume D disks) (result : Result (Unit {0}) FileFault)
+    → ((made : Making) (outer : List (List ℕ)) → (IsTold (past_of mid) → MayMake mid outer made chosen blocks) → MakesInodeBy mid new (chosen.name ∷ outer) made chosen.time result)
+    → MakesInodeAt old new text making time result
+inode-at old mid same text making chosen blocks may time is new result makes told =
     let at = may told in
     on_ok result _ _
-    (subst (λ (v : model.Volume). OnOk result (HasInode v (now (past_of new)) (chosen.name ∷ at.outer) making)) (same_view old mid same)
-    (makes making at.outer (λ t. may-forth old mid same at.outer making chosen blocks at.may) (told-mid old mid same told)))
+    (subst (λ (t : ℕ). OnOk result (HasInode (volume_view old) (now (past_of new)) (chosen.name ∷ at.outer) making t)) is
+    (subst (λ (v : model.Volume). OnOk result (HasInode v (now (past_of new)) (chosen.name ∷ at.outer) making chosen.time)) (same_view old mid same)
+    (makes making at.outer (λ t. may-forth old mid same at.outer making chosen blocks at.may) (told-mid old mid same told))))
     (λ has. record { path = chosen.name ∷ at.outer; at = at.is; has = has })
 
 -- the volume is the one in the span
-pub inode-in : {D : Type 0} (disks : Ghosts D) (old : D) (span : Span) (text : List ℕ) (making : Making) (volume new : Volume D disks) → SameOf disks old volume.disks.now
-    → Told (disks.past old) (λ now. volume_at now span ≡ Ok (volume_view volume)) → (result : Result (Unit {0}) FileFault) → MakesInodeAt volume new text making result
-    → MakesInode disks old new.disks.now span text making result
-inode-in disks old span text making volume new same is result makes told =
+pub inode-in : {D : Type 0} (disks : Ghosts D) (old : D) (span : Span) (text : List ℕ) (making : Making) (time : ℕ) (volume new : Volume D disks) → SameOf disks old volume.disks.now
+    → Told (disks.past old) (λ now. volume_at now span ≡ Ok (volume_view volume)) → (result : Result (Unit {0}) FileFault) → MakesInodeAt volume new text making time result
+    → MakesInode disks old new.disks.now span text making time result
+inode-in disks old span text making time volume new same is result makes told =
     on_ok result _ _ (makes (subst IsTold (sym same.same_past) told)) (λ has. record {
       volume = volume_view volume;
       is = told_now (disks.past old) (λ now. volume_at now span ≡ Ok (volume_view volume)) is told;
-      has = subst (λ (i : Image). HasInodeAt (volume_view volume) i text making (now (past_of new))) (ap now same.same_past) has;
+      has = subst (λ (i : Image). HasInodeAt (volume_view volume) i text making time (now (past_of new))) (ap now same.same_past) has;
     })

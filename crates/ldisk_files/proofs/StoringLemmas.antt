@@ -67,10 +67,10 @@ module _ (kept chosen : Chosen) (same : kept ≡ chosen) (bytes : List ℕ) (few
 
 module _ {D : Type 0} {disks : Ghosts D} (old mid : Volume D disks) (same : SameVolume old mid) (later : faults_of old ≤ faults_of mid) (text : List ℕ) (left : Option (List ℕ)) where
   -- nothing was stored
-  pub not-stored : (fault : PutFault) → HasDiskCause (faults_of old) (faults_of mid) fault
+  pub not-stored : (time : ℕ) (fault : PutFault) → HasDiskCause (faults_of old) (faults_of mid) fault
       → OnGiven left (λ given. GivesStored {B = Stored} (past_of old) (volume_view old) text given (Err (file_fault fault)))
-      → OnGiven left (λ given. StoresOn old mid text given (Err (file_fault fault)))
-  not-stored fault cause takes = given-map (λ given. GivesStored {B = Stored} (past_of old) (volume_view old) text given (Err (file_fault fault))) (λ given. StoresOn old mid text given (Err (file_fault fault))) left
+      → OnGiven left (λ given. StoresOn old mid text given time (Err (file_fault fault)))
+  not-stored time fault cause takes = given-map (λ given. GivesStored {B = Stored} (past_of old) (volume_view old) text given (Err (file_fault fault))) (λ given. StoresOn old mid text given time (Err (file_fault fault))) left
       (λ given gives. record {
         answers = told_map (past_of old) _ _ (λ now is. answers-as Stored (Unit {0}) (sound_check (made_check (NewFile given) text) (volume_view old) now) (file_fault fault) is) gives;
         leaves = refused-on old mid same later text (Some (File given)) (file_fault fault) cause;
@@ -92,11 +92,11 @@ module _ {D : Type 0} {disks : Ghosts D} (old mid : Volume D disks) (same : Same
     stored-may told = subst (λ (b : List ℕ). MayMakeSome mid stored.chosen (padded_blocks b)) (sym held)
         (may-some old mid same text (NewFile stored.bytes.items) stored.chosen (padded_blocks stored.bytes.items) stored may takes told)
 
-    module _ (new : Volume D disks) (result : Result (Unit {0}) FileFault)
+    module _ (time : ℕ) (wished : stored.chosen.time ≡ time) (new : Volume D disks) (result : Result (Unit {0}) FileFault)
         (changes-held : (made : Making) (outer : List (List ℕ)) → (IsTold (past_of mid) → MayMake mid outer made stored.chosen (padded_blocks bytes))
         → ChangesName mid new (stored.chosen.name ∷ outer) (Some (thing_made made)) result)
         (makes-held : (made : Making) (outer : List (List ℕ)) → (IsTold (past_of mid) → MayMake mid outer made stored.chosen (padded_blocks bytes))
-        → MakesInodeBy mid new (stored.chosen.name ∷ outer) made result)
+        → MakesInodeBy mid new (stored.chosen.name ∷ outer) made stored.chosen.time result)
         (quiet : OnOk result (IsQuiet (past_of new))) (cause : IfErr result (HasFileCause (faults_of mid) (faults_of new))) where
       changes : (made : Making) (outer : List (List ℕ)) → (IsTold (past_of mid) → MayMake mid outer made stored.chosen (padded_blocks stored.bytes.items))
           → ChangesName mid new (stored.chosen.name ∷ outer) (Some (thing_made made)) result
@@ -104,26 +104,26 @@ module _ {D : Type 0} {disks : Ghosts D} (old mid : Volume D disks) (same : Same
           → ChangesName mid new (stored.chosen.name ∷ outer) (Some (thing_made made)) result) held changes-held
 
       makes : (made : Making) (outer : List (List ℕ)) → (IsTold (past_of mid) → MayMake mid outer made stored.chosen (padded_blocks stored.bytes.items))
-          → MakesInodeBy mid new (stored.chosen.name ∷ outer) made result
+          → MakesInodeBy mid new (stored.chosen.name ∷ outer) made stored.chosen.time result
       makes = subst (λ (b : List ℕ). (made : Making) (outer : List (List ℕ)) → (IsTold (past_of mid) → MayMake mid outer made stored.chosen (padded_blocks b))
-          → MakesInodeBy mid new (stored.chosen.name ∷ outer) made result) held makes-held
+          → MakesInodeBy mid new (stored.chosen.name ∷ outer) made stored.chosen.time result) held makes-held
 
-      pub is-stored : OnGiven left (λ given. StoresOn old new text given result)
-      is-stored = on-given (λ given. StoresOn old new text given result) left stored.bytes.items is
+      pub is-stored : OnGiven left (λ given. StoresOn old new text given time result)
+      is-stored = on-given (λ given. StoresOn old new text given time result) left stored.bytes.items is
           (record {
             answers = made-answer old mid same text (NewFile stored.bytes.items) stored.chosen (padded_blocks stored.bytes.items) stored may takes later new result changes quiet cause;
             leaves = made-on old mid same text (NewFile stored.bytes.items) stored.chosen (padded_blocks stored.bytes.items) stored may takes later new result changes quiet cause;
-            inode = inode-at old mid same text (NewFile stored.bytes.items) stored.chosen (padded_blocks stored.bytes.items) may new result makes;
+            inode = inode-at old mid same text (NewFile stored.bytes.items) stored.chosen (padded_blocks stored.bytes.items) may time wished new result makes;
           })
 
 -- ---- on the volume in a span
 
 module _ {D : Type 0} (disks : Ghosts D) (old : D) (span : Span) (text : List ℕ) (left : Option (List ℕ)) where
   -- there is no volume
-  pub not-there : (new : D) → SameOf disks old new → disks.faults old ≤ disks.faults new → (fault : ZoneFault) → (fault ≡ zones.Device → Rose (disks.faults old) (disks.faults new))
+  pub not-there : (time : ℕ) (new : D) → SameOf disks old new → disks.faults old ≤ disks.faults new → (fault : ZoneFault) → (fault ≡ zones.Device → Rose (disks.faults old) (disks.faults new))
       → Told (disks.past old) (λ now. volumes.Refuses fault (volume_at now span))
-      → OnGiven left (λ given. Stores disks old new span text given (Err (zone_fault fault)))
-  not-there new same later fault rose refuses = given-all (λ given. Stores disks old new span text given (Err (zone_fault fault))) left (λ given. record {
+      → OnGiven left (λ given. Stores disks old new span text given time (Err (zone_fault fault)))
+  not-there time new same later fault rose refuses = given-all (λ given. Stores disks old new span text given time (Err (zone_fault fault))) left (λ given. record {
     answers = told_map (disks.past old) _ _ (λ now is. no-volume (made_check (NewFile given) text) now span fault is) refuses;
     leaves = refused-names disks old span text (Some (File given)) new same later fault rose;
     inode = λ told. tt;
@@ -131,13 +131,13 @@ module _ {D : Type 0} (disks : Ghosts D) (old : D) (span : Span) (text : List �
 
   module _ (volume new : Volume D disks) (same : SameOf disks old volume.disks.now) (later : disks.faults old ≤ faults_of volume) (place : span_view volume.span ≡ span)
       (is : Told (disks.past old) (λ now. volume_at now span ≡ Ok (volume_view volume))) where
-    pub stores-at : (result : Result (Unit {0}) FileFault) → OnGiven left (λ given. StoresOn volume new text given result)
-        → OnGiven left (λ given. Stores disks old new.disks.now span text given result)
-    stores-at result stores = given-map (λ given. StoresOn volume new text given result) (λ given. Stores disks old new.disks.now span text given result) left
+    pub stores-at : (time : ℕ) (result : Result (Unit {0}) FileFault) → OnGiven left (λ given. StoresOn volume new text given time result)
+        → OnGiven left (λ given. Stores disks old new.disks.now span text given time result)
+    stores-at time result stores = given-map (λ given. StoresOn volume new text given time result) (λ given. Stores disks old new.disks.now span text given time result) left
         (λ given on. record {
           answers = answers-at disks old span text (Some (File given)) volume new same later place is result (made_check (NewFile given) text) on.answers;
           leaves = leaves-at disks old span text (Some (File given)) volume new same later place is result on.leaves;
-          inode = inode-in disks old span text (NewFile given) volume new same is result on.inode;
+          inode = inode-in disks old span text (NewFile given) time volume new same is result on.inode;
         }) stores
 
     pub unread-at : {I : Type 0} (before after : I) → IsUnread (past_of volume) (volume_view volume) text before after → IsUnreadAt (disks.past old) span text before after

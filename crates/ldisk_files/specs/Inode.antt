@@ -1,6 +1,6 @@
--- The inode of what is made at a path: its mode, how many links it has, and the holes of a file. A path is a list of
--- components, the last one first.
-use Rattle.std.specs.Prelude.{◌≡◌, ◌<◌, ℕ, true, List, length, Some, Result, Ok, OnOk}
+-- The inode of what is made at a path: its mode, how many links it has, its owner, its times, and the holes of a file.
+-- A path is a list of components, the last one first.
+use Rattle.std.specs.Prelude.{◌≡◌, ◌<◌, ℕ, true, List, length, replicate, Some, Result, Ok, OnOk}
 use Rattle.disk_trait.specs.declared.disks.Disks.{Ghosts}
 use Rattle.disk_trait.specs.Moments.{IsTold, now}
 use Rattle.lilo_model.specs.Disks.{Image, Span}
@@ -27,37 +27,48 @@ HasHoles volume image number (NewFile bytes) =
     (index : ℕ) → index < blocks_for (length bytes) → is_zero_block (stored_block bytes index) ≡ true
     → zone_number volume.layout (parts_of volume image) number index ≡ 0
 
--- in an image a path leads to an inode with the mode, the links and the holes of what is made
-pub record HasInode (volume : Volume) (image : Image) (path : List (List ℕ)) (making : Making) : Type 0 where
+-- in an image a path leads to an inode with the mode, the links and the holes of what is made at a time, owned by user 0
+-- and group 0, with that time as each of its three
+pub record HasInode (volume : Volume) (image : Image) (path : List (List ℕ)) (making : Making) (time : ℕ) : Type 0 where
   pub number : ℕ
   pub leads : reached volume.layout (parts_of volume image) path ≡ Some number
   pub mode : ((parts_of volume image).node number).mode ≡ mode_made making
   pub links : ((parts_of volume image).node number).links ≡ links_made making
+  pub user : ((parts_of volume image).node number).uid ≡ 0
+  pub group : ((parts_of volume image).node number).gid ≡ 0
+  pub times : ((parts_of volume image).node number).times ≡ replicate 3 time
   pub holes : HasHoles volume image number making
 
 -- so does the path that a text had in another image
-pub record HasInodeAt (volume : Volume) (old : Image) (text : List ℕ) (making : Making) (image : Image) : Type 0 where
+pub record HasInodeAt (volume : Volume) (old : Image) (text : List ℕ) (making : Making) (time : ℕ)
+    (image : Image) : Type 0 where
   pub path : List (List ℕ)
   pub at : name_path (names_in volume old) text ≡ Ok path
-  pub has : HasInode volume image path making
+  pub has : HasInode volume image path making time
 
 -- on the volume that was in a span
-pub record HasInodeIn (span : Span) (old : Image) (text : List ℕ) (making : Making) (image : Image) : Type 0 where
+pub record HasInodeIn (span : Span) (old : Image) (text : List ℕ) (making : Making) (time : ℕ)
+    (image : Image) : Type 0 where
   pub volume : Volume
   pub is : volume_at old span ≡ Ok volume
-  pub has : HasInodeAt volume old text making image
+  pub has : HasInodeAt volume old text making time image
 
--- once a call made something at a text's path it is there with its inode
-abbrev pub MakesInode : {D : Type 0} → Ghosts D → D → D → Span → List ℕ → Making → Result (Unit {0}) FileFault → Type 0
-MakesInode disks old new span text making result =
-    IsTold (disks.past old) → OnOk result (HasInodeIn span (now (disks.past old)) text making (now (disks.past new)))
+-- once a call made something at a text's path at a time it is there with its inode
+abbrev pub MakesInode : {D : Type 0} → Ghosts D → D → D → Span → List ℕ → Making → ℕ → Result (Unit {0}) FileFault
+    → Type 0
+MakesInode disks old new span text making time result =
+    IsTold (disks.past old)
+    → OnOk result (HasInodeIn span (now (disks.past old)) text making time (now (disks.past new)))
 
 -- the same of a volume that is held
-abbrev pub MakesInodeAt : {D : Type 0} {disks : Ghosts D} → held.Volume D disks → held.Volume D disks → List ℕ → Making → Result (Unit {0}) FileFault → Type 0
-MakesInodeAt old new text making result =
-    IsTold (past_of old) → OnOk result (HasInodeAt (volume_view old) (now (past_of old)) text making (now (past_of new)))
+abbrev pub MakesInodeAt : {D : Type 0} {disks : Ghosts D} → held.Volume D disks → held.Volume D disks → List ℕ → Making → ℕ
+    → Result (Unit {0}) FileFault → Type 0
+MakesInodeAt old new text making time result =
+    IsTold (past_of old)
+    → OnOk result (HasInodeAt (volume_view old) (now (past_of old)) text making time (now (past_of new)))
 
 -- and by its path
-abbrev pub MakesInodeBy : {D : Type 0} {disks : Ghosts D} → held.Volume D disks → held.Volume D disks → List (List ℕ) → Making
-    → Result (Unit {0}) FileFault → Type 0
-MakesInodeBy old new path making result = IsTold (past_of old) → OnOk result (HasInode (volume_view old) (now (past_of new)) path making)
+abbrev pub MakesInodeBy : {D : Type 0} {disks : Ghosts D} → held.Volume D disks → held.Volume D disks → List (List ℕ)
+    → Making → ℕ → Result (Unit {0}) FileFault → Type 0
+MakesInodeBy old new path making time result =
+    IsTold (past_of old) → OnOk result (HasInode (volume_view old) (now (past_of new)) path making time)

@@ -143,14 +143,16 @@ IsUnreadAt past span text old new = Told past (λ now. checked_status (volume_ch
 
 -- ---- the whole
 
--- bytes were stored at a path of a volume, or a check refused
-pub record StoresOn {D : Type 0} {disks : Ghosts D} (old new : Volume D disks) (text given : List ℕ) (result : Result (Unit {0}) FileFault) : Type 0 where
+-- bytes were stored at a path of a volume at a time, or a check refused
+pub record StoresOn {D : Type 0} {disks : Ghosts D} (old new : Volume D disks) (text given : List ℕ) (time : ℕ)
+    (result : Result (Unit {0}) FileFault) : Type 0 where
   pub answers : GivesStored (past_of old) (volume_view old) text given result
   pub leaves : LeavesOn old new text (Some (File given)) result
-  pub inode : MakesInodeAt old new text (NewFile given) result
+  pub inode : MakesInodeAt old new text (NewFile given) time result
 
 -- the same of the volume in a span
-pub record Stores {D : Type 0} (disks : Ghosts D) (old new : D) (span : images.Span) (text given : List ℕ) (result : Result (Unit {0}) FileFault) : Type 0 where
+pub record Stores {D : Type 0} (disks : Ghosts D) (old new : D) (span : images.Span) (text given : List ℕ) (time : ℕ)
+    (result : Result (Unit {0}) FileFault) : Type 0 where
   pub answers : Told (disks.past old) (λ now. Answers (volume_check (made_check (NewFile given) text) now span) result)
   pub leaves : LeavesNames disks old new span text (Some (File given)) result
-  pub inode : MakesInode disks old new span text (NewFile given) result
+  pub inode : MakesInode disks old new span text (NewFile given) time result

@@ -38,7 +38,7 @@ fn make_ready<'d, D: Disks>(volume: Volume<'d, D>, ready: Ready) -> Ended<'d, D>
         → ChangesName volume.entry result.volume (ready.chosen.name ∷ outer) (Some (thing_made made)) result.result }
     ensures inode { (made : model.Making) (outer : List (List ℕ))
         → (IsTold (past_of volume.entry) → MayMake volume.entry outer made ready.chosen (ready.block ∷ []))
-        → MakesInodeBy volume.entry result.volume (ready.chosen.name ∷ outer) made result.result }
+        → MakesInodeBy volume.entry result.volume (ready.chosen.name ∷ outer) made ready.chosen.time result.result }
     ensures quiet { OnOk result.result (IsQuiet (past_of result.volume)) }
     ensures cause { IfErr result.result (HasFileCause (faults_of volume.entry) (faults_of result.volume)) }
     ensures same_reference { result.volume.disks.ghost_name ≡ volume.entry.disks.ghost_name }
@@ -77,7 +77,7 @@ fn make_path<'d, D: Disks>(
         (sound_check (made_check (making_view making.now) path.now) (volume_view volume.entry) now) result.result) }
     ensures leaves { LeavesOn volume.entry result.volume path.now
         (Some (thing_made (making_view making.now))) result.result }
-    ensures inode { MakesInodeAt volume.entry result.volume path.now (making_view making.now) result.result }
+    ensures inode { MakesInodeAt volume.entry result.volume path.now (making_view making.now) time result.result }
     ensures same_reference { result.volume.disks.ghost_name ≡ volume.entry.disks.ghost_name }
 {
     let mut volume = volume;
@@ -107,7 +107,8 @@ fn make<D: Disks>(
         Answers (volume_check (made_check (making_view making.now) path.now) now (span_view span)) result) }
     ensures leaves { LeavesNames D.Disks disks.old disks.new (span_view span) path.now
         (Some (thing_made (making_view making.now))) result }
-    ensures inode { MakesInode D.Disks disks.old disks.new (span_view span) path.now (making_view making.now) result }
+    ensures inode { MakesInode D.Disks disks.old disks.new (span_view span) path.now (making_view making.now) time
+        result }
 {
     match Volume::attach(disks, span) {
         Ok(volume) => make_path(alloc, volume, path, making, time).result,
@@ -138,7 +139,7 @@ pub fn mkdir<D: Disks>(
     ensures answers { Told (D.past disks.old) (λ now.
         Answers (volume_check (made_check NewDirectory path.now) now (span_view span)) result) }
     ensures leaves { LeavesNames D.Disks disks.old disks.new (span_view span) path.now (Some Directory) result }
-    ensures inode { MakesInode D.Disks disks.old disks.new (span_view span) path.now NewDirectory result }
+    ensures inode { MakesInode D.Disks disks.old disks.new (span_view span) path.now NewDirectory time result }
 {
     make(alloc, disks, span, path, &Making::Directory, time)
 }
@@ -164,7 +165,7 @@ pub fn ln<D: Disks>(
     ensures answers { Told (D.past disks.old) (λ now.
         Answers (volume_check (made_check (NewLink target.now) path.now) now (span_view span)) result) }
     ensures leaves { LeavesNames D.Disks disks.old disks.new (span_view span) path.now (Some (Link target.now)) result }
-    ensures inode { MakesInode D.Disks disks.old disks.new (span_view span) path.now (NewLink target.now) result }
+    ensures inode { MakesInode D.Disks disks.old disks.new (span_view span) path.now (NewLink target.now) time result }
 {
     make(alloc, disks, span, path, &Making::Link(target), time)
 }

@@ -93,6 +93,7 @@ fn choose_ready<D: Disks>(
         → Answers (room_check (making_view making.now) (volume_view volume.old) now
         (place.now.name.now ∷ outer)) result) }
     ensures suits { IfOk result (IsReady volume.old.layout volume.old.span) }
+    ensures time { IfOk result (λ ready. ready.chosen.time ≡ wish.now.time) }
     ensures cause { IfErr result (HasFileCause (faults_of volume.old) (faults_of volume.new)) }
     ensures later { faults_of volume.old ≤ faults_of volume.new }
     ensures same { SameVolume volume.old volume.new }
@@ -122,6 +123,7 @@ fn choose_named<D: Disks>(
         → Answers (room_check (making_view making.now) (volume_view volume.old) now
         (place.now.name.now ∷ outer)) result) }
     ensures suits { IfOk result (IsReady volume.old.layout volume.old.span) }
+    ensures time { IfOk result (λ ready. ready.chosen.time ≡ time) }
     ensures cause { IfErr result (HasFileCause (faults_of volume.old) (faults_of volume.new)) }
     ensures later { faults_of volume.old ≤ faults_of volume.new }
     ensures same { SameVolume volume.old volume.new }
@@ -152,6 +154,7 @@ fn choose_new<D: Disks>(
     ensures answers { Told (past_of volume.old) (λ now. IsSound (volume_view volume.old) now
         → Answers (made_check (making_view making.now) path.now (volume_view volume.old) now) result) }
     ensures suits { IfOk result (IsReady volume.old.layout volume.old.span) }
+    ensures time { IfOk result (λ ready. ready.chosen.time ≡ time) }
     ensures cause { IfErr result (HasFileCause (faults_of volume.old) (faults_of volume.new)) }
     ensures later { faults_of volume.old ≤ faults_of volume.new }
     ensures same { SameVolume volume.old volume.new }
@@ -175,6 +178,7 @@ pub(crate) fn choose_at<D: Disks>(
     ensures answers { Told (past_of volume.old) (λ now. Answers
         (sound_check (made_check (making_view making.now) path.now) (volume_view volume.old) now) result) }
     ensures suits { IfOk result (IsReady volume.old.layout volume.old.span) }
+    ensures time { IfOk result (λ ready. ready.chosen.time ≡ time) }
     ensures cause { IfErr result (HasFileCause (faults_of volume.old) (faults_of volume.new)) }
     ensures later { faults_of volume.old ≤ faults_of volume.new }
     ensures same { SameVolume volume.old volume.new }

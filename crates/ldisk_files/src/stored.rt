@@ -86,6 +86,7 @@ fn choose_wished<D: Disks>(
         → MayMakeNamed volume.old outer place.now.name.now (NewFile bytes.now) chosen (padded_blocks bytes.now)) }
     ensures room { GivesRoom (past_of volume.old) (volume_view volume.old) place.now bytes.now result }
     ensures suits { IfOk result (Suits volume.old.layout volume.old.span) }
+    ensures time { IfOk result (λ chosen. chosen.time ≡ wish.now.time) }
     ensures blocks { IfOk result (λ chosen. length chosen.choice.blocks ≤ blocks_for (length bytes.now)) }
     ensures cause { IfErr result (HasFileCause (faults_of volume.old) (faults_of volume.new)) }
     ensures later { faults_of volume.old ≤ faults_of volume.new }
@@ -111,6 +112,7 @@ fn choose_file<D: Disks>(
         → MayMakeNamed volume.old outer place.now.name.now (NewFile bytes.now) chosen (padded_blocks bytes.now)) }
     ensures room { GivesRoom (past_of volume.old) (volume_view volume.old) place.now bytes.now result }
     ensures suits { IfOk result (Suits volume.old.layout volume.old.span) }
+    ensures time { IfOk result (λ chosen. chosen.time ≡ time) }
     ensures blocks { IfOk result (λ chosen. length chosen.choice.blocks ≤ blocks_for (length bytes.now)) }
     ensures cause { IfErr result (HasFileCause (faults_of volume.old) (faults_of volume.new)) }
     ensures later { faults_of volume.old ≤ faults_of volume.new }
@@ -148,6 +150,7 @@ fn choose_given<D: Disks, I: Source>(
         (padded_blocks stored.bytes.items)) }
     ensures room { TakesRoom (past_of volume.old) (volume_view volume.old) place.now (I.left source.old) result }
     ensures suits { IfOk result (IsStorable volume.old.layout volume.old.span) }
+    ensures time { IfOk result (λ stored. stored.chosen.time ≡ time) }
     ensures source { IfErr result (HasSourceCause (I.faults source.old) (I.faults source.new)) }
     ensures cause { IfErr result (HasDiskCause (faults_of volume.old) (faults_of volume.new)) }
     ensures later { faults_of volume.old ≤ faults_of volume.new }
@@ -175,6 +178,7 @@ pub(crate) fn choose_stored<D: Disks, I: Source>(
         (NewFile stored.bytes.items) stored.chosen (padded_blocks stored.bytes.items)) }
     ensures takes { TakesStored (past_of volume.old) (volume_view volume.old) path.now (I.left source.old) result }
     ensures suits { IfOk result (IsStorable volume.old.layout volume.old.span) }
+    ensures time { IfOk result (λ stored. stored.chosen.time ≡ time) }
     ensures unread { IsUnread (past_of volume.old) (volume_view volume.old) path.now source.old source.new }
     ensures source { IfErr result (HasSourceCause (I.faults source.old) (I.faults source.new)) }
     ensures cause { IfErr result (HasDiskCause (faults_of volume.old) (faults_of volume.new)) }

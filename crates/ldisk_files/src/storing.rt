@@ -87,7 +87,7 @@ fn store_bytes<'d, D: Disks>(volume: Volume<'d, D>, chosen: Chosen, bytes: &[u8]
         → ChangesName volume.entry result.volume (chosen.name ∷ outer) (Some (thing_made made)) result.result }
     ensures inode { (made : model.Making) (outer : List (List ℕ))
         → (IsTold (past_of volume.entry) → MayMake volume.entry outer made chosen (padded_blocks bytes.now))
-        → MakesInodeBy volume.entry result.volume (chosen.name ∷ outer) made result.result }
+        → MakesInodeBy volume.entry result.volume (chosen.name ∷ outer) made chosen.time result.result }
     ensures quiet { OnOk result.result (IsQuiet (past_of result.volume)) }
     ensures cause { IfErr result.result (HasFileCause (faults_of volume.entry) (faults_of result.volume)) }
     ensures same_reference { result.volume.disks.ghost_name ≡ volume.entry.disks.ghost_name }
@@ -122,7 +122,7 @@ fn put_path<'d, D: Disks, I: Source>(
     requires laid { Told (past_of volume) (IsLaid (volume_view volume)) }
     requires path { HasNoZero path.now }
     ensures stores { OnGiven (I.left source.old) (λ given.
-        StoresOn volume.entry result.volume path.now given (file_answer result.result)) }
+        StoresOn volume.entry result.volume path.now given time (file_answer result.result)) }
     ensures unread { IsUnread (past_of volume.entry) (volume_view volume.entry) path.now source.old source.new }
     ensures source { IfErr result.result (HasSourceCause (I.faults source.old) (I.faults source.new)) }
     ensures same_reference { result.volume.disks.ghost_name ≡ volume.entry.disks.ghost_name }
@@ -183,7 +183,7 @@ pub fn put<D: Disks, I: Source>(
     requires whole { IsWhole (D.size_of disks.old) (D.past disks.old) }
     requires path { HasNoZero path.now }
     ensures stores { OnGiven (I.left source.old) (λ given.
-        Stores D.Disks disks.old disks.new (span_view span) path.now given (file_answer result)) }
+        Stores D.Disks disks.old disks.new (span_view span) path.now given time (file_answer result)) }
     ensures unread { IsUnreadAt (D.past disks.old) (span_view span) path.now source.old source.new }
     ensures source { IfErr result (HasSourceCause (I.faults source.old) (I.faults source.new)) }
 {

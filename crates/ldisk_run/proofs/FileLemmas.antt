@@ -175,8 +175,8 @@ module _ (given : List ℕ) (command : Command) (change : NameChange) (check : V
         → LeavesChanging disks old new image machine (name_change given command)
     changes-as image machine leaves = subst (λ (c : Option NameChange). LeavesChanging disks old new image machine c) (sym is-one.names) leaves
 
-    after-as : (image left : Image) (machine : Machine) (time : ℕ) → IsChanged image machine change left → IsAfter image machine time given command left
-    after-as image left machine time changed = subst (λ (c : Option NameChange). IsAfterChange image machine c (image_after image machine time command) left) (sym is-one.names) changed
+    after-as : (image left : Image) (machine : Machine) (time : ℕ) → IsChanged image machine time change left → IsAfter image machine time given command left
+    after-as image left machine time changed = subst (λ (c : Option NameChange). IsAfterChange image machine time c (image_after image machine time command) left) (sym is-one.names) changed
 
   module _ {D : Type 0} (disks : Ghosts D) (old new : D) (same : SameOf disks old new) (later : disks.faults old ≤ disks.faults new) (status : ℕ) (some : status ≢ 0) where
     nothing_done : (time : ℕ) → (status ≡ 8 → Rose (disks.faults old) (disks.faults new)) → LeavesBy disks old new time given command status
@@ -254,7 +254,7 @@ module _ (given : List ℕ) (command : Command) (change : NameChange) (check : V
     (span : declared.Span) (result : Result (Unit {0}) FileFault)
     (room : Told (disks.past old) (λ now. room_of now (machine_of disks old) change.device ≡ Ok (span_view span)))
     (leaves : LeavesNames disks mid new (span_view span) change.path change.what result)
-    (makes : IsTold (disks.past mid) → OnOk result (HasInodeOf (span_view span) (now (disks.past mid)) change.path change.what (now (disks.past new)))) where
+    (time : ℕ) (makes : IsTold (disks.past mid) → OnOk result (HasInodeOf (span_view span) (now (disks.past mid)) change.path change.what time (now (disks.past new)))) where
   abbrev I : Image
   I = now (disks.past old)
 
@@ -270,12 +270,12 @@ module _ (given : List ℕ) (command : Command) (change : NameChange) (check : V
   now-mid : now (disks.past mid) ≡ I
   now-mid = ap now same.same_past
 
-  named : IsTold (disks.past old) → file_status result ≡ 0 → IsChanged I M change (now (disks.past new))
+  named : IsTold (disks.past old) → file_status result ≡ 0 → IsChanged I M time change (now (disks.past new))
   named told is = record {
     span = span_view span;
     room = room-now told;
     named = subst (λ (i : Image). IsNamed (span_view span) i change.path change.what (now (disks.past new))) now-mid (zero-of result (leaves.done (told-mid told)) is);
-    inode = subst (λ (i : Image). HasInodeOf (span_view span) i change.path change.what (now (disks.past new))) now-mid (zero-of result (makes (told-mid told)) is);
+    inode = subst (λ (i : Image). HasInodeOf (span_view span) i change.path change.what time (now (disks.past new))) now-mid (zero-of result (makes (told-mid told)) is);
   }
 
   moment : IsTold (disks.past old) → IsQuiet (disks.past old) → HasSoundOn I M change.device → LeavesOnly (disks.past old) (disks.past new) (IsChanging I M change)
@@ -298,8 +298,8 @@ module _ (given : List ℕ) (command : Command) (change : NameChange) (check : V
   goes-on-mid : GoesOn disks old mid
   goes-on-mid = goes_on_same disks old mid same.same_past record { later = later; size = same.same_size; count = same.same_count; geometry = same.same_geometry }
 
-  pub file_leaves : (time : ℕ) → LeavesBy disks old new time given command (file_status result)
-  file_leaves time = record {
+  pub file_leaves : LeavesBy disks old new time given command (file_status result)
+  file_leaves = record {
     done = told_from (disks.past old) _ (λ told is. after-as given command change check is-one disks old new I (now (disks.past new)) M time (named told is));
     empty = told_all (disks.past old) _ (λ image is whole. is-one.no_volume image (now (disks.past new)) M);
     any_moment = λ quiet. told_from (disks.past old) _ (λ told. changes-as given command change check is-one disks old new I M (moment told quiet));

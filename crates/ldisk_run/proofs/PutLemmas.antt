@@ -144,10 +144,10 @@ module _ {D : Type 0} (disks : Ghosts D) (old : D) (device : Device) (path : Lis
         room
         (told_before (disks.past old) (disks.past mid) (λ now. checked_status (volume_check (new_check path) now (span_view span)) ≢ 0 → after ≡ before) same.same_past unread)
 
-    module _ (result : Result (Unit {0}) PutFault) (stores : OnGiven left (λ given. Stores disks mid new (span_view span) path given (file_answer result))) where
+    module _ (time : ℕ) (result : Result (Unit {0}) PutFault) (stores : OnGiven left (λ given. Stores disks mid new (span_view span) path given time (file_answer result))) where
       pub put_answers : (sectors : ℕ) → OnDisks disks old (λ now machine. OnGiven left (λ given. AnswersAs (command_verdict now machine given sectors (Put device path)) (put_status result)))
       put_answers sectors = told_given (disks.past old) left (λ now given. AnswersAs (command_verdict now (machine_of disks old) given sectors (Put device path)) (put_status result))
-          (given-map (λ given. Stores disks mid new (span_view span) path given (file_answer result))
+          (given-map (λ given. Stores disks mid new (span_view span) path given time (file_answer result))
           (λ given. Told (disks.past old) (λ now. AnswersAs (command_verdict now (machine_of disks old) given sectors (Put device path)) (put_status result))) left
           (λ given it.
           told_both (disks.past old) (λ now. room_of now (machine_of disks old) device ≡ Ok (span_view span)) (λ now. Answers (volume_check (made_check (NewFile given) path) now (span_view span)) (file_answer result)) _
@@ -158,10 +158,10 @@ module _ {D : Type 0} (disks : Ghosts D) (old : D) (device : Device) (path : Lis
           (told_before (disks.past old) (disks.past mid) (λ now. Answers (volume_check (made_check (NewFile given) path) now (span_view span)) (file_answer result)) same.same_past it.answers))
           stores)
 
-      pub put_leaves : (time : ℕ) → OnGiven left (λ given. LeavesBy disks old new time given (Put device path) (put_status result))
-      put_leaves time = given-map (λ given. Stores disks mid new (span_view span) path given (file_answer result)) (λ given. LeavesBy disks old new time given (Put device path) (put_status result)) left
+      pub put_leaves : OnGiven left (λ given. LeavesBy disks old new time given (Put device path) (put_status result))
+      put_leaves = given-map (λ given. Stores disks mid new (span_view span) path given time (file_answer result)) (λ given. LeavesBy disks old new time given (Put device path) (put_status result)) left
           (λ given it.
           left_as disks old new time given (Put device path) result
-          (file_leaves given (Put device path) (addition device path (NewFile given)) (made_check (NewFile given) path) (makes_file given device path) disks old mid new same later span (file_answer result) room it.leaves it.inode
-          time))
+          (file_leaves given (Put device path) (addition device path (NewFile given)) (made_check (NewFile given) path) (makes_file given device path) disks old mid new same later span (file_answer result) room it.leaves time
+          it.inode))
           stores

@@ -47,21 +47,22 @@ HasAskedVolume old machine None image = Unit {0}
 abbrev pub held_now : {D : Type 0} → Ghosts D → D → Image
 held_now disks new = now (disks.past new)
 
--- in an image what was made at the path of a text has its inode: the mode, the links, and the holes of a file
-abbrev pub HasInodeOf : Span → Image → List ℕ → Option Thing → Image → Type 0
-HasInodeOf span old text (Some (File bytes)) image = HasInodeIn span old text (NewFile bytes) image
-HasInodeOf span old text (Some (Link target)) image = HasInodeIn span old text (NewLink target) image
-HasInodeOf span old text (Some Directory) image = HasInodeIn span old text NewDirectory image
-HasInodeOf span old text (Some Other) image = Unit {0}
-HasInodeOf span old text None image = Unit {0}
+-- in an image what was made at the path of a text at a time has its inode: mode, links, owner, times, and the holes of a
+-- file
+abbrev pub HasInodeOf : Span → Image → List ℕ → Option Thing → ℕ → Image → Type 0
+HasInodeOf span old text (Some (File bytes)) time image = HasInodeIn span old text (NewFile bytes) time image
+HasInodeOf span old text (Some (Link target)) time image = HasInodeIn span old text (NewLink target) time image
+HasInodeOf span old text (Some Directory) time image = HasInodeIn span old text NewDirectory time image
+HasInodeOf span old text (Some Other) time image = Unit {0}
+HasInodeOf span old text None time image = Unit {0}
 
 -- the volume of a device in an image has its Names in another one, but for the one that was changed, and the inode of
--- what was made
-pub record IsChanged (old : Image) (machine : Machine) (change : NameChange) (image : Image) : Type 0 where
+-- what was made at a time
+pub record IsChanged (old : Image) (machine : Machine) (time : ℕ) (change : NameChange) (image : Image) : Type 0 where
   pub span : Span
   pub room : room_of old machine change.device ≡ Ok span
   pub named : IsNamed span old change.path change.what image
-  pub inode : HasInodeOf span old change.path change.what image
+  pub inode : HasInodeOf span old change.path change.what time image
 
 -- it has the Names before the change, or those after it
 pub record IsChanging (old : Image) (machine : Machine) (change : NameChange) (image : Image) : Type 0 where
@@ -75,14 +76,15 @@ pub record HasSoundOn (image : Image) (machine : Machine) (device : Device) : Ty
   pub room : room_of image machine device ≡ Ok span
   pub volume : HasSoundVolume span image
 
--- an image is what the disks hold after the change of a name, or, where none changes, exactly what is defined
-abbrev pub IsAfterChange : Image → Machine → Option NameChange → Option Image → Image → Type 0
-IsAfterChange old machine (Some change) defined image = IsChanged old machine change image
-IsAfterChange old machine None defined image = defined ≡ Some image
+-- an image is what the disks hold after the change of a name at a time, or, where none changes, exactly what is defined
+abbrev pub IsAfterChange : Image → Machine → ℕ → Option NameChange → Option Image → Image → Type 0
+IsAfterChange old machine time (Some change) defined image = IsChanged old machine time change image
+IsAfterChange old machine time None defined image = defined ≡ Some image
 
 -- an image is what the disks hold after a command that was carried out at a time, where a source gives these bytes
 abbrev pub IsAfter : Image → Machine → ℕ → List ℕ → Command → Image → Type 0
-IsAfter old machine time given command image = IsAfterChange old machine (name_change given command) (image_after old machine time command) image
+IsAfter old machine time given command image =
+    IsAfterChange old machine time (name_change given command) (image_after old machine time command) image
 
 -- the same of arguments
 abbrev pub IsAskedDone : Image → Machine → ℕ → List ℕ → Option Asked → Image → Type 0

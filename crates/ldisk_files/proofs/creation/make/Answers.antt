@@ -32,8 +32,8 @@ returns-in-Ok-clause-leaves g c =
 pub returns-in-Ok-clause-inode : goal.returns-in-Ok-clause-inode
 returns-in-Ok-clause-inode g c =
     let made = making_view c.args.making.now in
-    held-of (λ last. MakesInode g.D.Disks c.args.disks.now last (span_view c.args.span) c.args.path.now made c.make_path.result.result) c.make_path.result.volume.disks.now
-    (inode-in g.D.Disks c.args.disks.now (span_view c.args.span) c.args.path.now made c.in-Ok.volume c.make_path.result.volume c.in-Ok.ensures.same c.in-Ok.ensures.volume
+    held-of (λ last. MakesInode g.D.Disks c.args.disks.now last (span_view c.args.span) c.args.path.now made c.args.time c.make_path.result.result) c.make_path.result.volume.disks.now
+    (inode-in g.D.Disks c.args.disks.now (span_view c.args.span) c.args.path.now made c.args.time c.in-Ok.volume c.make_path.result.volume c.in-Ok.ensures.same c.in-Ok.ensures.volume
     c.make_path.result.result c.make_path.ensures.inode)
     (search rules)
 

@@ -28,7 +28,7 @@ returns-in-Ok-clause-leaves g c =
 pub returns-in-Ok-clause-inode : goal.returns-in-Ok-clause-inode
 returns-in-Ok-clause-inode g c =
     inode-at c.args.volume c.choose_at.new.volume c.in-Ok.ensures.same c.args.path.now (making_view c.args.making.now) c.in-Ok.ready.chosen (c.in-Ok.ready.block ∷ [])
-    c.in-Ok.ensures.may c.make_ready.result.volume c.make_ready.result.result c.make_ready.ensures.inode
+    c.in-Ok.ensures.may c.args.time c.in-Ok.ensures.time c.make_ready.result.volume c.make_ready.result.result c.make_ready.ensures.inode
 
 pub returns-in-Err-clause-leaves : goal.returns-in-Err-clause-leaves
 returns-in-Err-clause-leaves g c =

@@ -61,3 +61,6 @@ returns-clause-suits g c =
       one = few-blocks c.args.volume.now.layout c.args.volume.now.span chosen c.in_ok-chosen.ensures.suits
           (ap blocks_for (c.in_ok-chosen.ensures.made.size ∙ c.requires.wish.long) ∙ one-block (kind_view c.args.volume.now.layout.kind) c.args.making.now c.requires.wish.short);
     }
+
+pub returns-clause-time : goal.returns-clause-time
+returns-clause-time g c = c.in_ok-chosen.ensures.made.time

@@ -1,5 +1,6 @@
 -- The wish is one of a file.
 use Rattle.std.proofs.Common.{◌≡◌, ◌<◌, ℕ, true, All, length, sym, subst, arith}
+use Rattle.std.proofs.lemmas.Result.{IfOk-weaker}
 use Rattle.lilo_model.specs.MinixLayout.{is_size}
 use Rattle.lilo_model.specs.MinixParts.{blocks_for}
 use Rattle.minix_layout.specs.View.{kind_view}
@@ -37,3 +38,6 @@ returns-clause-room g c =
 pub returns-clause-blocks : goal.returns-clause-blocks
 returns-clause-blocks g c =
     file-blocks c.args.volume.now.layout c.args.volume.now.span c.args.place.now c.args.bytes.now c.args.wish.now c.requires.wish c.choose_wish.result c.choose_wish.ensures.made c.choose_wish.ensures.suits
+
+pub returns-clause-time : goal.returns-clause-time
+returns-clause-time g c = IfOk-weaker c.choose_wish.result _ _ (λ chosen made. made.time) c.choose_wish.ensures.made

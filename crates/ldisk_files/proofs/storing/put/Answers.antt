@@ -16,9 +16,9 @@ put_path-requires-clause-laid g c =
 pub returns-in-Ok-clause-stores : goal.returns-in-Ok-clause-stores
 returns-in-Ok-clause-stores g c =
     let left = g.I.Source.left c.args.source.now in
-    held-of (λ last. OnGiven left (λ (given : List ℕ). Stores g.D.Disks c.args.disks.now last (span_view c.args.span) c.args.path.now given (file_answer c.put_path.result.result))) c.put_path.result.volume.disks.now
+    held-of (λ last. OnGiven left (λ (given : List ℕ). Stores g.D.Disks c.args.disks.now last (span_view c.args.span) c.args.path.now given c.args.time (file_answer c.put_path.result.result))) c.put_path.result.volume.disks.now
     (stores-at g.D.Disks c.args.disks.now (span_view c.args.span) c.args.path.now left c.in-Ok.volume c.put_path.result.volume c.in-Ok.ensures.same c.in-Ok.ensures.later
-    (ap span_view c.in-Ok.ensures.span) c.in-Ok.ensures.volume (file_answer c.put_path.result.result) c.put_path.ensures.stores)
+    (ap span_view c.in-Ok.ensures.span) c.in-Ok.ensures.volume c.args.time (file_answer c.put_path.result.result) c.put_path.ensures.stores)
     (search rules)
 
 pub returns-in-Ok-clause-unread : goal.returns-in-Ok-clause-unread
@@ -30,8 +30,8 @@ pub returns-in-Err-clause-stores : goal.returns-in-Err-clause-stores
 returns-in-Err-clause-stores g c =
     let left = g.I.Source.left c.args.source.now in
     rw c.refused.ensures.told
-    (held-of (λ last. OnGiven left (λ (given : List ℕ). Stores g.D.Disks c.args.disks.now last (span_view c.args.span) c.args.path.now given (Err (zone_fault c.in-Err.fault)))) c.in-Err.disks.now
-    (not-there g.D.Disks c.args.disks.now (span_view c.args.span) c.args.path.now left c.in-Err.disks.now c.in-Err.ensures.same c.in-Err.ensures.later c.in-Err.fault
+    (held-of (λ last. OnGiven left (λ (given : List ℕ). Stores g.D.Disks c.args.disks.now last (span_view c.args.span) c.args.path.now given c.args.time (Err (zone_fault c.in-Err.fault)))) c.in-Err.disks.now
+    (not-there g.D.Disks c.args.disks.now (span_view c.args.span) c.args.path.now left c.args.time c.in-Err.disks.now c.in-Err.ensures.same c.in-Err.ensures.later c.in-Err.fault
     (λ is. c.in-Err.ensures.device (rw is refl)) c.in-Err.ensures.volume)
     (search rules))
 

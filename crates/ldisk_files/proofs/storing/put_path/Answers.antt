@@ -20,8 +20,8 @@ returns-in-Ok-clause-stores g c =
     let same : c.as_slice.result.now ≡ c.in-Ok.stored.bytes.items = search rules in
     rw (c.ended_put.ensures.told, c.ended_put.ensures.same)
     (is-stored c.args.volume c.choose_stored.new.volume c.in-Ok.ensures.same c.in-Ok.ensures.later c.args.path.now (g.I.Source.left c.args.source.now) c.in-Ok.stored c.in-Ok.ensures.given
-    c.in-Ok.ensures.may c.in-Ok.ensures.takes c.as_slice.result.now same c.store_bytes.result.volume c.store_bytes.result.result c.store_bytes.ensures.changes c.store_bytes.ensures.inode c.store_bytes.ensures.quiet c.store_bytes.ensures.cause)
+    c.in-Ok.ensures.may c.in-Ok.ensures.takes c.as_slice.result.now same c.args.time c.in-Ok.ensures.time c.store_bytes.result.volume c.store_bytes.result.result c.store_bytes.ensures.changes c.store_bytes.ensures.inode c.store_bytes.ensures.quiet c.store_bytes.ensures.cause)
 
 pub returns-in-Err-clause-stores : goal.returns-in-Err-clause-stores
 returns-in-Err-clause-stores g c =
-    not-stored c.args.volume c.choose_stored.new.volume c.in-Err.ensures.same c.in-Err.ensures.later c.args.path.now (g.I.Source.left c.args.source.now) c.in-Err.fault c.in-Err.ensures.cause c.in-Err.ensures.takes
+    not-stored c.args.volume c.choose_stored.new.volume c.in-Err.ensures.same c.in-Err.ensures.later c.args.path.now (g.I.Source.left c.args.source.now) c.args.time c.in-Err.fault c.in-Err.ensures.cause c.in-Err.ensures.takes

@@ -7,13 +7,13 @@ pub returns-in-Ok-clause-answers : goal.returns-in-Ok-clause-answers
 returns-in-Ok-clause-answers g c =
     rw c.put_status.ensures
     (put_answers g.D.Disks c.args.disks.now (device_view c.args.device) c.args.path.now (g.I.Source.left c.args.source.now) c.find_room.new.disks c.put.new.disks c.in-Ok.ensures.same c.in-Ok.ensures.later c.in-Ok.span c.in-Ok.ensures.room
-    c.put.result c.put.ensures.stores)
+    c.args.time c.put.result c.put.ensures.stores)
 
 pub returns-in-Ok-clause-leaves : goal.returns-in-Ok-clause-leaves
 returns-in-Ok-clause-leaves g c =
     rw c.put_status.ensures
     (put_leaves g.D.Disks c.args.disks.now (device_view c.args.device) c.args.path.now (g.I.Source.left c.args.source.now) c.find_room.new.disks c.put.new.disks c.in-Ok.ensures.same c.in-Ok.ensures.later c.in-Ok.span c.in-Ok.ensures.room
-    c.put.result c.put.ensures.stores c.args.time)
+    c.args.time c.put.result c.put.ensures.stores)
 
 pub returns-in-Ok-clause-unread : goal.returns-in-Ok-clause-unread
 returns-in-Ok-clause-unread g c =

@@ -440,14 +440,25 @@ module _ (image : Image) (machine : Machine) (volume : model.Volume) (config : c
   message-is : require (has_apart_files image volume config (option_to_list config.message)) options.Message ≡ if_there (path_check image volume guarded_here options.Message) config.message
   message-is = by-option path_test options.Message config.message
 
+  -- the devices, section by section
+  abbrev by_device : Result (Unit {0}) Opt
+  by_device =
+      require (is_apart_device image machine volume boot) options.Boot >>= λ a. each_passes (device_check image machine volume devices.Other) config.sections
+      >>= λ b. each_passes (device_check image machine volume devices.Table) config.sections
+
+  pub devices-are : device_checks image machine volume config boot ≡ by_device
+  unfolding device_checks
+  devices-are = rw (others-is, tables-is) refl
+
   pub all-checks :
       apart_checks image machine volume config boot
       ≡ (device_checks image machine volume config boot >>= λ a. backup_check >>= λ b. file_checks image volume guarded_here config)
   unfolding apart_checks device_checks file_checks
   all-checks =
-      rw (others-is, tables-is, install-is, message-is, kernels-is, initrds-is)
-      (three-then (require (is_apart_device image machine volume boot) options.Boot) (each_passes (device_check image machine volume devices.Other) config.sections)
-      (each_passes (device_check image machine volume devices.Table) config.sections) _)
+      rw (install-is, message-is, kernels-is, initrds-is)
+      (three-then (require (is_apart_device image machine volume boot) options.Boot)
+      (require (list_all (is_apart_device image machine volume) (other_devices config)) options.OtherDevice)
+      (require (list_all (is_apart_device image machine volume) (table_devices config)) options.Table) _)
 
 -- the guarded names are those of the map, and of a backup that is forced
 pub guarded-by : (super : Super) (parts : Parts) (names : List ℕ → List (List (List ℕ))) (config : conf.Config) (boot : Device) (both : BothNames) (forced : Bool)
@@ -491,20 +502,20 @@ module _ (machine : Machine) (volume : model.Volume) (config : conf.Config) (boo
 
   pub devices-second : (past : Option Past) (fault : ApartFault) → Told past (λ now. boots now ≡ Ok tt) → Told past (λ now. GivesApart (Err fault) (others now sections))
       → Told past (λ now. GivesApart (Err fault) (device_checks now machine volume config boot))
-  unfolding device_checks
   devices-second None fault one two = tt
   devices-second (Some past) fault one two =
       let L : List ConfSection → Type 0 = λ list. GivesApart (Err fault) (others (now_of past) list) in
-      goes-on (Err fault) (boots (now_of past)) _ one (stops fault (others (now_of past) config.sections) _ (subst L same two))
+      subst (GivesApart (Err fault)) (sym (devices-are (now_of past) machine volume config boot))
+      (goes-on (Err fault) (boots (now_of past)) _ one (stops fault (others (now_of past) config.sections) _ (subst L same two)))
 
   pub devices-last : (past : Option Past) (result : Result (Unit {0}) ApartFault) → Told past (λ now. boots now ≡ Ok tt) → Told past (λ now. others now sections ≡ Ok tt)
       → Told past (λ now. GivesApart result (tables_of now sections)) → Told past (λ now. GivesApart result (device_checks now machine volume config boot))
-  unfolding device_checks
   devices-last None result one two three = tt
   devices-last (Some past) result one two three =
       let O : List ConfSection → Type 0 = λ list. others (now_of past) list ≡ Ok tt in
       let T : List ConfSection → Type 0 = λ list. GivesApart result (tables_of (now_of past) list) in
-      goes-on result (boots (now_of past)) _ one (goes-on result (others (now_of past) config.sections) _ (subst O same two) (subst T same three))
+      subst (GivesApart result) (sym (devices-are (now_of past) machine volume config boot))
+      (goes-on result (boots (now_of past)) _ one (goes-on result (others (now_of past) config.sections) _ (subst O same two) (subst T same three)))
 
 pub guarded_back : {D : Type 0} {disks : Ghosts D} (old new : Volume D disks) (guarded : Guarded) (P : Image → model.Volume → List (List (List ℕ)) → Type 0) → SameVolume old new
     → OnGuarded new guarded P → OnGuarded old guarded P

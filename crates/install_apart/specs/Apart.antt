@@ -1,8 +1,9 @@
 -- When an answer is the model's verdict on what is apart, and its verdict on devices by parts.
 use Rattle.std.specs.Prelude.{◌≡◌, ℕ, Bool, true, false, Option, Result, Ok, Err}
+use Rattle.std.specs.List.{list_all}
 use Rattle.disk_trait.specs.declared.disks.Disks.{Ghosts}
 use Rattle.sector_address.specs.Machine.{machine_with}
-use Rattle.lilo_model.specs.Apart.{is_apart_device}
+use Rattle.lilo_model.specs.Apart.{is_apart_device, other_devices, table_devices}
 use Rattle.lilo_model.specs.Checks.{◌>>=◌, require}
 use Rattle.lilo_model.specs.Conf.{Config, ConfSection}
 use Rattle.lilo_model.specs.ConfOptions as options
@@ -11,7 +12,7 @@ use Rattle.lilo_model.specs.Devices.{Device}
 use Rattle.lilo_model.specs.Disks.{Image, Machine}
 use Rattle.lilo_model.specs.Faults.{Rose}
 use Rattle.lilo_model.specs.MinixParts as model
-use Rattle.lilo_model.specs.PlanRefusal.{each_passes, if_there}
+use Rattle.lilo_model.specs.PlanRefusal.{if_there}
 use Rattle.conf_settings.specs.declared.option.Opt as settings
 use Rattle.conf_settings.specs.View.{opt_view}
 use Rattle.mbr_table.specs.declared.table_fault.TableFault.{TableFault}
@@ -88,9 +89,9 @@ abbrev pub device_check : Image → Machine → model.Volume → DevicePart → 
 device_check image machine volume part section =
     if_there (λ device. require (is_apart_device image machine volume device) (device_option part)) (part_device part section)
 
--- the first three checks of the model, section by section
+-- the model's checks of devices: the first three of its `apart_checks`
 unfoldable pub device_checks : Image → Machine → model.Volume → Config → Device → Result (Unit {0}) Opt
 device_checks image machine volume config boot = do
   a ← require (is_apart_device image machine volume boot) options.Boot
-  b ← each_passes (device_check image machine volume parts.Other) config.sections
-  each_passes (device_check image machine volume parts.Table) config.sections
+  b ← require (list_all (is_apart_device image machine volume) (other_devices config)) options.OtherDevice
+  require (list_all (is_apart_device image machine volume) (table_devices config)) options.Table

@@ -133,8 +133,13 @@ fn check_parts<D: Disks>(
     Ok(())
 }
 
-/// Whether the devices that a configuration names, and the one that is to boot, lie apart from a volume.
-pub(crate) fn check_devices<D: Disks>(
+/// Whether the first sectors of the devices that a configuration names, and of the one that is to boot, are none of a
+/// volume's past its block 0: what `check_apart` tests first. Takes no memory.
+///
+/// # Errors
+///
+/// `NotApart` with the first option that isn't apart, in the order boot, other, table; `Device`.
+pub fn check_devices<D: Disks>(
     volume: &mut Volume<'_, D>,
     config: &Config,
     boot: Device,

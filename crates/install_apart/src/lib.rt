@@ -12,6 +12,7 @@ mod name;
 mod own;
 
 pub use apart::check_apart;
+pub use apart_device::check_devices;
 pub use fault::{ApartFault, NameFault};
 pub use name::{NamePair, OwnName};
 pub use own::{OwnNames, own_names};

@@ -5,7 +5,9 @@ use Rattle.std.specs.List.{AllByRecursion, list_all}
 use Rattle.std.proofs.lemmas.Bool.{and_parts}
 use Rattle.std.proofs.lemmas.List.Folds.{list_all-append}
 use Rattle.lilo_model.specs.Apart.{is_apart_place, is_apart_device, is_apart_path, other_devices, table_devices, names_pair, guarded_names, has_apart_backup, has_apart_files, kernel_paths, initrd_paths}
+use Rattle.lilo_model.specs.Checks.{◌>>=◌, require}
 use Rattle.lilo_model.specs.Conf.{Config}
+use Rattle.lilo_model.specs.ConfOptions as options
 use Rattle.lilo_model.specs.Devices.{Device}
 use Rattle.lilo_model.specs.Disks.{Image, Machine}
 use Rattle.lilo_model.specs.MinixFind.{TreeFault}
@@ -14,13 +16,15 @@ use Rattle.lilo_model.specs.MinixNames.{names_in, IsSound}
 use Rattle.lilo_model.specs.MinixParts.{Volume}
 use Rattle.lilo_model.specs.NamePlaces.{name_path, with_tilde, backup_path}
 use Rattle.lilo_model.specs.Settled.{OwnNames, own_names}
-use Rattle.map_laws.proofs.Accepted.{not-ok}
+use Rattle.map_laws.proofs.Accepted.{not-ok, required}
+use Rattle.install_apart.specs.Apart.{device_checks}
 use Rattle.install_settle.specs.Settles.{stale_of, IsBeside}
-use Rattle.install_apart_laws.specs.Laws.{LiesAsIn, KeepsDevices, HasSettled, SettledApartLaw}
+use Rattle.install_stage_laws.specs.Devices.{AreDevicesApart}
+use Rattle.install_apart_laws.specs.Laws.{LiesAsIn, HasSettled, KeptDevicesLaw, SettledApartLaw}
 use Rattle.install_apart_laws.proofs.Walks.{AreAlike, alike-back, name-too}
 use Rattle.install_apart_laws.proofs.Paths.{AreOwnFiles, alike, map-apart, tilde-apart, stale-apart, beside-apart}
 use Rattle.install_apart_laws.proofs.Names.{pair-of}
-use Rattle.install_apart_laws.proofs.Tests.{PassesTests, tests-pass, passed-apart}
+use Rattle.install_apart_laws.proofs.Tests.{PassesTests, next-passes, tests-pass, passed-apart}
 use Rattle.install_apart_laws.proofs.Entry.{IsApartFromAll, files, if-some, map-pair, stale-is, plain-beside, tilde-beside, tilde-own, there-beside, forced-two, apart-from-all}
 
 -- ---- devices
@@ -35,6 +39,26 @@ module _ (old c : Image) (machine : Machine) (volume : Volume) where
   devices-too (device ∷ devices) lie is =
       let both = and_parts (is_apart_device old machine volume device) (list_all (is_apart_device old machine volume) devices) is in
       rw (device-too device lie.0 both.0, devices-too devices lie.1 both.1) refl
+
+pub kept_devices_law : KeptDevicesLaw
+unfolding device_checks
+kept_devices_law old c machine volume config device keeps apart =
+    let tests = tests-pass old machine volume config device apart in
+    rw (
+      device-too old c machine volume device keeps.boots tests.boots,
+      devices-too old c machine volume (other_devices config) keeps.others tests.others,
+      devices-too old c machine volume (table_devices config) keeps.tables tests.tables,
+    ) refl
+
+devices-pass : (image : Image) (machine : Machine) (volume : Volume) (config : Config) (device : Device) → device_checks image machine volume config device ≡ Ok tt
+    → AreDevicesApart image machine volume config device
+unfolding device_checks
+devices-pass image machine volume config device is =
+    let tables = require (list_all (is_apart_device image machine volume) (table_devices config)) options.Table in
+    let others = require (list_all (is_apart_device image machine volume) (other_devices config)) options.OtherDevice >>= λ b. tables in
+    let a = next-passes (is_apart_device image machine volume device) options.Boot others is in
+    let b = next-passes (list_all (is_apart_device image machine volume) (other_devices config)) options.OtherDevice tables a.1 in
+    record { boots = a.0; others = b.0; tables = required (list_all (is_apart_device image machine volume) (table_devices config)) options.Table b.1 }
 
 -- ---- the whole
 
@@ -138,11 +162,11 @@ module _ (old c : Image) (machine : Machine) (volume : Volume) (config : Config)
   backup-too : has_apart_backup New config device ≡ true
   backup-too = rw (pair-same config.map, pair-same (backup_path config device)) tests.backup
 
-  tests-too : KeepsDevices old c machine config device → PassesTests c machine volume config device
-  tests-too keeps = record {
-    boots = device-too old c machine volume device keeps.boots tests.boots;
-    others = devices-too old c machine volume (other_devices config) keeps.others tests.others;
-    tables = devices-too old c machine volume (table_devices config) keeps.tables tests.tables;
+  tests-too : AreDevicesApart c machine volume config device → PassesTests c machine volume config device
+  tests-too devices = record {
+    boots = devices.boots;
+    others = devices.others;
+    tables = devices.tables;
     backup = backup-too;
     install = files-too (option_to_list config.install) tests.install;
     message = files-too (option_to_list config.message) tests.message;
@@ -151,6 +175,7 @@ module _ (old c : Image) (machine : Machine) (volume : Volume) (config : Config)
   }
 
 pub settled_apart_law : SettledApartLaw
-settled_apart_law old c machine volume config device foreign finishes names before own is keeps apart =
+settled_apart_law old c machine volume config device foreign finishes names before own is devices apart =
     passed-apart c machine volume config device
-    (tests-too old c machine volume config device foreign finishes names before own is (tests-pass old machine volume config device apart) keeps)
+    (tests-too old c machine volume config device foreign finishes names before own is (tests-pass old machine volume config device apart)
+    (devices-pass c machine volume config device devices))

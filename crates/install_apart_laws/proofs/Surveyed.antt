@@ -56,13 +56,13 @@ module _ (entry : Image) (machine : Machine) (begun : Begun) (found : Examined) 
       }
 
 pub surveyed_apart_law : SurveyedApartLaw
-surveyed_apart_law image machine begun found on is keeps = by on refl
+surveyed_apart_law image machine begun found on is devices = by on refl
   where
     by : (settled : Bool) → on ≡ settled → Apart image machine begun.volume begun.config begun.boot
     by true same =
         let done = is.is_settled same in
         settled_apart_law is.entry image machine begun.volume begun.config begun.boot (is_foreign (is.entry begun.span.disk begun.span.start)) done.settled.finishes done.names is.examined.sound done.are
-        (has-settled is.entry machine begun found image done) keeps is.examined.apart
+        (has-settled is.entry machine begun found image done) devices is.examined.apart
     by false same = subst (λ (c : Image). Apart c machine begun.volume begun.config begun.boot) (sym (is.is_looked_at same)) is.examined.apart
 
 -- ---- what is planned

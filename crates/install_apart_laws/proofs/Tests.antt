@@ -24,7 +24,7 @@ pub record PassesTests (image : Image) (machine : Machine) (volume : Volume) (co
   pub kernels : has_apart_files image volume config (kernel_paths config) ≡ true
   pub initrds : has_apart_files image volume config (initrd_paths config) ≡ true
 
-next-passes : {F : Type 0} → (test : Bool) (fault : F) (next : Result (Unit {0}) F) → (require test fault >>= λ a. next) ≡ Ok tt → (test ≡ true) × (next ≡ Ok tt)
+pub next-passes : {F : Type 0} → (test : Bool) (fault : F) (next : Result (Unit {0}) F) → (require test fault >>= λ a. next) ≡ Ok tt → (test ≡ true) × (next ≡ Ok tt)
 next-passes true fault next is = (refl, is)
 next-passes false fault next is = absurd (not-ok fault tt is)
 

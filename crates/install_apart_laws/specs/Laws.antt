@@ -9,6 +9,7 @@ use Rattle.lilo_model.specs.MinixNames.{names_in, IsSound}
 use Rattle.lilo_model.specs.MinixParts.{Volume}
 use Rattle.lilo_model.specs.Partitions.{span_of}
 use Rattle.lilo_model.specs.Settled.{OwnNames, own_names, settled}
+use Rattle.install_apart.specs.Apart.{device_checks}
 use Rattle.install_settle.specs.Settles.{HasNames, KeepsPaths, KeepsMap, stale_of}
 
 -- ---- names
@@ -35,10 +36,17 @@ pub record KeepsDevices (old c : Image) (machine : Machine) (config : Config) (d
 
 -- ---- the law
 
--- then a configuration that was apart is so still
+-- devices that lie where they lay are apart where they were
+abbrev pub KeptDevicesLaw : Type 0
+KeptDevicesLaw =
+    (old c : Image) (machine : Machine) (volume : Volume) (config : Config) (device : Device)
+    → KeepsDevices old c machine config device → Apart old machine volume config device
+    → device_checks c machine volume config device ≡ Ok tt
+
+-- then a configuration that was apart is so still, where its devices are
 abbrev pub SettledApartLaw : Type 0
 SettledApartLaw =
     (old c : Image) (machine : Machine) (volume : Volume) (config : Config) (device : Device) (foreign finishes : Bool) (names : OwnNames)
     → IsSound volume old → own_names (names_in volume old) config device foreign ≡ Ok names
-    → HasSettled volume old c names (is_some config.force_backup) finishes → KeepsDevices old c machine config device
+    → HasSettled volume old c names (is_some config.force_backup) finishes → device_checks c machine volume config device ≡ Ok tt
     → Apart old machine volume config device → Apart c machine volume config device

@@ -1,12 +1,17 @@
 // What is apart once settling is done, what is mapped, and what is planned.
-ghost use Rattle.install_apart_laws.specs.Laws.{SettledApartLaw};
+ghost use Rattle.install_apart_laws.specs.Laws.{KeptDevicesLaw, SettledApartLaw};
 ghost use Rattle.install_apart_laws.specs.Mapped.{MappedApartLaw};
 ghost use Rattle.install_apart_laws.specs.Plans.{PassingLaw, SettledPlanLaw};
 ghost use Rattle.install_apart_laws.specs.Surveyed.{BegunPlansLaw, SurveyedApartLaw};
 ghost use Rattle.install_apart_laws.specs.Tables.{OutsideTablesLaw, TablesLaw};
 
+/// Devices that lie where they lay are apart where they were.
+pub fn devices_that_stay_are_apart()
+    ensures { KeptDevicesLaw }
+{}
+
 /// A configuration that was apart is apart still once the names that an installation replaces are settled, where the
-/// devices that it names lie where they lay.
+/// devices that it names are.
 pub fn settled_configuration_is_apart()
     ensures { SettledApartLaw }
 {}

@@ -14,7 +14,6 @@ use Rattle.lilo_model.specs.Disks.{Image, Machine, Span, DiskSector, bytes_at}
 use Rattle.lilo_model.specs.Mapped.{mapped_sectors}
 use Rattle.lilo_model.specs.MinixNames.{names_in, reached}
 use Rattle.lilo_model.specs.MinixParts as model
-use Rattle.lilo_model.specs.Partitions.{span_of}
 use Rattle.lilo_model.specs.Plan.{Plan, map_size, plan_boot_sector}
 use Rattle.lilo_model.specs.Planned.{devices_in}
 use Rattle.lilo_model.specs.Planned as plans
@@ -30,6 +29,7 @@ use Rattle.minix_zones.specs.View.{span_view}
 use Rattle.minix_zones.specs.Volume.{volume_view, past_of}
 use Rattle.minix_zones.specs.declared.volume.Volume.{Volume}
 use Rattle.slot_lists.specs.Made.{place_view}
+use Rattle.install_apart.specs.Apart.{device_checks}
 use Rattle.install_apart_laws.proofs.Surveyed.{surveyed_apart_law}
 use Rattle.install_laws.specs.Headline.{Means}
 use Rattle.install_laws.specs.InstallVerdict.{Begun}
@@ -39,6 +39,7 @@ use Rattle.install_order.specs.States.{IsStagedFor, StagesFrom, is_forced}
 use Rattle.install_order.specs.declared.planned.Planned.{Planned}
 use Rattle.install_order.specs.declared.staged.Staged.{Staged}
 use Rattle.install_order.specs.declared.surveyed.Surveyed.{Surveyed}
+use Rattle.install_order.proofs.DeviceLemmas.{device_inside}
 use Rattle.install_order.proofs.ReadyLemmas.{stageable}
 use Rattle.install_room.specs.Room.{places_view}
 use Rattle.install_stage.specs.Staged.{AreNotReplaced, IsAcceptedPlan, IsStagedRoom}
@@ -49,7 +50,7 @@ use Rattle.install_stage_laws.proofs.Devices.{apart_devices_law}
 use Rattle.install_stage_laws.proofs.Staged.{staged_means_law}
 use Rattle.install_join_laws.specs.Laws.{InstallationMeansLaw, OfFirst, meant_from}
 use Rattle.install_join_laws.specs.Steps.{HasPlanned, IsBegunWith, LiesOnDisks, begun_from, machine_on}
-use Rattle.install_join_laws.proofs.Begun.{begun, examined, leaves, may-stage, plan-view-same, told-after}
+use Rattle.install_join_laws.proofs.Begun.{begun, boot-apart, examined, leaves, may-stage, plan-view-same, told-after}
 use Rattle.install_join_laws.proofs.Flushed.{flushed-now, flushed-told, flushed-view}
 use Rattle.install_join_laws.proofs.Own.{made-free, not-replaced, own-still}
 
@@ -124,20 +125,9 @@ module _ {D : Type 0} {disks : Ghosts D} (entry : Volume D disks) (config : conf
   abbrev Foreign : Bool
   Foreign = is_foreign (Was S.disk S.start)
 
-  apart : Apart Is M View C Dev
-  apart =
-      surveyed_apart_law Is M From surveyed.found true
-      (record { entry = Was; examined = examined entry config boot time surveyed is; is_settled = λ on. did; is_looked_at = λ off. absurd (clash off) }) lies.devices
-    where
-      clash : true ≡ false → ⊥
-      clash off = cc
-
   own : settles.own_names (names_in View Is) C Dev Foreign ≡ Ok names
   unfolding names
   own = own-still Was M From surveyed.found Is (examined entry config boot time surveyed is).sound did
-
-  found-now : span_of Is M Dev ≡ Ok S
-  found-now = lies.devices.boots ∙ lies.there
 
   -- each sector is whole still
   whole-now : (place : DiskSector) → IsInside M place → length (bytes_at Is place) ≡ 512
@@ -157,6 +147,19 @@ module _ {D : Type 0} {disks : Ghosts D} (entry : Volume D disks) (config : conf
       (subst (λ (b : spans.Span). P (volume_view planned.volume) b surveyed.config surveyed.time) has.held.boot_is
       (subst (λ (c : configs.Config). P (volume_view planned.volume) planned.boot c surveyed.time) has.held.config_is
       (subst (λ (t : ℕ). P (volume_view planned.volume) planned.boot planned.plan.config t) has.held.time_is p)))
+
+  devices-apart : device_checks Is M View C Dev ≡ Ok tt
+  devices-apart =
+      subst (λ (d : devices.Device). device_checks Is M View C (device_view d) ≡ Ok tt) has.held.device_is
+      (forth (λ v b c t. device_checks Is M v (config_view c) (device_view planned.device) ≡ Ok tt) may.devices)
+
+  apart : Apart Is M View C Dev
+  apart =
+      surveyed_apart_law Is M From surveyed.found true
+      (record { entry = Was; examined = examined entry config boot time surveyed is; is_settled = λ on. did; is_looked_at = λ off. absurd (clash off) }) devices-apart
+    where
+      clash : true ≡ false → ⊥
+      clash off = cc
 
   plan-is : plan_view planned.plan ≡ plans.planned Is M View C surveyed.time
   plan-is = forth (λ v b c t. plan_view planned.plan ≡ plans.planned Is M v (config_view c) t) may.plan_is
@@ -186,7 +189,7 @@ module _ {D : Type 0} {disks : Ghosts D} (entry : Volume D disks) (config : conf
   accepted-plan = record {
     sound = did.sound;
     apart = apart_devices_law Is M View C Dev apart;
-    found = found-now;
+    outside = boot-apart entry config boot time surveyed is lies.there;
     whole = whole-now;
     plan_is = plan-is;
     accepted = subst (λ (places : List DiskSector). IsAccepted Is M View S C surveyed.time places) five.are accepted;
@@ -198,7 +201,7 @@ module _ {D : Type 0} {disks : Ghosts D} (entry : Volume D disks) (config : conf
 
   new-boot : IsNewBoot Is M View S C surveyed.time Five staged.sector
   new-boot = record {
-    long = whole-now (record { disk = S.disk; sector = S.start }) (accepted.devices Dev S is-device found-now);
+    long = whole-now (record { disk = S.disk; sector = S.start }) (device_inside Was M Dev S is-device lies.there);
     is = subst (λ (places : List DiskSector). staged.sector ≡ plan_boot_sector (plans.planned Is M View C surveyed.time) M places (Is S.disk S.start)) five.are
         (subst₂ (λ (p : Plan) (sector : List ℕ). staged.sector ≡ plan_boot_sector p M Places sector) plan-is present (stages.sector_is M may.lies.plan_is));
   }
@@ -259,7 +262,7 @@ module _ {D : Type 0} {disks : Ghosts D} (entry : Volume D disks) (config : conf
   pub means : Means M S five.p0 (meant_from entry surveyed) (with_sector (now (past_of staged.volume)) S.disk S.start staged.sector)
   means =
       let r = staged-room.is in
-      staged_means_law Is (now (past_of staged.volume)) M View S C Dev surveyed.time (room_zones planned.room) five.p0 five.p1 five.p2 five.p3 five.p4 five.rest staged.sector r.sound r.apart r.found r.accepted r.map r.boot
+      staged_means_law Is (now (past_of staged.volume)) M View S C Dev surveyed.time (room_zones planned.room) five.p0 five.p1 five.p2 five.p3 five.p4 five.rest staged.sector r.sound r.apart r.outside r.accepted r.map r.boot
 
   pub first-of : (P : DiskSector → Type 0) → P five.p0 → OfFirst Places P
   first-of P p = record { place = five.p0; rest = five.p1 ∷ (five.p2 ∷ (five.p3 ∷ (five.p4 ∷ five.rest))); are = five.are; is = p }

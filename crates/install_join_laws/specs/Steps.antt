@@ -12,7 +12,6 @@ use Rattle.minix_zones.specs.View.{span_view}
 use Rattle.minix_zones.specs.Volume.{volume_view, past_of, sizes_of, SameVolume}
 use Rattle.minix_zones.specs.declared.volume.Volume.{Volume}
 use Rattle.sector_address.specs.Machine.{machine_of, OnDisks}
-use Rattle.install_apart_laws.specs.Laws.{KeepsDevices}
 use Rattle.install_laws.specs.InstallVerdict.{Begun}
 use Rattle.install_order.specs.Answers.{IsFor, IsKnown, Leaves, Promises, Settled}
 use Rattle.install_order.specs.Begins.{LiesThere}
@@ -69,9 +68,7 @@ pub record HasStaged {D : Type 0} {disks : Ghosts D} (planned : Planned D disks)
 -- ---- the disks
 
 -- At the entry each image that a stop may leave has 512 bytes in each sector that is there, and the boot device lies where the caller
--- found it. Once names are settled the devices lie where they lay.
+-- found it.
 pub record LiesOnDisks {D : Type 0} {disks : Ghosts D} (entry : Volume D disks) (surveyed : Surveyed D disks) : Type 0 where
   pub whole : IsWhole (sizes_of entry) (past_of entry)
   pub there : LiesThere (now (past_of entry)) (machine_on entry) (begun_from entry surveyed)
-  pub devices : KeepsDevices (now (past_of entry)) (now (past_of surveyed.volume)) (machine_on entry) (config_view surveyed.config)
-      (device_view surveyed.device)

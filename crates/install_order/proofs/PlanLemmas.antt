@@ -11,6 +11,7 @@ use Rattle.disk_trait.specs.Moments.{IsTold, now}
 use Rattle.disk_trait.specs.Past.{Image, Past, Told}
 use Rattle.lilo_model.specs.Checks.{◌>>=◌, with_fault}
 use Rattle.lilo_model.specs.Conf.{Config}
+use Rattle.lilo_model.specs.Devices.{Device}
 use Rattle.lilo_model.specs.Disks.{Machine, Span, DiskSector}
 use Rattle.lilo_model.specs.MinixNames.{IsSound}
 use Rattle.lilo_model.specs.MinixParts.{Volume, parts_of}
@@ -23,6 +24,7 @@ use Rattle.map_plan.specs.View as plan_views
 use Rattle.map_sectors.specs.Map.{plan_view}
 use Rattle.map_sectors.specs.Places.{AreOwnPlaces}
 use Rattle.map_sectors.specs.declared.map.MapPlan.{MapPlan}
+use Rattle.mbr_table.specs.View.{device_view}
 use Rattle.minix_layout.specs.declared.superblock.Super.{Super}
 use Rattle.minix_zones.specs.View.{span_view}
 use Rattle.minix_zones.specs.Volume.{volume_view, past_of}
@@ -41,7 +43,7 @@ use Rattle.minix_names.specs.Component.{IsFileName, HasNoZero}
 use Rattle.install_order.specs.Answers.{IsKnown}
 use Rattle.install_order.specs.Begins.{FitsVolume}
 use Rattle.install_order.specs.Faults.{Refuses, HasInstallCause}
-use Rattle.install_order.specs.Plans.{AreChosen, ArePlaced, ArePlaces, AreSurveyed, GivesChoices, GivesPlaces, GivesPlacesOf, GivesRoomOf, IsAsFound, IsMap, IsOfPlan, IsPlanOf, IsPlanned, RefusesChecks, checks_of, plan_checks, wish_of}
+use Rattle.install_order.specs.Plans.{AreChosen, ArePlaced, ArePlaces, AreSurveyed, GivesApartChoices, GivesChoices, GivesPlaces, GivesPlacesOf, GivesRoomOf, IsAsFound, IsMap, IsOfPlan, IsPlanOf, IsPlanned, RefusesChecks, RefusesMap, checks_of, devices_again, map_checks, plan_checks, wish_of}
 use Rattle.install_order.specs.declared.examination.Examined.{Examined}
 use Rattle.install_order.specs.declared.planned.Planned.{Planned}
 use Rattle.install_order.specs.declared.planning.Choices.{Choices}
@@ -149,8 +151,8 @@ own_places machine plan room bytes long count check = record { count = omega (ar
 -- ---- the whole
 
 module _ (image : Image) (machine : Machine) (volume : Volume) (config : Config) (span : Span) (time : ℕ) (settled : Bool) (found : Examined) where
-  pub no_map : (fault : InstallFault) → Refuses fault (with_fault NoPlan (plan_at image machine volume span config time)) → RefusesChecks image machine volume config span time settled found fault
-  unfolding plan_checks
+  pub no_map : (fault : InstallFault) → Refuses fault (with_fault NoPlan (plan_at image machine volume span config time)) → RefusesMap image machine volume config span time settled found fault
+  unfolding map_checks
   no_map fault refused = λ names places is. refuses-then fault (with_fault NoPlan (plan_at image machine volume span config time)) _ refused
 
   module _ (plan : MapPlan) (is_map : IsMap image machine volume config span time plan) (forced : Bool) (asked : forced ≡ is_some config.force_backup)
@@ -164,8 +166,8 @@ module _ (image : Image) (machine : Machine) (volume : Volume) (config : Config)
         ap (λ (f : Bool). record { forced = f; unsettled = not settled; sectors = bytes / 512; time = time }) asked
         ∙ ap (λ (n : ℕ). record { forced = is_some config.force_backup; unsettled = not settled; sectors = n; time = time }) count
 
-    pub no_places : (fault : InstallFault) → GivesPlaces image machine volume config found Wish (Err fault) → RefusesChecks image machine volume config span time settled found fault
-    unfolding plan_checks
+    pub no_places : (fault : InstallFault) → GivesPlaces image machine volume config found Wish (Err fault) → RefusesMap image machine volume config span time settled found fault
+    unfolding map_checks
     no_places fault gives = λ names places is.
         let at : RoomWish → Type 0 = λ wish. GivesPlacesOf machine config (room_for volume (parts_of volume image) places names wish) (Err fault) in
         rw is_map.is
@@ -192,17 +194,32 @@ module _ (image : Image) (machine : Machine) (volume : Volume) (config : Config)
       present = present;
     }
     finished room (Err fault) kept device present own gives = λ names places is.
-        subst (λ (f : InstallFault). Refuses f (plan_checks image machine volume config span places names (not settled) time)) (sym device)
-        (stopped faults.Device (plan_checks image machine volume config span places names (not settled) time) tt)
+        subst (λ (f : InstallFault). Refuses f (map_checks image machine volume config span places names (not settled) time)) (sym device)
+        (stopped faults.Device (map_checks image machine volume config span places names (not settled) time) tt)
+
+-- ---- once the devices are apart still
+
+module _ (image : Image) (machine : Machine) (volume : Volume) (config : Config) (boot : Device) (span : Span) (time : ℕ) (settled : Bool) (found : Examined) where
+  pub not_again : (fault : InstallFault) → Refuses fault (devices_again (not settled) image machine volume config boot) → RefusesChecks image machine volume config boot span time settled found fault
+  unfolding plan_checks
+  not_again fault refused = λ names places is.
+      refuses-then fault (devices_again (not settled) image machine volume config boot) (λ a. map_checks image machine volume config span places names (not settled) time) refused
+
+  pub chosen_again : devices_again (not settled) image machine volume config boot ≡ Ok tt → (result : Result Choices InstallFault)
+      → GivesChoices image machine volume config span time settled found result → GivesApartChoices image machine volume config boot span time settled found result
+  unfolding plan_checks
+  chosen_again again (Ok choices) gives = record { devices = again; chosen = gives }
+  chosen_again again (Err fault) gives = λ names places is. rw again (gives names places is)
 
 -- ---- for the names that were surveyed
 
 -- the model's checks pass with what was chosen
-module _ (image : Image) (machine : Machine) (volume : Volume) (config : Config) (span : Span) (time : ℕ) (settled : Bool) (found : Examined) (choices : Choices)
-    (chosen : AreChosen image machine volume config span time settled found choices) (names : model.OwnNames) (places : List DiskSector) (is : IsAsFound image volume places names found) where
-  pub checks-pass : plan_checks image machine volume config span places names (not settled) time ≡ Ok (places_view choices.room)
-  unfolding plan_checks
-  checks-pass = let at = chosen.places names places is in rw (chosen.map.is, at.is, at.check) refl
+module _ (image : Image) (machine : Machine) (volume : Volume) (config : Config) (boot : Device) (span : Span) (time : ℕ) (settled : Bool) (found : Examined) (choices : Choices)
+    (again : devices_again (not settled) image machine volume config boot ≡ Ok tt) (chosen : AreChosen image machine volume config span time settled found choices) (names : model.OwnNames)
+    (places : List DiskSector) (is : IsAsFound image volume places names found) where
+  pub checks-pass : plan_checks image machine volume config boot span places names (not settled) time ≡ Ok (places_view choices.room)
+  unfolding plan_checks map_checks
+  checks-pass = let at = chosen.places names places is in rw (again, chosen.map.is, at.is, at.check) refl
 
 pub plan_of : {D : Type 0} {disks : Ghosts D} (image : Image) (machine : Machine) (s : Surveyed D disks) (known : IsKnown s) (planned : Planned D disks) → IsPlanned image machine s planned
     → planned.own ≡ s.found.own → (names : model.OwnNames) (places : List DiskSector) → AreSurveyed image machine s names places → IsPlanOf image machine s names places planned
@@ -211,13 +228,13 @@ plan_of image machine s known planned is own names places are =
     record {
       map = is.chosen.map.is;
       room = (is.chosen.places names places found).is;
-      passes = checks-pass image machine (volume_view s.volume) (config_view s.config) (span_view s.boot) s.time s.settled s.found
-          (record { plan = planned.plan; room = planned.room; present = planned.present }) is.chosen names places found;
+      passes = checks-pass image machine (volume_view s.volume) (config_view s.config) (device_view s.device) (span_view s.boot) s.time s.settled s.found
+          (record { plan = planned.plan; room = planned.room; present = planned.present }) is.devices is.chosen names places found;
       placed = subst (ArePlaced (volume_view s.volume).layout (parts_of (volume_view s.volume) image) names) (sym own) (surveyed_placed image machine s known names places are);
     }
 
 pub refusal_of : {D : Type 0} {disks : Ghosts D} (image : Image) (machine : Machine) (s : Surveyed D disks) (known : IsKnown s) (fault : InstallFault)
-    → RefusesChecks image machine (volume_view s.volume) (config_view s.config) (span_view s.boot) s.time s.settled s.found fault
+    → RefusesChecks image machine (volume_view s.volume) (config_view s.config) (device_view s.device) (span_view s.boot) s.time s.settled s.found fault
     → (names : model.OwnNames) (places : List DiskSector) → AreSurveyed image machine s names places → Refuses fault (checks_of image machine s names places)
 refusal_of image machine s known fault refuses names places are = refuses names places (surveyed_found image machine s known names places are)
 

@@ -1,5 +1,5 @@
 -- What is planned may be staged, where names are settled.
-use Rattle.std.proofs.Common.{◌≡◌, ◌≤◌, ◌<◌, ◌+◌, ◌*◌, ◌^◌, ℕ, true, false, not, is_some, List, length, Option, None, Some, Ok, refl, sym, ◌∙◌, ap, subst, subst₂, arith}
+use Rattle.std.proofs.Common.{◌≡◌, ◌≤◌, ◌<◌, ◌+◌, ◌*◌, ◌^◌, ℕ, Bool, true, false, not, is_some, List, length, Option, None, Some, Result, Ok, Err, refl, sym, ◌∙◌, ap, subst, subst₂, arith}
 use Rattle.std.specs.Prelude.{All, IfSome}
 use Rattle.std.specs.List.{AllByRecursion}
 use Rattle.disk_trait.specs.declared.disks.Disks.{Ghosts}
@@ -7,7 +7,9 @@ use Rattle.disk_trait.specs.declared.disks.Span as spans
 use Rattle.disk_trait.specs.Moments.{IsTold, now}
 use Rattle.disk_trait.specs.Past.{Past, Told}
 use Rattle.disk_trait.proofs.MomentLemmas.{told_now}
+use Rattle.lilo_model.specs.Checks.{with_fault}
 use Rattle.lilo_model.specs.ConfLawful.{IsLawful}
+use Rattle.lilo_model.specs.ConfOptions.{Opt}
 use Rattle.lilo_model.specs.Disks.{Image, Machine, DiskSector}
 use Rattle.lilo_model.specs.Mapped.{mapped_sectors}
 use Rattle.lilo_model.specs.MinixEntries.{is_dots}
@@ -22,6 +24,8 @@ use Rattle.lilo_conf.specs.View.{config_view}
 use Rattle.lilo_conf.specs.declared.config.Config as configs
 use Rattle.map_laws.specs.Accepted.{AreSmall, HasVolume, IsAccepted, IsInside}
 use Rattle.map_sectors.specs.Map.{plan_view}
+use Rattle.mbr_table.specs.View.{device_view}
+use Rattle.mbr_table.specs.declared.device.Device as devices
 use Rattle.map_sectors.proofs.SmallLemmas.{plan_small}
 use Rattle.minix_bits.proofs.BitmapLemmas.{fits}
 use Rattle.minix_create.specs.Chosen.{Suits, new_inode}
@@ -34,12 +38,13 @@ use Rattle.minix_zones.specs.View.{span_view}
 use Rattle.minix_zones.specs.Volume.{volume_view, past_of, SameVolume}
 use Rattle.minix_zones.proofs.SameLemmas.{same_view}
 use Rattle.sector_address.specs.Machine.{machine_of}
+use Rattle.install_apart.specs.Apart.{device_checks}
 use Rattle.install_apart.specs.Own.{AreInside, AreOwnTwins, IsBackupNamed}
 use Rattle.install_apart.specs.declared.own.OwnNames.{OwnNames}
 use Rattle.install_apart.specs.declared.name.NamePair.{NamePair}
 use Rattle.install_backup.specs.Stages.{HasOtherName, MayReplace}
 use Rattle.install_begin_laws.specs.Laws.{IsNoneOfMap}
-use Rattle.install_laws.specs.InstallVerdict.{last_name, made_backup, sectors_of_blocks}
+use Rattle.install_laws.specs.InstallVerdict.{NotApart, last_name, made_backup, sectors_of_blocks}
 use Rattle.install_made_laws.specs.Within.{AreDataZones, AreFreeZones, IsFreeFile, is_chosen}
 use Rattle.install_made_laws.proofs.Within.{free_promised, zones_data}
 use Rattle.install_room.specs.Making.{LieNow, MayMakeBackup, MayMakeRoom}
@@ -52,7 +57,7 @@ use Rattle.install_stage.specs.MapFile.{IsMapRoom}
 use Rattle.install_stage.specs.Stages.{MayStageRoom}
 use Rattle.install_stage_laws.specs.Staged.{AreFree}
 use Rattle.install_order.specs.Answers.{IsKnown, begun_in}
-use Rattle.install_order.specs.Plans.{ArePlaced, AreSurveyed, IsBackupPlaced, IsPlanned, IsPlannedFor}
+use Rattle.install_order.specs.Plans.{ArePlaced, AreSurveyed, IsBackupPlaced, IsPlanned, IsPlannedFor, devices_again}
 use Rattle.install_order.specs.Stageable.{AreWhole, HasFiles, IsReady, IsWishedRoom, LieWhereSound, MayStage, MayStageNow, MayTakeMap, path_made, room_zones, wish_for}
 use Rattle.install_order.specs.declared.planned.Planned.{Planned}
 use Rattle.install_order.specs.declared.surveyed.Surveyed.{Surveyed}
@@ -61,6 +66,11 @@ use Rattle.install_order.proofs.DeviceLemmas.{device_inside}
 use Rattle.install_order.proofs.NamedLemmas.{AreHere, known_surveyed, none_of_map, surveyed_found, surveyed_here, surveyed_placed}
 use Rattle.install_order.proofs.PlanLemmas.{sound_now}
 use Rattle.install_order.proofs.StageLemmas.{regular, whole-file, backup_file, backup_whole, backup_directory, each-backup, no-directory, zone_below, all_inside, places_of_file, room_avoids, room_zones_free, made_apart, other_names, staged_backup, plan_is, plan_again}
+
+-- a check that passes with another refusal passes
+apart-again : (given : Result (Unit {0}) Opt) → with_fault NotApart given ≡ Ok tt → given ≡ Ok tt
+apart-again (Ok done) is = refl
+apart-again (Err opt) is = cc
 
 -- ---- the files
 
@@ -265,8 +275,19 @@ module _ {D : Type 0} {disks : Ghosts D} (s : Surveyed D disks) (planned' : Plan
           own = is.chosen.own.check;
         }
 
+    -- its devices are apart
+    devices-apart : s.settled ≡ true → device_checks Is On View (config_view planned'.plan.config) (device_view planned'.device) ≡ Ok tt
+    devices-apart settled =
+        let again : devices_again false Is On (volume_view s.volume) (config_view s.config) (device_view s.device) ≡ Ok tt =
+        subst (λ (b : Bool). devices_again (not b) Is On (volume_view s.volume) (config_view s.config) (device_view s.device) ≡ Ok tt) settled is.devices in
+        subst (λ (v : Volume). device_checks Is On v (config_view planned'.plan.config) (device_view planned'.device) ≡ Ok tt) (sym view-is)
+        (subst (λ (c : configs.Config). device_checks Is On (volume_view s.volume) (config_view c) (device_view planned'.device) ≡ Ok tt) (sym held.config_is)
+        (subst (λ (d : devices.Device). device_checks Is On (volume_view s.volume) (config_view s.config) (device_view d) ≡ Ok tt) (sym held.device_is)
+        (apart-again (device_checks Is On (volume_view s.volume) (config_view s.config) (device_view s.device)) again)))
+
     pub may_stage : s.settled ≡ true → MayStage Is On names places planned'
     may_stage settled = record {
+      devices = devices-apart settled;
       makes = subst (λ (c : configs.Config). MayMakeRoom planned'.volume names (is_some c.force_backup) planned'.room) (sym held.config_is) (makes settled);
       whole = whole;
       plan_is = planned-is;

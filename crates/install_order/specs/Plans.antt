@@ -1,9 +1,10 @@
 -- What an installation plans, by the first of the model's checks (this project's own).
-use Rattle.std.specs.Prelude.{◌≡◌, ℕ, Bool, not, is_some, List, length, All, Option, None, Some, Result, Ok, Err}
+use Rattle.std.specs.Prelude.{◌≡◌, ℕ, Bool, true, false, not, is_some, List, length, All, Option, None, Some, Result, Ok, Err}
 use Rattle.disk_trait.specs.declared.disks.Disks.{Ghosts}
 use Rattle.disk_trait.specs.Moments.{IsTold, now}
 use Rattle.lilo_model.specs.Checks.{◌>>=◌, with_fault}
 use Rattle.lilo_model.specs.Conf.{Config}
+use Rattle.lilo_model.specs.Devices.{Device}
 use Rattle.lilo_model.specs.Disks.{Image, Machine, Span, DiskSector}
 use Rattle.lilo_model.specs.MinixLayout.{Super}
 use Rattle.lilo_model.specs.MinixParts.{Parts, Volume, parts_of}
@@ -17,15 +18,17 @@ use Rattle.map_sectors.specs.Accepted.{IsFor}
 use Rattle.map_sectors.specs.Map.{plan_view}
 use Rattle.map_sectors.specs.Places.{AreOwnPlaces}
 use Rattle.map_sectors.specs.declared.map.MapPlan.{MapPlan}
+use Rattle.mbr_table.specs.View.{device_view}
 use Rattle.minix_names.specs.Places.{IsPlace}
 use Rattle.minix_zones.specs.View.{span_view}
 use Rattle.minix_zones.specs.Volume.{volume_view, past_of}
 use Rattle.minix_zones.specs.declared.volume.Volume as volumes
 use Rattle.sector_address.specs.Machine.{machine_of}
 use Rattle.write_model.specs.Wish as rooms
+use Rattle.install_apart.specs.Apart.{device_checks}
 use Rattle.install_apart.specs.declared.name.NamePair.{NamePair}
 use Rattle.install_apart.specs.declared.own.OwnNames.{OwnNames}
-use Rattle.install_laws.specs.InstallVerdict.{Begun, InstallRefusal, NoPlan, NoRoom}
+use Rattle.install_laws.specs.InstallVerdict.{Begun, InstallRefusal, NoPlan, NoRoom, NotApart}
 use Rattle.install_room.specs.Names.{AreNamesOf}
 use Rattle.install_room.specs.Room.{KeepsOut, room_for, places_view}
 use Rattle.install_room.specs.declared.room.Room.{Room}
@@ -51,13 +54,25 @@ wish_of machine config unsettled time plan = record {
   time = time;
 }
 
--- the checks of an installation from the plan on, where a boot of the present map may look at some places
-unfoldable pub plan_checks : Image → Machine → Volume → Config → Span → List DiskSector → model.OwnNames → Bool → ℕ → Result (List DiskSector) InstallRefusal
-plan_checks image machine volume config span places names unsettled time = do
+-- the checks of a map and its room, where a boot of the present map may look at some places
+unfoldable pub map_checks : Image → Machine → Volume → Config → Span → List DiskSector → model.OwnNames → Bool → ℕ → Result (List DiskSector) InstallRefusal
+map_checks image machine volume config span places names unsettled time = do
   plan ← with_fault NoPlan (plan_at image machine volume span config time)
   room ← with_fault NoRoom (room_for volume (parts_of volume image) places names (wish_of machine config unsettled time plan))
   c ← with_fault NoPlan (own_places_check config machine room)
   Ok room
+
+-- Once names are settled, the devices of a configuration are apart still: a table by which one of them is found may lie in a sector of the
+-- volume that settling wrote.
+abbrev pub devices_again : Bool → Image → Machine → Volume → Config → Device → Result (Unit {0}) InstallRefusal
+devices_again true image machine volume config boot = Ok tt
+devices_again false image machine volume config boot = with_fault NotApart (device_checks image machine volume config boot)
+
+-- the checks of an installation from there on
+unfoldable pub plan_checks : Image → Machine → Volume → Config → Device → Span → List DiskSector → model.OwnNames → Bool → ℕ → Result (List DiskSector) InstallRefusal
+plan_checks image machine volume config boot span places names unsettled time = do
+  a ← devices_again unsettled image machine volume config boot
+  map_checks image machine volume config span places names unsettled time
 
 -- a boot may look at these places, and these are the names, as they were found
 pub record IsAsFound (image : Image) (volume : Volume) (places : List DiskSector) (names : model.OwnNames) (found : Examined) : Type 0 where
@@ -123,18 +138,42 @@ pub record AreChosen (image : Image) (machine : Machine) (volume : Volume) (conf
       (wish_of machine config (not settled) time (plan_view choices.plan))) choices.room
   pub present : choices.present ≡ image span.disk span.start
 
-abbrev pub RefusesChecks : Image → Machine → Volume → Config → Span → ℕ → Bool → Examined → InstallFault → Type 0
-RefusesChecks image machine volume config span time settled found fault =
+abbrev pub RefusesMap : Image → Machine → Volume → Config → Span → ℕ → Bool → Examined → InstallFault → Type 0
+RefusesMap image machine volume config span time settled found fault =
     (names : model.OwnNames) (places : List DiskSector) → IsAsFound image volume places names found
-    → Refuses fault (plan_checks image machine volume config span places names (not settled) time)
+    → Refuses fault (map_checks image machine volume config span places names (not settled) time)
 
 abbrev pub GivesChoices : Image → Machine → Volume → Config → Span → ℕ → Bool → Examined → Result Choices InstallFault → Type 0
 GivesChoices image machine volume config span time settled found (Ok choices) = AreChosen image machine volume config span time settled found choices
-GivesChoices image machine volume config span time settled found (Err fault) = RefusesChecks image machine volume config span time settled found fault
+GivesChoices image machine volume config span time settled found (Err fault) = RefusesMap image machine volume config span time settled found fault
+
+-- so it is chosen where the devices are apart still
+pub record AreChosenApart (image : Image) (machine : Machine) (volume : Volume) (config : Config) (boot : Device) (span : Span) (time : ℕ)
+    (settled : Bool) (found : Examined) (choices : Choices) : Type 0 where
+  pub devices : devices_again (not settled) image machine volume config boot ≡ Ok tt
+  pub chosen : AreChosen image machine volume config span time settled found choices
+
+abbrev pub RefusesChecks : Image → Machine → Volume → Config → Device → Span → ℕ → Bool → Examined → InstallFault → Type 0
+RefusesChecks image machine volume config boot span time settled found fault =
+    (names : model.OwnNames) (places : List DiskSector) → IsAsFound image volume places names found
+    → Refuses fault (plan_checks image machine volume config boot span places names (not settled) time)
+
+abbrev pub GivesApartChoices : Image → Machine → Volume → Config → Device → Span → ℕ → Bool → Examined → Result Choices InstallFault → Type 0
+GivesApartChoices image machine volume config boot span time settled found (Ok choices) =
+    AreChosenApart image machine volume config boot span time settled found choices
+GivesApartChoices image machine volume config boot span time settled found (Err fault) =
+    RefusesChecks image machine volume config boot span time settled found fault
+
+-- the devices are apart still, or the first that isn't refuses it
+abbrev pub GivesAgain : Image → Machine → Volume → Config → Device → Bool → Result (Unit {0}) InstallFault → Type 0
+GivesAgain image machine volume config boot settled (Ok done) = devices_again (not settled) image machine volume config boot ≡ Ok tt
+GivesAgain image machine volume config boot settled (Err fault) = Refuses fault (devices_again (not settled) image machine volume config boot)
 
 -- so for what was surveyed
 pub record IsPlanned {D : Type 0} {disks : Ghosts D} (image : Image) (machine : Machine) (surveyed : Surveyed D disks)
     (planned : Planned D disks) : Type 0 where
+  pub devices : devices_again (not surveyed.settled) image machine (volume_view surveyed.volume) (config_view surveyed.config)
+      (device_view surveyed.device) ≡ Ok tt
   pub chosen : AreChosen image machine (volume_view surveyed.volume) (config_view surveyed.config)
       (span_view surveyed.boot) surveyed.time surveyed.settled surveyed.found
       (record { plan = planned.plan; room = planned.room; present = planned.present })
@@ -142,7 +181,7 @@ pub record IsPlanned {D : Type 0} {disks : Ghosts D} (image : Image) (machine : 
 abbrev pub GivesPlanned : {D : Type 0} {disks : Ghosts D} → Image → Machine → Surveyed D disks → Result (Planned D disks) (Halt D disks) → Type 0
 GivesPlanned image machine surveyed (Ok planned) = IsPlanned image machine surveyed planned
 GivesPlanned image machine surveyed (Err halt) =
-    RefusesChecks image machine (volume_view surveyed.volume) (config_view surveyed.config)
+    RefusesChecks image machine (volume_view surveyed.volume) (config_view surveyed.config) (device_view surveyed.device)
     (span_view surveyed.boot) surveyed.time surveyed.settled surveyed.found halt.fault
 
 -- the volume that is held, or handed back
@@ -195,8 +234,8 @@ pub record ArePlaced (super : Super) (parts : Parts) (names : model.OwnNames) (o
 abbrev pub checks_of : {D : Type 0} {disks : Ghosts D} → Image → Machine → Surveyed D disks → model.OwnNames → List DiskSector
     → Result (List DiskSector) InstallRefusal
 checks_of image machine surveyed names places =
-    plan_checks image machine (volume_view surveyed.volume) (config_view surveyed.config) (span_view surveyed.boot) places names
-    (not surveyed.settled) surveyed.time
+    plan_checks image machine (volume_view surveyed.volume) (config_view surveyed.config) (device_view surveyed.device)
+    (span_view surveyed.boot) places names (not surveyed.settled) surveyed.time
 
 -- they pass: the plan and the places of its room are the model's, and each name is in its directory still
 pub record IsPlanOf {D : Type 0} {disks : Ghosts D} (image : Image) (machine : Machine) (surveyed : Surveyed D disks) (names : model.OwnNames)

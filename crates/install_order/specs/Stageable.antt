@@ -12,6 +12,7 @@ use Rattle.lilo_model.specs.Planned.{planned}
 use Rattle.lilo_model.specs.Settled as model
 use Rattle.lilo_conf.specs.View.{config_view}
 use Rattle.map_laws.specs.Accepted.{IsAccepted}
+use Rattle.mbr_table.specs.View.{device_view}
 use Rattle.map_sectors.specs.Map.{plan_view}
 use Rattle.minix_create.specs.Chosen.{new_inode}
 use Rattle.minix_create.specs.declared.chosen.Chosen.{Chosen}
@@ -24,6 +25,7 @@ use Rattle.minix_zones.specs.View.{span_view}
 use Rattle.minix_zones.specs.Volume.{volume_view, past_of}
 use Rattle.minix_zones.specs.declared.volume.Volume as volumes
 use Rattle.sector_address.specs.Machine.{machine_of}
+use Rattle.install_apart.specs.Apart.{device_checks}
 use Rattle.install_apart.specs.Own.{AreInside, AreOwnTwins, IsBackupNamed}
 use Rattle.install_apart.specs.declared.name.NamePair.{NamePair}
 use Rattle.install_apart.specs.declared.name.OwnName.{OwnName}
@@ -146,6 +148,8 @@ pub record MayTakeMap (super : Super) (parts : Parts) (path : List (List ℕ)) (
 -- In an image a plan may be staged, for names that are replaced and places that a boot of the map that was there may look at.
 pub record MayStage {D : Type 0} {disks : Ghosts D} (image : Image) (machine : Machine) (names : model.OwnNames) (places : List DiskSector)
     (plan : Planned D disks) : Type 0 where
+  -- the devices of its configuration are apart from the volume
+  pub devices : device_checks image machine (volume_view plan.volume) (config_view plan.plan.config) (device_view plan.device) ≡ Ok tt
   -- its files may be made, each by its name
   pub makes : MayMakeRoom plan.volume names (is_some plan.plan.config.force_backup) plan.room
   pub whole : AreWhole plan.room

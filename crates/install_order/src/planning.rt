@@ -21,6 +21,7 @@ ghost use Rattle.lilo_model.specs.MinixNames.{IsSound};
 ghost use Rattle.lilo_model.specs.PlanRefusal.{own_places_check};
 ghost use Rattle.lilo_model.specs.Settled as model;
 ghost use Rattle.lilo_conf.specs.View.{config_view};
+ghost use Rattle.mbr_table.specs.View.{device_view};
 ghost use Rattle.minix_layout.specs.View.{kind_view};
 ghost use Rattle.minix_zones.specs.View.{span_view};
 ghost use Rattle.minix_zones.specs.Volume.{volume_view, past_of, sizes_of, geometries_of, faults_of, SameVolume};
@@ -40,7 +41,9 @@ ghost use Rattle.install_order.specs.Plans.{
   GivesRoom,
   GivesChecked,
   GivesPlaces,
+  GivesAgain,
   GivesChoices,
+  GivesApartChoices,
   IsOfPlan,
   GivesPlanned,
   GivesPlanOf,
@@ -52,15 +55,16 @@ ghost use Rattle.install_order.specs.Stageable.{GivesStage, IsReady, IsWishedRoo
 
 use crate::directories::look_at_names;
 use crate::examination::Examined;
-use crate::fault::{InstallFault, plan_refusal, write_refusal};
+use crate::fault::{InstallFault, apart_refusal, plan_refusal, write_refusal};
 use crate::halt::Halt;
 use crate::planned::Planned;
 use crate::surveyed::Surveyed;
 use disk_trait::{Disks, Phase, Span};
-use install_apart::OwnNames;
+use install_apart::{OwnNames, check_devices};
 use install_room::{Room, RoomWish, find_room};
 use lilo_conf::Config;
 use map_sectors::{MapPlan, plan};
+use mbr_table::Device;
 use minix_layout::FsKind;
 use minix_write::WriteFault;
 use minix_zones::Volume;
@@ -356,13 +360,80 @@ fn choose<D: Disks>(
     choose_for(alloc, volume, plan, boot, time, found, forced, settled)
 }
 
+// Once names are settled, whether the devices of a configuration are apart still: a table by which one of them is found
+// may lie in a sector of the volume that settling wrote.
+fn check_again<D: Disks>(
+    volume: &mut Volume<'_, D>,
+    config: &Config,
+    device: Device,
+    settled: bool,
+) -> Result<(), InstallFault>
+    ensures again { OnDisks D.Disks volume.old.disks.now (λ image machine.
+        GivesAgain image machine (volume_view volume.old) (config_view config.now) (device_view device) settled result) }
+    ensures cause { IfErr result (HasInstallCause (faults_of volume.old) (faults_of volume.new)) }
+    ensures later { faults_of volume.old ≤ faults_of volume.new }
+    ensures same { SameVolume volume.old volume.new }
+{
+    if !settled {
+        return Ok(());
+    }
+    match check_devices(volume, config, device) {
+        Ok(()) => Ok(()),
+        Err(fault) => Err(apart_refusal(fault)),
+    }
+}
+
+// Gives the memory of a configuration back.
+fn let_config_go(_config: Config) {}
+
+// What is planned, once the devices are known to be apart still.
+fn choose_apart<D: Disks>(
+    alloc: Global,
+    volume: &mut Volume<'_, D>,
+    config: Config,
+    device: Device,
+    boot: Span,
+    time: u32,
+    found: &Examined,
+    settled: bool,
+) -> Result<Choices, InstallFault>
+    requires lawful { IsLawful (config_view config) }
+    requires on_disk { boot.start < sizes_of volume.old boot.disk }
+    requires inside { AreInside volume.old.layout found.now.own }
+    requires called { AreCalled found.now.own }
+    requires twins { AreOwnTwins found.now.own }
+    ensures found { OnDisks D.Disks volume.old.disks.now (λ image machine. IsSound (volume_view volume.old) image
+        → GivesApartChoices image machine (volume_view volume.old) (config_view config) (device_view device)
+        (span_view boot) time settled found.now result) }
+    ensures suits { IfOk result (λ choices. SuitRoom volume.old.layout volume.old.span choices.room) }
+    ensures disk { IfOk result (λ choices.
+        All (λ place. place.disk ≡ choices.plan.disk) choices.room.places.items) }
+    ensures config { IfOk result (λ choices. choices.plan.config ≡ config) }
+    ensures volume_disk { IfOk result (λ choices. choices.plan.disk ≡ volume.old.span.disk) }
+    ensures wished { IfOk result (λ choices. IsWishedRoom volume.new found.now
+        (wish_for (is_some config.force_backup) (not settled) time choices.room) choices.room) }
+    ensures lie { OnOk result (LieWhereSound volume.new found.now.own) }
+    ensures cause { IfErr result (HasInstallCause (faults_of volume.old) (faults_of volume.new)) }
+    ensures later { faults_of volume.old ≤ faults_of volume.new }
+    ensures same { SameVolume volume.old volume.new }
+{
+    match check_again(volume, &config, device, settled) {
+        Ok(()) => choose(alloc, volume, config, boot, time, found, settled),
+        Err(fault) => {
+            let_config_go(config);
+            Err(fault)
+        }
+    }
+}
+
 impl<'d, D: Disks> Surveyed<'d, D> {
     /// Plans the map of the configuration and finds the room for it and for a backup of the boot sector, where one is
-    /// made: every choice is made, and all memory is taken. Nothing is written.
+    /// made: every choice is made, and all memory is taken. Nothing is written. Where names are settled, a device may lie
+    /// elsewhere than it lay, if a table by which it is found lies in the volume: then it must be apart still.
     ///
     /// # Errors
     ///
-    /// `Plan` of files and devices, of what they hold and of their addresses, then `Write` of the room, then `Plan` of
+    /// `NotApart` with the first option whose device isn't, where names are settled; `Plan` of files and devices, of what they hold and of their addresses, then `Write` of the room, then `Plan` of
     /// the addresses of the map's own sectors; `Device` and `Memory`. The phase is `Before`.
     pub fn plan(self, alloc: Global) -> Result<Planned<'d, D>, Halt<'d, D>>
         requires known { IsKnown self }
@@ -402,7 +473,16 @@ impl<'d, D: Disks> Surveyed<'d, D> {
             settled,
         } = self;
         let mut volume = volume;
-        match choose(alloc, &mut volume, config, boot, time, &found, settled) {
+        match choose_apart(
+            alloc,
+            &mut volume,
+            config,
+            device,
+            boot,
+            time,
+            &found,
+            settled,
+        ) {
             Ok(choices) => {
                 let present = choices.present;
                 Ok(Planned {

@@ -23,7 +23,7 @@ use Rattle.old_map.specs.Clear.{clear_answer}
 use Rattle.install_laws.specs.InstallVerdict.{Answer, Begun, InstallRefusal, NotSound, NotApart, BadName, NoLink, NoPlan, NoRoom, answer_of, install_checks, is_clear, may_settle, skipped_path, test_room}
 use Rattle.install_order.specs.Checks.{IsExamined, begin_checks}
 use Rattle.install_order.specs.Faults.{Refuses}
-use Rattle.install_order.specs.Plans.{plan_checks, wish_of}
+use Rattle.install_order.specs.Plans.{map_checks, plan_checks, wish_of}
 use Rattle.install_order.specs.declared.examination.Examined.{Examined}
 use Rattle.install_order.specs.declared.fault.InstallFault.{InstallFault}
 use Rattle.install_order.proofs.RefuseLemmas.{stopped}
@@ -114,10 +114,10 @@ module _ (image : Image) (machine : Machine) (begun : Begun) (time : ℕ) where
     rest-is = all-is ∙ rw (ex.surveyed, ex.apart, ex.are, ex.may) refl
 
     abbrev Checks : Result (List DiskSector) InstallRefusal
-    Checks = plan_checks image machine begun.volume begun.config begun.span (mapped_sectors image machine begun.span) ex.names true time
+    Checks = plan_checks image machine begun.volume begun.config begun.boot begun.span (mapped_sectors image machine begun.span) ex.names true time
 
     pub plan_refused : (fault : InstallFault) → Refuses fault Checks → Refuses fault (preview_answer image machine begun time)
-    unfolding plan_checks test_room
+    unfolding plan_checks map_checks test_room
     plan_refused fault is =
         rw rest-is
         (later_refuses fault (with_fault NoPlan (plan_at image machine begun.volume begun.span begun.config time))
@@ -132,7 +132,7 @@ module _ (image : Image) (machine : Machine) (begun : Begun) (time : ℕ) where
     pub plan_passes : (plan : Plan) (places : List DiskSector) → plan_at image machine begun.volume begun.span begun.config time ≡ Ok plan
         → room_for begun.volume (parts_of begun.volume image) (mapped_sectors image machine begun.span) ex.names (wish_of machine begun.config true time plan) ≡ Ok places
         → Checks ≡ Ok places → preview_answer image machine begun time ≡ Ok (answer_of image machine begun ex.met plan)
-    unfolding plan_checks test_room
+    unfolding plan_checks map_checks test_room
     plan_passes plan places map room passes =
         let own : own_places_check begun.config machine places ≡ Ok tt = own-of places (own_places_check begun.config machine places) (rw (map, room) at passes) in
         rest-is ∙ rw (map, room, own) refl

@@ -57,8 +57,8 @@ module _ {D : Type 0} {disks : Ghosts D} (s : Surveyed D disks) (off : s.settled
     keeps = ex.old.zones;
   }
 
-  checks-on : (settled : Bool) → settled ≡ false → plan_checks Now Here (volume_view s.volume) (config_view s.config) (span_view s.boot) Places ex.names (not settled) s.time
-      ≡ plan_checks Now Here (volume_view s.volume) (config_view s.config) (span_view s.boot) Places ex.names true s.time
+  checks-on : (settled : Bool) → settled ≡ false → plan_checks Now Here (volume_view s.volume) (config_view s.config) (device_view s.device) (span_view s.boot) Places ex.names (not settled) s.time
+      ≡ plan_checks Now Here (volume_view s.volume) (config_view s.config) (device_view s.device) (span_view s.boot) Places ex.names true s.time
   checks-on settled is = rw is refl
 
   room-on : (settled : Bool) → settled ≡ false → (plan : Plan) (given : Result (List DiskSector) rooms.Refusal)

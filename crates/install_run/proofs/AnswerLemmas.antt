@@ -17,10 +17,11 @@ use Rattle.lilo_model.specs.PlanRefusal.{plan_at, own_places_check}
 use Rattle.lilo_model.specs.Settled as model
 use Rattle.lilo_model.specs.Settled.{is_foreign, own_names}
 use Rattle.map_plan.specs.Skipped as skips
+use Rattle.install_apart.specs.Apart.{device_checks}
 use Rattle.install_laws.specs.InstallVerdict.{Answer, Begun, InstallRefusal, NotSound, NotApart, BadName, NoLink, NoPlan, NoRoom, install_room, is_clear, may_settle}
 use Rattle.install_order.specs.Checks.{IsExamined, begin_checks}
 use Rattle.install_order.specs.Faults.{Refuses}
-use Rattle.install_order.specs.Plans.{plan_checks, wish_of}
+use Rattle.install_order.specs.Plans.{map_checks, plan_checks, wish_of}
 use Rattle.install_order.specs.declared.examination.Examined.{Examined}
 use Rattle.install_order.specs.declared.fault.InstallFault.{InstallFault}
 use Rattle.install_room.specs.Room.{room_for}
@@ -41,14 +42,32 @@ first_pass {R} (Ok met) (Ok apart) (Ok names) may more answer is refused = by (m
     by (Err why) passes refuses = cc
     by (Ok done) passes refuses = let is : false ≡ true = refuses in false≢true is
 
+-- a check that comes first refuses all, and else what refuses the others does
+again_refuses : {A B : Type 0} (fault : InstallFault) (first : Result (Unit {0}) InstallRefusal) (one : Unit {0} → Result A InstallRefusal) (other : Unit {0} → Result B InstallRefusal)
+    → Refuses fault (first >>= one) → (Refuses fault (one tt) → Refuses fault (other tt)) → Refuses fault (first >>= other)
+again_refuses fault (Ok done) one other is later = later is
+again_refuses fault (Err why) one other is later = is
+
+again_passes : {A : Type 0} (first : Result (Unit {0}) InstallRefusal) (next : Unit {0} → Result A InstallRefusal) (value : A) → (first >>= next) ≡ Ok value
+    → (first ≡ Ok tt) × (next tt ≡ Ok value)
+again_passes (Ok done) next value is = (refl, is)
+again_passes (Err why) next value is = cc
+
 module _ (image : Image) (machine : Machine) (settled : Image) (begun : Begun) (time : ℕ) where
   -- the checks from the plan on
-  abbrev pub Rest : List Met → model.OwnNames → Result Answer InstallRefusal
-  Rest met names =
+  abbrev pub Planned : List Met → model.OwnNames → Result Answer InstallRefusal
+  Planned met names =
       with_fault NoPlan (plan_at settled machine begun.volume begun.span begun.config time)
       >>= λ plan. with_fault NoRoom (install_room image machine settled time begun names plan)
       >>= λ places. with_fault NoPlan (own_places_check begun.config machine places)
       >>= λ c. Ok (settled_report image machine settled begun met plan)
+
+  -- those after settling
+  abbrev pub Again : Result (Unit {0}) InstallRefusal
+  Again = with_fault NotApart (device_checks settled machine begun.volume begun.config begun.boot)
+
+  abbrev pub Rest : List Met → model.OwnNames → Result Answer InstallRefusal
+  Rest met names = Again >>= λ a. Planned met names
 
   abbrev pub First : Result Answer InstallRefusal
   First =
@@ -89,17 +108,19 @@ module _ (image : Image) (machine : Machine) (settled : Image) (begun : Begun) (
     rest-is = all-is ∙ rw (ex.surveyed, ex.apart, ex.are, ex.may) refl
 
     abbrev Checks : Result (List DiskSector) InstallRefusal
-    Checks = plan_checks settled machine begun.volume begun.config begun.span (mapped_sectors image machine begun.span) ex.names false time
+    Checks = plan_checks settled machine begun.volume begun.config begun.boot begun.span (mapped_sectors image machine begun.span) ex.names false time
 
     -- what refuses a plan does
     pub plan_refused : (fault : InstallFault) → Refuses fault Checks → Refuses fault (settled_answer image machine settled begun time)
-    unfolding plan_checks install_room
+    unfolding plan_checks map_checks install_room
     plan_refused fault is =
         rw rest-is
+        (again_refuses fault Again (λ a. map_checks settled machine begun.volume begun.config begun.span (mapped_sectors image machine begun.span) ex.names false time)
+        (λ a. Planned ex.met ex.names) is
         (later_refuses fault (with_fault NoPlan (plan_at settled machine begun.volume begun.span begun.config time))
         (λ plan. with_fault NoRoom (room_for begun.volume (parts_of begun.volume settled) (mapped_sectors image machine begun.span) ex.names (wish_of machine begun.config false time plan)))
         (λ places. with_fault NoPlan (own_places_check begun.config machine places))
-        (settled_report image machine settled begun ex.met) is)
+        (settled_report image machine settled begun ex.met)))
 
     own-of : (places : List DiskSector) (given : Result (Unit {0}) plans.PlanFault) → (with_fault NoPlan given >>= λ c. Ok places) ≡ Ok places → given ≡ Ok tt
     own-of places (Ok done) is = refl
@@ -109,10 +130,11 @@ module _ (image : Image) (machine : Machine) (settled : Image) (begun : Begun) (
     pub plan_passes : (plan : Plan) (places : List DiskSector) → plan_at settled machine begun.volume begun.span begun.config time ≡ Ok plan
         → room_for begun.volume (parts_of begun.volume settled) (mapped_sectors image machine begun.span) ex.names (wish_of machine begun.config false time plan) ≡ Ok places
         → Checks ≡ Ok places → settled_answer image machine settled begun time ≡ Ok (settled_report image machine settled begun ex.met plan)
-    unfolding plan_checks install_room
+    unfolding plan_checks map_checks install_room
     plan_passes plan places map room passes =
-        let own : own_places_check begun.config machine places ≡ Ok tt = own-of places (own_places_check begun.config machine places) (rw (map, room) at passes) in
-        rest-is ∙ rw (map, room, own) refl
+        let both = again_passes Again (λ a. map_checks settled machine begun.volume begun.config begun.span (mapped_sectors image machine begun.span) ex.names false time) places passes in
+        let own : own_places_check begun.config machine places ≡ Ok tt = own-of places (own_places_check begun.config machine places) (rw (map, room) at both.1) in
+        rest-is ∙ rw (both.0, map, room, own) refl
 
     pub report_is : (plan : Plan) (skipped : List (List ℕ)) (clear : Option Bool) → plan.config ≡ begun.config → skipped ≡ skips.skipped_paths settled machine begun.volume begun.config.sections
         → clear ≡ found.clear

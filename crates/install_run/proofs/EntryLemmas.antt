@@ -17,6 +17,7 @@ use Rattle.lilo_model.specs.PlanRefusal.{plan_at, own_places_check}
 use Rattle.lilo_model.specs.Settled as model
 use Rattle.lilo_model.specs.Settled.{is_foreign, own_names}
 use Rattle.install_apart_laws.specs.Plans.{MapsAsIn}
+use Rattle.install_apart_laws.proofs.Stays.{kept_devices_law}
 use Rattle.install_apart_laws.proofs.Surveyed.{begun_plans_law}
 use Rattle.install_laws.specs.InstallVerdict.{Answer, Begun, InstallRefusal, NotSound, NotApart, BadName, NoLink, NoPlan, NoRoom, answer_of, install_checks, install_room, may_settle, skipped_path}
 use Rattle.install_order.specs.Begins.{IsBegun}
@@ -78,7 +79,7 @@ module _ (image : Image) (machine : Machine) (settled : Image) (begun : Begun) (
 
     rest-same : (met : List Met) (names : model.OwnNames) → Rest image machine settled begun time met names ≡ EntryRest met names
     rest-same met names =
-        rw both.0
+        rw (kept_devices_law image settled machine begun.volume begun.config begun.boot steady.devices apart, both.0)
         (report_same (with_fault NoPlan (plan_at image machine begun.volume begun.span begun.config time))
         (λ plan. with_fault NoRoom (install_room image machine settled time begun names plan)) (λ places. with_fault NoPlan (own_places_check begun.config machine places))
         (settled_report image machine settled begun met) (answer_of image machine begun met) (reported met))

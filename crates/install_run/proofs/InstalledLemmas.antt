@@ -42,7 +42,6 @@ use Rattle.install_answers.proofs.StatusLemmas.{of_status}
 use Rattle.install_laws.specs.Headline.{Means}
 use Rattle.install_laws.specs.InstallVerdict.{Answer, Begun, InstallRefusal, answer_text, verdict_by}
 use Rattle.install_laws.specs.Stopped.{BootsAsEither, StaysAsBefore}
-use Rattle.install_apart_laws.specs.Laws.{KeepsDevices}
 use Rattle.install_order.specs.Begins.{AreOwn, HasNothingLeft, LiesThere}
 use Rattle.install_order.specs.Faults.{HasInstallCause, IsStopped, Refuses}
 use Rattle.install_order.specs.States.{HaltsCommit, IsCommitted, TidiesFrom}
@@ -75,12 +74,11 @@ use Rattle.install_join_laws.proofs.Prepared.{staging_stops_law}
 use Rattle.install_run.specs.Answers.{AnswersInstall, Answered, GivesInstall, LostEarly, LostLater, Starved, StaysUnbegun, IsDiskFault, IsSettledFrom, is_install_status, settled_answer}
 use Rattle.install_room.specs.Room.{places_view}
 use Rattle.map_sectors.specs.Map.{plan_view}
-use Rattle.install_run.specs.Keeps.{DevicesStay, HasInstalled, IsBefore, IsDone, KeepsMost, KeepsWith, new_map}
+use Rattle.install_run.specs.Keeps.{HasInstalled, IsBefore, IsDone, KeepsMost, KeepsWith, new_map}
 use Rattle.install_run.specs.Installs.{IsInstalled, Installs, InstallsBegun, LaysAsPlanned, Leaves, NoVolume, Passes, VolumeLost, meant_by}
 use Rattle.install_run.proofs.AnswerLemmas.{passes_begun}
 use Rattle.install_run.specs.Steps.{Finishes, FinishedEarly, FinishedWhole, HaltedCommit, HaltedStaging, HaltedTidying, IsHalted, IsPrepared, StaysBegun}
 use Rattle.install_run.proofs.CarriedLemmas.{tidies_some}
-use Rattle.install_run.proofs.DeviceLemmas.{devices_lie}
 
 -- ---- a value that there is
 
@@ -153,9 +151,9 @@ refused_leaves machine begun settled time places entry ended status early stays 
   settles = λ at. absurd (none at);
   passes = λ at. absurd (none at);
   before = λ is. stays;
-  at_commit = λ nine outside. absurd (early.not_committing nine);
-  done = λ done outside. absurd (early.not_done done);
-  lays = λ done outside. absurd (early.not_done done);
+  at_commit = λ nine. absurd (early.not_committing nine);
+  done = λ done. absurd (early.not_done done);
+  lays = λ done. absurd (early.not_done done);
   quiet = λ zero. absurd (early.not_done (inl zero));
 }
   where
@@ -247,12 +245,8 @@ module _ {D : Type 0} {disks : Ghosts D} (entry : Volume D disks) (config : conf
   map-is = ap (λ (plan : Plan). concat (plan_sectors plan (machine_on entry) (places_view planned.room))) plan-is
 
   module _ (there : LiesThere (now (past_of entry)) (machine_on entry) From) where
-    lies : DevicesStay (now (past_of entry)) Settled-image (machine_on entry) From → LiesOnDisks entry S
-    lies stay = record {
-      whole = whole;
-      there = there;
-      devices = subst (λ (image : Image). KeepsDevices (now (past_of entry)) image (machine_on entry) From.config From.boot) same-settled stay;
-    }
+    lies : LiesOnDisks entry S
+    lies = record { whole = whole; there = there }
 
     abbrev Kept : settles.OwnNames → Option Past → Type 0
     Kept names ended = KeepsWith (machine_on entry) From names Map (past_of entry) ended
@@ -261,11 +255,11 @@ module _ {D : Type 0} {disks : Ghosts D} (entry : Volume D disks) (config : conf
         → LeavesOnly (past_of entry) ended (Keeps (now (past_of entry)) (machine_on entry) From names (map_of entry planned)) → Kept names ended
     kept-by names ended = subst (λ (bytes : List ℕ). KeepsWith (machine_on entry) From names bytes (past_of entry) ended) map-is
 
-    module _ (staged : Staged D disks) (stages : HasStaged planned staged) (outside : DevicesStay (now (past_of entry)) Settled-image (machine_on entry) From) where
+    module _ (staged : Staged D disks) (stages : HasStaged planned staged) where
       committing : (halt : Halt D disks) → HaltsCommit staged halt
           → (place : DiskSector) × BootsAsEither (machine_on entry) From.volume From.span place (meant_by (machine_on entry) From Settled-image) (past_of entry) (past_of halt.volume)
       committing halt halts =
-          let first = installation_commit_ends_law disks entry config boot time S planned staged halt is prepared.has (lies outside) stages halts in (
+          let first = installation_commit_ends_law disks entry config boot time S planned staged halt is prepared.has lies stages halts in (
             first.place,
             subst (λ m. BootsAsEither (machine_on entry) From.volume From.span first.place m (past_of entry) (past_of halt.volume)) meant-same first.is,
           )
@@ -274,7 +268,7 @@ module _ {D : Type 0} {disks : Ghosts D} (entry : Volume D disks) (config : conf
           → (path : List (List ℕ)) × Tidies committed.volume new path committed.map.tilde.directory result
           → (place : DiskSector) × IsInstalled (machine_on entry) From place Settled-image (past_of entry) (past_of new)
       installing new committed result commits tidies =
-          let first = installation_law disks entry new config boot time S planned staged committed tidies.0 committed.map.tilde.directory result is prepared.has (lies outside) stages commits tidies.1 in
+          let first = installation_law disks entry new config boot time S planned staged committed tidies.0 committed.map.tilde.directory result is prepared.has lies stages commits tidies.1 in
           let boots : BootsAsEither (machine_on entry) From.volume From.span first.place (meant_from entry S) (past_of entry) (past_of new) =
           record { any_moment = first.is.any_moment; boot_or_meant = first.is.boot_or_meant } in (
             first.place,
@@ -287,32 +281,32 @@ module _ {D : Type 0} {disks : Ghosts D} (entry : Volume D disks) (config : conf
       committing-keeps : (halt : Halt D disks) → HaltsCommit staged halt → (names : settles.OwnNames) → AreOwn (now (past_of entry)) From names → Kept names (past_of halt.volume)
       committing-keeps halt halts names own =
           kept-by names (past_of halt.volume)
-          (commit_keeps_law disks entry config boot time S planned staged halt names is prepared.has (lies outside) own stages halts)
+          (commit_keeps_law disks entry config boot time S planned staged halt names is prepared.has lies own stages halts)
 
       module _ (new : Volume D disks) (committed : Committed D disks) (result : Result (Unit {0}) WriteFault) (commits : IsCommitted staged committed) (tidies : TidiesFrom committed new result)
           (names : settles.OwnNames) (own : AreOwn (now (past_of entry)) From names) where
         installing-keeps : Kept names (past_of new)
         installing-keeps =
             kept-by names (past_of new)
-            (installation_keeps_law disks entry new config boot time S planned staged committed names result is prepared.has (lies outside) own stages commits tidies)
+            (installation_keeps_law disks entry new config boot time S planned staged committed names result is prepared.has lies own stages commits tidies)
 
         installing-backup : (c : Image) → MayLeave (past_of new) c → HasBackup (now (past_of entry)) From names c
         installing-backup c left =
             end_of_run_law (HasBackup (now (past_of entry)) From names) (past_of committed.volume) (past_of new)
-            (committed_backup_law disks entry new config boot time S planned staged committed names result is prepared.has (lies outside) own stages commits tidies) c left
+            (committed_backup_law disks entry new config boot time S planned staged committed names result is prepared.has lies own stages commits tidies) c left
 
         installing-lays : (c : Image) → MayLeave (past_of new) c → LaysAsPlanned (machine_on entry) From Settled-image time names (past_of entry) c
         installing-lays c left =
             subst (λ (plan : Plan). Lays c (machine_on entry) From.volume From.span plan names.map (now (past_of entry) From.span.disk From.span.start)) plan-same
             (end_of_run_law (λ c. Lays c (machine_on entry) From.volume From.span (planned_on entry S) names.map (now (past_of entry) From.span.disk From.span.start))
             (past_of committed.volume) (past_of new)
-            (committed_lays_law disks entry new config boot time S planned staged committed names result is prepared.has (lies outside) own stages commits tidies) c left)
+            (committed_lays_law disks entry new config boot time S planned staged committed names result is prepared.has lies own stages commits tidies) c left)
 
       has-installed : (new : Volume D disks) (committed : Committed D disks) → IsCommitted staged committed → TidiesFrom committed new (Ok tt) → IsQuiet (past_of new)
           → (names : settles.OwnNames) → AreOwn (now (past_of entry)) From names → HasInstalled From names Map (past_of entry) (past_of new)
       has-installed new committed commits tidies still names own =
           subst (λ (bytes : List ℕ). HasInstalled From names bytes (past_of entry) (past_of new)) map-is
-          (installed_law disks entry new config boot time S planned staged committed names is prepared.has (lies outside) own stages commits tidies still)
+          (installed_law disks entry new config boot time S planned staged committed names is prepared.has lies own stages commits tidies still)
 
     module _ (tie : IsSettledFrom (now (past_of entry)) (machine_on entry) From Settled-image)
         (passed : Passes (now (past_of entry)) (machine_on entry) Settled-image From time) where
@@ -332,16 +326,16 @@ module _ {D : Type 0} {disks : Ghosts D} (entry : Volume D disks) (config : conf
               places = places_view planned.room;
               before = λ early. absurd (early.not_committing nine);
               unstaged = λ early. absurd (early.not_committing nine);
-              later = λ at outside. committing-keeps staged stages outside halt halts names own;
+              later = λ at. committing-keeps staged stages halt halts names own;
               backup = λ done. absurd (none nine done);
               installed = λ zero. absurd (none nine (inl zero));
             };
             settles = λ at. tie;
             passes = λ at. passed;
             before = λ early. absurd (early.not_committing nine);
-            at_commit = λ at outside. committing staged stages outside halt halts;
-            done = λ done outside. absurd (none nine done);
-            lays = λ done outside. absurd (none nine done);
+            at_commit = λ at. committing staged stages halt halts;
+            done = λ done. absurd (none nine done);
+            lays = λ done. absurd (none nine done);
             quiet = λ zero. absurd (none nine (inl zero));
           }
         where
@@ -355,16 +349,16 @@ module _ {D : Type 0} {disks : Ghosts D} (entry : Volume D disks) (config : conf
               places = places_view planned.room;
               before = λ early. absurd (early.not_done (inr ten));
               unstaged = λ early. absurd (early.not_done (inr ten));
-              later = λ at outside. installing-keeps staged stages outside halt.volume committed (Err halts.fault) commits halts.tidies names own;
-              backup = λ done outside. installing-backup staged stages outside halt.volume committed (Err halts.fault) commits halts.tidies names own;
+              later = λ at. installing-keeps staged stages halt.volume committed (Err halts.fault) commits halts.tidies names own;
+              backup = λ done. installing-backup staged stages halt.volume committed (Err halts.fault) commits halts.tidies names own;
               installed = λ zero. absurd (omega (arith, ten, zero));
             };
             settles = λ at. tie;
             passes = λ at. passed;
             before = λ early. absurd (early.not_done (inr ten));
-            at_commit = λ nine outside. absurd (omega (arith, ten, nine));
-            done = λ done outside. installing staged stages outside halt.volume committed (Err halts.fault) commits (tidies_some committed may halt.volume (Err halts.fault) halts.tidies);
-            lays = λ done outside names own. installing-lays staged stages outside halt.volume committed (Err halts.fault) commits halts.tidies names own;
+            at_commit = λ nine. absurd (omega (arith, ten, nine));
+            done = λ done. installing staged stages halt.volume committed (Err halts.fault) commits (tidies_some committed may halt.volume (Err halts.fault) halts.tidies);
+            lays = λ done names own. installing-lays staged stages halt.volume committed (Err halts.fault) commits halts.tidies names own;
             quiet = λ zero. absurd (omega (arith, ten, zero));
           }
 
@@ -377,17 +371,17 @@ module _ {D : Type 0} {disks : Ghosts D} (entry : Volume D disks) (config : conf
               places = places_view planned.room;
               before = λ early. absurd (early.not_done (inl zero));
               unstaged = λ early. absurd (early.not_done (inl zero));
-              later = λ at outside. installing-keeps carried.staged carried.stages outside tidied.volume carried.committed (Ok tt) carried.commits carried.tidies names own;
-              backup = λ done outside. installing-backup carried.staged carried.stages outside tidied.volume carried.committed (Ok tt) carried.commits carried.tidies names own;
-              installed = λ at outside. has-installed carried.staged carried.stages outside tidied.volume carried.committed carried.commits carried.tidies carried.quiet names own;
+              later = λ at. installing-keeps carried.staged carried.stages tidied.volume carried.committed (Ok tt) carried.commits carried.tidies names own;
+              backup = λ done. installing-backup carried.staged carried.stages tidied.volume carried.committed (Ok tt) carried.commits carried.tidies names own;
+              installed = λ at. has-installed carried.staged carried.stages tidied.volume carried.committed carried.commits carried.tidies carried.quiet names own;
             };
             settles = λ at. tie;
             passes = λ at. passed;
             before = λ early. absurd (early.not_done (inl zero));
-            at_commit = λ nine outside. absurd (omega (arith, zero, nine));
-            done = λ done outside. installing carried.staged carried.stages outside tidied.volume carried.committed (Ok tt) carried.commits
+            at_commit = λ nine. absurd (omega (arith, zero, nine));
+            done = λ done. installing carried.staged carried.stages tidied.volume carried.committed (Ok tt) carried.commits
                 (tidies_some carried.committed carried.may tidied.volume (Ok tt) carried.tidies);
-            lays = λ done outside names own. installing-lays carried.staged carried.stages outside tidied.volume carried.committed (Ok tt) carried.commits carried.tidies names own;
+            lays = λ done names own. installing-lays carried.staged carried.stages tidied.volume carried.committed (Ok tt) carried.commits carried.tidies names own;
             quiet = λ done. carried.quiet;
           })
       finished-leaves status ended old new (FinishedEarly halt halted same device status-is said) =
@@ -459,7 +453,6 @@ module _ {D : Type 0} {disks : Ghosts D} (entry : Volume D disks) (config : conf
             let same = ap now (wrote-nothing (past_of planned.volume) device some.1 unsettled told none) in
             record {
               same = same;
-              devices = subst (λ (image : Image). DevicesStay (now (past_of entry)) image machine begun) (sym same) (devices_lie (now (past_of entry)) machine begun);
               refused = λ early other. absurd (not_early status planned ended mid new finishes (goes_on.told told) early other);
             };
         leaves = λ quiet there. finished_leaves entry config boot time planned prepared told quiet whole device some.1 given.0 (answer_to planned clear, given.1) there
@@ -496,7 +489,6 @@ module _ {D : Type 0} {disks : Ghosts D} (entry : Volume D disks) (config : conf
             let stays = wrote-nothing (past_of halt.volume) device some.1 unsettled told none in
             record {
               same = ap now stays;
-              devices = subst (λ (image : Image). DevicesStay (now (past_of entry)) image machine begun) (sym (ap now stays)) (devices_lie (now (past_of entry)) machine begun);
               refused = λ early other. same ∙ stays;
             };
         leaves = λ quiet there.

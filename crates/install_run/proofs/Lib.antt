@@ -2,6 +2,5 @@ pub mod AnswerLemmas
 pub mod EntryLemmas
 pub mod PreparedLemmas
 pub mod CarriedLemmas
-pub mod DeviceLemmas
 pub mod InstalledLemmas
 pub mod PhaseLemmas

@@ -178,7 +178,7 @@ module _ {D : Type 0} {disks : Ghosts D} (entry : Volume D disks) (config : conf
     pub refused_plan : (fault : InstallFault) → Refuses fault (checks_of Is (machine_of disks s.volume.disks.now) s ex.names Places) → Refuses fault (settled_answer Was M Is Beg time)
     refused_plan fault refuses =
         plan_refused Was M Is Beg time s.found ex fault
-        (moved (λ m v c b f t. Refuses fault (plan_checks Is m v (config_view c) (span_view b) Places ex.names (not f) t)) refuses)
+        (moved (λ m v c b f t. Refuses fault (plan_checks Is m v (config_view c) (device_view s.device) (span_view b) Places ex.names (not f) t)) refuses)
 
     pub passed_plan : (planned : Planned D disks) (clear : Option Bool) → IsPlanOf Is (machine_of disks s.volume.disks.now) s ex.names Places planned
         → IsPlanned Is (machine_of disks s.volume.disks.now) s planned → IsPlannedFor s planned → clear ≡ s.found.clear
@@ -188,7 +188,7 @@ module _ {D : Type 0} {disks : Ghosts D} (entry : Volume D disks) (config : conf
         plan_passes Was M Is Beg time s.found ex plan (places_view planned.room)
         (moved (λ m v c b f t. plan_at Is m v (span_view b) (config_view c) t ≡ Ok plan) of.map)
         (moved (λ m v c b f t. room_for v (parts_of v Is) Places ex.names (wish_of m (config_view c) (not f) t plan) ≡ Ok (places_view planned.room)) of.room)
-        (moved (λ m v c b f t. plan_checks Is m v (config_view c) (span_view b) Places ex.names (not f) t ≡ Ok (places_view planned.room)) of.passes)
+        (moved (λ m v c b f t. plan_checks Is m v (config_view c) (device_view s.device) (span_view b) Places ex.names (not f) t ≡ Ok (places_view planned.room)) of.passes)
         ∙ ap Ok (report_is Was M Is Beg time s.found ex plan planned.plan.files.skipped clear (ap config_view (held.config_is ∙ begins.held.config_is))
         (moved (λ m v c b f t. planned.plan.files.skipped ≡ skipped_paths Is m v (config_view c).sections) is.chosen.map.skipped) same)
 

@@ -23,6 +23,7 @@ use Rattle.lilo_model.specs.Settled.{is_foreign, own_names}
 use Rattle.stream_trait.specs.Shows.{SinkState, Shows}
 use Rattle.minix_zones.specs.Volume.{past_of}
 use Rattle.install_answers.specs.Texts.{device_line, device_status}
+use Rattle.install_apart.specs.Apart.{device_checks}
 use Rattle.install_begin.specs.Begin as begins
 use Rattle.install_begin.specs.Begin.{begun_with}
 use Rattle.install_laws.specs.InstallVerdict.{Answer, Begun, InstallRefusal, Reading, NotSound, NotApart, BadName, NoLink, NoPlan, NoRoom, answer_text}
@@ -50,16 +51,18 @@ settled_report image machine settled begun met plan = record {
   default = default_place begun.config.default_name (plan_names plan);
 }
 
--- The checks of an installation, in order: those up to settling of what there was, and those after it of the image that it leaves.
+-- The checks of an installation, in order: those up to settling of what there was, and those after it of the image that it leaves, by
+-- which the devices must be apart still.
 unfoldable pub settled_answer : Image → Machine → Image → Begun → ℕ → Result Answer InstallRefusal
 settled_answer image machine settled begun time = do
   met ← with_fault NotSound (survey begun.volume.layout (parts_of begun.volume image))
   a ← with_fault NotApart (apart_checks image machine begun.volume begun.config begun.boot)
   names ← with_fault BadName (own_names (names_in begun.volume image) begun.config begun.boot (is_foreign (image begun.span.disk begun.span.start)))
   b ← require (may_settle image machine begun.volume (visits begun.volume.layout (parts_of begun.volume image)) begun.span names.map) NoLink
+  c ← with_fault NotApart (device_checks settled machine begun.volume begun.config begun.boot)
   plan ← with_fault NoPlan (plan_at settled machine begun.volume begun.span begun.config time)
   places ← with_fault NoRoom (install_room image machine settled time begun names plan)
-  c ← with_fault NoPlan (own_places_check begun.config machine places)
+  d ← with_fault NoPlan (own_places_check begun.config machine places)
   Ok (settled_report image machine settled begun met plan)
 
 -- the same by what was read, once the volume's superblock is

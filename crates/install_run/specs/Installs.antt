@@ -26,7 +26,7 @@ use Rattle.install_order.specs.Begins.{AreOwn, HasNothingLeft, LiesThere}
 use Rattle.install_order.specs.Checks.{begin_checks}
 use Rattle.install_preview.specs.Previews.{AnswersVerdict}
 use Rattle.install_run.specs.Answers.{AnswersInstall, IsSettledFrom, lost_line, settled_answer}
-pub use Rattle.install_run.specs.Keeps.{DevicesLieOutside, DevicesStay, IsBefore, IsDone}
+pub use Rattle.install_run.specs.Keeps.{IsBefore, IsDone}
 use Rattle.install_run.specs.Keeps.{KeepsNames}
 
 -- ---- what is left
@@ -55,14 +55,14 @@ Passes image machine settled begun time = (answer : Answer) × (settled_answer i
 -- planned. What it keeps of names. A commit begins only where all checks passed; and once all is done, all is durable.
 pub record Leaves (machine : Machine) (begun : Begun) (settled : Image) (time : ℕ) (entry ended : Option Past) (status : ℕ) : Type 0 where
   pub keeps : (names : settles.OwnNames) → AreOwn (now entry) begun names → KeepsNames machine begun settled time names entry ended status
-  pub lays : IsDone status → DevicesStay (now entry) settled machine begun → (names : settles.OwnNames) → AreOwn (now entry) begun names
-      → (c : Image) → MayLeave ended c → LaysAsPlanned machine begun settled time names entry c
+  pub lays : IsDone status → (names : settles.OwnNames) → AreOwn (now entry) begun names → (c : Image) → MayLeave ended c
+      → LaysAsPlanned machine begun settled time names entry c
   pub settles : (status ≡ 9) ⊎ IsDone status → IsSettledFrom (now entry) machine begun settled
   pub passes : (status ≡ 9) ⊎ IsDone status → Passes (now entry) machine settled begun time
   pub before : IsBefore status → StaysAsBefore machine begun.volume begun.span entry ended
-  pub at_commit : status ≡ 9 → DevicesStay (now entry) settled machine begun
+  pub at_commit : status ≡ 9
       → (place : DiskSector) × BootsAsEither machine begun.volume begun.span place (meant_by machine begun settled) entry ended
-  pub done : IsDone status → DevicesStay (now entry) settled machine begun → (place : DiskSector) × IsInstalled machine begun place settled entry ended
+  pub done : IsDone status → (place : DiskSector) × IsInstalled machine begun place settled entry ended
   pub quiet : status ≡ 0 → IsQuiet ended
 
 -- ---- the whole
@@ -72,11 +72,9 @@ abbrev pub StaysRefused : Image → Machine → Begun → Option Past → Option
 StaysRefused image machine begun entry ended status =
     status ≢ 8 → IsErr (begin_checks image machine begun.volume begun.config begun.boot begun.span) → ended ≡ entry
 
--- Where nothing is left that settling changes, it changes nothing: so each device of the configuration stays where it lay, and a refusal
--- writes nothing.
+-- Where nothing is left that settling changes, it changes nothing, and a refusal writes nothing.
 pub record IsUnsettled (machine : Machine) (begun : Begun) (entry ended : Option Past) (settled : Image) (status : ℕ) : Type 0 where
   pub same : settled ≡ now entry
-  pub devices : DevicesStay (now entry) settled machine begun
   pub refused : IsBefore status → status ≢ 8 → ended ≡ entry
 
 abbrev pub StaysUnsettled : Machine → Begun → Image → Option Past → Option Past → ℕ → Type 0

@@ -15,7 +15,7 @@ use Rattle.install_laws.specs.Writes.{IsApartSector}
 use Rattle.install_order.specs.Begins.{AreOwn}
 use Rattle.install_join_laws.specs.Kept.{HasBackup, IsInstalled, Keeps, KeepsUnstaged}
 
--- ---- what it rests on
+-- ---- what the verdict by the entry rests on
 
 -- Once names are settled the devices of the configuration lie where they lay: so it is where settling changes no sector of a table that
 -- one of them is found by.
@@ -69,8 +69,6 @@ pub record KeepsNames (machine : Machine) (begun : Begun) (settled : Image) (tim
   pub before : IsBefore status
       → KeepsMost machine begun names entry ended ⊎ KeepsWith machine begun names (new_map machine begun settled time places) entry ended
   pub unstaged : IsBefore status → status ≢ 8 → KeepsMost machine begun names entry ended
-  pub later : (status ≡ 9) ⊎ IsDone status → DevicesStay (now entry) settled machine begun
-      → KeepsWith machine begun names (new_map machine begun settled time places) entry ended
-  pub backup : IsDone status → DevicesStay (now entry) settled machine begun → (c : Image) → MayLeave ended c → HasBackup (now entry) begun names c
-  pub installed : status ≡ 0 → DevicesStay (now entry) settled machine begun
-      → HasInstalled begun names (new_map machine begun settled time places) entry ended
+  pub later : (status ≡ 9) ⊎ IsDone status → KeepsWith machine begun names (new_map machine begun settled time places) entry ended
+  pub backup : IsDone status → (c : Image) → MayLeave ended c → HasBackup (now entry) begun names c
+  pub installed : status ≡ 0 → HasInstalled begun names (new_map machine begun settled time places) entry ended

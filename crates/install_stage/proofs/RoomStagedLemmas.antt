@@ -86,7 +86,7 @@ module _ {D : Type 0} {disks : Ghosts D} (start new : Volume D disks) (plan : Ma
   staged = record {
     sound = was.sound;
     apart = was.apart;
-    found = was.found;
+    outside = was.outside;
     accepted = was.accepted;
     map = staged-map;
     boot = boot;

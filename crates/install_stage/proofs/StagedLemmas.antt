@@ -108,7 +108,7 @@ module _ {D : Type 0} {disks : Ghosts D} (start new : Volume D disks) (chosen : 
   staged = record {
     sound = was.planned.sound;
     apart = was.planned.apart;
-    found = was.planned.found;
+    outside = was.planned.outside;
     accepted = was.planned.accepted;
     map = staged-map;
     boot = boot;

@@ -3,7 +3,7 @@ use Rattle.std.specs.Prelude.{◌≡◌, ◌≢◌, ℕ, Bool, true, List, ◌�
 use Rattle.disk_trait.specs.declared.disks.Disks.{Ghosts}
 use Rattle.disk_trait.specs.Moments.{IsTold, now}
 use Rattle.disk_trait.specs.Past.{Past}
-use Rattle.install_laws.specs.Writes.{WritesOnly}
+use Rattle.install_laws.specs.Writes.{IsApartSector, WritesOnly}
 use Rattle.install_made_laws.specs.Within.{is_chosen}
 use Rattle.install_room.specs.Room.{places_view}
 use Rattle.install_room.specs.declared.room.Room.{Room}
@@ -19,7 +19,6 @@ use Rattle.lilo_model.specs.MinixNames.{IsSound, reached}
 use Rattle.lilo_model.specs.MinixParts as volumes
 use Rattle.lilo_model.specs.MinixParts.{parts_of}
 use Rattle.lilo_model.specs.NamePlaces.{with_tilde}
-use Rattle.lilo_model.specs.Partitions.{span_of}
 use Rattle.lilo_model.specs.Planned.{planned}
 use Rattle.map_laws.specs.Accepted.{IsInside, IsAccepted}
 use Rattle.map_sectors.specs.Map.{plan_view}
@@ -37,7 +36,7 @@ pub record IsAcceptedPlan (image : Image) (machine : Machine) (volume : volumes.
     (zones : ℕ → Bool) (plan : MapPlan) (places : List model.DiskSector) : Type 0 where
   pub sound : IsSound volume image
   pub apart : AreDevicesApart image machine volume config device
-  pub found : span_of image machine device ≡ Ok span
+  pub outside : IsApartSector volume span.disk span.start
   pub whole : (place : model.DiskSector) → IsInside machine place → length (bytes_at image place) ≡ 512
   pub plan_is : plan_view plan ≡ planned image machine volume config time
   pub accepted : IsAccepted image machine volume span config time places

@@ -27,7 +27,7 @@ use Rattle.install_laws.specs.Writes.{IsApartSector}
 use Rattle.install_stays_laws.specs.Laws.{planned_places}
 use Rattle.install_stage_laws.specs.ClearMap.{AddedKeepsLaw, SeenKeepsLaw, KeepsJoinedLaw, KeepsAllLaw, KeepsButJoinedLaw}
 use Rattle.install_stage_laws.specs.Mapped.{OnFile, OnKernel, OnSection, StaysThere, StagedClearLaw}
-use Rattle.install_stage_laws.proofs.Devices.{others-apart, tables-apart, device-apart, boot-outside}
+use Rattle.install_stage_laws.proofs.Devices.{others-apart, tables-apart, device-apart}
 use Rattle.install_stage_laws.proofs.Files.{place_of, first-of, refers-block, Each, EachOptional, places-have, file-has, optional-on}
 use Rattle.install_stage_laws.proofs.Sectors.{same-sector, same-zone, from-zone, from-two, half, file-not-directory, lies}
 
@@ -244,7 +244,7 @@ each-some volume c (place ∷ places) each = (each.0, each-some volume c places 
 
 pub staged_clear_law : StagedClearLaw
 unfolding planned
-staged_clear_law before c machine volume span config device time p0 p1 p2 p3 p4 rest path sound apart is keeps held =
+staged_clear_law before c machine volume span config device time p0 p1 p2 p3 p4 rest path sound apart outside keeps held =
     let after = p1 ∷ (p2 ∷ (p3 ∷ (p4 ∷ rest))) in
     let message = file_sectors_of p4 (optional_file volume (parts_of volume before) config.message) in
     let sections = flat_map (section_places p4) (flat_map (mapped_section before machine volume) config.sections) in
@@ -252,7 +252,7 @@ staged_clear_law before c machine volume span config device time p0 p1 p2 p3 p4 
     All-from_recursion (IsClearPlace volume c) (planned_places before machine volume span config time p0 p1 p2 p3 p4 rest) (
       own.0,
       (
-        clear-apart volume c keeps.sound (record { disk = span.disk; sector = span.start }) (boot-outside before machine volume config device span sound apart is),
+        clear-apart volume c keeps.sound (record { disk = span.disk; sector = span.start }) outside,
         joined before c machine volume p4 sound keeps.sound zeros after (message ++ sections) own.1
             (joined before c machine volume p4 sound keeps.sound zeros message sections (path-clear before c machine volume p4 sound keeps.sound zeros config.message keeps.mapped.message)
             (mapped-clear before c machine volume p4 sound keeps.sound zeros (flat_map (mapped_section before machine volume) config.sections)

@@ -41,7 +41,6 @@ use Rattle.install_stage_laws.specs.Committed.{SectorsSeenLaw, CommitSeenLaw, Co
 use Rattle.install_stage_laws.proofs.BootBytes.{boot-long}
 use Rattle.install_stage_laws.proofs.Clear.{seen_keeps_law, staged_clear_law}
 use Rattle.install_stage_laws.proofs.Mapped.{mapped_joined_law}
-use Rattle.install_stage_laws.proofs.Devices.{boot-outside}
 use Rattle.install_stage_laws.proofs.Files.{place_of}
 use Rattle.install_stage_laws.proofs.HoldsMap.{holds_map_stays_law}
 use Rattle.install_stage_laws.proofs.Sectors.{apart-other, from-two, lies, some-first}
@@ -118,26 +117,23 @@ module _ (before staged : Image) (machine : Machine) (volume : Volume) (span : S
   abbrev new : Image
   new = past.with_sector staged span.disk span.start bytes
 
-  pub outside : IsApartSector volume span.disk span.start
-  outside = boot-outside before machine volume config device span s.sound s.apart s.found
-
   pub size-is : length bytes ≡ 512
   size-is = ap length s.boot.is ∙ boot-long before machine volume config time places (before span.disk span.start) s.boot.long
 
   written : IsWritten before new machine volume span config time Empty p0 p1 p2 p3 p4 rest (before span.disk span.start) × (p0 ≢ record { disk = span.disk; sector = span.start })
-  written = staged_written_law before staged machine volume span config device time chosen p0 p1 p2 p3 p4 rest bytes s.sound s.apart s.found s.accepted s.map s.boot
+  written = staged_written_law before staged machine volume span config device time chosen p0 p1 p2 p3 p4 rest bytes s.sound s.apart s.outside s.accepted s.map s.boot
 
   holds : HoldsMap new machine volume (planned before machine volume config time) path places
-  holds = commit_holds_law volume staged span bytes machine (planned before machine volume config time) path places s.files.sound outside size-is s.holds
+  holds = commit_holds_law volume staged span bytes machine (planned before machine volume config time) path places s.files.sound s.outside size-is s.holds
 
   files : KeepsMapped volume config before new
-  files = mapped_joined_law volume config before staged new s.files (seen_keeps_law volume staged new s.files.sound (commit_seen_law volume staged span bytes s.files.sound outside size-is))
+  files = mapped_joined_law volume config before staged new s.files (seen_keeps_law volume staged new s.files.sound (commit_seen_law volume staged span bytes s.files.sound s.outside size-is))
 
   pub lies-staged : PlannedLies before new machine volume span config time (devices_in before machine) Empty p0 p1 p2 p3 p4 rest (before span.disk span.start)
   lies-staged = accepted_lies_law before new machine volume span config time Empty p0 p1 p2 p3 p4 rest (before span.disk span.start) s.sound s.accepted written.0
 
   pub clear-staged : All (IsClearPlace volume new) (planned_places before machine volume span config time p0 p1 p2 p3 p4 rest)
-  clear-staged = staged_clear_law before new machine volume span config device time p0 p1 p2 p3 p4 rest path s.sound s.apart s.found files holds
+  clear-staged = staged_clear_law before new machine volume span config device time p0 p1 p2 p3 p4 rest path s.sound s.apart s.outside files holds
 
   -- another image that is the same there has Lays too
   lays-in : (c : Image) → All (λ place. bytes_at c place ≡ bytes_at new place) (planned_places before machine volume span config time p0 p1 p2 p3 p4 rest)

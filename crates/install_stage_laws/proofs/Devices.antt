@@ -97,9 +97,3 @@ span-apart volume span fits is = by (span.disk == volume.span.disk) refl (nat_lt
 -- the first sector of a device that is apart isn't one of the volume's past its block 0
 pub device-apart : (volume : Volume) (image : Image) → IsSound volume image → (found : Span) → is_apart_span volume found ≡ true → IsApartSector volume found.disk found.start
 device-apart volume image sound found is = span-apart volume found (zones_fit volume.layout volume.span.count (sound-passes volume image sound)) is
-
--- so it is of the device that is to boot
-pub boot-outside : (image : Image) (machine : Machine) (volume : Volume) (config : Config) (device : Device) (span : Span)
-    → IsSound volume image → AreDevicesApart image machine volume config device → span_of image machine device ≡ Ok span → IsApartSector volume span.disk span.start
-boot-outside image machine volume config device span sound apart is =
-    device-apart volume image sound span (subst (λ (found : Result Span TableFault). is_apart_place volume found ≡ true) is apart.boots)

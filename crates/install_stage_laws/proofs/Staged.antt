@@ -31,7 +31,7 @@ use Rattle.install_laws.proofs.Planned.{accepted_means_law}
 use Rattle.install_stage_laws.specs.Staged.{KeepsRest, AreFree, IsChosenPlace}
 use Rattle.install_stage_laws.specs.Laws.{StagedWrittenLaw, StagedMeansLaw}
 use Rattle.install_stage_laws.proofs.BootBytes.{boot-long, table-kept}
-use Rattle.install_stage_laws.proofs.Devices.{others-apart, tables-apart, device-apart, boot-outside}
+use Rattle.install_stage_laws.proofs.Devices.{others-apart, tables-apart, device-apart}
 use Rattle.install_stage_laws.proofs.Files.{first-of, Each, EachOptional}
 use Rattle.install_stage_laws.proofs.Sectors.{Stays, chosen-writable, apart-not, file-stays, optional-stays}
 
@@ -236,9 +236,8 @@ sections-checked before machine volume span config time is =
 
 pub staged_written_law : StagedWrittenLaw
 unfolding planned plan_sectors
-staged_written_law before staged machine volume span config device time chosen p0 p1 p2 p3 p4 rest bytes sound apart is a s new =
+staged_written_law before staged machine volume span config device time chosen p0 p1 p2 p3 p4 rest bytes sound apart outside a s new =
     let places = p0 ∷ (p1 ∷ (p2 ∷ (p3 ∷ (p4 ∷ rest)))) in
-    let outside : IsApartSector volume span.disk span.start = boot-outside before machine volume config device span sound apart is in
     let long : length bytes ≡ 512 = ap length new.is ∙ boot-long before machine volume config time places (before span.disk span.start) new.long in
     let table : part_of bytes 446 64 ≡ part_of (before span.disk span.start) 446 64 =
     ap (λ sector. part_of sector 446 64) new.is ∙ table-kept before machine volume config time places (before span.disk span.start) new.long in
@@ -260,6 +259,6 @@ staged_written_law before staged machine volume span config device time chosen p
     )
 
 pub staged_means_law : StagedMeansLaw
-staged_means_law before staged machine volume span config device time chosen p0 p1 p2 p3 p4 rest bytes sound apart is a s new =
-    let both = staged_written_law before staged machine volume span config device time chosen p0 p1 p2 p3 p4 rest bytes sound apart is a s new in
+staged_means_law before staged machine volume span config device time chosen p0 p1 p2 p3 p4 rest bytes sound apart outside a s new =
+    let both = staged_written_law before staged machine volume span config device time chosen p0 p1 p2 p3 p4 rest bytes sound apart outside a s new in
     accepted_means_law before (past.with_sector staged span.disk span.start bytes) machine volume span config time p0 p1 p2 p3 p4 rest (before span.disk span.start) sound a both.0 both.1

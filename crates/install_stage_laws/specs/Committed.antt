@@ -10,7 +10,6 @@ use Rattle.lilo_model.specs.Meant.{meant}
 use Rattle.lilo_model.specs.MinixNames.{names_in, reached, IsSound}
 use Rattle.lilo_model.specs.MinixParts.{Volume, parts_of, sector_of}
 use Rattle.lilo_model.specs.NamePlaces.{with_tilde}
-use Rattle.lilo_model.specs.Partitions.{span_of}
 use Rattle.lilo_model.specs.Plan.{Plan}
 use Rattle.lilo_model.specs.Planned.{devices_in, planned}
 use Rattle.minix_sees_laws.specs.Sees.{SeenAsIn}
@@ -63,7 +62,7 @@ pub record IsStaged (before staged : Image) (machine : Machine) (volume : Volume
     (path : List (List ℕ)) : Type 0 where
   pub sound : IsSound volume before
   pub apart : AreDevicesApart before machine volume config device
-  pub found : span_of before machine device ≡ Ok span
+  pub outside : IsApartSector volume span.disk span.start
   pub accepted : IsAccepted before machine volume span config time (p0 ∷ (p1 ∷ (p2 ∷ (p3 ∷ (p4 ∷ rest)))))
   pub map : IsStagedMap before staged machine volume config time chosen p0 p1 p2 p3 p4 rest
   pub boot : IsNewBoot before machine volume span config time (p0 ∷ (p1 ∷ (p2 ∷ (p3 ∷ (p4 ∷ rest))))) bytes

@@ -13,7 +13,6 @@ use Rattle.lilo_model.specs.Meant.{meant}
 use Rattle.lilo_model.specs.MinixNames.{Thing, reached, names_in, IsSound}
 use Rattle.lilo_model.specs.MinixParts.{Volume, parts_of}
 use Rattle.lilo_model.specs.NamePlaces.{with_tilde}
-use Rattle.lilo_model.specs.Partitions.{span_of}
 use Rattle.lilo_model.specs.Planned.{devices_in}
 use Rattle.lilo_model.specs.Settled.{Holds, Held}
 use Rattle.minix_beside_laws.specs.Beside.{IsDataZone}
@@ -65,7 +64,7 @@ abbrev pub StagedWrittenLaw : Type 0
 StagedWrittenLaw =
     (before staged : Image) (machine : Machine) (volume : Volume) (span : Span) (config : Config) (device : Device) (time : ℕ)
     (chosen : ℕ → Bool) (p0 p1 p2 p3 p4 : DiskSector) (rest : List DiskSector) (bytes : List ℕ)
-    → IsSound volume before → AreDevicesApart before machine volume config device → span_of before machine device ≡ Ok span
+    → IsSound volume before → AreDevicesApart before machine volume config device → IsApartSector volume span.disk span.start
     → IsAccepted before machine volume span config time (p0 ∷ (p1 ∷ (p2 ∷ (p3 ∷ (p4 ∷ rest)))))
     → IsStagedMap before staged machine volume config time chosen p0 p1 p2 p3 p4 rest
     → IsNewBoot before machine volume span config time (p0 ∷ (p1 ∷ (p2 ∷ (p3 ∷ (p4 ∷ rest))))) bytes
@@ -78,7 +77,7 @@ abbrev pub StagedMeansLaw : Type 0
 StagedMeansLaw =
     (before staged : Image) (machine : Machine) (volume : Volume) (span : Span) (config : Config) (device : Device) (time : ℕ)
     (chosen : ℕ → Bool) (p0 p1 p2 p3 p4 : DiskSector) (rest : List DiskSector) (bytes : List ℕ)
-    → IsSound volume before → AreDevicesApart before machine volume config device → span_of before machine device ≡ Ok span
+    → IsSound volume before → AreDevicesApart before machine volume config device → IsApartSector volume span.disk span.start
     → IsAccepted before machine volume span config time (p0 ∷ (p1 ∷ (p2 ∷ (p3 ∷ (p4 ∷ rest)))))
     → IsStagedMap before staged machine volume config time chosen p0 p1 p2 p3 p4 rest
     → IsNewBoot before machine volume span config time (p0 ∷ (p1 ∷ (p2 ∷ (p3 ∷ (p4 ∷ rest))))) bytes

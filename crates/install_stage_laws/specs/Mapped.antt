@@ -7,10 +7,10 @@ use Rattle.lilo_model.specs.Devices.{Device}
 use Rattle.lilo_model.specs.Disks.{Image, Machine, Span, DiskSector}
 use Rattle.lilo_model.specs.MinixNames.{PointsTo, Refers, reached, IsSound}
 use Rattle.lilo_model.specs.MinixParts.{Volume, Pointer, parts_of}
-use Rattle.lilo_model.specs.Partitions.{span_of}
 use Rattle.lilo_model.specs.Planned.{file_inode, planned}
 use Rattle.minix_beside_laws.specs.Beside.{NamedIn}
 use Rattle.map_laws.specs.MapLays.{HoldsMap}
+use Rattle.install_laws.specs.Writes.{IsApartSector}
 use Rattle.install_stays_laws.specs.Laws.{planned_places}
 use Rattle.install_stage_laws.specs.ClearMap.{KeepsFiles, KeepsFilesBut}
 use Rattle.install_stage_laws.specs.Devices.{AreDevicesApart}
@@ -75,7 +75,7 @@ abbrev pub StagedClearLaw : Type 0
 StagedClearLaw =
     (before c : Image) (machine : Machine) (volume : Volume) (span : Span) (config : Config) (device : Device) (time : ℕ)
     (p0 p1 p2 p3 p4 : DiskSector) (rest : List DiskSector) (path : List (List ℕ))
-    → IsSound volume before → AreDevicesApart before machine volume config device → span_of before machine device ≡ Ok span
+    → IsSound volume before → AreDevicesApart before machine volume config device → IsApartSector volume span.disk span.start
     → KeepsMapped volume config before c
     → HoldsMap c machine volume (planned before machine volume config time) path (p0 ∷ (p1 ∷ (p2 ∷ (p3 ∷ (p4 ∷ rest)))))
     → All (IsClearPlace volume c) (planned_places before machine volume span config time p0 p1 p2 p3 p4 rest)

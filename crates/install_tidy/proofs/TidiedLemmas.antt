@@ -42,8 +42,7 @@ module _ (before staged : Image) (machine : Machine) (volume : Volume) (span : S
 
   seen : SeenAsIn volume staged New
   seen =
-      commit_seen_law volume staged span bytes map.files.sound
-      (committing.outside before staged machine volume span config device time chosen p0 p1 p2 p3 p4 rest bytes path map)
+      commit_seen_law volume staged span bytes map.files.sound map.outside
       (committing.size-is before staged machine volume span config device time chosen p0 p1 p2 p3 p4 rest bytes path map)
 
   tree : TreeAs volume.layout (parts_of volume staged) (parts_of volume New)

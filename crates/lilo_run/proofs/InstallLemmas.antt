@@ -45,9 +45,8 @@ use Rattle.install_laws.specs.Stopped.{StaysAsBefore}
 use Rattle.install_preview.specs.Previews.{AnswersVerdict}
 use Rattle.install_run.specs.Answers as outcomes
 use Rattle.install_run.specs.Answers.{AnswersInstall, IsDiskFault, IsLostIn, IsSettledFrom, install_on, lost_line, settled_answer}
-use Rattle.install_run.specs.Keeps.{DevicesStay, KeepsMost}
+use Rattle.install_run.specs.Keeps.{KeepsMost}
 use Rattle.install_run.specs.Phases.{FailsBy}
-use Rattle.install_run.proofs.DeviceLemmas.{devices_lie}
 use Rattle.install_run.proofs.EntryLemmas.{entry_answer_law}
 use Rattle.install_run.proofs.PhaseLemmas.{fails_still}
 use Rattle.install_run.specs.Installs.{Installs, InstallsBegun, OnVolume, NoVolume, VolumeLost}
@@ -274,24 +273,21 @@ module _ {D : Type 0} (g : Ghosts D) (old new : D) where
             before = λ is. inl (keeps_same found.machine begun names same quiet);
             unstaged = λ is other. keeps_same found.machine begun names same quiet;
             later = λ is. absurd (⊎_elim (not_nine own early) (not_done own early) is);
-            backup = λ is outside. absurd (not_done own early is);
-            installed = λ zero outside. absurd (not_done own early (inl zero));
+            backup = λ is. absurd (not_done own early is);
+            installed = λ zero. absurd (not_done own early (inl zero));
           };
           settles = λ is. absurd (⊎_elim (not_nine own early) (not_done own early) is);
           passes = λ is. absurd (⊎_elim (not_nine own early) (not_done own early) is);
           before = λ is. stays_same found.machine begun.volume begun.span same quiet;
-          at_commit = λ nine outside. absurd (not_nine own early nine);
-          done = λ is outside. absurd (not_done own early is);
-          lays = λ is outside. absurd (not_done own early is);
+          at_commit = λ nine. absurd (not_nine own early nine);
+          done = λ is. absurd (not_done own early is);
+          lays = λ is. absurd (not_done own early is);
           quiet = λ zero. absurd (not_done own early (inl zero));
         };
     refused = λ other refuses. same;
     unsettled =
         λ none. record {
           same = is-early.settled;
-          devices =
-              subst (λ (image : Image). DevicesStay (now (g.past old)) image found.machine begun) (sym is-early.settled)
-              (devices_lie (now (g.past old)) found.machine begun);
           refused = λ is other. same;
         };
     phase = λ quiet. by early quiet;

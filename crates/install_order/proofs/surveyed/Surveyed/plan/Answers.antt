@@ -12,19 +12,19 @@ use Rattle.install_order.proofs.PlanLemmas.{are_called, plan_of, refusal_of, sou
 use Rattle.install_order.proofs.ReadyLemmas.{has_files, is_ready, may_stage}
 use Rattle.install_order.proofs.surveyed.Surveyed.plan.Goals as goal
 
-pub choose-requires-clause-lawful : goal.choose-requires-clause-lawful
-choose-requires-clause-lawful g c = c.requires.known.lawful
+pub choose_apart-requires-clause-lawful : goal.choose_apart-requires-clause-lawful
+choose_apart-requires-clause-lawful g c = c.requires.known.lawful
 
-pub choose-requires-clause-inside : goal.choose-requires-clause-inside
-choose-requires-clause-inside g c = c.requires.known.fits.inside
+pub choose_apart-requires-clause-inside : goal.choose_apart-requires-clause-inside
+choose_apart-requires-clause-inside g c = c.requires.known.fits.inside
 
-pub choose-requires-clause-called : goal.choose-requires-clause-called
-choose-requires-clause-called g c =
+pub choose_apart-requires-clause-called : goal.choose_apart-requires-clause-called
+choose_apart-requires-clause-called g c =
     are_called c.args.self.volume.layout (is_some c.args.self.config.force_backup) c.args.self.found c.requires.known.fits
 
 pub returns-in-Ok-clause-found : goal.returns-in-Ok-clause-found
 returns-in-Ok-clause-found g c =
-    told_both (past_of c.args.self.volume) _ _ _ (λ now sound gives. record { chosen = gives sound }) (sound_told c.args.self c.requires.known) c.in-Ok.ensures.found
+    told_both (past_of c.args.self.volume) _ _ _ (λ now sound gives. let both = gives sound in record { devices = both.devices; chosen = both.chosen }) (sound_told c.args.self c.requires.known) c.in-Ok.ensures.found
 
 pub returns-clause-found : goal.returns-clause-found
 returns-clause-found g c =
@@ -39,8 +39,8 @@ returns-clause-planned g c =
     told_both (past_of c.args.self.volume) _ _ _
     (λ now sound gives. refusal_of now (machine_for c.args.self.volume) c.args.self c.requires.known c.in-Err.fault (gives sound)) (sound_told c.args.self c.requires.known) c.in-Err.ensures.found
 
-pub choose-requires-clause-twins : goal.choose-requires-clause-twins
-choose-requires-clause-twins g c = c.requires.known.fits.twins
+pub choose_apart-requires-clause-twins : goal.choose_apart-requires-clause-twins
+choose_apart-requires-clause-twins g c = c.requires.known.fits.twins
 
 pub returns-in-Ok-clause-may : goal.returns-in-Ok-clause-may
 returns-in-Ok-clause-may g c =

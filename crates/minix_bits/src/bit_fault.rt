@@ -1,4 +1,5 @@
 // Refusals.
+use std::alloc::AllocError;
 
 /// Why no zones or inodes are found, or a bitmap bit can't be written.
 #[derive(Clone, Copy, Debug, PartialEq, Eq)]
@@ -9,4 +10,15 @@ pub enum BitFault {
     Device,
     /// There is no memory for the list.
     Memory,
+}
+
+impl From<AllocError> for BitFault {
+    ghost use Rattle.std.specs.Prelude.{◌≡◌};
+    ghost use Rattle.minix_bits.specs.declared.bit_fault.BitFault.{BitFault};
+
+    ghost from_gives = { λ _ fault. fault ≡ BitFault.Memory };
+
+    fn from(_: AllocError) -> BitFault {
+        BitFault::Memory
+    }
 }

@@ -1,5 +1,5 @@
 // One bit of some bytes, the lowest of a byte first.
-ghost use Rattle.std.specs.Prelude.{◌≡◌, ◌*◌, ◌<◌, length};
+ghost use Rattle.std.specs.Prelude.{◌≡◌, ◌*◌, ◌/◌, ◌%◌, ◌^◌, ◌<◌, ◌==◌, length};
 ghost use Rattle.lilo_model.specs.MinixParts.{bit, byte_with, with_bit};
 
 /// Whether a bit is set.
@@ -8,7 +8,15 @@ pub(crate) fn has_bit(bytes: &[u8], at: usize) -> bool
     requires { at < 8 * length bytes.now }
     ensures { result ≡ bit bytes.now at }
 {
-    (bytes[at / 8] >> (at % 8)) & 1 == 1
+    byte_has(bytes[at / 8], at % 8)
+}
+
+/// Whether a bit of a byte is set.
+pub(crate) fn byte_has(byte: u8, k: usize) -> bool
+    requires { k < 8 }
+    ensures { result ≡ (byte / 2 ^ k % 2 == 1) }
+{
+    (byte >> k) & 1 == 1
 }
 
 /// Sets or clears a bit of some bytes, the lowest of a byte first.

@@ -121,10 +121,8 @@ fn take_in_sector<D: Disks>(
     read_bits(volume, bitmap, at, &mut bytes)?;
     let base = bitmap.base_of(at);
     let end = bitmap.end_of(at);
-    match take_free(&bytes, base, at, end, need, avoid, found) {
-        Ok(()) => Ok(()),
-        Err(_) => Err(BitFault::Memory),
-    }
+    take_free(&bytes, base, at, end, need, avoid, found)?;
+    Ok(())
 }
 
 // The lowest free number from `at` on whose bit is in the sector of its bit.

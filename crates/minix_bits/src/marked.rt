@@ -7,7 +7,7 @@ ghost use Rattle.minix_zones.specs.Volume.{volume_view, past_of, faults_of, Same
 
 use crate::bit_fault::BitFault;
 use crate::bitmap::{SECTOR_BITS, inode_bitmap, zone_bitmap};
-use crate::bits::has_bit;
+use crate::bits::byte_has;
 use disk_trait::Disks;
 use minix_zones::Volume;
 
@@ -55,6 +55,7 @@ pub fn inode_is_marked<D: Disks>(volume: &mut Volume<'_, D>, n: u32) -> Result<b
 }
 
 // Whether a bit of a sector, counted from the start of the volume, is set.
+#[tactic(auto, unfolding(lilo_model::specs::MinixParts::bit))]
 fn has_mark<D: Disks>(volume: &mut Volume<'_, D>, sector: u64, at: u32) -> Result<bool, BitFault>
     requires inside { sector < volume.old.span.count }
     requires at { at < 4096 }
@@ -65,9 +66,8 @@ fn has_mark<D: Disks>(volume: &mut Volume<'_, D>, sector: u64, at: u32) -> Resul
     ensures later { faults_of volume.old ≤ faults_of volume.new }
     ensures same { SameVolume volume.old volume.new }
 {
-    let mut bytes = [0; 512];
-    match volume.read_sector(sector, &mut bytes) {
-        Ok(()) => Ok(has_bit(&bytes, at as usize)),
+    match volume.read_byte(sector, (at / 8) as usize) {
+        Ok(byte) => Ok(byte_has(byte, (at % 8) as usize)),
         Err(_) => Err(BitFault::Device),
     }
 }

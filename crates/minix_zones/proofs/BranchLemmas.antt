@@ -4,7 +4,7 @@ use Rattle.std.proofs.lemmas.Bool.Decides.{nat_tests}
 use Rattle.std.proofs.lemmas.Bool.{ltb-true, ltb-false}
 use Rattle.std.proofs.Math.Nat.{pow-zero, pow-succ', mod-one, one-le-pow}
 use Rattle.lilo_model.specs.MinixWalk.{Branch, branch_of, place_in_branch, begins}
-use Rattle.minix_zones.proofs.QuotientLemmas.{room_behind, power_above}
+use Rattle.minix_zones.proofs.QuotientLemmas.{multiple_of_factor, room_behind, power_above}
 
 -- a block in each of the four
 pub branch_direct : (per index : ℕ) → index < 7 → branch_of per index ≡ record { top = index; first = index; depth = 0 }
@@ -44,6 +44,16 @@ begins_within per index level begun = grind (arith, nat_tests)
 pub begins_whole : (per index level : ℕ) → begins per index level ≡ true → place_in_branch per index % per ^ level ≡ 0
 unfolding begins
 begins_whole per index level begun = grind (arith, nat_tests)
+
+-- a block that begins at one level begins at each lower one
+pub begins_below : (per index low high : ℕ) → low ≤ high → begins per index high ≡ true → begins per index low ≡ true
+unfolding begins
+begins_below per index low high under begun =
+    let place = place_in_branch per index in
+    let e = ap (λ m. place % m) (sym (power_above per low high under)) ∙ begins_whole per index high begun in
+    let whole = multiple_of_factor place (per ^ low) (per ^ (high - low)) e in
+    let deep = begins_within per index high begun in
+    grind (arith, nat_tests)
 
 -- a block's own number begins with it
 pub begins_itself : (per index : ℕ) → begins per index 0 ≡ true

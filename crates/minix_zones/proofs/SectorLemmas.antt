@@ -7,12 +7,12 @@ use Rattle.minix_zones.specs.Sectors.{HaveSectors, AreNow}
 told-at : (told : Option Past) (P : Image → Type 0) (past : Past) → told ≡ Some past → Told told P → P (now_of past)
 told-at told P past is fact = subst (λ other. Told other P) is fact
 
--- bytes that are held are those of the sector
-pub held_told : (past : Option Past) (disk sector : ℕ) (held : HeldSectors) (bytes : List ℕ)
-    → ((at : ℕ) (now : Image) → HaveSectors at now held → bytes ≡ now at sector)
-    → AreNow past disk held → Told past (λ now. bytes ≡ now disk sector)
-held_told None disk sector held bytes is all = tt
-held_told (Some past) disk sector held bytes is all = is disk (now_of past) (all past refl)
+-- what is so of the bytes that are held is so of the sector's
+pub held_told : (P : List ℕ → Type 0) (past : Option Past) (disk sector : ℕ) (held : HeldSectors)
+    → ((at : ℕ) (now : Image) → HaveSectors at now held → P (now at sector))
+    → AreNow past disk held → Told past (λ now. P (now disk sector))
+held_told P None disk sector held is all = tt
+held_told P (Some past) disk sector held is all = is disk (now_of past) (all past refl)
 
 -- a sector that was read is held with the others
 pub hold_told : (before past : Option Past) (disk sector : ℕ) (old new : HeldSectors) (bytes : List ℕ) → past ≡ before

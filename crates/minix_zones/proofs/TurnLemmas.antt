@@ -2,6 +2,7 @@
 use Rattle.std.proofs.Common.{◌≡◌, ◌⊎◌, ◌≤◌, ◌<◌, ◌+◌, ◌-◌, ◌^◌, max, ℕ, zero, suc, Bool, true, false, nat_lt, ◌==◌, List, [], ◌∷◌, Option, None, Some, Result, Ok, Err, refl, sym, ap, ◌∙◌, subst, inl, inr, lit<, arith}
 use Rattle.std.proofs.lemmas.Bool.{ne_eqb}
 use Rattle.disk_trait.specs.Past.{Past, Told, now_of}
+use Rattle.disk_trait.proofs.ToldLemmas.{told_all}
 use Rattle.lilo_model.specs.MinixLayout.{Kind, V1Short, V1Long, V2Short, V2Long, Super, Inode, numbers_in_zone}
 use Rattle.lilo_model.specs.MinixParts.{Volume, Parts, ZoneFault, parts_of}
 use Rattle.lilo_model.specs.MinixParts as model
@@ -14,7 +15,7 @@ use Rattle.minix_zones.specs.Walk.{stops_left, rest_of, number_of, HasCome, Refu
 use Rattle.minix_zones.specs.declared.walk.Walk.{Walk}
 use Rattle.minix_zones.specs.declared.zone_fault.ZoneFault.{ZoneFault as Fault}
 use Rattle.minix_zones.specs.declared.zone_fault.ZoneFault.TheVariants as faults
-use Rattle.minix_zones.proofs.WalkLemmas.{per_of, skip_hole, skip_holes, lower_level, next_block, next_below, none_left}
+use Rattle.minix_zones.proofs.WalkLemmas.{per_of, skip_hole, skip_holes, lower_level, lowest_level, next_block, next_below, none_left}
 
 -- the stop that a walk has come to
 abbrev pub stop_of : Walk → Stop
@@ -36,6 +37,20 @@ unfolding rest_of
 lower-rest super parts old new none come =
     let lower = lower_level (per_of super) old.index old.level old.end none in
     ap (met_at (stop_number super parts (inode_view old.inode))) lower.1 ∙ sym (come-rest super parts old new old.index (old.level - 1) come)
+
+-- what is left of a walk that goes down where no number leads to its block first
+pub descend_rest : (super : Super) (parts : Parts) (old new : Walk) (per : ℕ) → per ≡ per_of super → begins per old.index old.level ≡ false
+    → HasCome old new old.index (old.level - 1) → rest_of super parts old ≡ rest_of super parts new
+descend_rest super parts old new per is none come =
+    lower-rest super parts old new (subst (λ n. begins n old.index old.level ≡ false) is none) come
+
+pub lowest_rest : (super : Super) (parts : Parts) (old new : Walk) (per : ℕ) → per ≡ per_of super → begins per old.index 1 ≡ false
+    → HasCome old new old.index 0 → rest_of super parts old ≡ rest_of super parts new
+unfolding rest_of
+lowest_rest super parts old new per is none come =
+    let here = subst (λ n. begins n old.index 1 ≡ false) is none in
+    ap (met_at (stop_number super parts (inode_view old.inode))) (lowest_level (per_of super) old.index old.level old.end here)
+    ∙ sym (come-rest super parts old new old.index 0 come)
 
 skip-rest : (super : Super) (parts : Parts) (old new : Walk) (blocks : ℕ) → 0 < per_of super → old.index < old.end
     → begins (per_of super) old.index old.level ≡ true → blocks ≡ per_of super ^ old.level → number_of super parts old ≡ Ok 0
@@ -128,11 +143,12 @@ refused-by super parts old faults.Device before now more begun cause is = tt
 
 -- ---- the same where the past is known
 
-pub turn_lower : (past : Option Past) (volume : Volume) (old new : Walk) → begins (per_of volume.layout) old.index old.level ≡ false
-    → HasCome old new old.index (old.level - 1)
+pub turn_down : (past : Option Past) (volume : Volume) (old new : Walk) (kind : Kind) → volume.layout.kind ≡ kind
+    → ((super : Super) (parts : Parts) → super.kind ≡ kind → rest_of super parts old ≡ rest_of super parts new)
     → Told past (λ now. rest_of volume.layout (parts_of volume now) old ≡ rest_of volume.layout (parts_of volume now) new)
-turn_lower None volume old new none come = tt
-turn_lower (Some past) volume old new none come = lower-rest volume.layout (parts_of volume (now_of past)) old new none come
+turn_down past volume old new kind is rest =
+    told_all past (λ now. rest_of volume.layout (parts_of volume now) old ≡ rest_of volume.layout (parts_of volume now) new)
+    (λ now. rest volume.layout (parts_of volume now) is)
 
 pub turn_hole : (past : Option Past) (volume : Volume) (old new : Walk) (blocks zone : ℕ) → 0 < per_of volume.layout → old.index < old.end
     → begins (per_of volume.layout) old.index old.level ≡ true → blocks ≡ per_of volume.layout ^ old.level
@@ -194,6 +210,9 @@ pub begins_of : (layout known : SuperOf) (index level : ℕ) (found tested : Boo
     → begins (numbers_in_zone (kind_view known.kind)) index level ≡ tested
 begins_of layout known index level found tested same is test =
     sym (ap (λ (s : SuperOf). begins (numbers_in_zone (kind_view s.kind)) index level) same) ∙ sym is ∙ test
+
+pub kind_of : (layout known : SuperOf) → layout ≡ known → kind_view layout.kind ≡ kind_view known.kind
+kind_of layout known same = ap (λ (s : SuperOf). kind_view s.kind) same
 
 pub blocks_of : (layout known : SuperOf) (level blocks : ℕ) → layout ≡ known → blocks ≡ numbers_in_zone (kind_view layout.kind) ^ level
     → blocks ≡ numbers_in_zone (kind_view known.kind) ^ level

@@ -6,7 +6,7 @@ use Rattle.lilo_model.specs.MinixWalk.{Stop, Visit, begins, stops_at, stops_from
 use Rattle.lilo_model.specs.MinixLayout.{Super, Inode, numbers_in_zone}
 use Rattle.lilo_model.specs.MinixParts.{Parts}
 use Rattle.lilo_model.specs.MinixWalk.{stop_number}
-use Rattle.minix_zones.proofs.BranchLemmas.{begins_itself, begins_whole, same_branch}
+use Rattle.minix_zones.proofs.BranchLemmas.{begins_below, begins_itself, begins_whole, same_branch}
 use Rattle.minix_zones.proofs.HoleLemmas.{hole_below}
 use Rattle.minix_zones.proofs.QuotientLemmas.{left_over, multiple_of_factor, power_above}
 use Rattle.minix_zones.specs.Held.{AreHoles}
@@ -150,6 +150,19 @@ lower_level per index zero end none = let e = begins_itself per index in cc
 lower_level per index (suc level) end none =
     let e : suc level - 1 ≡ level = omega arith in
     (omega arith, rw (none, e) refl)
+
+lower-by : (per index level end : ℕ) (begun : Bool) → begins per index (suc level) ≡ begun → begins per index 1 ≡ false
+    → stops_left per index level end ≡ stops_left per index 0 end → stops_left per index (suc level) end ≡ stops_left per index 0 end
+lower-by per index level end true is none lowest =
+    let below = begins_below per index 1 (suc level) (omega arith) is in cc
+lower-by per index level end false is none lowest =
+    let e : suc level - 1 ≡ level = omega arith in
+    (lower_level per index (suc level) end is).1 ∙ ap (λ n. stops_left per index n end) e ∙ lowest
+
+-- a block that is the first of no indirect zone has its own stop alone
+pub lowest_level : (per index level end : ℕ) → begins per index 1 ≡ false → stops_left per index level end ≡ stops_left per index 0 end
+lowest_level per index zero end none = refl
+lowest_level per index (suc level) end none = lower-by per index level end (begins per index (suc level)) refl none (lowest_level per index level end none)
 
 -- the stop that comes next, and those after it
 pub next_block : (per index end : ℕ) → index < end

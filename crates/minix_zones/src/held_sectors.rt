@@ -1,5 +1,5 @@
 // Sectors that were read.
-ghost use Rattle.std.specs.Prelude.{◌≡◌, ◌<◌, ℕ, true, false};
+ghost use Rattle.std.specs.Prelude.{◌≡◌, ◌<◌, ℕ, true, false, slice_index, IfSome};
 ghost use Rattle.disk_trait.specs.Past.{Image};
 ghost use Rattle.minix_zones.specs.Sectors.{HaveSectors};
 
@@ -51,6 +51,19 @@ impl HeldSectors {
             return true;
         }
         false
+    }
+
+    /// A byte of a sector that is held.
+    pub(crate) fn byte_of(&self, sector: u64, at: usize) -> Option<u8>
+        requires { at < 512 }
+        ensures { IfSome result (λ byte. (disk : ℕ) (now : Image) → HaveSectors disk now self.now
+            → byte ≡ slice_index (now disk sector) at) }
+    {
+        let place = &self.places[place_of(sector)];
+        if place.full && place.sector == sector {
+            return Some(place.bytes[at]);
+        }
+        None
     }
 
     /// Holds a sector.

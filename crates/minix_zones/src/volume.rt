@@ -29,7 +29,7 @@ pub struct Volume<'d, D: Disks> {
 }
 
 impl<'d, D: Disks> Volume<'d, D> {
-    ghost use Rattle.std.specs.Prelude.{◌≡◌, ◌≢◌, ◌+◌, ◌≤◌, ◌<◌, ℕ, OnOk, OnErr, IfOk, IsErrOf};
+    ghost use Rattle.std.specs.Prelude.{◌≡◌, ◌≢◌, ◌+◌, ◌≤◌, ◌<◌, ℕ, slice_index, OnOk, OnErr, IfOk, IsErrOf};
     ghost use Rattle.std.specs.Fn.{FnOnceReturnsAtMut};
     ghost use Rattle.disk_trait.specs.Past.{Told};
     ghost use Rattle.disk_trait.specs.Calls.{EndsWithFlush, HasCauseOf, SameOf, Writes};
@@ -158,13 +158,33 @@ impl<'d, D: Disks> Volume<'d, D> {
         if self.holds && self.held.get(at, into) {
             return Ok(());
         }
-        match self.disks.read(self.span.disk, at, into) {
-            Ok(()) => {
-                self.held.hold(at, into);
-                Ok(())
+        self.disks.read(self.span.disk, at, into)?;
+        self.held.hold(at, into);
+        Ok(())
+    }
+
+    /// Reads a byte of a sector, counted from the start of the volume. Where the sector is held, nothing is copied.
+    ///
+    /// # Errors
+    ///
+    /// `Device` alone.
+    pub fn read_byte(&mut self, sector: u64, at: usize) -> Result<u8, ZoneFault>
+        requires inside { sector < self.old.span.count }
+        requires at { at < 512 }
+        ensures byte { IfOk result (λ byte. Told (past_of self.old)
+            (λ now. byte ≡ slice_index (sector_of (volume_view self.old) now sector) at)) }
+        ensures device { HasDeviceCause self.old self.new ZoneFault.Device result }
+        ensures later { faults_of self.old ≤ faults_of self.new }
+        ensures same { SameVolume self.old self.new }
+    {
+        if self.holds {
+            if let Some(byte) = self.held.byte_of(self.span.start + sector, at) {
+                return Ok(byte);
             }
-            Err(_) => Err(ZoneFault::Device),
         }
+        let mut bytes = [0; 512];
+        self.read_sector(sector, &mut bytes)?;
+        Ok(bytes[at])
     }
 
     /// Writes a sector, counted from the start of the volume, as `disk_trait::write` does: until the next
@@ -181,10 +201,8 @@ impl<'d, D: Disks> Volume<'d, D> {
     {
         let sector = self.span.start + sector;
         self.holds = false;
-        match disk_trait::write(self.disks, self.span.disk, sector, from) {
-            Ok(()) => Ok(()),
-            Err(_) => Err(ZoneFault::Device),
-        }
+        disk_trait::write(self.disks, self.span.disk, sector, from)?;
+        Ok(())
     }
 
     /// Makes all writes so far durable, as `disk_trait::flush` does. A flush that failed did nothing.
@@ -196,10 +214,8 @@ impl<'d, D: Disks> Volume<'d, D> {
         ensures syncs { Syncs self.old self.new ZoneFault.Device result }
     {
         self.holds = false;
-        match disk_trait::flush(self.disks) {
-            Ok(()) => Ok(()),
-            Err(_) => Err(ZoneFault::Device),
-        }
+        disk_trait::flush(self.disks)?;
+        Ok(())
     }
 
     /// Writes a sector of any disk, which may lie outside the volume, and makes it durable with all writes before it,

@@ -27,7 +27,7 @@ pub struct Walk {
 }
 
 impl Walk {
-    ghost use Rattle.std.specs.Prelude.{◌≡◌, ◌+◌, ◌-◌, ◌<◌, ◌≤◌, true, None, Ok, IfOk, IfErr, IfSome, IfNone, OnOk};
+    ghost use Rattle.std.specs.Prelude.{◌≡◌, ◌+◌, ◌-◌, ◌<◌, ◌≤◌, true, false, None, Ok, IfOk, IfErr, IfSome, IfNone, OnOk};
     ghost use Rattle.std.specs.Prelude.{OnErr, OnSome};
     ghost use Rattle.disk_trait.specs.Past.{Told};
     ghost use Rattle.lilo_model.specs.MinixLayout.{Super as SuperOf, numbers_in_zone};
@@ -140,7 +140,7 @@ impl Walk {
     {
         let kind = volume.layout().kind;
         if !begins(kind, self.index, self.level) {
-            self.lower();
+            self.descend(kind);
             return Ok(None);
         }
         match held.number_above(volume, &self.inode, self.index, self.level) {
@@ -161,6 +161,22 @@ impl Walk {
                 self.stop();
                 Err(fault)
             }
+        }
+    }
+
+    // Goes down where its block isn't the first that is found through a number at its level: to the next lower level, or
+    // to the block itself where it is the first of no indirect zone.
+    fn descend(&mut self, kind: FsKind)
+        requires none { begins (numbers_in_zone (kind_view kind)) self.old.index self.old.level ≡ false }
+        ensures rest { (super : SuperOf) (parts : Parts) → super.kind ≡ kind_view kind
+            → rest_of super parts self.old ≡ rest_of super parts self.new }
+        ensures lower { self.new.level < self.old.level }
+        ensures come { HasCome self.old self.new self.old.index self.new.level }
+    {
+        if begins(kind, self.index, 1) {
+            self.lower();
+        } else {
+            self.level = 0;
         }
     }
 

@@ -278,11 +278,14 @@ pub fn blocks_under(kind: FsKind, level: u32) -> u32
 }
 
 /// Whether a block is the first that is found through a number this many levels above it.
-#[tactic(auto, unfolding(lilo_model::specs::MinixWalk::begins))]
+#[tactic(auto, unfolding(lilo_model::specs::MinixWalk::begins), using(crate::proofs::BranchLemmas::begins_itself))]
 pub(crate) fn begins(kind: FsKind, index: u32, level: u32) -> bool
     requires { level ≤ 3 }
     ensures { result ≡ begins (numbers_in_zone (kind_view kind)) index level }
 {
+    if level == 0 {
+        return true;
+    }
     let way = way_to(kind, index);
     level <= way.depth && way.index % blocks_under(kind, level) == 0
 }

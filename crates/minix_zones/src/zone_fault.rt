@@ -1,4 +1,5 @@
 // Refusals.
+use disk_trait::DiskFault;
 use minix_layout::LayoutFault;
 
 /// Why a zone or a volume can't be used.
@@ -10,4 +11,15 @@ pub enum ZoneFault {
     ZoneOutside(u32),
     /// The disk failed.
     Device,
+}
+
+impl From<DiskFault> for ZoneFault {
+    ghost use Rattle.std.specs.Prelude.{◌≡◌};
+    ghost use Rattle.minix_zones.specs.declared.zone_fault.ZoneFault.{ZoneFault};
+
+    ghost from_gives = { λ _ fault. fault ≡ ZoneFault.Device };
+
+    fn from(_: DiskFault) -> ZoneFault {
+        ZoneFault::Device
+    }
 }

@@ -1,33 +1,17 @@
 use Rattle.std.proofs.Common.{◌≡◌, ◌∙◌, Ok, refl, sym, subst, arith}
 use Rattle.disk_trait.specs.Past.{Told}
 use Rattle.lilo_model.specs.MinixParts.{parts_of}
-use Rattle.minix_layout.specs.View.{kind_view, super_view}
+use Rattle.minix_layout.specs.View.{super_view}
 use Rattle.minix_zones.specs.Walk.{number_of}
 use Rattle.minix_zones.specs.Volume.{volume_view, past_of, faults_of}
-use Rattle.minix_zones.proofs.WalkLemmas.{lower_level}
 use Rattle.minix_zones.proofs.SameLemmas.{told_forth}
-use Rattle.minix_zones.proofs.TurnLemmas.{turn_lower, turn_zone, turn_refused, begins_of, come_from}
-use Rattle.lilo_model.specs.MinixLayout.{numbers_in_zone}
+use Rattle.minix_zones.proofs.TurnLemmas.{turn_down, turn_zone, turn_refused, begins_of, kind_of, come_from}
 use Rattle.minix_zones.proofs.walk.Walk.turn.Goals as goal
-
-pub lower-requires : goal.lower-requires
-lower-requires g c =
-    let walk = c.args.self.now in
-    let none = begins_of _ c.args.volume.now.layout walk.index walk.level _ _ c.layout.ensures.value c.begins.ensures c.if-not-begins.true in
-    (lower_level (numbers_in_zone (kind_view c.args.volume.now.layout.kind)) walk.index walk.level walk.end none).0
 
 pub returns-then-not-begins-clause-turns : goal.returns-then-not-begins-clause-turns
 returns-then-not-begins-clause-turns g c =
-    let walk = c.args.self.now in
-    let none = begins_of _ c.args.volume.now.layout walk.index walk.level _ _ c.layout.ensures.value c.begins.ensures c.if-not-begins.true in
-    turn_lower (past_of c.args.volume.now) (volume_view c.args.volume.now) walk c.lower.new.self none c.lower.ensures
-
-pub returns-then-not-begins-clause-fewer : goal.returns-then-not-begins-clause-fewer
-returns-then-not-begins-clause-fewer g c =
-    let walk = c.args.self.now in
-    let none = begins_of _ c.args.volume.now.layout walk.index walk.level _ _ c.layout.ensures.value c.begins.ensures c.if-not-begins.true in
-    let some = (lower_level (numbers_in_zone (kind_view c.args.volume.now.layout.kind)) walk.index walk.level walk.end none).0 in
-    omega arith
+    let volume = c.args.volume.now in
+    turn_down (past_of volume) (volume_view volume) c.args.self.now c.descend.new.self _ (sym (kind_of _ volume.layout c.layout.ensures.value)) c.descend.ensures.rest
 
 pub pass_holes-requires-clause-begun : goal.pass_holes-requires-clause-begun
 pass_holes-requires-clause-begun g c =

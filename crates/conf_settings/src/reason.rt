@@ -5,6 +5,7 @@ ghost use Rattle.conf_settings.specs.View.{reason_view, fault_view};
 
 use crate::option::Opt;
 use conf_text::TextFault;
+use std::alloc::AllocError;
 
 /// What is wrong with a configuration.
 #[derive(Clone, Copy, Debug, PartialEq, Eq)]
@@ -49,6 +50,22 @@ pub struct ConfFault {
     pub reason: ConfReason,
     pub option: Opt,
     pub line: u32,
+}
+
+impl From<AllocError> for ConfFault {
+    ghost use Rattle.std.specs.Prelude.{◌≡◌};
+    ghost use Rattle.conf_settings.specs.declared.option.Opt.TheVariants as options;
+    ghost use Rattle.conf_settings.specs.declared.reason.ConfReason.TheVariants as reasons;
+
+    ghost from_gives = { λ _ fault. fault ≡ record { reason = reasons.Memory; option = options.Other; line = 0 } };
+
+    fn from(_: AllocError) -> ConfFault {
+        ConfFault {
+            reason: ConfReason::Memory,
+            option: Opt::Other,
+            line: 0,
+        }
+    }
 }
 
 /// The text of a reason, in two pieces.

@@ -120,13 +120,8 @@ fn add_block<D: Disks>(
     ensures later { faults_of volume.old ≤ faults_of volume.new }
     ensures same { SameVolume volume.old volume.new }
 {
-    let zone = match held.zone_at(volume, inode, index) {
-        Ok(zone) => zone,
-        Err(fault) => return Err(TreeFault::Zone(fault)),
-    };
+    let zone = held.zone_at(volume, inode, index)?;
     let run = block_run(volume, zone, sectors_in_block(inode.size, index));
-    match add_run(runs, run) {
-        Ok(()) => Ok(()),
-        Err(_) => Err(TreeFault::Memory),
-    }
+    add_run(runs, run)?;
+    Ok(())
 }

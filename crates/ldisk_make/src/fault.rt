@@ -2,6 +2,8 @@
 ghost use Rattle.std.specs.Prelude.{◌≡◌};
 ghost use Rattle.ldisk_make.specs.Answer.{fault_status};
 
+use disk_trait::DiskFault;
+
 /// Why nothing is made.
 #[derive(Clone, Copy, Debug, PartialEq, Eq)]
 pub enum MakeFault {
@@ -13,6 +15,17 @@ pub enum MakeFault {
     NoSpace,
     /// The disk failed.
     Device,
+}
+
+impl From<DiskFault> for MakeFault {
+    ghost use Rattle.std.specs.Prelude.{◌≡◌};
+    ghost use Rattle.ldisk_make.specs.declared.fault.MakeFault.{MakeFault};
+
+    ghost from_gives = { λ _ fault. fault ≡ MakeFault.Device };
+
+    fn from(_: DiskFault) -> MakeFault {
+        MakeFault::Device
+    }
 }
 
 impl MakeFault {

@@ -43,10 +43,8 @@ pub fn make<D: Disks>(disks: &mut D, sectors: u32, parts: &[PartWish]) -> Result
     if disks.size(0) == 0 {
         return Err(MakeFault::NoPlace);
     }
-    match write_and_flush(disks, 0, 0, &table_sector(parts)) {
-        Ok(()) => Ok(()),
-        Err(_) => Err(MakeFault::Device),
-    }
+    write_and_flush(disks, 0, 0, &table_sector(parts))?;
+    Ok(())
 }
 
 /// The sector of a table.

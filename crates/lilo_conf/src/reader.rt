@@ -5,7 +5,7 @@ ghost use Rattle.lilo_model.specs.ConfLawful.{IsLawful};
 ghost use Rattle.lilo_model.specs.ConfSettings.{Settings};
 ghost use Rattle.conf_settings.specs.View.{IsCut};
 ghost use Rattle.conf_judge.specs.View.{parts_view};
-ghost use Rattle.lilo_conf.specs.Gives.{Gives, no_memory, too_long, config_from};
+ghost use Rattle.lilo_conf.specs.Gives.{Gives, too_long, config_from};
 ghost use Rattle.lilo_conf.specs.View.{config_view};
 
 use crate::config::Config;
@@ -34,10 +34,8 @@ pub fn parse(alloc: Global, text: &[u8]) -> Result<Config, ConfFault>
     if text.len() > TEXT_LIMIT {
         return Err(too_long(text.len()));
     }
-    match read_settings(alloc, text) {
-        Ok(cut) => read_config(alloc, &cut),
-        Err(_) => Err(no_memory()),
-    }
+    let cut = read_settings(alloc, text)?;
+    read_config(alloc, &cut)
 }
 
 // The configuration of settings.
@@ -51,10 +49,8 @@ fn read_config(alloc: Global, cut: &Cut) -> Result<Config, ConfFault>
     if let Some(fault) = cut.refusal {
         return Err(fault);
     }
-    match parts_of(alloc, settings) {
-        Ok(parts) => whole_of(alloc, &parts),
-        Err(_) => Err(no_memory()),
-    }
+    let parts = parts_of(alloc, settings)?;
+    whole_of(alloc, &parts)
 }
 
 // The configuration of parts, once none of their settings is refused where it is.
@@ -72,10 +68,7 @@ fn whole_of(alloc: Global, parts: &Parts<'_>) -> Result<Config, ConfFault>
     if let Some(fault) = default_refusal(parts.front, sections) {
         return Err(fault);
     }
-    match config_of(alloc, parts) {
-        Ok(config) => Ok(config),
-        Err(_) => Err(no_memory()),
-    }
+    Ok(config_of(alloc, parts)?)
 }
 
 // The refusal of a text with too many bytes.
@@ -84,17 +77,6 @@ fn too_long(size: usize) -> ConfFault
 {
     ConfFault {
         reason: ConfReason::TooLong(size.min(0xFFFF_FFFF) as u32),
-        option: Opt::Other,
-        line: 0,
-    }
-}
-
-// The answer where there is no memory.
-fn no_memory() -> ConfFault
-    ensures { result ≡ no_memory }
-{
-    ConfFault {
-        reason: ConfReason::Memory,
         option: Opt::Other,
         line: 0,
     }

@@ -125,10 +125,7 @@ fn outcome_of(end: Result<Started, Stop>, phase: Phase) -> Outcome
 fn unasked(end: Result<Started, Halt>) -> Result<Started, Stop>
     ensures { result ≡ unasked end }
 {
-    match end {
-        Ok(started) => Ok(started),
-        Err(halt) => Err(Stop::Halt(halt)),
-    }
+    Ok(end?)
 }
 
 /// Boots by what the first sector of a device says.

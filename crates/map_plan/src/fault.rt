@@ -16,7 +16,7 @@ use minix_tree::TreeFault;
 use minix_zones::ZoneFault;
 use sector_address::AddressFault;
 use setup_header::SetupFault;
-use std::alloc::Global;
+use std::alloc::{AllocError, AllocFailed, Global};
 
 /// Why no map is planned.
 #[derive(Drop)]
@@ -47,6 +47,28 @@ pub enum PlanFault {
     Device,
     /// Out of memory.
     Memory,
+}
+
+impl From<AllocError> for PlanFault {
+    ghost use Rattle.std.specs.Prelude.{◌≡◌};
+    ghost use Rattle.map_plan.specs.declared.fault.PlanFault.{PlanFault};
+
+    ghost from_gives = { λ _ fault. fault ≡ PlanFault.Memory };
+
+    fn from(_: AllocError) -> PlanFault {
+        PlanFault::Memory
+    }
+}
+
+impl<T: Drop> From<AllocFailed<T>> for PlanFault {
+    ghost use Rattle.std.specs.Prelude.{◌≡◌};
+    ghost use Rattle.map_plan.specs.declared.fault.PlanFault.{PlanFault};
+
+    ghost from_gives = { λ _ fault. fault ≡ PlanFault.Memory };
+
+    fn from(_: AllocFailed<T>) -> PlanFault {
+        PlanFault::Memory
+    }
 }
 
 // How a path's refusal is reported.

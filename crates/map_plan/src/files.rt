@@ -82,10 +82,7 @@ pub fn find_files<D: Disks>(
     let message = map_optional(alloc, volume, &config.message)?;
     let found = map_sections(alloc, volume, config.sections.items())?;
     let PlannedSections { planned, skipped } = found;
-    let names = match names_of(alloc, &planned) {
-        Ok(names) => names,
-        Err(_) => return Err(PlanFault::Memory),
-    };
+    let names = names_of(alloc, &planned)?;
     check_default(alloc, &config.default_name, &names)?;
     check_left(&planned)?;
     Ok(PlanFiles {

@@ -128,10 +128,8 @@ fn push_section(
     ensures pushed { OnOk result (sections.new.items ≡ sections.old.items ++ (planned ∷ [])) }
     ensures memory { IfErr result (λ fault. fault ≡ PlanFault.Memory) }
 {
-    match sections.push(planned) {
-        Ok(()) => Ok(()),
-        Err(_) => Err(PlanFault::Memory),
-    }
+    sections.push(planned)?;
+    Ok(())
 }
 
 // Adds the path of a section that is omitted.
@@ -139,14 +137,9 @@ fn skip_section(alloc: Global, section: &Section, skipped: &mut Vec<Text>) -> Re
     ensures skipped { OnOk result (skipped.new.items ≡ skipped.old.items ++ (section.now.path ∷ [])) }
     ensures memory { IfErr result (λ fault. fault ≡ PlanFault.Memory) }
 {
-    let path = match Text::new(alloc, section.path.bytes()) {
-        Ok(path) => path,
-        Err(_) => return Err(PlanFault::Memory),
-    };
-    match skipped.push(path) {
-        Ok(()) => Ok(()),
-        Err(_) => Err(PlanFault::Memory),
-    }
+    let path = Text::new(alloc, section.path.bytes())?;
+    skipped.push(path)?;
+    Ok(())
 }
 
 // What is mapped of a section, if it isn't omitted.
@@ -166,10 +159,7 @@ fn map_section<D: Disks>(
 {
     let found = map_files(alloc, volume, section)?;
     match found {
-        Some(files) => match keep_section(alloc, section, files) {
-            Ok(planned) => Ok(Some(planned)),
-            Err(_) => Err(PlanFault::Memory),
-        },
+        Some(files) => Ok(Some(keep_section(alloc, section, files)?)),
         None => Ok(None),
     }
 }

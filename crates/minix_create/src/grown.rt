@@ -76,16 +76,14 @@ fn grow_last<D: Disks>(
     if !has_room(volume.layout(), chosen, node) {
         return Err(WriteFault::NoSpace { need: 1, found: 0 });
     }
-    match minix_grow::grow_directory(
+    minix_grow::grow_directory(
         volume,
         chosen.directory,
         node,
         chosen.choice.place(),
         chosen.choice.growth(),
-    ) {
-        Ok(()) => Ok(()),
-        Err(fault) => Err(WriteFault::from(fault)),
-    }
+    )?;
+    Ok(())
 }
 
 /// Brings a place of the directory below its size, with all before it, where so many lie there. So many are more than

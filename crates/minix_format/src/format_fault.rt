@@ -1,4 +1,5 @@
 // Refusals.
+use disk_trait::DiskFault;
 
 /// Why a volume can't be made.
 #[derive(Clone, Copy, Debug, PartialEq, Eq)]
@@ -7,4 +8,15 @@ pub enum FormatFault {
     NoSpace,
     /// The disk failed.
     Device,
+}
+
+impl From<DiskFault> for FormatFault {
+    ghost use Rattle.std.specs.Prelude.{◌≡◌};
+    ghost use Rattle.minix_format.specs.declared.format_fault.FormatFault.{FormatFault};
+
+    ghost from_gives = { λ _ fault. fault ≡ FormatFault.Device };
+
+    fn from(_: DiskFault) -> FormatFault {
+        FormatFault::Device
+    }
 }

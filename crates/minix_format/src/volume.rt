@@ -55,10 +55,8 @@ pub fn format<D: Disks>(
     let Some(layout) = format_layout(kind, span.count, inodes) else {
         return Err(FormatFault::NoSpace);
     };
-    match write_volume(disks, span, &layout, time) {
-        Ok(()) => Ok(()),
-        Err(_) => Err(FormatFault::Device),
-    }
+    write_volume(disks, span, &layout, time)?;
+    Ok(())
 }
 
 // Writes the sectors of an empty volume and makes them durable.

@@ -71,9 +71,7 @@ fn find_in<D: Disks>(
     ensures same { SameVolume volume.old volume.new }
 {
     let mut block = [0; 1024];
-    if let Err(fault) = read_at(volume, directory, index, &mut block) {
-        return Err(TreeFault::Zone(fault));
-    }
+    read_at(volume, directory, index, &mut block)?;
     let kind = volume.layout().kind;
     let count = places_in(directory, kind, index);
     Ok(find_among(&block, kind, count, name))

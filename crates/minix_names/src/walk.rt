@@ -134,10 +134,8 @@ fn read_link<D: Disks>(
     if link.size == 0 {
         return Ok(());
     }
-    match read_at(volume, link, 0, into) {
-        Ok(()) => Ok(()),
-        Err(fault) => Err(TreeFault::Zone(fault)),
-    }
+    read_at(volume, link, 0, into)?;
+    Ok(())
 }
 
 /// Writes the text of a link, and the text after it.

@@ -81,8 +81,6 @@ pub fn read_entries<D: Disks>(
     if count == 0 {
         return Ok(0);
     }
-    match read_at(volume, inode, index, into) {
-        Ok(()) => Ok(count),
-        Err(fault) => Err(TreeFault::Zone(fault)),
-    }
+    read_at(volume, inode, index, into)?;
+    Ok(count)
 }

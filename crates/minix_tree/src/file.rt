@@ -101,10 +101,8 @@ pub fn read_block_through<D: Disks>(
     if count == 0 {
         return Ok(0);
     }
-    match held.read_at(volume, &stat.node, index, into) {
-        Ok(()) => Ok(count),
-        Err(fault) => Err(TreeFault::Zone(fault)),
-    }
+    held.read_at(volume, &stat.node, index, into)?;
+    Ok(count)
 }
 
 /// The bytes of the regular file that a path leads to.
@@ -202,11 +200,7 @@ fn push_block<D: Disks>(
     ensures same { SameVolume volume.old volume.new }
 {
     let mut block = [0; 1024];
-    if let Err(fault) = held.read_at(volume, inode, index, &mut block) {
-        return Err(TreeFault::Zone(fault));
-    }
-    match bytes.extend_from_slice(&block) {
-        Ok(()) => Ok(()),
-        Err(_) => Err(TreeFault::Memory),
-    }
+    held.read_at(volume, inode, index, &mut block)?;
+    bytes.extend_from_slice(&block)?;
+    Ok(())
 }

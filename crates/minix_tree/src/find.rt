@@ -198,10 +198,8 @@ fn read_link<D: Disks>(
     if link.size == 0 {
         return Ok(());
     }
-    match read_at(volume, link, 0, into) {
-        Ok(()) => Ok(()),
-        Err(fault) => Err(TreeFault::Zone(fault)),
-    }
+    read_at(volume, link, 0, into)?;
+    Ok(())
 }
 
 /// Writes a text after the first bytes.

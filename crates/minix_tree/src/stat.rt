@@ -69,9 +69,7 @@ pub fn stat_of<D: Disks>(volume: &mut Volume<'_, D>, inode: u32) -> Result<Stat,
     let place = where_inode(volume.layout(), inode);
     let kind = volume.layout().kind;
     let mut sector = [0; 512];
-    if let Err(fault) = volume.read_sector(place.sector, &mut sector) {
-        return Err(TreeFault::Zone(fault));
-    }
+    volume.read_sector(place.sector, &mut sector)?;
     let bytes = part(
         &sector,
         usize::from(place.at),

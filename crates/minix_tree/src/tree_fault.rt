@@ -1,5 +1,6 @@
 // Refusals.
 use minix_zones::ZoneFault;
+use std::alloc::AllocError;
 
 /// Why a path leads nowhere, or a file can't be read. A position counts the components of the text that is
 /// walked, from 0.
@@ -21,4 +22,26 @@ pub enum TreeFault {
     Zone(ZoneFault),
     /// There is no memory for the file.
     Memory,
+}
+
+impl From<AllocError> for TreeFault {
+    ghost use Rattle.std.specs.Prelude.{◌≡◌};
+    ghost use Rattle.minix_tree.specs.declared.tree_fault.TreeFault.{TreeFault};
+
+    ghost from_gives = { λ _ fault. fault ≡ TreeFault.Memory };
+
+    fn from(_: AllocError) -> TreeFault {
+        TreeFault::Memory
+    }
+}
+
+impl From<ZoneFault> for TreeFault {
+    ghost use Rattle.std.specs.Prelude.{◌≡◌};
+    ghost use Rattle.minix_tree.specs.declared.tree_fault.TreeFault.{TreeFault};
+
+    ghost from_gives = { λ given fault. fault ≡ TreeFault.Zone given };
+
+    fn from(fault: ZoneFault) -> TreeFault {
+        TreeFault::Zone(fault)
+    }
 }

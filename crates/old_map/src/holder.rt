@@ -68,10 +68,8 @@ fn read_first<D: Disks>(
     ensures later { faults_of volume.old ≤ faults_of volume.new }
     ensures same { SameVolume volume.old volume.new }
 {
-    match volume.read(span.disk, span.start, into) {
-        Ok(()) => Ok(()),
-        Err(_) => Err(OldMapFault::Device),
-    }
+    volume.read(span.disk, span.start, into)?;
+    Ok(())
 }
 
 // Whether a file holds the table that a boot sector names.

@@ -16,7 +16,7 @@ use crate::map::meet_map;
 use crate::met_zones::MetZones;
 use crate::place::{DiskFailed, read_place};
 use boot_map::{BootSector, MapFault};
-use disk_trait::{Disks, Span};
+use disk_trait::{DiskFault, Disks, Span};
 use minix_layout::Super;
 use minix_zones::Volume;
 use sector_parts::Sector;
@@ -31,6 +31,17 @@ pub enum OldMapFault {
     Device,
     /// There is no memory for the bits of the zones.
     Memory,
+}
+
+impl From<DiskFault> for OldMapFault {
+    ghost use Rattle.std.specs.Prelude.{◌≡◌};
+    ghost use Rattle.old_map.specs.declared.old_map.OldMapFault.{OldMapFault};
+
+    ghost from_gives = { λ _ fault. fault ≡ OldMapFault.Device };
+
+    fn from(_: DiskFault) -> OldMapFault {
+        OldMapFault::Device
+    }
 }
 
 /// What a boot of the present map may look at, as far as it lies on a volume. To a contract it is whether the boot

@@ -6,13 +6,19 @@ ghost use Rattle.sector_address.specs.Machine.{machine_of, OnDisks};
 ghost use Rattle.sector_address.specs.View.{slot_view};
 ghost use Rattle.old_map.specs.Place.{Finds};
 
-use disk_trait::Disks;
+use disk_trait::{DiskFault, Disks};
 use sector_address::Slot;
 use sector_parts::Sector;
 use slot_lists::DiskSector;
 
 /// A disk failed.
 pub(crate) struct DiskFailed;
+
+impl From<DiskFault> for DiskFailed {
+    fn from(_: DiskFault) -> DiskFailed {
+        DiskFailed
+    }
+}
 
 /// The sector that a slot names at an index, where its disk has it.
 #[tactic(auto, unfolding(lilo_model::specs::Slots::place_at))]
@@ -44,8 +50,6 @@ pub(crate) fn read_place<D: Disks>(
     ensures bytes { OnOk result (OnDisks D.Disks disks.old (λ now machine. into.new ≡ now place.disk place.sector)) }
     ensures reads { OnlyReads D.Disks disks.old disks.new (IsErr result) }
 {
-    match disks.read(place.disk, place.sector, into) {
-        Ok(()) => Ok(()),
-        Err(_) => Err(DiskFailed),
-    }
+    disks.read(place.disk, place.sector, into)?;
+    Ok(())
 }

@@ -25,6 +25,17 @@ pub enum Stop {
     Halt(Halt),
 }
 
+impl From<Halt> for Stop {
+    ghost use Rattle.std.specs.Prelude.{◌≡◌};
+    ghost use Rattle.prompt_loop.specs.declared.asking.Stop.{Stop};
+
+    ghost from_gives = { λ given stop. stop ≡ Stop.Halt given };
+
+    fn from(halt: Halt) -> Stop {
+        Stop::Halt(halt)
+    }
+}
+
 /// Begins a prompt, and takes keys for it until something is chosen or the keys end. What it answers is shown, with the
 /// message directly before the first `boot: `, and where the names are listed with these directly before the last one.
 ///

@@ -9,7 +9,7 @@ ghost use Rattle.slot_lists.specs.Made.{one_geometry};
 
 use disk_trait::Geometry;
 use sector_address::{Address, AddressFault, Mode, Slot};
-use std::alloc::{AllocError, Global};
+use std::alloc::{AllocError, AllocFailed, Global};
 
 /// A sector of a disk.
 #[derive(Clone, Copy, Debug, PartialEq, Eq)]
@@ -29,6 +29,39 @@ pub enum CompactFault {
     Memory,
 }
 
+impl From<AddressFault> for CompactFault {
+    ghost use Rattle.std.specs.Prelude.{◌≡◌};
+    ghost use Rattle.slot_lists.specs.declared.slots.CompactFault.{CompactFault};
+
+    ghost from_gives = { λ given fault. fault ≡ CompactFault.Address given };
+
+    fn from(fault: AddressFault) -> CompactFault {
+        CompactFault::Address(fault)
+    }
+}
+
+impl From<AllocError> for CompactFault {
+    ghost use Rattle.std.specs.Prelude.{◌≡◌};
+    ghost use Rattle.slot_lists.specs.declared.slots.CompactFault.{CompactFault};
+
+    ghost from_gives = { λ _ fault. fault ≡ CompactFault.Memory };
+
+    fn from(_: AllocError) -> CompactFault {
+        CompactFault::Memory
+    }
+}
+
+impl<T: Drop> From<AllocFailed<T>> for CompactFault {
+    ghost use Rattle.std.specs.Prelude.{◌≡◌};
+    ghost use Rattle.slot_lists.specs.declared.slots.CompactFault.{CompactFault};
+
+    ghost from_gives = { λ _ fault. fault ≡ CompactFault.Memory };
+
+    fn from(_: AllocFailed<T>) -> CompactFault {
+        CompactFault::Memory
+    }
+}
+
 /// A slot for each sector, in order. The first sector that no slot can name is reported.
 pub fn plain_slots(
     alloc: Global,
@@ -46,13 +79,8 @@ pub fn plain_slots(
 {
     let mut slots = Vec::new(alloc);
     for place in places {
-        match Slot::make(mode, geometry, place.disk, place.sector, 1) {
-            Ok(slot) => match slots.push(slot) {
-                Ok(()) => {}
-                Err(_) => return Err(CompactFault::Memory),
-            },
-            Err(fault) => return Err(CompactFault::Address(fault)),
-        }
+        let slot = Slot::make(mode, geometry, place.disk, place.sector, 1)?;
+        slots.push(slot)?;
     }
     Ok(slots)
 }
@@ -93,10 +121,7 @@ pub fn compact(
         (IsFaultOf (compact_made (mode_view mode) (geometry_view geometry) (map place_view places.now))) }
 {
     let slots = plain_slots(alloc, places, mode, geometry)?;
-    match joined(alloc, &slots, geometry) {
-        Ok(joined) => Ok(joined),
-        Err(_) => Err(CompactFault::Memory),
-    }
+    Ok(joined(alloc, &slots, geometry)?)
 }
 
 // Slots, of which neighbours that could be one are one.

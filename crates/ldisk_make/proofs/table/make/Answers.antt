@@ -29,7 +29,7 @@ pub returns-then-size-eq0-clause-goes_on : goal.returns-then-size-eq0-clause-goe
 returns-then-size-eq0-clause-goes_on g c =
     goes_on_same g.D.Disks c.args.disks.now c.args.disks.now refl record { later = omega arith; size = refl; count = refl; geometry = refl }
 
-pub returns-in-Ok-clause-status : goal.returns-in-Ok-clause-status
-returns-in-Ok-clause-status g c =
+pub returns-clause-status : goal.returns-clause-status
+returns-clause-status g c =
     fine (machine_of g.D.Disks c.args.disks.now) c.args.sectors (map part_view c.args.parts.now) (sym c.if-not-are_placed.ensures)
     (λ none. omega (arith, c.size.ensures.size, c.if-size-eq0.false, none))

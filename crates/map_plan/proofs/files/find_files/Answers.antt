@@ -66,8 +66,8 @@ returns-in_err-check_default-clause-files g c time =
     let sections = subst (λ (sections : List Section). OnSound c.args.volume.now (λ now machine. sections_planned now machine (volume_view c.args.volume.now) (sections_view sections)
     ≡ Ok (planned_views c.in_ok-found.found.planned.items)))
     c.items.ensures found in
-    let names : c.in-Ok.names ≡ names_of (planned_views c.in_ok-found.found.planned.items) =
-    c.in-Ok.ensures ∙ ap (λ (items : List PlannedSection). names_of (planned_views items)) c.deref.ensures.value in
+    let names : c.in_ok-names.names ≡ names_of (planned_views c.in_ok-found.found.planned.items) =
+    c.in_ok-names.ensures ∙ ap (λ (items : List PlannedSection). names_of (planned_views items)) c.deref.ensures.value in
     rw given
     (default-refuses (machine_for c.args.volume.now) (volume_view c.args.volume.now) (config_view c.args.config.now) time (code_view c.in_ok-code.code)
     (option_map file_view c.in_ok-message.message) (planned_views c.in_ok-found.found.planned.items) (past_of c.args.volume.now) (c.in_err-check_default.field-0.0)
@@ -87,8 +87,8 @@ returns-in_err-check_left-clause-files g c time =
     let sections = subst (λ (sections : List Section). OnSound c.args.volume.now (λ now machine. sections_planned now machine (volume_view c.args.volume.now) (sections_view sections)
     ≡ Ok (planned_views c.in_ok-found.found.planned.items)))
     c.items.ensures found in
-    let names : c.in-Ok.names ≡ names_of (planned_views c.in_ok-found.found.planned.items) =
-    c.in-Ok.ensures ∙ ap (λ (items : List PlannedSection). names_of (planned_views items)) c.deref.ensures.value in
+    let names : c.in_ok-names.names ≡ names_of (planned_views c.in_ok-found.found.planned.items) =
+    c.in_ok-names.ensures ∙ ap (λ (items : List PlannedSection). names_of (planned_views items)) c.deref.ensures.value in
     let default = subst (λ (names : List (List ℕ)). default_among c.args.config.now.default_name names ≡ Ok tt) names c.in_ok-check_default.ensures.default in
     rw given
     (left-refuses (machine_for c.args.volume.now) (volume_view c.args.volume.now) (config_view c.args.config.now) time (code_view c.in_ok-code.code)
@@ -108,8 +108,8 @@ returns-clause-files g c time =
     let sections = subst (λ (sections : List Section). OnSound c.args.volume.now (λ now machine. sections_planned now machine (volume_view c.args.volume.now) (sections_view sections)
     ≡ Ok (planned_views c.in_ok-found.found.planned.items)))
     c.items.ensures found in
-    let names : c.in-Ok.names ≡ names_of (planned_views c.in_ok-found.found.planned.items) =
-    c.in-Ok.ensures ∙ ap (λ (items : List PlannedSection). names_of (planned_views items)) c.deref.ensures.value in
+    let names : c.in_ok-names.names ≡ names_of (planned_views c.in_ok-found.found.planned.items) =
+    c.in_ok-names.ensures ∙ ap (λ (items : List PlannedSection). names_of (planned_views items)) c.deref.ensures.value in
     let default = subst (λ (names : List (List ℕ)). default_among c.args.config.now.default_name names ≡ Ok tt) names c.in_ok-check_default.ensures.default in
     files-made (machine_for c.args.volume.now) (volume_view c.args.volume.now) (config_view c.args.config.now) time (code_view c.in_ok-code.code)
     (option_map file_view c.in_ok-message.message) (planned_views c.in_ok-found.found.planned.items) (past_of c.args.volume.now)
@@ -117,7 +117,7 @@ returns-clause-files g c time =
     (subst (λ (items : List PlannedSection). left_check (planned_views items) ≡ Ok tt) c.deref-2.ensures.value c.in_ok-check_left.ensures.left)
 
 pub returns-clause-names : goal.returns-clause-names
-returns-clause-names g c = c.in-Ok.ensures ∙ ap (λ (items : List PlannedSection). names_of (planned_views items)) c.deref.ensures.value
+returns-clause-names g c = c.in_ok-names.ensures ∙ ap (λ (items : List PlannedSection). names_of (planned_views items)) c.deref.ensures.value
 
 pub returns-in_err-check_default-clause-cause : goal.returns-in_err-check_default-clause-cause
 returns-in_err-check_default-clause-cause g c =

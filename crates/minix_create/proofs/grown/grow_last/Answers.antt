@@ -1,5 +1,6 @@
-use Rattle.std.proofs.Common.{◌≡◌, true}
+use Rattle.std.proofs.Common.{◌≡◌, Err, true, rules}
 use Rattle.minix_layout.specs.View.{inode_view}
+use Rattle.minix_write.specs.View.{zone_refusal}
 use Rattle.minix_create.specs.Grown.{HasRoom}
 use Rattle.minix_create.proofs.GrownLemmas.{last_may, last_unused, last_room, no_room, last_grown, last_failed}
 use Rattle.minix_create.proofs.grown.grow_last.Goals as goal
@@ -20,16 +21,18 @@ pub grow_directory-requires-clause-unused : goal.grow_directory-requires-clause-
 grow_directory-requires-clause-unused g c =
     rw (c.place.ensures, c.growth.ensures) (last_unused c.args.volume.now c.args.chosen.now (inode_view c.args.node.now) c.requires.quiet c.requires.last)
 
-pub returns-in-Ok-clause-grows : goal.returns-in-Ok-clause-grows
-returns-in-Ok-clause-grows g c =
+pub returns-clause-grows : goal.returns-clause-grows
+returns-clause-grows g c =
     let old = c.args.volume.now in
-    let grows = rw (c.place.ensures, c.growth.ensures) at c.in-Ok.ensures.grows in
+    let grows = rw (c.place.ensures, c.growth.ensures) at c.in_ok-grow_directory.ensures.grows in
     last_grown old c.args.chosen.now (inode_view c.args.node.now) c.requires.quiet c.requires.last c.grow_directory.new.volume
     (grows (last_may old c.args.chosen.now (inode_view c.args.node.now) c.requires.quiet c.requires.last))
 
-pub returns-in-Err-clause-grows : goal.returns-in-Err-clause-grows
-returns-in-Err-clause-grows g c =
+pub returns-in_err-grow_directory-clause-grows : goal.returns-in_err-grow_directory-clause-grows
+returns-in_err-grow_directory-clause-grows g c =
     let old = c.args.volume.now in
-    let grows = rw (c.place.ensures, c.growth.ensures) at c.in-Err.ensures.grows in
-    rw c.from.ensures (last_failed old c.args.chosen.now (inode_view c.args.node.now) c.requires.quiet c.requires.last c.grow_directory.new.volume c.in-Err.fault
+    let fault = c.in_err-grow_directory.field-0.0 in
+    let is : c.from_residual.result ≡ Err (zone_refusal fault) = search rules in
+    let grows = rw (c.place.ensures, c.growth.ensures) at c.in_err-grow_directory.ensures.grows in
+    rw is (last_failed old c.args.chosen.now (inode_view c.args.node.now) c.requires.quiet c.requires.last c.grow_directory.new.volume fault
     (grows (last_may old c.args.chosen.now (inode_view c.args.node.now) c.requires.quiet c.requires.last)))

@@ -28,21 +28,21 @@ write_volume-requires-clause-numbered g c =
     let within = count-within (kind_view c.args.kind) c.args.span.count c.args.inodes (super_view c.in-Some.layout) c.in-Some.ensures in
     omega (arith, within, c.requires, c.size-size.ensures.size)
 
-pub returns-in-Ok-clause-made : goal.returns-in-Ok-clause-made
-returns-in-Ok-clause-made g c = λ told.
-    made_at (span_view c.args.span) (super_view c.in-Some.layout) c.args.time _ _ (c.in-Ok.ensures.writes.written told) (kind_view c.args.kind) c.args.inodes c.in-Some.ensures
+pub returns-clause-made : goal.returns-clause-made
+returns-clause-made g c = λ told.
+    made_at (span_view c.args.span) (super_view c.in-Some.layout) c.args.time _ _ (c.in_ok-write_volume.ensures.writes.written told) (kind_view c.args.kind) c.args.inodes c.in-Some.ensures
 
-pub returns-in-Ok-clause-empty : goal.returns-in-Ok-clause-empty
-returns-in-Ok-clause-empty g c = λ told whole.
-    made_empty (span_view c.args.span) (super_view c.in-Some.layout) c.args.time _ _ (c.in-Ok.ensures.writes.written told) (kind_view c.args.kind) c.args.inodes c.in-Some.ensures
+pub returns-clause-empty : goal.returns-clause-empty
+returns-clause-empty g c = λ told whole.
+    made_empty (span_view c.args.span) (super_view c.in-Some.layout) c.args.time _ _ (c.in_ok-write_volume.ensures.writes.written told) (kind_view c.args.kind) c.args.inodes c.in-Some.ensures
     (omega (arith, c.ranges.time)) (λ sector below. whole c.args.span.disk (c.args.span.start + sector) (omega (arith, below, c.requires)))
 
-pub returns-in-Ok-clause-outside : goal.returns-in-Ok-clause-outside
-returns-in-Ok-clause-outside g c = λ d s out.
+pub returns-clause-outside : goal.returns-clause-outside
+returns-clause-outside g c = λ d s out.
     let within = count-within (kind_view c.args.kind) c.args.span.count c.args.inodes (super_view c.in-Some.layout) c.in-Some.ensures in
     c.write_volume.ensures.writes.others d s (outside-span c.args.span.disk c.args.span.start c.args.span.count (super_view c.in-Some.layout) c.args.time d s within out)
 
-pub returns-in-Err-clause-outside : goal.returns-in-Err-clause-outside
-returns-in-Err-clause-outside g c = λ d s out.
+pub returns-in_err-write_volume-clause-outside : goal.returns-in_err-write_volume-clause-outside
+returns-in_err-write_volume-clause-outside g c = λ d s out.
     let within = count-within (kind_view c.args.kind) c.args.span.count c.args.inodes (super_view c.in-Some.layout) c.in-Some.ensures in
     c.write_volume.ensures.writes.others d s (outside-span c.args.span.disk c.args.span.start c.args.span.count (super_view c.in-Some.layout) c.args.time d s within out)

@@ -14,13 +14,13 @@ pub returns-in-Ok-clause-node : goal.returns-in-Ok-clause-node
 returns-in-Ok-clause-node g c =
     let place = rw c.layout.ensures.value at c.where_inode-place.ensures.place in
     let read = rw (c.part-bytes.ensures.bytes, c.from.ensures, c.from-2.ensures, c.inode_size.ensures, c.layout-2.ensures.value) at c.in-Ok.ensures.read in
-    stat_node (past_of c.args.volume.now) (volume_view c.args.volume.now) c.args.inode _ _ c.read_sector.new.into (inode_view c.in-Ok.node) c.in_default.ensures.bytes place read
+    stat_node (past_of c.args.volume.now) (volume_view c.args.volume.now) c.args.inode _ _ c.read_sector.new.into (inode_view c.in-Ok.node) c.in_ok-read_sector.ensures.bytes place read
 
 pub returns-in-Ok-clause-found : goal.returns-in-Ok-clause-found
 returns-in-Ok-clause-found g c =
     let place = rw c.layout.ensures.value at c.where_inode-place.ensures.place in
     let read = rw (c.part-bytes.ensures.bytes, c.from.ensures, c.from-2.ensures, c.inode_size.ensures, c.layout-2.ensures.value) at c.in-Ok.ensures.read in
-    stat_found (past_of c.args.volume.now) (volume_view c.args.volume.now) c.args.inode _ _ c.read_sector.new.into (inode_view c.in-Ok.node) c.in_default.ensures.bytes place read
+    stat_found (past_of c.args.volume.now) (volume_view c.args.volume.now) c.args.inode _ _ c.read_sector.new.into (inode_view c.in-Ok.node) c.in_ok-read_sector.ensures.bytes place read
 
 pub returns-in-Ok-clause-fits : goal.returns-in-Ok-clause-fits
 returns-in-Ok-clause-fits g c =
@@ -34,8 +34,8 @@ returns-in-Ok-clause-fits g c =
       fields = rw c.layout-2.ensures.value at c.in-Ok.ensures.fits;
     }
 
-pub returns-in-Err-read-clause-found : goal.returns-in-Err-read-clause-found
-returns-in-Err-read-clause-found g c =
+pub returns-in-Err-clause-found : goal.returns-in-Err-clause-found
+returns-in-Err-clause-found g c =
     let place = rw c.layout.ensures.value at c.where_inode-place.ensures.place in
-    let read = rw (c.part-bytes.ensures.bytes, c.from.ensures, c.from-2.ensures, c.inode_size.ensures, c.layout-2.ensures.value) at c.in-Err-read.ensures.read in
-    stat_refused (past_of c.args.volume.now) (volume_view c.args.volume.now) c.args.inode _ _ c.read_sector.new.into (layout_fault_view c.in-Err-read.fault) c.in_default.ensures.bytes place read
+    let read = rw (c.part-bytes.ensures.bytes, c.from.ensures, c.from-2.ensures, c.inode_size.ensures, c.layout-2.ensures.value) at c.in-Err.ensures.read in
+    stat_refused (past_of c.args.volume.now) (volume_view c.args.volume.now) c.args.inode _ _ c.read_sector.new.into (layout_fault_view c.in-Err.fault) c.in_ok-read_sector.ensures.bytes place read

@@ -15,7 +15,6 @@ use Rattle.lilo_model.specs.Mapped.{mapped_sectors}
 use Rattle.lilo_model.specs.MinixNames.{names_in, reached}
 use Rattle.lilo_model.specs.MinixParts as model
 use Rattle.lilo_model.specs.Plan.{Plan, map_size, plan_boot_sector}
-use Rattle.lilo_model.specs.Planned.{devices_in}
 use Rattle.lilo_model.specs.Planned as plans
 use Rattle.lilo_model.specs.Settled as settles
 use Rattle.lilo_model.specs.Settled.{is_foreign}

@@ -27,7 +27,6 @@ use Rattle.lilo_conf.specs.declared.config.Config as configs
 use Rattle.mbr_table.specs.declared.device.Device as devices
 use Rattle.lilo_model.specs.MinixParts.{volume_at}
 use Rattle.minix_zones.specs.View as volumes
-use Rattle.minix_zones.specs.View.{span_view}
 use Rattle.minix_zones.specs.declared.zone_fault.ZoneFault.{ZoneFault}
 use Rattle.minix_zones.specs.declared.zone_fault.ZoneFault.TheVariants as zones
 use Rattle.minix_zones.specs.Volume.{volume_view, past_of, sizes_of, faults_of}

@@ -33,7 +33,6 @@ use Rattle.map_laws.proofs.Planned.{map-lies}
 use Rattle.map_laws.specs.Accepted.{IsWritten}
 use Rattle.map_laws.specs.MapLays.{HoldsMap}
 use Rattle.map_laws.specs.PlannedLies.{PlannedLies, targets_for}
-use Rattle.install_laws.specs.Writes.{IsApartSector}
 use Rattle.install_stays_laws.specs.Laws.{planned_places}
 use Rattle.install_stays_laws.proofs.Stays.{clear_stays_law, tidy_law}
 use Rattle.install_stage_laws.specs.Mapped.{KeepsMapped}

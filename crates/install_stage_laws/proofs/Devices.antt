@@ -1,11 +1,11 @@
 -- The devices of a configuration, where they are apart.
-use Rattle.std.proofs.Common.{◌≡◌, ◌≤◌, ◌+◌, ◌*◌, ◌==◌, ◌||◌, inl, inr, ℕ, Bool, true, false, not, nat_le, nat_lt, List, [], ◌∷◌, Option, None, Some, Result, Ok, refl, sym, ◌∙◌, subst, arith}
+use Rattle.std.proofs.Common.{◌≡◌, ◌≤◌, ◌+◌, ◌*◌, ◌==◌, ◌||◌, inl, inr, ℕ, Bool, true, false, not, nat_le, nat_lt, List, [], ◌∷◌, Option, None, Some, Result, Ok, refl, sym, ◌∙◌, arith}
 use Rattle.std.specs.Prelude.{IfSome, flat_map, option_to_list}
 use Rattle.std.specs.List.{AllByRecursion, list_all}
 use Rattle.std.proofs.lemmas.Bool.{and_parts}
 use Rattle.std.proofs.lemmas.Bool.Decides.{nat_tests}
 use Rattle.std.proofs.lemmas.List.Folds.{list_all-append}
-use Rattle.lilo_model.specs.Apart.{Apart, is_apart_span, is_apart_place, is_apart_device, has_apart_backup, has_apart_files, other_devices, table_devices, kernel_paths, initrd_paths, apart_checks}
+use Rattle.lilo_model.specs.Apart.{Apart, is_apart_span, is_apart_device, has_apart_backup, has_apart_files, other_devices, table_devices, kernel_paths, initrd_paths, apart_checks}
 use Rattle.lilo_model.specs.Checks.{◌>>=◌, require}
 use Rattle.lilo_model.specs.Conf.{Config, ConfSection}
 use Rattle.lilo_model.specs.ConfOptions as options
@@ -14,7 +14,6 @@ use Rattle.lilo_model.specs.Disks.{Image, Machine, Span}
 use Rattle.lilo_model.specs.MinixNames.{names_in, IsSound}
 use Rattle.lilo_model.specs.MinixParts.{Volume}
 use Rattle.lilo_model.specs.NamePlaces.{backup_option}
-use Rattle.lilo_model.specs.Partitions.{TableFault, span_of}
 use Rattle.map_laws.proofs.Accepted.{both-pass, required}
 use Rattle.minix_zones.proofs.ZoneLemmas.{zones_fit}
 use Rattle.install_laws.specs.Writes.{IsApartSector}

@@ -1,5 +1,5 @@
 -- What was staged, once its boot sector is written (rules of this project's own).
-use Rattle.std.specs.Prelude.{◌≡◌, ◌⊎◌, ◌<◌, ◌≤◌, ℕ, ◌*◌, Bool, false, List, ◌∷◌, length, Option, Some, Ok}
+use Rattle.std.specs.Prelude.{◌≡◌, ◌⊎◌, ◌<◌, ◌≤◌, ℕ, ◌*◌, Bool, false, List, ◌∷◌, length, Option, Some}
 use Rattle.disk_trait.specs.Past.{Past, with_sector}
 use Rattle.disk_trait.specs.Moments.{now, LeavesOnly}
 use Rattle.lilo_model.specs.Conf.{Config}

@@ -1,6 +1,6 @@
 -- What is staged of an installation means the new configuration once the boot sector is written, and what it leaves of the
 -- present map (rules of this project's own).
-use Rattle.std.specs.Prelude.{◌≡◌, ◌≢◌, ◌⊎◌, ℕ, Bool, true, List, ◌∷◌, Option, None, Ok}
+use Rattle.std.specs.Prelude.{◌≡◌, ◌≢◌, ◌⊎◌, ℕ, Bool, true, List, ◌∷◌, Option, None}
 use Rattle.disk_trait.specs.Past.{Past, with_sector}
 use Rattle.disk_trait.specs.Moments.{IsTold, now, MayLeave, LeavesOnly}
 use Rattle.lilo_model.specs.Clear.{Clear}

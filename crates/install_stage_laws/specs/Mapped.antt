@@ -1,5 +1,5 @@
 -- The files that a configuration's plan maps, in a later image (rules of this project's own).
-use Rattle.std.specs.Prelude.{◌≡◌, ◌≢◌, ℕ, IfSome, List, ◌∷◌, All, Option, None, Some, Ok}
+use Rattle.std.specs.Prelude.{◌≡◌, ◌≢◌, ℕ, IfSome, List, ◌∷◌, All, Option, None, Some}
 use Rattle.std.specs.List.{AllByRecursion}
 use Rattle.lilo_model.specs.Clear.{IsClearPlace}
 use Rattle.lilo_model.specs.Conf.{Config, ConfSection}

@@ -23,7 +23,7 @@ use Rattle.lilo_model.specs.Place.{Memory}
 use Rattle.lilo_model.specs.Plan.{Plan}
 use Rattle.lilo_model.specs.Prompt.{Key}
 use Rattle.lilo_model.specs.Refusal as refusals
-use Rattle.lilo_model.specs.Refusal.{Refusal, refusal_status}
+use Rattle.lilo_model.specs.Refusal.{Refusal}
 use Rattle.lilo_model.specs.Settled.{OwnNames}
 use Rattle.lilo_model.specs.Verdict.{Verdict, verdict_of}
 use Rattle.lilo_model.specs.VolumeSearch.{Located, VolumeFault, volume_place}
@@ -40,11 +40,11 @@ use Rattle.install_begin.specs.View.{RefusesText}
 use Rattle.install_begin.proofs.BeginLemmas.{answer_law}
 use Rattle.install_laws.specs.Boots.{BootsAs, HasBootOf}
 use Rattle.install_laws.specs.InstallVerdict as installs
-use Rattle.install_laws.specs.InstallVerdict.{Answer, InstallRefusal, Reading, NotSound, NotApart, BadName, NoPlan, NoLink, NoRoom, answer_text, install_line, install_room, install_status, install_verdict, verdict_by}
+use Rattle.install_laws.specs.InstallVerdict.{Answer, InstallRefusal, Reading, answer_text, install_line, install_room, install_verdict, verdict_by}
 use Rattle.install_laws.specs.Stopped.{StaysAsBefore}
 use Rattle.install_preview.specs.Previews.{AnswersVerdict}
 use Rattle.install_run.specs.Answers as outcomes
-use Rattle.install_run.specs.Answers.{AnswersInstall, IsDiskFault, IsLostIn, IsSettledFrom, install_on, lost_line, settled_answer}
+use Rattle.install_run.specs.Answers.{AnswersInstall, IsDiskFault, IsSettledFrom, install_on, lost_line, settled_answer}
 use Rattle.install_run.specs.Keeps.{KeepsMost}
 use Rattle.install_run.specs.Phases.{FailsBy}
 use Rattle.install_run.proofs.EntryLemmas.{entry_answer_law}

@@ -8,6 +8,8 @@ mod bios;
 #[cfg(test)]
 mod boots;
 #[cfg(test)]
+mod default_lines;
+#[cfg(test)]
 mod fixture;
 #[cfg(test)]
 mod loading;

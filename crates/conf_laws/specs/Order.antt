@@ -1,4 +1,4 @@
--- The one order in which what is wrong with a lilo.conf is looked for (this project's own; docs/FORMATS.md tells it,
+-- The one order in which what is wrong with a lilo.conf is looked for (this project's own; docs/FORMATS.md has it,
 -- under Refusals): stages, in a stage its options or sections in turn, and at each of these its tests. The tests at an
 -- option have that page's numbers, 1 to 8. The answer is the first test that fails. Which settings a text has is a
 -- relation here too, over its tokens.

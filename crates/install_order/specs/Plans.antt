@@ -69,7 +69,8 @@ devices_again true image machine volume config boot = Ok tt
 devices_again false image machine volume config boot = with_fault NotApart (device_checks image machine volume config boot)
 
 -- the checks of an installation from there on
-unfoldable pub plan_checks : Image → Machine → Volume → Config → Device → Span → List DiskSector → model.OwnNames → Bool → ℕ → Result (List DiskSector) InstallRefusal
+unfoldable pub plan_checks : Image → Machine → Volume → Config → Device → Span → List DiskSector → model.OwnNames → Bool → ℕ
+    → Result (List DiskSector) InstallRefusal
 plan_checks image machine volume config boot span places names unsettled time = do
   a ← devices_again unsettled image machine volume config boot
   map_checks image machine volume config span places names unsettled time

@@ -93,7 +93,8 @@ GivesInstall image machine begun time (Err halt) =
     × Refuses halt.fault (settled_answer image machine (now (past_of halt.volume)) begun time))
 
 -- Where a check up to settling refuses, nothing was written, unless a disk failed.
-abbrev pub StaysUnbegun : {D : Type 0} {disks : Ghosts D} → Image → Machine → Begun → Option Past → Result (Planned D disks × Option Bool) (Halt D disks) → Type 0
+abbrev pub StaysUnbegun : {D : Type 0} {disks : Ghosts D} → Image → Machine → Begun → Option Past
+    → Result (Planned D disks × Option Bool) (Halt D disks) → Type 0
 StaysUnbegun image machine begun entry (Ok made) = Unit {0}
 StaysUnbegun image machine begun entry (Err halt) =
     halt.fault ≢ Device → IsErr (begin_checks image machine begun.volume begun.config begun.boot begun.span) → past_of halt.volume ≡ entry

@@ -64,7 +64,8 @@ new_map machine begun settled time places = concat (plan_sectors (planned settle
 
 -- By the status: sound and Held where it was, with the others as before, and the map and the backup as before, or whole; as before but for
 -- settling where it was refused and no disk failed; once it is done the backup, and after 0 the map too. The map is the one that is planned.
-pub record KeepsNames (machine : Machine) (begun : Begun) (settled : Image) (time : ℕ) (names : model.OwnNames) (entry ended : Option Past) (status : ℕ) : Type 0 where
+pub record KeepsNames
+    (machine : Machine) (begun : Begun) (settled : Image) (time : ℕ) (names : model.OwnNames) (entry ended : Option Past) (status : ℕ) : Type 0 where
   pub places : List DiskSector
   pub before : IsBefore status
       → KeepsMost machine begun names entry ended ⊎ KeepsWith machine begun names (new_map machine begun settled time places) entry ended

@@ -27,6 +27,7 @@ source_after s Failed = record { left = s.left; ended = s.ended; calls = count_a
 
 -- the same after a call for several bytes
 abbrev pub source_after_many : MemSourceState → Taken → MemSourceState
-source_after_many s (takings.Got count) = record { left = drop count s.left; ended = s.ended; calls = count_after s.calls; failing = s.failing; faults = s.faults }
+source_after_many s (takings.Got count) =
+    record { left = drop count s.left; ended = s.ended; calls = count_after s.calls; failing = s.failing; faults = s.faults }
 source_after_many s takings.End = record { left = s.left; ended = true; calls = count_after s.calls; failing = s.failing; faults = s.faults }
 source_after_many s takings.Failed = record { left = s.left; ended = s.ended; calls = count_after s.calls; failing = s.failing; faults = count_after s.faults }

@@ -10,6 +10,7 @@ use crate::plan::{plan_status, show_plan};
 use crate::write::show_write;
 use disk_trait::{Disks, Phase};
 use install_order::{Halt, InstallFault};
+use std::mem::drop;
 use stream_trait::{Shown, Sink, SinkFailed};
 
 // Of a disk that failed.
@@ -81,9 +82,6 @@ pub fn say_fault<O: Sink>(fault: &InstallFault, phase: Phase, out: &mut Shown<'_
     fault_status(fault, phase)
 }
 
-// Gives the memory of a refusal back.
-fn let_fault_go(_fault: InstallFault) {}
-
 /// The same of what ended an installation, with the disks, which are given back.
 pub fn say_halt<'d, D: Disks, O: Sink>(halt: Halt<'d, D>, out: &mut Shown<'_, O>) -> (u8, &'d mut D)
     ensures status { result.0 ≡ fault_status halt.entry.fault halt.entry.phase }
@@ -99,7 +97,7 @@ pub fn say_halt<'d, D: Disks, O: Sink>(halt: Halt<'d, D>, out: &mut Shown<'_, O>
         fault,
     } = halt;
     let status = say_fault(&fault, phase, out);
-    let_fault_go(fault);
+    drop(fault);
     (status, volume.detach())
 }
 

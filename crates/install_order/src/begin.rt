@@ -49,6 +49,7 @@ use mbr_table::Device;
 use minix_write::WriteHalt;
 use minix_zones::Volume;
 use std::alloc::Global;
+use std::mem::drop;
 
 // The device that a configuration boots, which it has.
 fn boot_device(config: &Config) -> Device
@@ -123,7 +124,10 @@ impl<'d, D: Disks> Surveyed<'d, D> {
                 found,
                 settled: false,
             }),
-            Err(fault) => Err(stopped(volume, fault)),
+            Err(fault) => {
+                drop(config);
+                Err(stopped(volume, fault))
+            }
         }
     }
 
@@ -166,7 +170,11 @@ impl<'d, D: Disks> Surveyed<'d, D> {
                 found,
                 settled: true,
             }),
-            Err(WriteHalt { volume, fault }) => Err(stopped(volume, write_refusal(fault))),
+            Err(WriteHalt { volume, fault }) => {
+                drop(config);
+                drop(found);
+                Err(stopped(volume, write_refusal(fault)))
+            }
         }
     }
 

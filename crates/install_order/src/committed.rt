@@ -7,6 +7,7 @@ use install_apart::NamePair;
 use install_tidy::tidy_map;
 use minix_write::WriteHalt;
 use minix_zones::Volume;
+use std::mem::drop;
 
 /// A volume whose new map boots, from its name with `~`.
 pub struct Committed<'d, D: Disks> {
@@ -40,7 +41,9 @@ impl<'d, D: Disks> Committed<'d, D> {
         ensures phase { IfErr result (λ halt. halt.phase ≡ Phase.After) }
     {
         let Committed { volume, map } = self;
-        match tidy_map(volume, &map) {
+        let tidied = tidy_map(volume, &map);
+        drop(map);
+        match tidied {
             Ok(volume) => Ok(Tidied { volume }),
             Err(WriteHalt { volume, fault }) => Err(Halt {
                 volume,

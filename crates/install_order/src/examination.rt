@@ -32,6 +32,7 @@ use minix_survey::{Findings, survey};
 use minix_zones::Volume;
 use old_map::{OldMap, is_clear, read_old_map};
 use std::alloc::Global;
+use std::mem::drop;
 
 /// What an installation finds: the names that it replaces, what a boot of the present map may look at, what there is to
 /// settle, and whether the present map is Clear, where it is of this format.
@@ -63,7 +64,10 @@ fn find_apart<D: Disks>(
     };
     match check_apart(alloc, volume, config, device) {
         Ok(()) => Ok(findings),
-        Err(fault) => Err(apart_refusal(fault)),
+        Err(fault) => {
+            drop(findings);
+            Err(apart_refusal(fault))
+        }
     }
 }
 
@@ -102,7 +106,10 @@ fn find_present<D: Disks>(
     };
     match own_names(alloc, volume, config, device, old.is_foreign()) {
         Ok(own) => Ok(Present { old, own }),
-        Err(fault) => Err(name_refusal(fault)),
+        Err(fault) => {
+            drop(old);
+            Err(name_refusal(fault))
+        }
     }
 }
 
@@ -135,7 +142,10 @@ fn find_rest<D: Disks>(
 {
     let settling = match find_settling(volume, boot, &present.own, forced) {
         Ok(settling) => settling,
-        Err(fault) => return Err(settle_refusal(fault)),
+        Err(fault) => {
+            drop(present);
+            return Err(settle_refusal(fault));
+        }
     };
     match is_clear(volume, &present.old, findings) {
         Ok(clear) => Ok(Examined {
@@ -144,7 +154,10 @@ fn find_rest<D: Disks>(
             settling,
             clear,
         }),
-        Err(fault) => Err(old_refusal(fault)),
+        Err(fault) => {
+            drop(present);
+            Err(old_refusal(fault))
+        }
     }
 }
 

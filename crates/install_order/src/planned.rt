@@ -10,6 +10,7 @@ use map_sectors::MapPlan;
 use mbr_table::Device;
 use minix_zones::Volume;
 use sector_parts::Sector;
+use std::mem::drop;
 
 /// A volume for which an installation is planned: the map, and the room for it and for a backup of the boot sector,
 /// where one is made.
@@ -67,12 +68,15 @@ impl<'d, D: Disks> Planned<'d, D> {
             device: _,
             boot: _,
             time: _,
-            own: _,
-            plan: _,
-            room: _,
+            own,
+            plan,
+            room,
             present: _,
             settled: _,
         } = self;
+        drop(own);
+        drop(plan);
+        drop(room);
         volume.detach()
     }
 }

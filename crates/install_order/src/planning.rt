@@ -70,6 +70,7 @@ use minix_write::WriteFault;
 use minix_zones::Volume;
 use sector_parts::Sector;
 use std::alloc::Global;
+use std::mem::drop;
 
 // The map of a configuration.
 fn plan_map<D: Disks>(
@@ -182,17 +183,11 @@ fn place_map<D: Disks>(
     match check_room(plan, &room) {
         Ok(()) => Ok(room),
         Err(fault) => {
-            let_room_go(room);
+            drop(room);
             Err(fault)
         }
     }
 }
-
-// Gives the memory of a room back.
-fn let_room_go(_room: Room) {}
-
-// That of a plan.
-fn let_plan_go(_plan: MapPlan) {}
 
 // The boot sector as it is.
 fn read_present<D: Disks>(volume: &mut Volume<'_, D>, boot: Span) -> Result<Sector, InstallFault>
@@ -267,8 +262,8 @@ fn with_present<D: Disks>(
             present,
         }),
         Err(fault) => {
-            let_plan_go(plan);
-            let_room_go(room);
+            drop(plan);
+            drop(room);
             Err(fault)
         }
     }
@@ -319,7 +314,7 @@ fn choose_for<D: Disks>(
     match place_map(alloc, volume, found, &plan, wish, length) {
         Ok(room) => with_present(volume, boot, &found.own, plan, room),
         Err(fault) => {
-            let_plan_go(plan);
+            drop(plan);
             Err(fault)
         }
     }
@@ -383,9 +378,6 @@ fn check_again<D: Disks>(
     }
 }
 
-// Gives the memory of a configuration back.
-fn let_config_go(_config: Config) {}
-
 // What is planned, once the devices are known to be apart still.
 fn choose_apart<D: Disks>(
     alloc: Global,
@@ -420,7 +412,7 @@ fn choose_apart<D: Disks>(
     match check_again(volume, &config, device, settled) {
         Ok(()) => choose(alloc, volume, config, boot, time, found, settled),
         Err(fault) => {
-            let_config_go(config);
+            drop(config);
             Err(fault)
         }
     }
@@ -433,8 +425,9 @@ impl<'d, D: Disks> Surveyed<'d, D> {
     ///
     /// # Errors
     ///
-    /// `NotApart` with the first option whose device isn't, where names are settled; `Plan` of files and devices, of what they hold and of their addresses, then `Write` of the room, then `Plan` of
-    /// the addresses of the map's own sectors; `Device` and `Memory`. The phase is `Before`.
+    /// `NotApart` with the first option whose device isn't, where names are settled; `Plan` of files and devices, of what
+    /// they hold and of their addresses, then `Write` of the room, then `Plan` of the addresses of the map's own sectors;
+    /// `Device` and `Memory`. The phase is `Before`.
     pub fn plan(self, alloc: Global) -> Result<Planned<'d, D>, Halt<'d, D>>
         requires known { IsKnown self }
 
@@ -497,11 +490,14 @@ impl<'d, D: Disks> Surveyed<'d, D> {
                     settled,
                 })
             }
-            Err(fault) => Err(Halt {
-                volume,
-                phase: Phase::Before,
-                fault,
-            }),
+            Err(fault) => {
+                drop(found);
+                Err(Halt {
+                    volume,
+                    phase: Phase::Before,
+                    fault,
+                })
+            }
         }
     }
 }

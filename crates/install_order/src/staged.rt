@@ -10,6 +10,7 @@ use install_apart::NamePair;
 use install_commit::commit;
 use minix_zones::Volume;
 use sector_parts::Sector;
+use std::mem::drop;
 
 /// A volume on which the files of an installation are, whole and durable, while what boots is as before. The new boot
 /// sector is what is still to be written.
@@ -50,11 +51,14 @@ impl<'d, D: Disks> Staged<'d, D> {
         let mut volume = volume;
         match commit(&mut volume, boot, &sector) {
             Ok(()) => Ok(Committed { volume, map }),
-            Err(_) => Err(Halt {
-                volume,
-                phase: Phase::Commit,
-                fault: InstallFault::Device,
-            }),
+            Err(_) => {
+                drop(map);
+                Err(Halt {
+                    volume,
+                    phase: Phase::Commit,
+                    fault: InstallFault::Device,
+                })
+            }
         }
     }
 }

@@ -25,6 +25,7 @@ use map_sectors::MapPlan;
 use minix_write::{WriteFault, WriteHalt};
 use minix_zones::Volume;
 use sector_parts::Sector;
+use std::mem::drop;
 
 // The files of a plan are made, once all that was written before is durable.
 fn stage_flushed<'d, D: Disks>(
@@ -95,18 +96,24 @@ impl<'d, D: Disks> Planned<'d, D> {
         let mut sector = [0; 512];
         plan.boot_sector(room.places.as_slice(), &present, &mut sector);
         let forced = plan.config().force_backup.is_some();
-        match stage_flushed(volume, room, &plan, &backup, forced, &present) {
+        let staged = stage_flushed(volume, room, &plan, &backup, forced, &present);
+        drop(plan);
+        drop(backup);
+        match staged {
             Ok(volume) => Ok(Staged {
                 volume,
                 boot,
                 map,
                 sector,
             }),
-            Err(WriteHalt { volume, fault }) => Err(Halt {
-                volume,
-                phase: Phase::Before,
-                fault: write_refusal(fault),
-            }),
+            Err(WriteHalt { volume, fault }) => {
+                drop(map);
+                Err(Halt {
+                    volume,
+                    phase: Phase::Before,
+                    fault: write_refusal(fault),
+                })
+            }
         }
     }
 }

@@ -8,6 +8,7 @@ use lilo_conf::parse;
 use minix_zones::Volume;
 use sector_parts::{Sector, put_part};
 use std::alloc::{AllocError, Global};
+use std::mem::drop;
 use std::process::Abort;
 use test_disks::{Untold, made_again};
 
@@ -98,6 +99,7 @@ pub(crate) fn install(
     };
     assert!(rt; config.boot.is_some());
     let Ok(volume) = Volume::attach(disks, VOLUME) else {
+        drop(config);
         return Err((Phase::Before, InstallFault::Device));
     };
     let begun = if scene.boot == VOLUME {

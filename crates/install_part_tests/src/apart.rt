@@ -9,6 +9,7 @@ use minix_tree::TreeFault;
 use minix_zones::{Volume, ZoneFault};
 use sector_parts::{Sector, put_part, put_u16, put_u32};
 use std::alloc::{AllocError, Global};
+use std::mem::drop;
 use std::process::Abort;
 use std::test::Fail;
 
@@ -226,9 +227,11 @@ fn names_are_found_or_the_first_is_refused(rt: HostRuntime) -> Result<(), Fail> 
     for (text, path, fault) in cases.iter() {
         let config = config_of(&rt, rt.alloc(), text);
         assert!(rt; is_refused(rt.alloc(), &mut volume, &config, path, fault));
+        drop(config);
     }
     let config = config_of(&rt, rt.alloc(), b"map=/boot/map image=/kernel");
     assert!(rt; are_found(rt.alloc(), &mut volume, &config));
+    drop(config);
     Ok(())
 }
 
@@ -278,6 +281,7 @@ fn what_is_not_apart_is_named(rt: HostRuntime) -> Result<(), Fail> {
     for (text, partition, option) in cases.iter() {
         let config = config_of(&rt, rt.alloc(), text);
         assert!(rt; is_found(rt.alloc(), &mut volume, &config, *partition, *option));
+        drop(config);
     }
     Ok(())
 }
@@ -298,6 +302,7 @@ fn what_is_apart_is_accepted(rt: HostRuntime) -> Result<(), Fail> {
     for text in cases.iter() {
         let config = config_of(&rt, rt.alloc(), text);
         assert!(rt; check_apart(rt.alloc(), &mut volume, &config, HDA).is_ok());
+        drop(config);
     }
     Ok(())
 }

@@ -17,6 +17,7 @@ use disk_trait::Disks;
 use install_begin::Begun;
 use minix_zones::{Volume, ZoneFault};
 use std::alloc::Global;
+use std::mem::drop;
 use stream_trait::{Shown, Sink};
 
 /// Reports what an installation at a time, in seconds since 1970, would do, or why it is refused, and gives the exit
@@ -56,7 +57,10 @@ pub fn preview_begun<D: Disks, O: Sink>(
     } = begun;
     match Volume::attach(disks, place) {
         Ok(volume) => preview(alloc, volume, config, boot, time, out).0,
-        Err((disks, fault)) => say_zone(disks, fault, out),
+        Err((disks, fault)) => {
+            drop(config);
+            say_zone(disks, fault, out)
+        }
     }
 }
 

@@ -9,6 +9,7 @@ use map_sectors::MapPlan;
 use sector_parts::{Sector, part};
 use setup_header::{Layout, Region};
 use std::alloc::{AllocError, Global};
+use std::mem::drop;
 use std::process::Abort;
 use std::test::Fail;
 use stream_trait::{MemSink, MemSource};
@@ -32,6 +33,7 @@ fn a_boot_sector_has_its_fields(rt: HostRuntime) -> Result<(), Fail> {
         b"boot=/dev/hda\nlba32\ndelay=20\ndefault=l\nimage=/kernel\nlabel=linux\nalias=l\n",
     )?;
     let sector = boot_sector(&plan);
+    drop(plan);
     let mut fields = [0; 128];
     fields[..24].copy_from_slice(b"\xEB\x7ELILO\x01\0\x07\0\0\0\0\0\x14\0\xFF\xFF\x02\0\0\0\0\0");
     fields[24..40].copy_from_slice(b"\x03\x80\x01\0\xA4\x01\0\0\x03\x80\x01\0\xA8\x01\0\0");
@@ -118,6 +120,15 @@ fn expect_loaded(rt: &impl Abort, outcome: Outcome, ram: &mut Ram) {
     expect_bytes(rt, ram, 0x1F_F000, b"FIRST\0");
 }
 
+// Disks with the map of a text and its boot sector.
+fn installed(rt: &impl Abort, alloc: Global, text: &[u8]) -> Result<MemDisks, AllocError> {
+    let mut disks = disks(alloc)?;
+    let plan = planned(rt, alloc, text)?;
+    install(&mut disks, &plan);
+    drop(plan);
+    Ok(disks)
+}
+
 // With each way to name sectors, and with slots of one sector or of many.
 #[test]
 fn a_planned_map_boots(rt: HostRuntime) -> Result<(), Fail> {
@@ -128,9 +139,7 @@ fn a_planned_map_boots(rt: HostRuntime) -> Result<(), Fail> {
         b"boot=/dev/hda\ncompact\nimage=/kernel\nlabel=linux\nread-only\ninitrd=/initrd\n".as_slice(),
         b"boot=/dev/hda\nlba32\ncompact\nimage=/kernel\nlabel=linux\nread-only\ninitrd=/initrd\n".as_slice(),
     ] {
-        let plan = planned(&rt, rt.alloc(), text)?;
-        let mut disks = disks(rt.alloc())?;
-        install(&mut disks, &plan);
+        let mut disks = installed(&rt, rt.alloc(), text)?;
         let mut ram = full_memory(rt.alloc())?;
         let mut sink = MemSink::new(rt.alloc(), 256, &[])?;
         let outcome = booted(&rt, rt.alloc(), &mut disks, b"", &mut ram, &mut sink)?;

@@ -10,6 +10,7 @@ use loader_core::Outcome;
 use sector_parts::Sector;
 use setup_header::Layout;
 use std::alloc::{AllocError, Global};
+use std::mem::drop;
 use std::process::Abort;
 use std::test::Fail;
 use stream_trait::MemSink;
@@ -19,6 +20,7 @@ use stream_trait::MemSink;
 fn a_row_of_sectors_has_one_slot(rt: HostRuntime) -> Result<(), Fail> {
     let plan = accepted(&rt, rt.alloc(), b"lba32\ncompact\nimage=/kernel\n")?;
     assert!(rt; holds(&made(&plan, 6), 0, b"\x03\x80\x03\0\x52", 512));
+    drop(plan);
     Ok(())
 }
 
@@ -31,9 +33,10 @@ fn ended(
     ram: &mut Ram,
     sink: &mut MemSink,
 ) -> Result<(Outcome, Sector), AllocError> {
-    let plan = accepted(rt, alloc, text)?;
     let mut disks = disks(alloc)?;
+    let plan = accepted(rt, alloc, text)?;
     install(&mut disks, &plan);
+    drop(plan);
     let outcome = booted(rt, alloc, &mut disks, keys, ram, sink)?;
     let mut line = [0; 512];
     let _ = disks.read(0, u64::from(MAP_START), &mut line);

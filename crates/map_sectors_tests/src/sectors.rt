@@ -4,6 +4,7 @@ ghost use Rattle.std.specs.Prelude.{◌≡◌};
 use crate::fixture::{holds, made, planned};
 use map_sectors::MapPlan;
 use sector_parts::Sector;
+use std::mem::drop;
 use std::process::Abort;
 use std::test::Fail;
 
@@ -34,6 +35,7 @@ fn a_map_has_its_sectors_in_order(rt: HostRuntime) -> Result<(), Fail> {
     assert!(rt; is_made(&plan, 2, b"") && is_made(&plan, 3, b""));
     assert!(rt; is_made(&plan, 4, b""));
     assert!(rt; is_made(&plan, 5, b"\x03\0\0\0\0\0\0\0 ro"));
+    drop(plan);
     Ok(())
 }
 
@@ -53,6 +55,7 @@ fn a_hole_is_the_zero_sector(rt: HostRuntime) -> Result<(), Fail> {
         )
     );
     assert_eq!(rt; plan.runs(), 4);
+    drop(plan);
     Ok(())
 }
 
@@ -82,6 +85,8 @@ fn a_section_sector_has_63_slots(rt: HostRuntime) -> Result<(), Fail> {
             512
         )
     );
+    assert_eq!(rt; one.runs(), 2);
+    drop(one);
     let two = planned(
         &rt,
         rt.alloc(),
@@ -98,7 +103,8 @@ fn a_section_sector_has_63_slots(rt: HostRuntime) -> Result<(), Fail> {
         )
     );
     assert!(rt; is_made(&two, 7, b"\x03\x80\x01\0\xA8\x01"));
-    assert!(rt; one.runs() == 2 && two.runs() == 2);
+    assert_eq!(rt; two.runs(), 2);
+    drop(two);
     Ok(())
 }
 
@@ -125,6 +131,7 @@ fn an_alias_has_an_entry_of_its_own(rt: HostRuntime) -> Result<(), Fail> {
     assert!(rt;
         plan.length() == 4096 && has_entry(&table, 0, b"linux") && holds(&table, 64, b"", 512)
     );
+    drop(plan);
     let plan = planned(
         &rt,
         rt.alloc(),
@@ -138,6 +145,7 @@ fn an_alias_has_an_entry_of_its_own(rt: HostRuntime) -> Result<(), Fail> {
     assert!(rt;
         holds(&made(&plan, 6), 0, b"\0\0\x02", 480) && holds(&made(&plan, 6), 480, b"ab", 512)
     );
+    drop(plan);
     Ok(())
 }
 
@@ -164,12 +172,14 @@ fn neighbours_on_two_tracks(rt: HostRuntime) -> Result<(), Fail> {
             b"\x01\x80\x01\0\x3F\0\x01\0\x01\x80\x01\0\x01\0\x02"
         )
     );
+    drop(chs);
     let linear = planned(
         &rt,
         rt.alloc(),
         b"boot=/dev/hda\nlinear\ncompact\nimage=/kernel\nlabel=linux\ninitrd=/initrd\n",
     )?;
     assert!(rt; is_made(&linear, 7, b"\x02\x80\x02\0\x7D"));
+    drop(linear);
     Ok(())
 }
 
@@ -182,5 +192,6 @@ fn a_slot_has_127_sectors(rt: HostRuntime) -> Result<(), Fail> {
     )?;
     assert!(rt; is_made(&plan, 6, b"\x03\x80\x7F\0\x89\0\0\0\x03\x80\x01\0\x08\x01"));
     assert_eq!(rt; plan.runs(), 1);
+    drop(plan);
     Ok(())
 }

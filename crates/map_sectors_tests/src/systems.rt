@@ -1,5 +1,6 @@
 // The sectors of planned maps with another system, and with a message and the texts of a section.
 use crate::fixture::{holds, made, planned};
+use std::mem::drop;
 use std::test::Fail;
 
 // The first sector of the second disk, and that of the first with the partition table; no text and no link.
@@ -20,6 +21,7 @@ fn another_system_has_one_section_sector(rt: HostRuntime) -> Result<(), Fail> {
             512
         )
     );
+    drop(plan);
     Ok(())
 }
 
@@ -51,5 +53,6 @@ fn a_message_comes_before_the_sections(rt: HostRuntime) -> Result<(), Fail> {
             16
         )
     );
+    drop(plan);
     Ok(())
 }

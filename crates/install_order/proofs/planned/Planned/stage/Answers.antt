@@ -10,20 +10,20 @@ use Rattle.install_order.specs.States.{is_forced, StagesFrom, StopsStaging}
 use Rattle.install_order.proofs.StagedLemmas.{may_tidy_then, path, view_kept}
 use Rattle.install_order.proofs.planned.Planned.stage.Goals as goal
 
-pub stage_flushed-requires-clause-holes : goal.stage_flushed-requires-clause-holes
-stage_flushed-requires-clause-holes g c = λ told. (c.requires.ready.files.holes told).backup
+pub stage_flushed-staged-requires-clause-holes : goal.stage_flushed-staged-requires-clause-holes
+stage_flushed-staged-requires-clause-holes g c = λ told. (c.requires.ready.files.holes told).backup
 
-pub stage_flushed-requires-clause-inside : goal.stage_flushed-requires-clause-inside
-stage_flushed-requires-clause-inside g c = c.requires.ready.files.inside.1
+pub stage_flushed-staged-requires-clause-inside : goal.stage_flushed-staged-requires-clause-inside
+stage_flushed-staged-requires-clause-inside g c = c.requires.ready.files.inside.1
 
-pub stage_flushed-requires-clause-twins : goal.stage_flushed-requires-clause-twins
-stage_flushed-requires-clause-twins g c = c.requires.ready.files.twins.1
+pub stage_flushed-staged-requires-clause-twins : goal.stage_flushed-staged-requires-clause-twins
+stage_flushed-staged-requires-clause-twins g c = c.requires.ready.files.twins.1
 
-pub stage_flushed-requires-clause-called : goal.stage_flushed-requires-clause-called
-stage_flushed-requires-clause-called g c = c.requires.ready.files.backup_called
+pub stage_flushed-staged-requires-clause-called : goal.stage_flushed-staged-requires-clause-called
+stage_flushed-staged-requires-clause-called g c = c.requires.ready.files.backup_called
 
-pub stage_flushed-requires-clause-may : goal.stage_flushed-requires-clause-may
-stage_flushed-requires-clause-may g c = λ told.
+pub stage_flushed-staged-requires-clause-may : goal.stage_flushed-staged-requires-clause-may
+stage_flushed-staged-requires-clause-may g c = λ told.
     let is = c.requires.ready.may told c.requires.settled in
     let forced : c.is_some-forced.result ≡ is_forced c.args.self = c.is_some-forced.ensures ∙ ap (λ (config : Config). is_some config.force_backup) c.config.ensures in
     subst (λ (forced : Bool). MayStageSomeRoom c.args.self.volume forced c.args.self.plan c.args.self.room) (sym forced)
@@ -44,8 +44,8 @@ returns-in-Ok-clause-staged g c =
       sector_is = λ machine is. rw items at (c.boot_sector.ensures.sector machine is);
     }
 
-pub returns-clause-halted : goal.returns-clause-halted
-returns-clause-halted g c =
+pub returns-in-Err-clause-halted : goal.returns-in-Err-clause-halted
+returns-in-Err-clause-halted g c =
     let forced : c.is_some-forced.result ≡ is_forced c.args.self = c.is_some-forced.ensures ∙ ap (λ (config : Config). is_some config.force_backup) c.config.ensures in
     record {
       fault = c.in-Err.field-0.fault;

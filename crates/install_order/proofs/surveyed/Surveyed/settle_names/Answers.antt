@@ -20,8 +20,8 @@ returns-in-Ok-clause-nothing g c = λ none. let result = c.in-Ok.ensures.nothing
 err-not-ok : {A F : Type 0} (fault : F) (value : A) (result : Result A F) → result ≡ Err fault → result ≡ Ok value → ⊥
 err-not-ok fault value result is other = cc
 
-pub returns-clause-nothing : goal.returns-clause-nothing
-returns-clause-nothing g c = λ none. absurd (err-not-ok _ _ _ refl (c.in-Err.ensures.nothing none))
+pub returns-in-Err-clause-nothing : goal.returns-in-Err-clause-nothing
+returns-in-Err-clause-nothing g c = λ none. absurd (err-not-ok _ _ _ refl (c.in-Err.ensures.nothing none))
 
 pub returns-in-Ok-clause-leaves : goal.returns-in-Ok-clause-leaves
 returns-in-Ok-clause-leaves g c = leaves_of c.args.self c.requires.looked c.requires.known c.in-Ok.volume (Ok tt) c.in-Ok.ensures.settled
@@ -37,13 +37,13 @@ returns-in-Ok-clause-known g c = record {
   known = surveyed_of c.args.self c.requires.looked c.requires.known c.in-Ok.volume (Ok tt) c.in-Ok.ensures.settled refl;
 }
 
-pub returns-clause-leaves : goal.returns-clause-leaves
-returns-clause-leaves g c =
+pub returns-in-Err-clause-leaves : goal.returns-in-Err-clause-leaves
+returns-in-Err-clause-leaves g c =
     let same : c.stopped.result.volume ≡ c.in-Err.field-0.volume = search rules in
     subst (λ v. Leaves c.args.self.volume v (begun_here c.args.self c.requires.looked c.requires.known)) (sym same)
     (leaves_of c.args.self c.requires.looked c.requires.known c.in-Err.field-0.volume (Err c.in-Err.field-0.fault) c.in-Err.ensures.halted)
 
-pub returns-clause-device : goal.returns-clause-device
-returns-clause-device g c = λ told.
+pub returns-in-Err-clause-device : goal.returns-in-Err-clause-device
+returns-in-Err-clause-device g c = λ told.
     let device = (settles_told c.args.self c.requires.looked c.requires.known c.in-Err.field-0.volume (Err c.in-Err.field-0.fault) c.in-Err.ensures.halted told).device told in
     c.stopped.ensures.fault ∙ (c.write_refusal.ensures.is ∙ ap write_refusal device.0)

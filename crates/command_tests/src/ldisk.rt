@@ -349,13 +349,16 @@ pub(crate) fn told_on(
     Ok((status, String::from_str(alloc, text)?))
 }
 
+// Where nothing can be made on the sound disk: what is there, and what has no directory.
+pub(crate) const NOWHERE: &[&str] = &["/", "/a", "/.", "/..", "/a/b", "/none/b"];
+
 #[test]
 fn makes_a_directory_and_a_link(rt: HostRuntime) -> Result<(), Fail> {
     let mut disks = sound_disk(rt.alloc(), &[])?;
-    for path in ["/", "/a", "/.", "/..", "/a/b", "/none/b"] {
-        let line = ["mkdir", "x.img", "/dev/hda", path];
+    for path in NOWHERE {
+        let line = ["mkdir", "x.img", "/dev/hda", *path];
         assert_eq!(rt; status_on(rt.alloc(), &line, &mut disks)?, (3, 0));
-        let line = ["ln", "x.img", "/dev/hda", path, ""];
+        let line = ["ln", "x.img", "/dev/hda", *path, ""];
         assert_eq!(rt; status_on(rt.alloc(), &line, &mut disks)?, (3, 0));
     }
     let long = ["ln", "x.img", "/dev/hda", "/123456789012345", ""];

@@ -1,5 +1,5 @@
 // Files that `ldisk` stores on disks in memory.
-use crate::ldisk::{sound_disk, told_on, words_of};
+use crate::ldisk::{NOWHERE, sound_disk, told_on, words_of};
 use disk_trait::{Failing, MemDisks};
 use ldisk_run::ldisk;
 use minix_stops::whole_disks;
@@ -29,7 +29,7 @@ fn put_on(
 #[test]
 fn stores_a_file(rt: HostRuntime) -> Result<(), Fail> {
     let mut disks = sound_disk(rt.alloc(), &[])?;
-    for path in ["/", "/a", "/.", "/..", "/a/b", "/none/b"] {
+    for path in NOWHERE {
         let put = put_on(rt.alloc(), path, b"x", &[], &mut disks)?;
         assert_eq!(rt; put, (3, 0, Next::Got(b'x')), "{path}");
     }

@@ -6,7 +6,7 @@ use conf_text::TextFault;
 use std::alloc::{AllocError, Global};
 use std::test::Fail;
 
-const NAMES: [(&[u8], Opt); 55] = [
+const NAMES: &[(&[u8], Opt)] = &[
     (b"boot", Opt::Boot),
     (b"map", Opt::Map),
     (b"install", Opt::Install),
@@ -67,8 +67,8 @@ const NAMES: [(&[u8], Opt); 55] = [
 #[test]
 fn options_have_their_names(rt: HostRuntime) {
     for (name, option) in NAMES {
-        assert_eq!(rt; Opt::of(name), option);
-        assert_eq!(rt; option.name(), name);
+        assert_eq!(rt; Opt::of(name), *option);
+        assert_eq!(rt; option.name(), *name);
     }
     for word in [b"linuxx".as_slice(), b"", b"Boot", b"boo", b"text"] {
         assert_eq!(rt; Opt::of(word), Opt::Other);

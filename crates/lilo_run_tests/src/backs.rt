@@ -17,7 +17,7 @@ const BACKED: Case<'static> = Case {
 const NOT_OURS: &[u8] = b"lilo: not ours\n";
 
 // Runs of `-u`, and whether the boot sector is restored then: else it stays.
-const BACKS: [(Case<'static>, bool); 14] = [
+const BACKS: &[(Case<'static>, bool)] = &[
     (BACKED, true),
     // What there is then is another system's, and a boot finds it.
     (
@@ -160,7 +160,7 @@ fn is_restored(boot: &Sector) -> bool {
 #[test]
 fn boot_sectors_are_restored(rt: HostRuntime) -> Result<(), Fail> {
     for (case, restored) in BACKS {
-        let end = end_of(rt.alloc(), &case)?;
+        let end = end_of(rt.alloc(), case)?;
         assert_eq!(rt; end.status, case.status, "{:?}, {}", case.words, case.at);
         assert!(rt;
             end.text.as_slice() == case.text,
@@ -170,7 +170,7 @@ fn boot_sectors_are_restored(rt: HostRuntime) -> Result<(), Fail> {
         );
         assert_eq!(rt;
             is_restored(&end.boot),
-            restored,
+            *restored,
             "{:?}, {}",
             case.words,
             case.at

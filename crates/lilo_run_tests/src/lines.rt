@@ -12,7 +12,7 @@ const ASKING: Case<'static> = Case {
 };
 
 // Runs, and the default line's sector after them.
-const LINES: [(Case<'static>, &[u8]); 6] = [
+const LINES: &[(Case<'static>, &[u8])] = &[
     // A line for one boot: the next boot of the run asks.
     (
         Case {
@@ -83,7 +83,7 @@ const BOOT_AND_LIST: &[&str] = &["boot", "/dev/hda", "--then", "-q", "/dev/hda"]
 #[test]
 fn boots_leave_default_lines(rt: HostRuntime) -> Result<(), Fail> {
     for (case, line) in LINES {
-        let end = end_of(rt.alloc(), &case)?;
+        let end = end_of(rt.alloc(), case)?;
         assert_eq!(rt;
             end.status,
             case.status,

@@ -12,7 +12,7 @@ const REFUSED: Case<'static> = Case {
     ..WHOLE
 };
 
-const CASES: [Case<'static>; 6] = [
+const CASES: &[Case<'static>] = &[
     REFUSED,
     Case {
         conf: b"",
@@ -49,7 +49,7 @@ const CASES: [Case<'static>; 6] = [
 fn a_test_reports_the_first_refusal(rt: HostRuntime) -> Result<(), Fail> {
     for case in CASES {
         assert_eq!(rt;
-            run(rt.alloc(), &case)?,
+            run(rt.alloc(), case)?,
             (case.status, true),
             "{:?}",
             case.words

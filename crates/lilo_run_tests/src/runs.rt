@@ -2,7 +2,7 @@ use crate::case::{BOOT, Case, QUERY, WHOLE, answer, run, words_of};
 use lilo_run::boots;
 use std::test::Fail;
 
-const LISTS: [Case<'static>; 11] = [
+const LISTS: &[Case<'static>] = &[
     WHOLE,
     // A foreign sector, another version, twenty names, and a table slot to sector 4096.
     Case {
@@ -83,14 +83,14 @@ const LISTS: [Case<'static>; 11] = [
 #[test]
 fn names_are_listed_or_refused(rt: HostRuntime) -> Result<(), Fail> {
     for case in LISTS {
-        let (status, as_wanted) = run(rt.alloc(), &case)?;
+        let (status, as_wanted) = run(rt.alloc(), case)?;
         assert_eq!(rt; status, case.status, "byte {} of {:?}", case.at, case.words);
         assert!(rt; as_wanted, "byte {} of {:?}", case.at, case.words);
     }
     Ok(())
 }
 
-const RUNS: [Case<'static>; 12] = [
+const RUNS: &[Case<'static>] = &[
     Case {
         words: &["-x"],
         status: 1,
@@ -184,7 +184,7 @@ const RUNS: [Case<'static>; 12] = [
 #[test]
 fn parts_run_in_order(rt: HostRuntime) -> Result<(), Fail> {
     for case in RUNS {
-        let (status, as_wanted) = run(rt.alloc(), &case)?;
+        let (status, as_wanted) = run(rt.alloc(), case)?;
         assert_eq!(rt; status, case.status, "{:?}", case.words);
         assert!(rt; as_wanted, "{:?}", case.words);
     }
@@ -226,7 +226,7 @@ fn a_boot_tells_the_memory(rt: HostRuntime) -> Result<(), Fail> {
     Ok(())
 }
 
-const BOOTS: [Case<'static>; 6] = [
+const BOOTS: &[Case<'static>] = &[
     // The third slot of the section, a memory that is too small, and no boot sector at all.
     Case {
         words: BOOT,
@@ -281,7 +281,7 @@ const BOOTS: [Case<'static>; 6] = [
 #[test]
 fn boots_are_refused(rt: HostRuntime) -> Result<(), Fail> {
     for case in BOOTS {
-        let (status, as_wanted) = run(rt.alloc(), &case)?;
+        let (status, as_wanted) = run(rt.alloc(), case)?;
         assert_eq!(rt; status, case.status, "byte {} of {:?}", case.at, case.words);
         assert!(rt; as_wanted, "byte {} of {:?}", case.at, case.words);
     }
@@ -336,7 +336,7 @@ fn each_read_of_a_boot_may_fail(rt: HostRuntime) -> Result<(), Fail> {
 }
 
 // A map that wants the prompt: by keys, by none, and by those that a boot before left; where a key isn't heard.
-const KEYS: [Case<'static>; 5] = [
+const KEYS: &[Case<'static>] = &[
     Case {
         keys: b"linux single\n",
         status: 0,
@@ -381,14 +381,14 @@ const PROMPTED: Case<'static> = Case {
 #[test]
 fn keys_choose(rt: HostRuntime) -> Result<(), Fail> {
     for case in KEYS {
-        let (status, as_wanted) = run(rt.alloc(), &case)?;
+        let (status, as_wanted) = run(rt.alloc(), case)?;
         assert_eq!(rt; status, case.status, "keys {:?}", case.keys);
         assert!(rt; as_wanted, "keys {:?}", case.keys);
     }
     Ok(())
 }
 
-const FAULTS: [Case<'static>; 9] = [
+const FAULTS: &[Case<'static>] = &[
     Case {
         failing_calls: &[0],
         words: QUERY,
@@ -456,7 +456,7 @@ const FAULTS: [Case<'static>; 9] = [
 #[test]
 fn four_sectors_are_read_and_one_text_is_put(rt: HostRuntime) -> Result<(), Fail> {
     for case in FAULTS {
-        let (status, as_wanted) = run(rt.alloc(), &case)?;
+        let (status, as_wanted) = run(rt.alloc(), case)?;
         assert_eq!(rt; status, case.status, "calls {:?}", case.failing_calls);
         assert!(rt; as_wanted, "calls {:?}", case.failing_calls);
     }

@@ -16,7 +16,7 @@ const SHOT: Case<'static> = Case {
 };
 
 // Runs of `-R`, and the default line's sector after them: where there is a refusal it stays.
-const SHOTS: [(Case<'static>, &[u8]); 7] = [
+const SHOTS: &[(Case<'static>, &[u8])] = &[
     (SHOT, ONCE),
     (
         Case {
@@ -80,7 +80,7 @@ const SHOTS: [(Case<'static>, &[u8]); 7] = [
 ];
 
 // Others, of which most are refused.
-const OTHER_SHOTS: [(Case<'static>, &[u8]); 6] = [
+const OTHER_SHOTS: &[(Case<'static>, &[u8])] = &[
     (
         Case {
             words: LONG,
@@ -171,7 +171,7 @@ fn ends_so(alloc: Global, case: &Case<'_>, line: &[u8]) -> Result<bool, AllocErr
 fn lines_are_set_and_cleared(rt: HostRuntime) -> Result<(), Fail> {
     for (case, line) in SHOTS {
         assert!(rt;
-            ends_so(rt.alloc(), &case, line)?,
+            ends_so(rt.alloc(), case, line)?,
             "{:?}, {:?}",
             case.words,
             case.conf
@@ -184,7 +184,7 @@ fn lines_are_set_and_cleared(rt: HostRuntime) -> Result<(), Fail> {
 fn lines_are_refused(rt: HostRuntime) -> Result<(), Fail> {
     for (case, line) in OTHER_SHOTS {
         assert!(rt;
-            ends_so(rt.alloc(), &case, line)?,
+            ends_so(rt.alloc(), case, line)?,
             "{:?}, {:?}",
             case.words,
             case.conf

@@ -219,23 +219,30 @@ fn met(zone: u32, index: u32, indirect: bool) -> Result<Option<Visit>, ZoneFault
     }))
 }
 
+// The zones of the inode on deep disks, each with the index of its block and whether it is indirect.
+const DEEP: &[(u32, u32, bool)] = &[
+    (5, 0, false),
+    (6, 2, false),
+    (7, 7, true),
+    (8, 7, false),
+    (10, 207, false),
+    (11, 263, true),
+    (12, 775, true),
+    (13, 780, false),
+    (14, 65_799, true),
+    (15, 65_799, true),
+    (16, 65_799, true),
+    (17, 65_799, false),
+];
+
 #[test]
 fn walk_meets_each_zone(rt: HostRuntime) -> Result<(), Fail> {
     let mut disks = deep_disks(rt.alloc(), &[])?;
     let mut volume = attach(&rt, &mut disks)?;
     let mut walk = Walk::new(&INODE, FsKind::V2Long);
-    assert_eq!(rt; walk.next(&mut volume), met(5, 0, false));
-    assert_eq!(rt; walk.next(&mut volume), met(6, 2, false));
-    assert_eq!(rt; walk.next(&mut volume), met(7, 7, true));
-    assert_eq!(rt; walk.next(&mut volume), met(8, 7, false));
-    assert_eq!(rt; walk.next(&mut volume), met(10, 207, false));
-    assert_eq!(rt; walk.next(&mut volume), met(11, 263, true));
-    assert_eq!(rt; walk.next(&mut volume), met(12, 775, true));
-    assert_eq!(rt; walk.next(&mut volume), met(13, 780, false));
-    assert_eq!(rt; walk.next(&mut volume), met(14, 65_799, true));
-    assert_eq!(rt; walk.next(&mut volume), met(15, 65_799, true));
-    assert_eq!(rt; walk.next(&mut volume), met(16, 65_799, true));
-    assert_eq!(rt; walk.next(&mut volume), met(17, 65_799, false));
+    for (zone, index, indirect) in DEEP {
+        assert_eq!(rt; walk.next(&mut volume), met(*zone, *index, *indirect));
+    }
     assert_eq!(rt; walk.next(&mut volume), Ok(None));
     assert_eq!(rt; walk.next(&mut volume), Ok(None));
     Ok(())

@@ -1,7 +1,7 @@
 use super::*;
 
 // Words that are no options, and options that aren't allowed where they are.
-const MISPLACED: [(&[u8], ConfReason, Opt, u32); 46] = [
+const MISPLACED: &[(&[u8], ConfReason, Opt, u32)] = &[
     (b"foo", ConfReason::Unknown, Opt::Other, 1),
     (b"boot=/dev/hda\n= x", ConfReason::Unknown, Opt::Other, 2),
     (b"\"boot\"", ConfReason::Unknown, Opt::Other, 1),
@@ -148,6 +148,6 @@ const MISPLACED: [(&[u8], ConfReason, Opt, u32); 46] = [
 #[test]
 fn settings_are_refused_where_they_stand(rt: HostRuntime) {
     for (text, reason, option, line) in MISPLACED {
-        assert_eq!(rt; refused(rt.alloc(), text), fault(reason, option, line));
+        assert_eq!(rt; refused(rt.alloc(), text), fault(*reason, *option, *line));
     }
 }

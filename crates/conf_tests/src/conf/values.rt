@@ -3,7 +3,7 @@ use conf_text::TextFault;
 use std::test::Fail;
 
 // Options whose values are refused, and texts that can't be cut.
-const WITH_VALUES: [(&[u8], ConfReason, Opt, u32); 48] = [
+const WITH_VALUES: &[(&[u8], ConfReason, Opt, u32)] = &[
     (b"boot", ConfReason::NoValue, Opt::Boot, 1),
     (b"boot\nprompt", ConfReason::NoValue, Opt::Boot, 1),
     (b"boot \"/dev/hda\"", ConfReason::NoValue, Opt::Boot, 1),
@@ -137,7 +137,7 @@ const WITH_VALUES: [(&[u8], ConfReason, Opt, u32); 48] = [
 #[test]
 fn values_are_refused(rt: HostRuntime) {
     for (text, reason, option, line) in WITH_VALUES {
-        assert_eq!(rt; refused(rt.alloc(), text), fault(reason, option, line));
+        assert_eq!(rt; refused(rt.alloc(), text), fault(*reason, *option, *line));
     }
 }
 

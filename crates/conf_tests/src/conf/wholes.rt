@@ -3,7 +3,7 @@ use std::alloc::AllocError;
 use std::test::Fail;
 
 // Configurations that are refused as wholes.
-const AS_WHOLES: [(&[u8], ConfReason, Opt, u32); 23] = [
+const AS_WHOLES: &[(&[u8], ConfReason, Opt, u32)] = &[
     (b"image=/a/", ConfReason::BadValue, Opt::Image, 1),
     (
         b"image=/a/aaaaaaaaaaaaaaaa",
@@ -132,7 +132,7 @@ const AS_WHOLES: [(&[u8], ConfReason, Opt, u32); 23] = [
 #[test]
 fn wholes_are_refused(rt: HostRuntime) {
     for (text, reason, option, line) in AS_WHOLES {
-        assert_eq!(rt; refused(rt.alloc(), text), fault(reason, option, line));
+        assert_eq!(rt; refused(rt.alloc(), text), fault(*reason, *option, *line));
     }
 }
 

@@ -140,6 +140,3 @@ pub fn install<D: Disks, B: Boot>(
     stage(disks, disk, start, sectors)?;
     commit(disks, disk, last, from)
 }
-
-#[cfg(test)]
-mod tests;

@@ -14,8 +14,8 @@ use Rattle.minix_zones.specs.Volume.{volume_view, past_of}
 use Rattle.minix_zones.specs.declared.volume.Volume.{Volume}
 use Rattle.minix_zones.proofs.SameLemmas.{same_view}
 use Rattle.sector_address.specs.Machine.{machine_of}
-use Rattle.install_begin_laws.specs.Laws.{Begins}
-use Rattle.install_begin_laws.proofs.Apart.{apart_boot_law}
+use Rattle.install_stage_laws.specs.BeginLaws.{Begins}
+use Rattle.install_stage_laws.proofs.Apart.{apart_boot_law}
 use Rattle.install_laws.specs.InstallVerdict.{Begun}
 use Rattle.install_laws.specs.Writes.{IsApartSector}
 use Rattle.install_order.specs.Answers.{Leaves, Promises, Settled}

@@ -7,7 +7,7 @@ use Rattle.disk_trait.proofs.MomentLemmas.{leaves_join, leaves_weaker}
 use Rattle.lilo_model.specs.Disks.{Image, DiskSector, bytes_at}
 use Rattle.lilo_model.specs.MinixParts as model
 use Rattle.map_sectors.specs.declared.map.MapPlan.{MapPlan}
-use Rattle.minix_write.specs.declared.write_fault.WriteFault.{WriteFault}
+use Rattle.minix_choice.specs.declared.write_fault.WriteFault.{WriteFault}
 use Rattle.minix_zones.specs.Volume.{volume_view, past_of}
 use Rattle.minix_zones.specs.declared.volume.Volume.{Volume}
 use Rattle.install_laws.specs.Writes.{IsWritable, WritesOnly}

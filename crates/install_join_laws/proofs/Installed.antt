@@ -9,7 +9,7 @@ use Rattle.lilo_model.specs.MinixParts as model
 use Rattle.lilo_conf.specs.View.{config_view}
 use Rattle.lilo_conf.specs.declared.config.Config as configs
 use Rattle.mbr_table.specs.View.{device_view}
-use Rattle.minix_write.specs.declared.write_fault.WriteFault.{WriteFault}
+use Rattle.minix_choice.specs.declared.write_fault.WriteFault.{WriteFault}
 use Rattle.minix_zones.specs.View.{span_view}
 use Rattle.minix_zones.specs.Volume.{volume_view, past_of}
 use Rattle.minix_zones.specs.declared.volume.Volume.{Volume}
@@ -28,8 +28,8 @@ use Rattle.install_order.specs.declared.surveyed.Surveyed.{Surveyed}
 use Rattle.install_room.specs.Room.{places_view}
 use Rattle.install_stage.specs.Stages.{room_zones}
 use Rattle.install_stage_laws.proofs.Committed.{staged_tidies_law}
-use Rattle.install_tidy.specs.Tidies.{Tidies}
-use Rattle.install_join_laws.specs.Laws.{InstallationCommitEndsLaw, InstallationLaw, meant_from}
+use Rattle.install_settle.specs.Tidies.{Tidies}
+use Rattle.install_join_laws.specs.JoinLaws.{InstallationCommitEndsLaw, InstallationLaw, meant_from}
 use Rattle.install_join_laws.specs.Steps.{HasPlanned, HasStaged, IsBegunWith, LiesOnDisks, machine_on}
 use Rattle.install_join_laws.proofs.Begun.{plan-view-same}
 use Rattle.install_join_laws.proofs.Prepared.{prepared-staged}

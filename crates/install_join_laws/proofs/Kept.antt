@@ -14,14 +14,14 @@ use Rattle.lilo_model.specs.NamePlaces.{with_tilde}
 use Rattle.lilo_model.specs.Settled.{Held, IsSettled, OwnNames, settled}
 use Rattle.lilo_conf.specs.declared.config.Config as configs
 use Rattle.minix_create.specs.declared.chosen.Chosen.{Chosen}
-use Rattle.minix_write.specs.declared.write_fault.WriteFault.{WriteFault}
-use Rattle.minix_write.specs.declared.write_fault.WriteFault.TheVariants as writes
+use Rattle.minix_choice.specs.declared.write_fault.WriteFault.{WriteFault}
+use Rattle.minix_choice.specs.declared.write_fault.WriteFault.TheVariants as writes
 use Rattle.minix_zones.specs.View.{span_view}
 use Rattle.minix_zones.specs.Volume.{volume_view, past_of, Syncs}
 use Rattle.minix_zones.specs.declared.volume.Volume.{Volume}
 use Rattle.minix_zones.specs.declared.zone_fault.ZoneFault.TheVariants as zones
-use Rattle.install_apart_laws.proofs.Walks.{value-is}
-use Rattle.install_begin_laws.specs.Laws.{IsNoneOfMap}
+use Rattle.install_join_laws.proofs.Walks.{value-is}
+use Rattle.install_stage_laws.specs.BeginLaws.{IsNoneOfMap}
 use Rattle.install_laws.specs.InstallVerdict.{Begun}
 use Rattle.install_order.specs.Begins.{AreApartNames, AreOwn, IsBegun, LiesThere}
 use Rattle.install_order.specs.Checks.{IsExamined}

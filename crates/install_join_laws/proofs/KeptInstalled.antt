@@ -24,19 +24,19 @@ use Rattle.lilo_conf.specs.View.{config_view}
 use Rattle.lilo_conf.specs.declared.config.Config as configs
 use Rattle.map_laws.proofs.Holder.{lays_held_law}
 use Rattle.mbr_table.specs.View.{device_view}
-use Rattle.minix_beside_laws.specs.Beside.{SoundAsIn}
+use Rattle.minix_change_laws.specs.Beside.{SoundAsIn}
 use Rattle.minix_create.specs.declared.chosen.Chosen.{Chosen}
 use Rattle.minix_names.proofs.PathLemmas.{name-here}
-use Rattle.minix_write.specs.declared.write_fault.WriteFault.{WriteFault}
+use Rattle.minix_choice.specs.declared.write_fault.WriteFault.{WriteFault}
 use Rattle.minix_zones.specs.View.{span_view}
 use Rattle.minix_zones.specs.Volume.{volume_view, past_of}
 use Rattle.minix_zones.specs.declared.volume.Volume.{Volume}
 use Rattle.sector_address.specs.Machine.{machine_of}
 use Rattle.install_apart.specs.declared.name.NamePair.{NamePair}
-use Rattle.install_apart_laws.proofs.Walks.{value-is}
-use Rattle.install_begin_laws.specs.Laws.{IsNoneOfMap}
-use Rattle.install_begin_laws.proofs.Spared.{leaves_both}
-use Rattle.install_commit.specs.Commits.{Commits}
+use Rattle.install_join_laws.proofs.Walks.{value-is}
+use Rattle.install_stage_laws.specs.BeginLaws.{IsNoneOfMap}
+use Rattle.install_stage_laws.proofs.Spared.{leaves_both}
+use Rattle.install_order.specs.Commits.{Commits}
 use Rattle.install_laws.specs.Boots.{IsWithOrWithout}
 use Rattle.install_laws.specs.InstallVerdict.{Begun, made_backup}
 use Rattle.install_laws.specs.Writes.{IsApartSector, WritesOnly}
@@ -57,9 +57,9 @@ use Rattle.install_stage.specs.Staged.{IsStagedRoom}
 use Rattle.install_stage.specs.Stages.{IsStagingRoom, room_zones, with_room}
 use Rattle.install_stage_laws.proofs.Committed as committing
 use Rattle.install_stage_laws.proofs.Committed.{staged_lays_law}
-use Rattle.install_tidy.specs.Tidied.{IsTidiedMap}
-use Rattle.install_tidy.specs.Tidies.{AreTidying, IsTidied, IsTidying, MayTidy, Tidies}
-use Rattle.install_tidy.proofs.TidiedLemmas.{tidied_map_law}
+use Rattle.install_settle.specs.Tidied.{IsTidiedMap}
+use Rattle.install_settle.specs.Tidies.{AreTidying, IsTidied, IsTidying, MayTidy, Tidies}
+use Rattle.install_settle.proofs.TidiedLemmas.{tidied_map_law}
 use Rattle.install_join_laws.specs.Kept.{HasBackup, IsAbsent, IsAsBefore, IsFile, IsInstalled, Keeps, backup_then}
 use Rattle.install_join_laws.specs.KeptLaws.{CommitKeepsLaw, CommittedBackupLaw, InstallationKeepsLaw, InstalledLaw, map_of}
 use Rattle.install_join_laws.specs.Steps.{HasPlanned, HasStaged, IsBegunWith, LiesOnDisks, begun_from, machine_on}

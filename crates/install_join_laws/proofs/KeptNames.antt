@@ -8,7 +8,7 @@ use Rattle.lilo_model.specs.MinixParts.{Volume}
 use Rattle.lilo_model.specs.NamePlaces.{same_path, with_name, with_tilde, without_name}
 use Rattle.lilo_model.specs.Settled.{settled, without_stale}
 use Rattle.minix_names.proofs.PathLemmas.{name-here, name-other, path-same, same-not}
-use Rattle.install_backup.specs.Staged.{AreStaging, made_at, with_backup}
+use Rattle.install_stage.specs.BackupStaged.{AreStaging, made_at, with_backup}
 use Rattle.install_stage.specs.Stages.{AreStagingBackup, with_backup_made, with_room}
 
 -- a name other than one that is away is as before

@@ -7,9 +7,9 @@ use Rattle.lilo_model.specs.MinixNames.{names_in}
 use Rattle.lilo_model.specs.NamePlaces.{backup_path, same_path, with_tilde}
 use Rattle.lilo_model.specs.Settled.{Finishes, OwnNames, backup_name, is_foreign, settled, stale_backup}
 use Rattle.minix_names.proofs.PathLemmas.{name-here, same-is}
-use Rattle.install_apart_laws.proofs.Names.{AreReplaced, IsBackup, are-replaced, backup-by, is-placed}
-use Rattle.install_apart_laws.proofs.Walks.{value-is}
-use Rattle.install_begin_laws.specs.Laws.{IsNoneOfMap}
+use Rattle.install_join_laws.proofs.Names.{AreReplaced, IsBackup, are-replaced, backup-by, is-placed}
+use Rattle.install_join_laws.proofs.Walks.{value-is}
+use Rattle.install_stage_laws.specs.BeginLaws.{IsNoneOfMap}
 use Rattle.install_laws.specs.InstallVerdict.{Begun}
 use Rattle.install_order.specs.Begins.{AreApartNames, AreOwn, IsBeginning, IsOnTheWay, LiesThere}
 use Rattle.install_settle.specs.Found.{IsApartCopy}

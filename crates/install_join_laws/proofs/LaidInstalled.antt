@@ -10,7 +10,7 @@ use Rattle.lilo_model.specs.MinixParts.{Volume, parts_of}
 use Rattle.lilo_model.specs.NamePlaces.{with_tilde}
 use Rattle.minix_zones.specs.View.{span_view}
 use Rattle.minix_zones.specs.Volume.{volume_view, past_of}
-use Rattle.install_apart_laws.proofs.Leads.{leads-none}
+use Rattle.install_join_laws.proofs.Leads.{leads-none}
 use Rattle.install_join_laws.specs.LaidLaws.{CommittedLaysLaw, InstalledLaysLaw, LaysPlanned, planned_on}
 use Rattle.install_join_laws.specs.Steps.{machine_on}
 use Rattle.install_join_laws.proofs.Kept.{boot-is}

@@ -19,14 +19,14 @@ use Rattle.minix_create.specs.declared.chosen.Chosen.{Chosen}
 use Rattle.minix_layout.specs.View.{super_view}
 use Rattle.minix_steps.specs.Written.{parts_now}
 use Rattle.minix_zones.specs.declared.volume.Volume as volumes
-use Rattle.install_apart_laws.specs.Laws.{HasSettled}
-use Rattle.install_apart_laws.specs.Mapped.{IsNotReplaced}
-use Rattle.install_apart_laws.proofs.Entry.{files}
-use Rattle.install_apart_laws.proofs.Mapped.{mapped_apart_law}
-use Rattle.install_apart_laws.proofs.Names.{AreReplaced, IsBackup, IsReplaced, are-replaced, backup-by}
-use Rattle.install_apart_laws.proofs.Paths.{AreOwnFiles, alike}
-use Rattle.install_apart_laws.proofs.Surveyed.{has-settled}
-use Rattle.install_apart_laws.proofs.Walks.{AreAlike, name-too}
+use Rattle.install_join_laws.specs.ApartLaws.{HasSettled}
+use Rattle.install_join_laws.specs.Mapped.{IsNotReplaced}
+use Rattle.install_join_laws.proofs.Entry.{files}
+use Rattle.install_join_laws.proofs.Mapped.{mapped_apart_law}
+use Rattle.install_join_laws.proofs.Names.{AreReplaced, IsBackup, IsReplaced, are-replaced, backup-by}
+use Rattle.install_join_laws.proofs.Paths.{AreOwnFiles, alike}
+use Rattle.install_join_laws.proofs.Surveyed.{has-settled}
+use Rattle.install_join_laws.proofs.Walks.{AreAlike, name-too}
 use Rattle.install_laws.specs.InstallVerdict.{Begun, made_backup}
 use Rattle.install_order.specs.Begins.{IsBegun}
 use Rattle.install_order.specs.Stageable.{path_made}

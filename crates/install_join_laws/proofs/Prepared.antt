@@ -10,8 +10,8 @@ use Rattle.lilo_model.specs.Disks.{Image, Machine, Span}
 use Rattle.lilo_model.specs.Mapped.{mapped_sectors}
 use Rattle.lilo_model.specs.MinixParts as model
 use Rattle.lilo_conf.specs.declared.config.Config as configs
-use Rattle.minix_write.specs.declared.write_fault.WriteFault.{WriteFault}
-use Rattle.minix_write.specs.declared.write_fault.WriteFault.TheVariants as writes
+use Rattle.minix_choice.specs.declared.write_fault.WriteFault.{WriteFault}
+use Rattle.minix_choice.specs.declared.write_fault.WriteFault.TheVariants as writes
 use Rattle.minix_zones.specs.View.{span_view}
 use Rattle.minix_zones.specs.Volume.{volume_view, past_of, Syncs}
 use Rattle.minix_zones.specs.declared.volume.Volume.{Volume}
@@ -30,7 +30,7 @@ use Rattle.install_order.specs.States.{StagesFrom, is_forced}
 use Rattle.install_order.specs.declared.planned.Planned.{Planned}
 use Rattle.install_order.specs.declared.surveyed.Surveyed.{Surveyed}
 use Rattle.install_stage.specs.Stages.{room_zones, StagesRoom}
-use Rattle.install_join_laws.specs.Laws.{BeginningStopsLaw, StagingPreparesLaw, StagingStopsLaw}
+use Rattle.install_join_laws.specs.JoinLaws.{BeginningStopsLaw, StagingPreparesLaw, StagingStopsLaw}
 use Rattle.install_join_laws.specs.Steps.{HasPlanned, IsBegunWith, begun_from, machine_on}
 use Rattle.install_join_laws.proofs.Begun.{begins, begun, boot-apart, may-stage, plan-view-same, told-after}
 use Rattle.install_join_laws.proofs.Flushed.{flushed-told, flushed-view, stays-since, writes-since}

@@ -29,7 +29,7 @@ use Rattle.minix_zones.specs.Volume.{volume_view, past_of}
 use Rattle.minix_zones.specs.declared.volume.Volume.{Volume}
 use Rattle.slot_lists.specs.Made.{place_view}
 use Rattle.install_apart.specs.Apart.{device_checks}
-use Rattle.install_apart_laws.proofs.Surveyed.{surveyed_apart_law}
+use Rattle.install_join_laws.proofs.Surveyed.{surveyed_apart_law}
 use Rattle.install_laws.specs.Headline.{Means}
 use Rattle.install_laws.specs.InstallVerdict.{Begun}
 use Rattle.install_order.specs.Begins.{AreOwn, IsBegun}
@@ -47,7 +47,7 @@ use Rattle.install_stage.proofs.RoomStagedLemmas.{room_staged_law}
 use Rattle.install_stage_laws.specs.Staged.{AreFree, IsNewBoot}
 use Rattle.install_stage_laws.proofs.Devices.{apart_devices_law}
 use Rattle.install_stage_laws.proofs.Staged.{staged_means_law}
-use Rattle.install_join_laws.specs.Laws.{InstallationMeansLaw, OfFirst, meant_from}
+use Rattle.install_join_laws.specs.JoinLaws.{InstallationMeansLaw, OfFirst, meant_from}
 use Rattle.install_join_laws.specs.Steps.{HasPlanned, IsBegunWith, LiesOnDisks, begun_from, machine_on}
 use Rattle.install_join_laws.proofs.Begun.{begun, boot-apart, examined, leaves, may-stage, plan-view-same, told-after}
 use Rattle.install_join_laws.proofs.Flushed.{flushed-now, flushed-told, flushed-view}

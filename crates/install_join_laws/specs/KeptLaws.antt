@@ -7,7 +7,7 @@ use Rattle.disk_trait.specs.Past.{Image}
 use Rattle.lilo_model.specs.Settled as model
 use Rattle.lilo_conf.specs.declared.config.Config.{Config}
 use Rattle.mbr_table.specs.declared.device.Device.{Device}
-use Rattle.minix_write.specs.declared.write_fault.WriteFault.{WriteFault}
+use Rattle.minix_choice.specs.declared.write_fault.WriteFault.{WriteFault}
 use Rattle.minix_zones.specs.Volume.{past_of, SameVolume}
 use Rattle.minix_zones.specs.declared.volume.Volume.{Volume}
 use Rattle.install_order.specs.Answers.{Leaves}

@@ -1,5 +1,10 @@
+pub mod ApartLaws
+pub mod Mapped
+pub mod Plans
+pub mod Surveyed
+pub mod Tables
 pub mod Steps
-pub mod Laws
+pub mod JoinLaws
 pub mod Kept
 pub mod KeptLaws
 pub mod LaidLaws

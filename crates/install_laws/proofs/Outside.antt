@@ -5,11 +5,11 @@ use Rattle.lilo_model.specs.Disks.{Image, with_sector}
 use Rattle.lilo_model.specs.MinixLayout.{inode_size, inode_of, inode_place, zone_sector, super_sector, super_at}
 use Rattle.lilo_model.specs.MinixParts.{Volume, sector_of, bit, inode_mark_sector, zone_bit, zone_mark_sector, parts_of}
 use Rattle.lilo_model.specs.MinixNames.{reached, HasSound, IsSound, names_in}
-use Rattle.minix_beside_laws.specs.Keeps.{Keeps, SoundAs}
-use Rattle.minix_beside_laws.specs.Beside.{IsOfBitmaps, IsOutside, Regions}
-use Rattle.minix_beside_laws.proofs.Keeps.{keeps_law}
-use Rattle.minix_beside_laws.proofs.Harmless.{region_law}
-use Rattle.minix_beside_laws.proofs.Laid.{Laid, laid, place-from}
+use Rattle.minix_change_laws.specs.Keeps.{Keeps, SoundAs}
+use Rattle.minix_change_laws.specs.Beside.{IsOfBitmaps, IsOutside, Regions}
+use Rattle.minix_change_laws.proofs.Keeps.{keeps_law}
+use Rattle.minix_change_laws.proofs.Harmless.{region_law}
+use Rattle.minix_change_laws.proofs.Laid.{Laid, laid, place-from}
 use Rattle.install_laws.specs.Writes.{ApartWriteLaw, IsApartSector, OutsideLaw}
 
 module _ (volume : Volume) (old : Image) (disk sector : ℕ) (bytes : List ℕ) where

@@ -7,7 +7,7 @@ use Rattle.lilo_model.specs.Disks.{Image, Machine, Span, DiskSector, bytes_at, w
 use Rattle.lilo_model.specs.MinixLayout.{table_start, table_blocks, super_sector}
 use Rattle.lilo_model.specs.MinixParts.{Volume, Pointer, parts_of, is_directory}
 use Rattle.lilo_model.specs.MinixNames.{Refers, IsSound}
-use Rattle.minix_beside_laws.specs.Beside.{IsOutside, SoundAsIn}
+use Rattle.minix_change_laws.specs.Beside.{IsOutside, SoundAsIn}
 use Rattle.lilo_model.specs.Mapped.{mapped_sectors}
 use Rattle.lilo_model.specs.Clear.{Clear, IsOfZone}
 use Rattle.install_laws.specs.Boots.{SparesMapped}

@@ -24,7 +24,7 @@ use Rattle.lilo_model.specs.Settled as model
 use Rattle.lilo_model.specs.Settled.{PathRefusal, Finishes, Held, is_foreign, own_names, stale_backup, settled}
 use Rattle.boot_laws.proofs.Mapped.{same_mapped_law}
 use Rattle.minix_sound_laws.proofs.Law.{has-numbers}
-use Rattle.minix_write.specs.declared.write_fault.WriteFault.{WriteFault}
+use Rattle.minix_choice.specs.declared.write_fault.WriteFault.{WriteFault}
 use Rattle.minix_zones.specs.Volume.{volume_view, past_of}
 use Rattle.minix_zones.specs.declared.volume.Volume.{Volume}
 use Rattle.install_laws.specs.Boots.{HasBootOf}
@@ -32,12 +32,12 @@ use Rattle.install_laws.specs.InstallVerdict.{Begun, holds_table, is_clear, is_h
 use Rattle.install_laws.specs.Writes.{IsWritable, IsApartSector}
 use Rattle.install_laws.proofs.ClearTest.{clear_test_law}
 use Rattle.install_laws.proofs.Writes.{writes_only_law}
-use Rattle.install_begin_laws.specs.Laws.{GainsNothing, IsNoneOfMap, WritesNothingElse}
-use Rattle.install_begin_laws.proofs.Apart.{apart_backup_law, apart_boot_law, sound-passes}
-use Rattle.install_begin_laws.proofs.Spared.{leaves_both, outside_stays_law, spared_law, clear_again_law}
-use Rattle.install_holder_laws.proofs.Holder.{finish_law}
-use Rattle.old_map.specs.Clear.{clear_answer}
-use Rattle.old_map.specs.Old.{IsOldMap}
+use Rattle.install_stage_laws.specs.BeginLaws.{GainsNothing, IsNoneOfMap, WritesNothingElse}
+use Rattle.install_stage_laws.proofs.Apart.{apart_backup_law, apart_boot_law, sound-passes}
+use Rattle.install_stage_laws.proofs.Spared.{leaves_both, outside_stays_law, spared_law, clear_again_law}
+use Rattle.install_order.proofs.Holder.{finish_law}
+use Rattle.present_map.specs.Clear.{clear_answer}
+use Rattle.present_map.specs.Old.{IsOldMap}
 use Rattle.install_settle.specs.Found.{IsApartCopy, is_anything, is_copy_there, is_some_left, left_map}
 use Rattle.install_settle.specs.Settles.{finishes, stale_of, SettlesRight, IsSettling, IsSettledIn, Settles}
 use Rattle.install_settle.specs.declared.settling.LeftMap.{LeftMap}

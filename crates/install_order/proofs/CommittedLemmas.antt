@@ -11,24 +11,24 @@ use Rattle.lilo_model.specs.MinixNames.{reached, IsSound}
 use Rattle.lilo_model.specs.MinixParts.{Parts, is_file, parts_of, sector_of}
 use Rattle.lilo_model.specs.MinixParts as model
 use Rattle.lilo_model.specs.NamePlaces.{with_tilde}
-use Rattle.minix_beside_laws.specs.Beside.{NamedIn}
-use Rattle.minix_beside_laws.proofs.Harmless.{region_law}
-use Rattle.minix_beside_laws.proofs.Laid.{place-from}
-use Rattle.minix_sees_laws.specs.Sees.{SeenAsIn}
-use Rattle.minix_sees_laws.specs.Tree.{TreeAs}
-use Rattle.minix_sees_laws.proofs.Seen.{opened}
-use Rattle.minix_sees_laws.proofs.Tree.{sees_tree_law}
+use Rattle.minix_change_laws.specs.Beside.{NamedIn}
+use Rattle.minix_change_laws.proofs.Harmless.{region_law}
+use Rattle.minix_change_laws.proofs.Laid.{place-from}
+use Rattle.minix_change_laws.specs.Sees.{SeenAsIn}
+use Rattle.minix_change_laws.specs.Tree.{TreeAs}
+use Rattle.minix_change_laws.proofs.Seen.{opened}
+use Rattle.minix_change_laws.proofs.Tree.{sees_tree_law}
 use Rattle.minix_zones.specs.View.{span_view}
 use Rattle.minix_zones.specs.Volume.{volume_view, past_of}
 use Rattle.minix_zones.specs.declared.volume.Volume.{Volume}
 use Rattle.install_apart.specs.declared.name.NamePair.{NamePair}
-use Rattle.install_commit.specs.Commits.{Commits}
+use Rattle.install_order.specs.Commits.{Commits}
 use Rattle.install_laws.specs.Writes.{IsApartSector}
 use Rattle.install_stage_laws.proofs.Committed.{commit_seen_law}
 use Rattle.install_stage_laws.proofs.Files.{place_of}
 use Rattle.install_stage_laws.proofs.Sectors.{apart-other, lies}
 use Rattle.install_stage_laws.proofs.Staged.{else-same}
-use Rattle.install_tidy.specs.Tidies.{AreMaps, MayTidy}
+use Rattle.install_settle.specs.Tidies.{AreMaps, MayTidy}
 
 -- ---- in an image
 

@@ -36,9 +36,9 @@ use Rattle.install_apart.specs.declared.own.OwnNames.{OwnNames}
 use Rattle.install_laws.specs.InstallVerdict.{InstallRefusal, NotSound, NotApart, BadName, NoLink, may_settle, is_clear}
 use Rattle.install_settle.specs.Found.{AreFound, IsToSettle, RefusesLinks}
 use Rattle.install_settle.specs.declared.settling.SettleFault.{SettleFault}
-use Rattle.old_map.specs.Clear.{IsFound, clear_answer}
-use Rattle.old_map.specs.Old.{IsOldMap}
-use Rattle.old_map.specs.declared.old_map.OldMapFault.{OldMapFault}
+use Rattle.present_map.specs.Clear.{IsFound, clear_answer}
+use Rattle.present_map.specs.Old.{IsOldMap}
+use Rattle.present_map.specs.declared.old_map.OldMapFault.{OldMapFault}
 use Rattle.install_order.specs.Checks.{IsLaid, IsApartOn, GivesApart, IsPresent, GivesPresent, GivesRest, GivesExamined, begin_checks}
 use Rattle.install_order.specs.Faults.{Refuses, survey_refusal, apart_refusal, name_refusal, settle_refusal, old_refusal}
 use Rattle.install_order.specs.declared.examination.Examined.{Examined}

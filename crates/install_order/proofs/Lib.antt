@@ -1,3 +1,8 @@
+pub mod Holder
+mod MapFiles
+mod MapSections
+pub mod WholeMap
+pub mod CommitLemmas
 pub mod RefuseLemmas
 pub mod PlanLemmas
 pub mod NamedLemmas

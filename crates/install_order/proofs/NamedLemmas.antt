@@ -35,7 +35,7 @@ use Rattle.install_apart.specs.Own.{AreReplaceable, IsBackup, IsBackupReplaceabl
 use Rattle.install_apart.specs.declared.name.NamePair.{NamePair}
 use Rattle.install_apart.specs.declared.name.OwnName.{OwnName}
 use Rattle.install_apart.specs.declared.own.OwnNames.{OwnNames}
-use Rattle.install_begin_laws.specs.Laws.{IsNoneOfMap}
+use Rattle.install_stage_laws.specs.BeginLaws.{IsNoneOfMap}
 use Rattle.install_laws.specs.InstallVerdict.{Begun, directory_of, last_name}
 use Rattle.install_room.specs.Names.{AreNamesOf, IsNameAt, IsBackupOf}
 use Rattle.install_room.specs.Room.{KeepsOut}

@@ -27,7 +27,7 @@ use Rattle.map_sectors.specs.Map.{plan_view}
 use Rattle.mbr_table.specs.View.{device_view}
 use Rattle.mbr_table.specs.declared.device.Device as devices
 use Rattle.map_sectors.proofs.SmallLemmas.{plan_small}
-use Rattle.minix_bits.proofs.BitmapLemmas.{fits}
+use Rattle.minix_steps.proofs.BitmapLemmas.{fits}
 use Rattle.minix_create.specs.Chosen.{Suits, new_inode}
 use Rattle.minix_create.specs.Several.{IsHeldIn}
 use Rattle.minix_create.specs.declared.chosen.Chosen.{Chosen}
@@ -42,11 +42,11 @@ use Rattle.install_apart.specs.Apart.{device_checks}
 use Rattle.install_apart.specs.Own.{AreInside, AreOwnTwins, IsBackupNamed}
 use Rattle.install_apart.specs.declared.own.OwnNames.{OwnNames}
 use Rattle.install_apart.specs.declared.name.NamePair.{NamePair}
-use Rattle.install_backup.specs.Stages.{HasOtherName, MayReplace}
-use Rattle.install_begin_laws.specs.Laws.{IsNoneOfMap}
+use Rattle.install_stage.specs.BackupStages.{HasOtherName, MayReplace}
+use Rattle.install_stage_laws.specs.BeginLaws.{IsNoneOfMap}
 use Rattle.install_laws.specs.InstallVerdict.{NotApart, last_name, made_backup, sectors_of_blocks}
-use Rattle.install_made_laws.specs.Within.{AreDataZones, AreFreeZones, IsFreeFile, is_chosen}
-use Rattle.install_made_laws.proofs.Within.{free_promised, zones_data}
+use Rattle.install_stage.specs.Within.{AreDataZones, AreFreeZones, IsFreeFile, is_chosen}
+use Rattle.install_stage.proofs.Within.{free_promised, zones_data}
 use Rattle.install_room.specs.Making.{LieNow, MayMakeBackup, MayMakeRoom}
 use Rattle.install_room.specs.Names.{AreNamesOf, backup_of}
 use Rattle.install_room.specs.Room.{AreTaken, IsRoomFor, KeepsOut, SuitRoom, places_view}

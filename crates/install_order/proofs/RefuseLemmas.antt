@@ -13,9 +13,9 @@ use Rattle.minix_survey.specs.View as survey_views
 use Rattle.minix_survey.specs.declared.survey_fault.SurveyFault.{SurveyFault}
 use Rattle.minix_survey.specs.declared.survey_fault.SurveyFault.TheVariants as survey_faults
 use Rattle.minix_tree.specs.declared.tree_fault.TreeFault.TheVariants as trees
-use Rattle.minix_write.specs.View as write_views
-use Rattle.minix_write.specs.declared.write_fault.WriteFault.{WriteFault}
-use Rattle.minix_write.specs.declared.write_fault.WriteFault.TheVariants as writes
+use Rattle.minix_choice.specs.View as write_views
+use Rattle.minix_choice.specs.declared.write_fault.WriteFault.{WriteFault}
+use Rattle.minix_choice.specs.declared.write_fault.WriteFault.TheVariants as writes
 use Rattle.minix_zones.specs.declared.zone_fault.ZoneFault.TheVariants as zones
 use Rattle.install_apart.specs.Apart as apart
 use Rattle.install_apart.specs.Faults.{RefusesNames}
@@ -28,8 +28,8 @@ use Rattle.write_model.specs.Wish as rooms
 use Rattle.install_settle.specs.Found.{RefusesLinks}
 use Rattle.install_settle.specs.declared.settling.SettleFault.{SettleFault}
 use Rattle.install_settle.specs.declared.settling.SettleFault.TheVariants as settles
-use Rattle.old_map.specs.declared.old_map.OldMapFault.{OldMapFault}
-use Rattle.old_map.specs.declared.old_map.OldMapFault.TheVariants as olds
+use Rattle.present_map.specs.declared.old_map.OldMapFault.{OldMapFault}
+use Rattle.present_map.specs.declared.old_map.OldMapFault.TheVariants as olds
 use Rattle.install_order.specs.Faults.{Refuses, IsStopped, survey_refusal, apart_refusal, name_refusal, settle_refusal, old_refusal, plan_refusal, write_refusal}
 use Rattle.install_order.specs.declared.fault.InstallFault.{InstallFault}
 use Rattle.install_order.specs.declared.fault.InstallFault.TheVariants as faults

@@ -21,13 +21,13 @@ use Rattle.lilo_model.specs.PlanRefusal.{file_checks, held_checks, address_check
 use Rattle.lilo_model.specs.Planned.{planned}
 use Rattle.map_laws.specs.Accepted.{IsInside}
 use Rattle.map_laws.proofs.Accepted.{both-pass}
-use Rattle.minix_bits.specs.Numbers.{has_number}
-use Rattle.minix_bits.proofs.SetLemmas.{contains_from}
+use Rattle.minix_steps.specs.Numbers.{has_number}
+use Rattle.minix_steps.proofs.SetLemmas.{contains_from}
 use Rattle.minix_create.specs.Chosen.{Suits, new_inode, sector_of}
 use Rattle.minix_create.specs.Several.{AreApartOn}
 use Rattle.minix_create.specs.declared.chosen.Chosen.{Chosen}
 use Rattle.minix_fill.specs.Fill.{IsOfFile}
-use Rattle.minix_fill_laws.proofs.Given.{past_end, given_at, given_hole, given_length}
+use Rattle.minix_choice_laws.proofs.Given.{past_end, given_at, given_hole, given_length}
 use Rattle.minix_layout.specs.View.{super_view}
 use Rattle.minix_layout.specs.declared.superblock.Super.{Super}
 use Rattle.minix_steps.specs.Written.{parts_now}
@@ -39,13 +39,13 @@ use Rattle.install_apart.specs.Names.{AreTwins}
 use Rattle.install_apart.specs.Own.{IsBackupTwins}
 use Rattle.install_apart.specs.declared.name.NamePair.{NamePair}
 use Rattle.install_apart.specs.declared.name.OwnName.{OwnName}
-use Rattle.install_backup.specs.Staged.{made_at}
-use Rattle.install_backup.specs.Stages.{HasOtherName, MayReplace}
-use Rattle.install_begin_laws.specs.Laws.{IsNoneOfMap}
+use Rattle.install_stage.specs.BackupStaged.{made_at}
+use Rattle.install_stage.specs.BackupStages.{HasOtherName, MayReplace}
+use Rattle.install_stage_laws.specs.BeginLaws.{IsNoneOfMap}
 use Rattle.install_laws.specs.InstallVerdict.{is_of_places, is_of_volume, last_name, made_backup, sectors_of_blocks}
 use Rattle.install_laws.specs.Writes.{AreAvoided}
-use Rattle.install_made_laws.specs.Sectors.{IsWholeFile, file_places}
-use Rattle.install_made_laws.specs.Within.{AreDataZones, AreFreeZones, is_chosen}
+use Rattle.install_stage.specs.Sectors.{IsWholeFile, file_places}
+use Rattle.install_stage.specs.Within.{AreDataZones, AreFreeZones, is_chosen}
 use Rattle.install_room.specs.Making.{LiesBackup, LiesIn, MayMake, MayMakeBackup}
 use Rattle.install_room.specs.Names.{backup_at, backup_of}
 use Rattle.install_room.specs.Room.{AvoidPlaces, AvoidsPlaces, HasNoHole, IsForBackup, IsForName}

@@ -17,13 +17,13 @@ use Rattle.minix_create.specs.declared.chosen.Chosen.{Chosen}
 use Rattle.minix_layout.specs.View.{super_view}
 use Rattle.minix_names.specs.Places.{IsPlace}
 use Rattle.minix_names.proofs.PathLemmas.{name-other}
-use Rattle.minix_sees_laws.specs.Tree.{KeepsNamed}
+use Rattle.minix_change_laws.specs.Tree.{KeepsNamed}
 use Rattle.minix_steps.specs.Written.{parts_now}
 use Rattle.minix_zones.specs.Volume.{volume_view, past_of, KeepsVolume}
 use Rattle.minix_zones.specs.declared.volume.Volume.{Volume}
 use Rattle.sector_address.specs.Machine.{machine_of}
 use Rattle.install_apart.specs.declared.name.OwnName.{OwnName}
-use Rattle.install_backup.specs.Staged.{with_backup}
+use Rattle.install_stage.specs.BackupStaged.{with_backup}
 use Rattle.install_room.specs.Making.{MayMake}
 use Rattle.install_settle.proofs.NamesLemmas.{apart-of}
 use Rattle.install_settle.proofs.PathLemmas.{tilde-differs}
@@ -31,7 +31,7 @@ use Rattle.install_settle.specs.Settles.{HasNames}
 use Rattle.install_stage.specs.MapFile.{map_bytes}
 use Rattle.install_stage.specs.Stages.{HasStagedRoom, IsNoneOfBackup, IsStagingRoom, KeepsButBackup, KeepsOtherPaths, MayStageBackup, MayStageRoom, StagesRoom, with_room}
 use Rattle.install_stage_laws.proofs.Sectors.{file-not-directory}
-use Rattle.install_tidy.specs.Tidies.{AreMaps, MayTidy}
+use Rattle.install_settle.specs.Tidies.{AreMaps, MayTidy}
 use Rattle.install_order.specs.Stageable.{IsReady, MayStageNow, MayTakeMap, path_made}
 use Rattle.install_order.specs.States.{is_forced, StagesFrom}
 use Rattle.install_order.specs.declared.planned.Planned.{Planned}

@@ -19,15 +19,15 @@ use Rattle.minix_choice_laws.specs.Choice.{MayHavePlace, file_of}
 use Rattle.minix_create.specs.Chosen.{IsFreeNow}
 use Rattle.minix_create.specs.Grown.{MayGrowIn}
 use Rattle.minix_create.specs.declared.chosen.Chosen.{Chosen}
-use Rattle.minix_fill_laws.specs.Laws.{MayBeFile}
-use Rattle.minix_write.specs.declared.write_fault.WriteFault.{WriteFault}
+use Rattle.minix_choice_laws.specs.FillLaws.{MayBeFile}
+use Rattle.minix_choice.specs.declared.write_fault.WriteFault.{WriteFault}
 use Rattle.minix_zones.specs.Volume.{volume_view, past_of, KeepsVolume, Syncs}
 use Rattle.minix_zones.specs.declared.volume.Volume.{Volume}
 use Rattle.minix_zones.specs.declared.zone_fault.ZoneFault.TheVariants as zones
 use Rattle.minix_zones.proofs.WriteLemmas.{keeps_join}
 use Rattle.slot_lists.specs.Made.{place_view}
 use Rattle.slot_lists.specs.declared.slots.DiskSector.{DiskSector}
-use Rattle.install_backup.specs.Stages.{MayReplace}
+use Rattle.install_stage.specs.BackupStages.{MayReplace}
 use Rattle.install_laws.specs.InstallVerdict.{sectors_of_blocks}
 use Rattle.install_room.specs.Making.{MayMake}
 use Rattle.install_room.specs.declared.room.Room.{Room}

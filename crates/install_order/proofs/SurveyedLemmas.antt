@@ -20,7 +20,7 @@ use Rattle.mbr_table.specs.declared.device.Device.{Device}
 use Rattle.minix_names.specs.Component.{HasNoZero}
 use Rattle.mbr_table.specs.View.{device_view}
 use Rattle.minix_layout.specs.declared.superblock.Super.{Super}
-use Rattle.minix_write.specs.declared.write_fault.WriteFault.{WriteFault}
+use Rattle.minix_choice.specs.declared.write_fault.WriteFault.{WriteFault}
 use Rattle.minix_zones.specs.View.{span_view}
 use Rattle.minix_zones.specs.Volume.{volume_view, past_of, SameVolume}
 use Rattle.minix_zones.specs.declared.volume.Volume.{Volume}

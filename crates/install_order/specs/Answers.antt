@@ -11,7 +11,7 @@ use Rattle.lilo_conf.specs.declared.config.Config.{Config}
 use Rattle.minix_zones.specs.declared.volume.Volume.{Volume}
 use Rattle.minix_zones.specs.Volume.{volume_view, past_of, KeepsVolume}
 use Rattle.sector_address.specs.Machine.{machine_of}
-use Rattle.install_begin_laws.specs.Laws.{Begins}
+use Rattle.install_stage_laws.specs.BeginLaws.{Begins}
 use Rattle.install_laws.specs.InstallVerdict.{Begun}
 use Rattle.install_laws.specs.Writes.{IsApartSector}
 use Rattle.install_order.specs.Begins.{FitsVolume, LiesThere, IsBeginning, IsBegun, IsSurveyed, AnswersClear}

@@ -13,16 +13,16 @@ use Rattle.boot_laws.specs.SameOn.{SameOn}
 use Rattle.minix_layout.specs.View.{kind_view}
 use Rattle.minix_layout.specs.declared.superblock.Super.{Super}
 use Rattle.minix_names.specs.Component.{IsFileName}
-use Rattle.minix_sees_laws.specs.Tree.{KeepsNamed}
+use Rattle.minix_change_laws.specs.Tree.{KeepsNamed}
 use Rattle.install_apart.specs.Own.{AreInside, AreOwnTwins, AreReplaceable, IsBackupNamed}
-use Rattle.install_begin_laws.specs.Laws.{GainsNothing, IsNoneOfMap}
+use Rattle.install_stage_laws.specs.BeginLaws.{GainsNothing, IsNoneOfMap}
 use Rattle.install_laws.specs.Boots.{HasBootOf}
 use Rattle.install_laws.specs.InstallVerdict.{Begun, inode_of}
 use Rattle.install_laws.specs.Writes.{IsApartSector}
 use Rattle.install_settle.specs.Found.{IsCopyLeft, IsLeft, has_copy, is_copy_there}
 use Rattle.install_settle.specs.Settles.{HasNames, AreSettling, KeepsPaths, KeepsMap, finishes, stale_of}
 use Rattle.install_settle.specs.declared.settling.LeftMap.{LeftMap}
-use Rattle.old_map.specs.Old.{IsOldMap}
+use Rattle.present_map.specs.Old.{IsOldMap}
 use Rattle.install_order.specs.Checks.{IsExamined}
 use Rattle.install_order.specs.declared.examination.Examined.{Examined}
 

@@ -14,8 +14,8 @@ use Rattle.lilo_model.specs.Settled as model
 use Rattle.lilo_model.specs.Settled.{is_foreign, own_names}
 use Rattle.install_laws.specs.InstallVerdict.{InstallRefusal, NotSound, NotApart, BadName, NoLink, may_settle, is_clear}
 use Rattle.minix_survey.specs.declared.findings.Findings.{Findings}
-use Rattle.old_map.specs.Clear.{IsFound, clear_answer}
-use Rattle.old_map.specs.Old.{IsOldMap}
+use Rattle.present_map.specs.Clear.{IsFound, clear_answer}
+use Rattle.present_map.specs.Old.{IsOldMap}
 use Rattle.install_settle.specs.Found.{AreFound, IsToSettle}
 use Rattle.install_order.specs.Faults.{Refuses}
 use Rattle.install_order.specs.declared.examination.Examined.{Examined}

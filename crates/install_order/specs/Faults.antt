@@ -11,9 +11,9 @@ use Rattle.map_plan.specs.declared.fault.PlanFault.TheVariants as plan_faults
 use Rattle.minix_tree.specs.View as trees
 use Rattle.minix_tree.specs.declared.tree_fault.TreeFault.{TreeFault}
 use Rattle.minix_tree.specs.declared.tree_fault.TreeFault.TheVariants as tree_faults
-use Rattle.minix_write.specs.View as write_views
-use Rattle.minix_write.specs.declared.write_fault.WriteFault.{WriteFault}
-use Rattle.minix_write.specs.declared.write_fault.WriteFault.TheVariants as writes
+use Rattle.minix_choice.specs.View as write_views
+use Rattle.minix_choice.specs.declared.write_fault.WriteFault.{WriteFault}
+use Rattle.minix_choice.specs.declared.write_fault.WriteFault.TheVariants as writes
 use Rattle.minix_zones.specs.declared.zone_fault.ZoneFault.TheVariants as zones
 use Rattle.install_apart.specs.Faults.{IsOfPath}
 use Rattle.install_apart.specs.declared.fault.ApartFault.{ApartFault}
@@ -23,8 +23,8 @@ use Rattle.install_apart.specs.declared.fault.NameFault.TheVariants as names
 use Rattle.install_laws.specs.InstallVerdict.{InstallRefusal, NotSound, NotApart, BadName, NoPlan, NoLink, NoRoom}
 use Rattle.install_settle.specs.declared.settling.SettleFault.{SettleFault}
 use Rattle.install_settle.specs.declared.settling.SettleFault.TheVariants as settles
-use Rattle.old_map.specs.declared.old_map.OldMapFault.{OldMapFault}
-use Rattle.old_map.specs.declared.old_map.OldMapFault.TheVariants as olds
+use Rattle.present_map.specs.declared.old_map.OldMapFault.{OldMapFault}
+use Rattle.present_map.specs.declared.old_map.OldMapFault.TheVariants as olds
 use Rattle.install_order.specs.declared.fault.InstallFault.{InstallFault}
 use Rattle.install_order.specs.declared.fault.InstallFault.TheVariants as faults
 

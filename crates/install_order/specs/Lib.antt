@@ -1,3 +1,6 @@
+pub mod HolderLaws
+pub mod MapSizeLaws
+pub mod Commits
 pub mod Faults
 pub mod Checks
 pub mod View

@@ -30,11 +30,11 @@ use Rattle.install_apart.specs.Own.{AreInside, AreOwnTwins, IsBackupNamed}
 use Rattle.install_apart.specs.declared.name.NamePair.{NamePair}
 use Rattle.install_apart.specs.declared.name.OwnName.{OwnName}
 use Rattle.install_apart.specs.declared.own.OwnNames.{OwnNames}
-use Rattle.install_backup.specs.Stages.{HasOtherName, MayReplace}
-use Rattle.install_begin_laws.specs.Laws.{IsNoneOfMap}
+use Rattle.install_stage.specs.BackupStages.{HasOtherName, MayReplace}
+use Rattle.install_stage_laws.specs.BeginLaws.{IsNoneOfMap}
 use Rattle.install_laws.specs.InstallVerdict.{sectors_of_blocks}
 use Rattle.install_laws.specs.Writes.{AreAvoided}
-use Rattle.install_made_laws.specs.Sectors.{IsWholeFile, file_places}
+use Rattle.install_stage.specs.Sectors.{IsWholeFile, file_places}
 use Rattle.install_room.specs.Making.{LiePaired, LiesBackup, MayMakeRoom}
 use Rattle.install_room.specs.Room.{AvoidPlaces, HasNoHoles, IsRoomFor, IsRoomFree, KeepsOut, SuitRoom, first_of, places_view}
 use Rattle.install_room.specs.declared.room.Room.{Room}

@@ -12,19 +12,19 @@ use Rattle.map_sectors.specs.Accepted.{IsFor}
 use Rattle.map_sectors.specs.Map.{plan_view}
 use Rattle.map_sectors.specs.declared.map.MapPlan.{MapPlan}
 use Rattle.minix_names.specs.Component.{IsFileName}
-use Rattle.minix_write.specs.declared.write_fault.WriteFault.{WriteFault}
-use Rattle.minix_write.specs.declared.write_fault.WriteFault.TheVariants as writes
-use Rattle.minix_write.specs.declared.halt.WriteHalt.{WriteHalt}
+use Rattle.minix_choice.specs.declared.write_fault.WriteFault.{WriteFault}
+use Rattle.minix_choice.specs.declared.write_fault.WriteFault.TheVariants as writes
+use Rattle.minix_choice.specs.declared.halt.WriteHalt.{WriteHalt}
 use Rattle.minix_zones.specs.Volume.{volume_view, past_of, KeepsVolume, Syncs}
 use Rattle.minix_zones.specs.declared.volume.Volume.{Volume}
 use Rattle.minix_zones.specs.declared.zone_fault.ZoneFault.TheVariants as zones
 use Rattle.install_apart.specs.Names.{IsInside, AreTwins}
-use Rattle.install_commit.specs.Commits.{Commits}
+use Rattle.install_order.specs.Commits.{Commits}
 use Rattle.install_laws.specs.Writes.{IsApartSector}
 use Rattle.install_room.specs.Room.{places_view}
 use Rattle.install_room.specs.declared.room.Room.{Room}
 use Rattle.install_stage.specs.Stages.{MayStageRoom, StagesRoom}
-use Rattle.install_tidy.specs.Tidies.{MayTidy, MayTidySome, Tidies}
+use Rattle.install_settle.specs.Tidies.{MayTidy, MayTidySome, Tidies}
 use Rattle.install_order.specs.Faults.{write_refusal}
 use Rattle.install_order.specs.declared.committed.Committed.{Committed}
 use Rattle.install_order.specs.declared.fault.InstallFault.TheVariants.{Device}

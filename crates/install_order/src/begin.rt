@@ -46,7 +46,7 @@ use disk_trait::{Disks, Phase, Span};
 use install_settle::settle;
 use lilo_conf::Config;
 use mbr_table::Device;
-use minix_write::WriteHalt;
+use minix_choice::WriteHalt;
 use minix_zones::Volume;
 use std::alloc::Global;
 use std::mem::drop;

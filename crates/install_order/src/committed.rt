@@ -4,8 +4,8 @@ use crate::halt::Halt;
 use crate::tidied::Tidied;
 use disk_trait::{Disks, Phase};
 use install_apart::NamePair;
-use install_tidy::tidy_map;
-use minix_write::WriteHalt;
+use install_settle::tidy_map;
+use minix_choice::WriteHalt;
 use minix_zones::Volume;
 use std::mem::drop;
 

@@ -15,8 +15,8 @@ ghost use Rattle.minix_zones.specs.Volume.{volume_view, past_of, sizes_of, fault
 ghost use Rattle.sector_address.specs.Machine.{OnDisks};
 ghost use Rattle.install_apart.specs.Own.{AreInside, AreOwnTwins, AreReplaceable, IsBackupNamed};
 ghost use Rattle.install_settle.specs.Found.{AreFound, IsCopyLeft, IsLeft, has_copy};
-ghost use Rattle.old_map.specs.Clear.{IsFound};
-ghost use Rattle.old_map.specs.Old.{IsOldMap};
+ghost use Rattle.present_map.specs.Clear.{IsFound};
+ghost use Rattle.present_map.specs.Old.{IsOldMap};
 ghost use Rattle.install_order.specs.Checks.{IsLaid, GivesApart, GivesPresent, GivesRest, GivesExamined};
 ghost use Rattle.install_order.specs.Faults.{HasInstallCause};
 
@@ -30,7 +30,7 @@ use lilo_conf::Config;
 use mbr_table::Device;
 use minix_survey::{Findings, survey};
 use minix_zones::Volume;
-use old_map::{OldMap, is_clear, read_old_map};
+use present_map::{OldMap, is_clear, read_old_map};
 use std::alloc::Global;
 use std::mem::drop;
 

@@ -1,12 +1,12 @@
 // Refusals.
 ghost use Rattle.std.specs.Prelude.{◌≡◌, ℕ};
 ghost use Rattle.minix_survey.specs.View.{HasSurveyCause};
-ghost use Rattle.minix_write.specs.View.{HasWriteCause};
+ghost use Rattle.minix_choice.specs.View.{HasWriteCause};
 ghost use Rattle.install_apart.specs.Apart.{HasApartCause};
 ghost use Rattle.install_apart.specs.Faults.{HasNameCause};
 ghost use Rattle.install_settle.specs.Found.{HasSettleCause};
 ghost use Rattle.map_plan.specs.View.{HasPlanCause};
-ghost use Rattle.old_map.specs.Old.{HasOldMapCause};
+ghost use Rattle.present_map.specs.Old.{HasOldMapCause};
 ghost use Rattle.install_order.specs.Faults.{
   HasInstallCause,
   survey_refusal,
@@ -23,11 +23,11 @@ use conf_text::Text;
 use install_apart::{ApartFault, NameFault};
 use install_settle::SettleFault;
 use map_plan::PlanFault;
+use minix_choice::WriteFault;
 use minix_survey::SurveyFault;
 use minix_tree::TreeFault;
-use minix_write::WriteFault;
 use minix_zones::ZoneFault;
-use old_map::OldMapFault;
+use present_map::OldMapFault;
 
 /// Why an installation is refused.
 #[derive(Drop)]

@@ -5,11 +5,14 @@
 #![tactic(auto)]
 
 mod begin;
+mod boot_sector;
 mod committed;
 mod directories;
 mod examination;
 mod fault;
 mod halt;
+mod holder_laws;
+mod map_size_laws;
 mod planned;
 mod planning;
 mod staged;
@@ -17,10 +20,13 @@ mod staging;
 mod surveyed;
 mod tidied;
 
+pub use boot_sector::commit;
 pub use committed::Committed;
 pub use examination::{Examined, examine};
 pub use fault::InstallFault;
 pub use halt::Halt;
+pub use holder_laws::{finish_test_is_settling, holder_test_is_the_holder};
+pub use map_size_laws::planned_map_fits_a_file;
 pub use planned::Planned;
 pub use staged::Staged;
 pub use surveyed::Surveyed;

@@ -2,12 +2,12 @@
 ghost use Rattle.std.specs.Prelude.{◌<◌};
 ghost use Rattle.minix_zones.specs.Volume.{sizes_of};
 
+use crate::boot_sector::commit;
 use crate::committed::Committed;
 use crate::fault::InstallFault;
 use crate::halt::Halt;
 use disk_trait::{Disks, Phase, Span};
 use install_apart::NamePair;
-use install_commit::commit;
 use minix_zones::Volume;
 use sector_parts::Sector;
 use std::mem::drop;

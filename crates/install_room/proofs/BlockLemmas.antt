@@ -5,7 +5,7 @@ use Rattle.lilo_model.specs.MinixLayout as layouts
 use Rattle.lilo_model.specs.MinixLayout.{IsSuper, super_checks}
 use Rattle.minix_create.specs.Chosen.{Suits}
 use Rattle.minix_create.specs.declared.chosen.Chosen.{Chosen}
-use Rattle.minix_fill_laws.proofs.Given.{given_length}
+use Rattle.minix_choice_laws.proofs.Given.{given_length}
 use Rattle.minix_layout.specs.View.{super_view}
 use Rattle.minix_layout.specs.declared.superblock.Super.{Super}
 use Rattle.disk_trait.specs.declared.disks.Span.{Span}

@@ -16,10 +16,10 @@ use Rattle.minix_create.specs.Chosen.{IsPromisedNow, IsFreeWhereSound, LinksWher
 use Rattle.minix_create.specs.Grown.{MayGrowIn}
 use Rattle.minix_create.specs.Several.{PromisesMore, PromisesWhereFree}
 use Rattle.minix_create.specs.declared.chosen.Chosen.{Chosen}
-use Rattle.minix_fill_laws.specs.Laws.{MayBeFile}
+use Rattle.minix_choice_laws.specs.FillLaws.{MayBeFile}
 use Rattle.minix_layout.specs.View.{super_view}
 use Rattle.minix_steps.specs.Written.{parts_now}
-use Rattle.minix_write.specs.View.{Promised, taken_view}
+use Rattle.minix_choice.specs.View.{Promised, taken_view}
 use Rattle.minix_zones.specs.Volume.{volume_view, past_of, SameVolume}
 use Rattle.minix_zones.specs.declared.volume.Volume.{Volume}
 use Rattle.minix_zones.proofs.SameLemmas.{same_view}

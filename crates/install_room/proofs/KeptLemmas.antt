@@ -7,13 +7,13 @@ use Rattle.lilo_model.specs.Disks.{DiskSector}
 use Rattle.lilo_model.specs.MinixEntries.{entries_per_block}
 use Rattle.lilo_model.specs.MinixLayout.{Super}
 use Rattle.lilo_model.specs.MinixParts.{Parts, Volume}
-use Rattle.minix_bits.specs.Numbers.{has_number}
+use Rattle.minix_steps.specs.Numbers.{has_number}
 use Rattle.minix_choice_laws.specs.Choice.{IsFreeChoice}
 use Rattle.minix_choice_laws.specs.Growth.{ArePromised}
 use Rattle.minix_choice_laws.proofs.Choose.{choice_law}
 use Rattle.minix_choice_laws.proofs.Growth.{IsIn, IsNext, either, after-taken, before-or, promised_after}
 use Rattle.minix_create.specs.declared.chosen.Chosen.{Chosen}
-use Rattle.minix_write.specs.View.{Promised, taken_view}
+use Rattle.minix_choice.specs.View.{Promised, taken_view}
 use Rattle.write_model.specs.Choice.{Choice, choose, taken_with}
 use Rattle.write_model.specs.Wish.{Wish, Taken, Promise}
 use Rattle.install_laws.specs.InstallVerdict.{is_of_places}

@@ -14,7 +14,7 @@ use Rattle.minix_choice_laws.specs.Growth.{ArePromised}
 use Rattle.minix_create.specs.Chosen.{IsPromisedNow, IsFreeWhereSound, LinksWhereSound}
 use Rattle.minix_create.specs.declared.chosen.Chosen.{Chosen}
 use Rattle.minix_layout.specs.View.{super_view}
-use Rattle.minix_sees_laws.proofs.Seen.{opened}
+use Rattle.minix_change_laws.proofs.Seen.{opened}
 use Rattle.minix_steps.specs.Written.{parts_now}
 use Rattle.minix_tree.proofs.StatLemmas.{blocks_reached}
 use Rattle.minix_zones.specs.Volume.{volume_view, past_of}

@@ -3,11 +3,11 @@ use Rattle.std.proofs.Common.{◌≡◌, ◌≤◌, ◌+◌, ◌-◌, ◌*◌, �
 use Rattle.std.proofs.lemmas.Bool.Decides.{nat_tests}
 use Rattle.lilo_model.specs.Disks.{DiskSector}
 use Rattle.lilo_model.specs.MinixParts.{Volume}
-use Rattle.minix_bits.specs.Numbers.{has_number, with_number}
-use Rattle.minix_write.specs.View.{Promised, taken_view}
+use Rattle.minix_steps.specs.Numbers.{has_number, with_number}
+use Rattle.minix_choice.specs.View.{Promised, taken_view}
 use Rattle.install_laws.specs.InstallVerdict.{is_of_places, is_of_volume, taken_first}
-use Rattle.old_map.specs.Old.{Old}
-use Rattle.old_map.proofs.NumbersLemmas.{has-with}
+use Rattle.present_map.specs.Old.{Old}
+use Rattle.present_map.proofs.NumbersLemmas.{has-with}
 use Rattle.install_room.specs.Room.{KeepsOut}
 
 -- a zone past the last one has no sector of the volume

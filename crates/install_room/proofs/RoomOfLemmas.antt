@@ -12,10 +12,10 @@ use Rattle.minix_create.proofs.TakenLemmas.{IsTakenAs, taken_as}
 use Rattle.minix_create.specs.declared.chosen.Chosen.{Chosen}
 use Rattle.minix_tree.specs.declared.tree_fault.TreeFault.{TreeFault}
 use Rattle.minix_tree.specs.declared.tree_fault.TreeFault.TheVariants as trees
-use Rattle.minix_write.specs.Taken.{with_choice}
-use Rattle.minix_write.specs.View.{Promised, taken_view, Refuses, RefusesTree, RefusesZone}
-use Rattle.minix_write.specs.declared.write_fault.WriteFault.{WriteFault}
-use Rattle.minix_write.specs.declared.write_fault.WriteFault.TheVariants as faults
+use Rattle.minix_choice.specs.Taken.{with_choice}
+use Rattle.minix_choice.specs.View.{Promised, taken_view, Refuses, RefusesTree, RefusesZone}
+use Rattle.minix_choice.specs.declared.write_fault.WriteFault.{WriteFault}
+use Rattle.minix_choice.specs.declared.write_fault.WriteFault.TheVariants as faults
 use Rattle.minix_zones.specs.declared.zone_fault.ZoneFault.{ZoneFault}
 use Rattle.minix_zones.specs.declared.zone_fault.ZoneFault.TheVariants as zones
 use Rattle.write_model.specs.Choice.{Choice, choose, taken_with}

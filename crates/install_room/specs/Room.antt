@@ -8,7 +8,7 @@ use Rattle.lilo_model.specs.Disks.{DiskSector}
 use Rattle.lilo_model.specs.MinixLayout as layouts
 use Rattle.lilo_model.specs.MinixParts.{Parts, Volume, blocks_for}
 use Rattle.lilo_model.specs.Settled as model
-use Rattle.minix_bits.specs.Numbers.{has_number}
+use Rattle.minix_steps.specs.Numbers.{has_number}
 use Rattle.minix_choice_laws.specs.Growth.{ArePromised}
 use Rattle.minix_create.specs.Chosen.{Suits, IsFreeWhereSound, LinksWhereSound}
 use Rattle.minix_create.specs.Several.{AreApartOn, IsHeldIn}
@@ -16,16 +16,16 @@ use Rattle.minix_create.specs.declared.chosen.Chosen.{Chosen}
 use Rattle.minix_layout.specs.View.{super_view}
 use Rattle.minix_layout.specs.declared.superblock.Super.{Super}
 use Rattle.minix_steps.specs.Written.{parts_now}
-use Rattle.minix_write.specs.Taken.{with_choice}
-use Rattle.minix_write.specs.View.{Promised, taken_view, Gives}
-use Rattle.minix_write.specs.declared.write_fault.WriteFault.{WriteFault}
+use Rattle.minix_choice.specs.Taken.{with_choice}
+use Rattle.minix_choice.specs.View.{Promised, taken_view, Gives}
+use Rattle.minix_choice.specs.declared.write_fault.WriteFault.{WriteFault}
 use Rattle.minix_zones.specs.Volume.{past_of}
 use Rattle.minix_zones.specs.declared.volume.Volume as volumes
 use Rattle.slot_lists.specs.Made.{place_view}
 use Rattle.write_model.specs.Choice.{choose, taken_with}
 use Rattle.write_model.specs.Wish as rooms
 use Rattle.install_laws.specs.InstallVerdict.{is_of_places, taken_first, stale_names, made_backup, room_on, file_mode}
-use Rattle.old_map.specs.Old.{Old}
+use Rattle.present_map.specs.Old.{Old}
 use Rattle.install_apart.specs.declared.name.OwnName.{OwnName}
 use Rattle.install_apart.specs.declared.name.NamePair.{NamePair}
 use Rattle.install_apart.specs.declared.own.OwnNames.{OwnNames}

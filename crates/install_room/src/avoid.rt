@@ -1,8 +1,8 @@
 // What is taken before anything is chosen.
 ghost use Rattle.std.specs.Prelude.{◌≡◌, ◌≤◌, ◌+◌, ◌++◌, ◌&&◌, nat_lt, ℕ, List, [], IfOk, OnOk};
 ghost use Rattle.lilo_model.specs.Disks.{DiskSector};
-ghost use Rattle.minix_bits.specs.Numbers.{has_number};
-ghost use Rattle.minix_write.specs.View.{taken_view};
+ghost use Rattle.minix_steps.specs.Numbers.{has_number};
+ghost use Rattle.minix_choice.specs.View.{taken_view};
 ghost use Rattle.minix_zones.specs.Volume.{volume_view};
 ghost use Rattle.install_laws.specs.InstallVerdict.{taken_first};
 ghost use Rattle.install_room.specs.Names.{stale_of};
@@ -10,9 +10,9 @@ ghost use Rattle.install_room.specs.Room.{KeepsOut, HasRoomFor};
 
 use disk_trait::Disks;
 use install_apart::OwnNames;
-use minix_write::Taken;
+use minix_choice::Taken;
 use minix_zones::Volume;
-use old_map::OldMap;
+use present_map::OldMap;
 use std::alloc::{AllocError, Global};
 
 // Keeps the zones out in which a boot of the present map may look at a sector.

@@ -8,8 +8,8 @@ ghost use Rattle.lilo_model.specs.MinixParts.{parts_of};
 ghost use Rattle.minix_create.specs.Chosen.{Suits};
 ghost use Rattle.minix_create.specs.Several.{PromisesWhereFree};
 ghost use Rattle.minix_layout.specs.View.{kind_view, super_view};
-ghost use Rattle.minix_write.specs.Taken.{with_choice};
-ghost use Rattle.minix_write.specs.View.{taken_view, Gives, HasWriteCause};
+ghost use Rattle.minix_choice.specs.Taken.{with_choice};
+ghost use Rattle.minix_choice.specs.View.{taken_view, Gives, HasWriteCause};
 ghost use Rattle.minix_zones.specs.Volume.{volume_view, past_of, faults_of, SameVolume};
 ghost use Rattle.write_model.specs.Choice.{choose};
 ghost use Rattle.install_apart.specs.Names.{IsInside};
@@ -20,8 +20,8 @@ ghost use Rattle.install_room.specs.Room.{with_backup};
 
 use disk_trait::Disks;
 use install_apart::{NamePair, OwnName};
+use minix_choice::{Taken, Wish, WriteFault};
 use minix_create::{Chosen, choose};
-use minix_write::{Taken, Wish, WriteFault};
 use minix_zones::Volume;
 use std::alloc::Global;
 

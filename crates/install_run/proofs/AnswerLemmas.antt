@@ -25,7 +25,7 @@ use Rattle.install_order.specs.Plans.{map_checks, plan_checks, wish_of}
 use Rattle.install_order.specs.declared.examination.Examined.{Examined}
 use Rattle.install_order.specs.declared.fault.InstallFault.{InstallFault}
 use Rattle.install_room.specs.Room.{room_for}
-use Rattle.install_preview.proofs.PreviewLemmas.{first_refuses, later_refuses, same_skipped, same_clear}
+use Rattle.install_run.proofs.PreviewLemmas.{first_refuses, later_refuses, same_skipped, same_clear}
 use Rattle.install_run.specs.Answers.{settled_answer, settled_report}
 
 -- where a chain of checks passes, its first ones don't refuse

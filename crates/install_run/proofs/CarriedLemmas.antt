@@ -8,13 +8,13 @@ use Rattle.disk_trait.specs.Calls.{GoesOn}
 use Rattle.disk_trait.specs.Moments.{IsTold, IsQuiet}
 use Rattle.disk_trait.specs.Past.{Past}
 use Rattle.lilo_model.specs.Faults.{Rose}
-use Rattle.minix_write.specs.declared.write_fault.WriteFault.{WriteFault}
-use Rattle.minix_write.specs.declared.write_fault.WriteFault.TheVariants as writes
+use Rattle.minix_choice.specs.declared.write_fault.WriteFault.{WriteFault}
+use Rattle.minix_choice.specs.declared.write_fault.WriteFault.TheVariants as writes
 use Rattle.minix_zones.specs.Volume.{past_of, faults_of}
 use Rattle.minix_zones.specs.declared.volume.Volume.{Volume}
 use Rattle.sector_address.specs.Machine.{machine_of}
-use Rattle.install_answers.specs.Texts.{device_status, fault_status}
-use Rattle.install_answers.proofs.StatusLemmas.{of_status, rose_by}
+use Rattle.install_run.specs.Texts.{device_status, fault_status}
+use Rattle.install_run.proofs.StatusLemmas.{of_status, rose_by}
 use Rattle.install_order.specs.Faults.{HasInstallCause, write_refusal}
 use Rattle.install_order.specs.Stageable.{path_made}
 use Rattle.install_order.specs.States.{HaltsCommit, HaltsStaging, HaltsTidying, IsCommitted, IsTidiedFrom, MayBeTidied, StopsStaging, TidiesFrom, is_forced}
@@ -25,7 +25,7 @@ use Rattle.install_order.specs.declared.halt.Halt.{Halt}
 use Rattle.install_order.specs.declared.planned.Planned.{Planned}
 use Rattle.install_order.specs.declared.staged.Staged.{Staged}
 use Rattle.install_order.specs.declared.tidied.Tidied.{Tidied}
-use Rattle.install_tidy.specs.Tidies.{Tidies}
+use Rattle.install_settle.specs.Tidies.{Tidies}
 use Rattle.install_join_laws.specs.Steps.{HasStaged}
 use Rattle.install_run.specs.Answers.{IsDiskFault, is_install_status}
 use Rattle.install_run.specs.Steps.{Carries, HaltedTidying, IsReadyToStage, volume_after}

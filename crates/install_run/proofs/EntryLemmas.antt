@@ -16,9 +16,9 @@ use Rattle.lilo_model.specs.Planned.{mapped_section}
 use Rattle.lilo_model.specs.PlanRefusal.{plan_at, own_places_check}
 use Rattle.lilo_model.specs.Settled as model
 use Rattle.lilo_model.specs.Settled.{is_foreign, own_names}
-use Rattle.install_apart_laws.specs.Plans.{MapsAsIn}
-use Rattle.install_apart_laws.proofs.Stays.{kept_devices_law}
-use Rattle.install_apart_laws.proofs.Surveyed.{begun_plans_law}
+use Rattle.install_join_laws.specs.Plans.{MapsAsIn}
+use Rattle.install_join_laws.proofs.Stays.{kept_devices_law}
+use Rattle.install_join_laws.proofs.Surveyed.{begun_plans_law}
 use Rattle.install_laws.specs.InstallVerdict.{Answer, Begun, InstallRefusal, NotSound, NotApart, BadName, NoLink, NoPlan, NoRoom, answer_of, install_checks, install_room, may_settle, skipped_path}
 use Rattle.install_order.specs.Begins.{IsBegun}
 use Rattle.install_order.specs.Checks.{begin_checks}

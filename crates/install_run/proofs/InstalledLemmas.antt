@@ -34,10 +34,10 @@ use Rattle.minix_zones.specs.declared.volume.Volume.{Volume}
 use Rattle.sector_address.specs.Machine.{machine_of, OnDisks}
 use Rattle.stream_trait.specs.Shows.{SinkState, Shows}
 use Rattle.stream_trait.proofs.ShowsLemmas.{shows_join}
-use Rattle.install_answers.specs.Laws.{IsRefusal}
-use Rattle.install_answers.specs.Texts.{device_line, device_status, fault_status, fault_text}
-use Rattle.install_answers.proofs.LawLemmas.{status_law, text_law}
-use Rattle.install_answers.proofs.StatusLemmas.{of_status}
+use Rattle.install_run.specs.AnswerLaws.{IsRefusal}
+use Rattle.install_run.specs.Texts.{device_line, device_status, fault_status, fault_text}
+use Rattle.install_run.proofs.LawLemmas.{status_law, text_law}
+use Rattle.install_run.proofs.StatusLemmas.{of_status}
 use Rattle.install_laws.specs.Headline.{Means}
 use Rattle.install_laws.specs.InstallVerdict.{Answer, Begun, InstallRefusal, answer_text, verdict_by}
 use Rattle.install_laws.specs.Stopped.{BootsAsEither, StaysAsBefore}
@@ -52,16 +52,16 @@ use Rattle.install_order.specs.declared.halt.Halt.{Halt}
 use Rattle.install_order.specs.declared.planned.Planned.{Planned}
 use Rattle.install_order.specs.declared.staged.Staged.{Staged}
 use Rattle.install_order.specs.declared.surveyed.Surveyed.{Surveyed}
-use Rattle.install_tidy.specs.Tidies.{Tidies}
-use Rattle.minix_write.specs.declared.write_fault.WriteFault.{WriteFault}
+use Rattle.install_settle.specs.Tidies.{Tidies}
+use Rattle.minix_choice.specs.declared.write_fault.WriteFault.{WriteFault}
 use Rattle.install_begin.specs.Begin as begins
-use Rattle.install_preview.specs.Previews.{AnswersVerdict, answer_to, zone_verdict}
-use Rattle.install_preview.proofs.StateLemmas.{told_from}
-use Rattle.install_preview.proofs.TrialLemmas.{of_some}
+use Rattle.install_run.specs.Previews.{AnswersVerdict, answer_to, zone_verdict}
+use Rattle.install_run.proofs.PreviewStateLemmas.{told_from}
+use Rattle.install_run.proofs.TrialLemmas.{of_some}
 use Rattle.install_join_laws.specs.Kept.{HasBackup, Keeps}
 use Rattle.install_join_laws.specs.KeptLaws.{map_of}
 use Rattle.install_join_laws.specs.LaidLaws.{planned_on}
-use Rattle.install_join_laws.specs.Laws.{meant_from}
+use Rattle.install_join_laws.specs.JoinLaws.{meant_from}
 use Rattle.install_join_laws.specs.Steps.{HasStaged, IsBegunWith, LiesOnDisks, begun_from, machine_on}
 use Rattle.install_join_laws.proofs.Begun as beginnings
 use Rattle.install_join_laws.proofs.Begun.{examined, leaves, may-stage, plan-view-same}

@@ -1,3 +1,11 @@
+pub mod TextLemmas
+pub mod LawLemmas
+pub mod StatusLemmas
+pub mod ReportLemmas
+pub mod PreviewLemmas
+pub mod PreviewStateLemmas
+pub mod RefusedLemmas
+pub mod TrialLemmas
 pub mod AnswerLemmas
 pub mod EntryLemmas
 pub mod PreparedLemmas

@@ -21,8 +21,8 @@ use Rattle.minix_zones.specs.Volume.{volume_view, past_of, sizes_of, faults_of}
 use Rattle.minix_zones.specs.declared.volume.Volume.{Volume}
 use Rattle.sector_address.specs.Machine.{OnDisks}
 use Rattle.stream_trait.specs.Shows.{SinkState}
-use Rattle.install_answers.specs.Texts.{device_status, fault_status}
-use Rattle.install_answers.proofs.StatusLemmas.{of_status}
+use Rattle.install_run.specs.Texts.{device_status, fault_status}
+use Rattle.install_run.proofs.StatusLemmas.{of_status}
 use Rattle.install_laws.proofs.Stopped.{prepares_law}
 use Rattle.install_order.specs.Begins.{LiesThere}
 use Rattle.install_order.specs.Faults.{HasInstallCause}
@@ -36,7 +36,7 @@ use Rattle.install_order.specs.declared.surveyed.Surveyed.{Surveyed}
 use Rattle.install_join_laws.specs.Steps.{HasStaged, IsBegunWith, begun_from, machine_on}
 use Rattle.install_join_laws.proofs.Begun.{leaves}
 use Rattle.install_join_laws.proofs.Prepared.{staging_prepares_law, staging_stops_law}
-use Rattle.install_preview.proofs.TrialLemmas.{of_some}
+use Rattle.install_run.proofs.TrialLemmas.{of_some}
 use Rattle.install_run.specs.Answers.{IsDiskFault}
 use Rattle.install_run.specs.Phases.{FailsBy, FailsIn, IsUncommitted}
 use Rattle.install_run.specs.Steps.{Finishes, FinishedEarly, FinishedWhole, HaltedCommit, HaltedStaging, HaltedTidying, IsHalted, IsPrepared, StaysBegun}

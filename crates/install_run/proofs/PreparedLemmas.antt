@@ -27,7 +27,7 @@ use Rattle.minix_zones.specs.declared.volume.Volume.{Volume}
 use Rattle.minix_zones.proofs.SameLemmas.{same_view}
 use Rattle.minix_zones.proofs.WriteLemmas.{goes_on_unchanged}
 use Rattle.sector_address.specs.Machine.{machine_of, OnDisks}
-use Rattle.install_begin_laws.proofs.Apart.{apart_boot_law}
+use Rattle.install_stage_laws.proofs.Apart.{apart_boot_law}
 use Rattle.install_laws.specs.InstallVerdict.{Begun}
 use Rattle.install_laws.specs.Stopped.{StaysAsBefore}
 use Rattle.install_laws.specs.Writes.{IsApartSector}
@@ -46,9 +46,9 @@ use Rattle.install_order.specs.declared.surveyed.Surveyed.{Surveyed}
 use Rattle.install_join_laws.specs.Steps.{machine_on}
 use Rattle.install_join_laws.proofs.Kept.{beginning_keeps_law}
 use Rattle.install_join_laws.proofs.Prepared.{beginning_stops_law}
-use Rattle.install_preview.specs.Previews.{answer_to}
-use Rattle.install_preview.proofs.StateLemmas.{told_from}
-use Rattle.install_preview.proofs.TrialLemmas.{of_some}
+use Rattle.install_run.specs.Previews.{answer_to}
+use Rattle.install_run.proofs.PreviewStateLemmas.{told_from}
+use Rattle.install_run.proofs.TrialLemmas.{of_some}
 use Rattle.install_room.specs.Room.{room_for, places_view}
 use Rattle.install_run.specs.Answers.{GivesInstall, IsSettledFrom, StaysUnbegun, settled_answer}
 use Rattle.install_run.specs.Keeps.{KeepsMost}

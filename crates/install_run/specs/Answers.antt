@@ -22,7 +22,7 @@ use Rattle.lilo_model.specs.Settled as model
 use Rattle.lilo_model.specs.Settled.{is_foreign, own_names}
 use Rattle.stream_trait.specs.Shows.{SinkState, Shows}
 use Rattle.minix_zones.specs.Volume.{past_of}
-use Rattle.install_answers.specs.Texts.{device_line, device_status}
+use Rattle.install_run.specs.Texts.{device_line, device_status}
 use Rattle.install_apart.specs.Apart.{device_checks}
 use Rattle.install_begin.specs.Begin as begins
 use Rattle.install_begin.specs.Begin.{begun_with}
@@ -35,7 +35,7 @@ use Rattle.install_order.specs.declared.examination.Examined.{Examined}
 use Rattle.install_order.specs.declared.fault.InstallFault.TheVariants.{Device}
 use Rattle.install_order.specs.declared.halt.Halt.{Halt}
 use Rattle.install_order.specs.declared.planned.Planned.{Planned}
-use Rattle.install_preview.specs.Previews.{AnswersVerdict, answer_to}
+use Rattle.install_run.specs.Previews.{AnswersVerdict, answer_to}
 
 -- ---- what the model answers
 

@@ -24,7 +24,7 @@ use Rattle.install_laws.specs.InstallVerdict.{Answer, Begun}
 use Rattle.install_laws.specs.Stopped.{BootsAsEither, StaysAsBefore}
 use Rattle.install_order.specs.Begins.{AreOwn, HasNothingLeft, LiesThere}
 use Rattle.install_order.specs.Checks.{begin_checks}
-use Rattle.install_preview.specs.Previews.{AnswersVerdict}
+use Rattle.install_run.specs.Previews.{AnswersVerdict}
 use Rattle.install_run.specs.Answers.{AnswersInstall, IsSettledFrom, lost_line, settled_answer}
 pub use Rattle.install_run.specs.Keeps.{IsBefore, IsDone}
 use Rattle.install_run.specs.Keeps.{KeepsNames}

@@ -8,8 +8,8 @@ use Rattle.lilo_model.specs.MinixNames.{names_in}
 use Rattle.lilo_model.specs.Plan.{plan_sectors}
 use Rattle.lilo_model.specs.Planned.{planned}
 use Rattle.lilo_model.specs.Settled as model
-use Rattle.install_apart_laws.specs.Laws.{KeepsDevices}
-use Rattle.install_apart_laws.specs.Plans.{AllPassBy}
+use Rattle.install_join_laws.specs.ApartLaws.{KeepsDevices}
+use Rattle.install_join_laws.specs.Plans.{AllPassBy}
 use Rattle.install_laws.specs.InstallVerdict.{Begun}
 use Rattle.install_laws.specs.Writes.{IsApartSector}
 use Rattle.install_order.specs.Begins.{AreOwn}

@@ -1,3 +1,7 @@
+pub mod Texts
+pub mod AnswerLaws
+pub mod Reports
+pub mod Previews
 pub mod Answers
 pub mod Steps
 pub mod Keeps

@@ -10,7 +10,7 @@ use Rattle.disk_trait.specs.NotWritten.{WritesNoOther}
 use Rattle.disk_trait.specs.Past.{Past, with_sector}
 use Rattle.lilo_model.specs.Disks.{Span}
 use Rattle.lilo_model.specs.Faults.{Rose}
-use Rattle.install_answers.specs.Texts.{device_status}
+use Rattle.install_run.specs.Texts.{device_status}
 use Rattle.install_laws.specs.Boots.{HasBootOf}
 
 -- whatever a stop leaves up to then has the boot sector of before

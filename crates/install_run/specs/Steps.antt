@@ -9,7 +9,7 @@ use Rattle.minix_zones.specs.Volume.{volume_view, past_of}
 use Rattle.minix_zones.specs.declared.volume.Volume.{Volume}
 use Rattle.lilo_model.specs.Settled as settles
 use Rattle.stream_trait.specs.Shows.{SinkState, Shows}
-use Rattle.install_answers.specs.Texts.{fault_status, fault_text}
+use Rattle.install_run.specs.Texts.{fault_status, fault_text}
 use Rattle.install_laws.specs.InstallVerdict.{Begun}
 use Rattle.install_laws.specs.Stopped.{StaysAsBefore}
 use Rattle.install_laws.specs.Writes.{IsApartSector}

@@ -23,11 +23,12 @@ ghost use Rattle.install_run.specs.Steps.{Finishes, IsReadyToStage};
 
 use crate::carry::carry_out;
 use crate::prepare::prepare;
+use crate::refusal::say_halt;
+use crate::report::Report;
+use crate::trial::say_zone;
 use disk_trait::{Disks, Span};
-use install_answers::{Report, say_halt};
 use install_begin::Begun;
 use install_order::Planned;
-use install_preview::say_zone;
 use lilo_conf::Config;
 use minix_zones::Volume;
 use std::alloc::Global;

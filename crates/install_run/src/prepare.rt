@@ -10,7 +10,7 @@ ghost use Rattle.install_order.specs.Begins.{HasNothingLeft, LiesThere};
 ghost use Rattle.install_order.specs.Checks.{IsLaid};
 ghost use Rattle.install_order.specs.Faults.{HasInstallCause};
 ghost use Rattle.install_order.specs.View.{begun_of};
-ghost use Rattle.install_preview.specs.Previews.{volume_left};
+ghost use Rattle.install_run.specs.Previews.{volume_left};
 ghost use Rattle.install_run.specs.Answers.{GivesInstall, StaysUnbegun};
 ghost use Rattle.install_run.specs.Steps.{IsPrepared, IsReadyToStage, StaysBegun};
 

@@ -6,17 +6,17 @@ use Rattle.lilo_model.specs.MinixLayout.{Inode}
 use Rattle.lilo_model.specs.MinixNames.{reached, Named, PointsTo, IsSound}
 use Rattle.lilo_model.specs.MinixParts.{Volume, Parts, Pointer, parts_of, is_directory, is_file}
 use Rattle.lilo_model.specs.NamePlaces.{same_path}
-use Rattle.minix_beside_laws.specs.Beside.{IsDataZone}
+use Rattle.minix_change_laws.specs.Beside.{IsDataZone}
 use Rattle.minix_names.proofs.PathLemmas.{same-is}
 use Rattle.minix_remove.specs.Removed.{GainsNoZone, RemovesFile}
 use Rattle.minix_remove_laws.specs.Files.{KeepsFiles}
 use Rattle.minix_remove_laws.specs.Held.{is_removable}
 use Rattle.minix_remove_laws.proofs.Files.{points-before}
 use Rattle.minix_remove_laws.proofs.Held.{no-directory}
-use Rattle.minix_sees_laws.specs.Tree.{KeepsNamed, HasTreeWith, HasTreeMoved}
-use Rattle.minix_sees_laws.proofs.Inode.{HasSameNumbers, same-node}
-use Rattle.minix_sees_laws.proofs.Seen.{opened}
-use Rattle.install_begin_laws.specs.Laws.{GainsNothing}
+use Rattle.minix_change_laws.specs.Tree.{KeepsNamed, HasTreeWith, HasTreeMoved}
+use Rattle.minix_change_laws.proofs.Inode.{HasSameNumbers, same-node}
+use Rattle.minix_change_laws.proofs.Seen.{opened}
+use Rattle.install_stage_laws.specs.BeginLaws.{GainsNothing}
 use Rattle.install_settle.proofs.NamesLemmas.{apart-of}
 
 pub removable-file : (inode : Inode) → is_file inode ≡ true → is_removable inode ≡ true

@@ -10,7 +10,7 @@ use Rattle.lilo_model.specs.Settled.{Holds, NamesInFile, is_foreign}
 use Rattle.lilo_model.specs.Slots.{AddressFault, place_at}
 use Rattle.minix_remove_laws.specs.Held.{is_removable}
 use Rattle.minix_remove_laws.proofs.Held.{no-directory}
-use Rattle.minix_sees_laws.specs.Tree.{KeepsNamed}
+use Rattle.minix_change_laws.specs.Tree.{KeepsNamed}
 use Rattle.install_laws.specs.Boots.{HasBootOf}
 use Rattle.install_settle.specs.Settles.{finishes, KeepsHeld}
 use Rattle.install_settle.specs.declared.settling.Settling.{Settling}

@@ -9,3 +9,5 @@ pub mod SettleLemmas
 pub mod FlushLemmas
 pub mod GainLemmas
 pub mod PathLemmas
+pub mod TidiedLemmas
+pub mod TidyLemmas

@@ -6,7 +6,7 @@ use Rattle.lilo_model.specs.MinixNames.{Thing, names_in}
 use Rattle.lilo_model.specs.MinixParts.{Volume}
 use Rattle.lilo_model.specs.NamePlaces.{same_path, with_name, without_name}
 use Rattle.minix_names.proofs.PathLemmas.{path-same, same-is}
-use Rattle.minix_sees_laws.specs.Tree.{HasNamesWith, HasNamesMoved}
+use Rattle.minix_change_laws.specs.Tree.{HasNamesWith, HasNamesMoved}
 
 -- a path that isn't the same as another is another
 pub apart-of : (path name : List (List ℕ)) → same_path path name ≡ false → name ≢ path

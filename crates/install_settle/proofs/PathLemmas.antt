@@ -10,7 +10,7 @@ use Rattle.lilo_model.specs.Settled as model
 use Rattle.minix_layout.specs.View.{inode_view}
 use Rattle.minix_names.specs.Places.{number_found}
 use Rattle.minix_remove_laws.proofs.Held.{no-directory}
-use Rattle.minix_sees_laws.specs.Tree.{KeepsNamed}
+use Rattle.minix_change_laws.specs.Tree.{KeepsNamed}
 use Rattle.minix_tree.specs.declared.stat.Stat.{Stat}
 use Rattle.install_apart.specs.Names.{is_replaceable, is_file_found}
 use Rattle.install_apart.specs.declared.name.OwnName.{OwnName}

@@ -17,13 +17,13 @@ use Rattle.minix_remove.specs.Removed.{GainsNoZone, RemovesFile}
 use Rattle.minix_remove.specs.Renamed.{Renames, RenamesFiles, RenameAnswersRight, rename_refusal, moved_refusal, former_refusal, links_refusal}
 use Rattle.minix_remove_laws.specs.Held.{held_name}
 use Rattle.minix_remove_laws.specs.Files.{KeepsFiles}
-use Rattle.minix_sees_laws.specs.Tree.{HasTreeMoved}
+use Rattle.minix_change_laws.specs.Tree.{HasTreeMoved}
 use Rattle.minix_steps.specs.Written.{parts_now}
-use Rattle.minix_write.specs.declared.write_fault.WriteFault.{WriteFault}
-use Rattle.minix_write.specs.declared.write_fault.WriteFault.TheVariants.{Device, Links}
+use Rattle.minix_choice.specs.declared.write_fault.WriteFault.{WriteFault}
+use Rattle.minix_choice.specs.declared.write_fault.WriteFault.TheVariants.{Device, Links}
 use Rattle.minix_zones.specs.Volume.{volume_view, past_of, KeepsVolume, HasDeviceCause}
 use Rattle.minix_zones.specs.declared.volume.Volume.{Volume}
-use Rattle.install_begin_laws.specs.Laws.{GainsNothing}
+use Rattle.install_stage_laws.specs.BeginLaws.{GainsNothing}
 use Rattle.install_settle.specs.Steps.{Does}
 use Rattle.install_settle.proofs.GainLemmas.{gains_removed, gains_kept, named_moved}
 use Rattle.install_settle.proofs.LeadLemmas.{held-short}

@@ -22,17 +22,17 @@ use Rattle.minix_names.specs.Places.{number_found}
 use Rattle.minix_names.proofs.PathLemmas.{same-is}
 use Rattle.minix_remove.specs.Moves.{LeadsBoth}
 use Rattle.minix_remove.specs.Target.{IsDirectoryNow}
-use Rattle.minix_sees_laws.specs.Sees.{SeenAsIn}
-use Rattle.minix_sees_laws.specs.Tree.{KeepsNamed, TreeAs, HasTreeWith, HasTreeMoved}
-use Rattle.minix_sees_laws.proofs.Seen.{opened, seen_same_law, seen_sound_law}
-use Rattle.minix_sees_laws.proofs.Tree.{sees_tree_law, keeps_join_law, has_names_law, has_moved_law}
+use Rattle.minix_change_laws.specs.Sees.{SeenAsIn}
+use Rattle.minix_change_laws.specs.Tree.{KeepsNamed, TreeAs, HasTreeWith, HasTreeMoved}
+use Rattle.minix_change_laws.proofs.Seen.{opened, seen_same_law, seen_sound_law}
+use Rattle.minix_change_laws.proofs.Tree.{sees_tree_law, keeps_join_law, has_names_law, has_moved_law}
 use Rattle.minix_steps.specs.Written.{parts_now}
 use Rattle.minix_tree.specs.declared.stat.Stat.{Stat}
 use Rattle.minix_turns.specs.Joined.{SeenOrWith}
-use Rattle.minix_write.specs.declared.write_fault.WriteFault.{WriteFault}
-use Rattle.minix_write.specs.View.{HasWriteCause}
-use Rattle.minix_write.specs.declared.write_fault.WriteFault.TheVariants as faults
-use Rattle.minix_write.specs.declared.write_fault.WriteFault.TheVariants.{Device}
+use Rattle.minix_choice.specs.declared.write_fault.WriteFault.{WriteFault}
+use Rattle.minix_choice.specs.View.{HasWriteCause}
+use Rattle.minix_choice.specs.declared.write_fault.WriteFault.TheVariants as faults
+use Rattle.minix_choice.specs.declared.write_fault.WriteFault.TheVariants.{Device}
 use Rattle.minix_zones.specs.Volume.{volume_view, past_of, faults_of, KeepsVolume, SameVolume}
 use Rattle.minix_zones.specs.declared.volume.Volume.{Volume}
 use Rattle.minix_zones.proofs.WriteLemmas.{keeps_same, keeps_join, goes_on_unchanged, cause_after}
@@ -41,7 +41,7 @@ use Rattle.install_apart.specs.Own.{IsBackup, IsReplaceable}
 use Rattle.install_apart.specs.declared.name.NamePair.{NamePair}
 use Rattle.install_apart.specs.declared.name.OwnName.{OwnName}
 use Rattle.install_apart.specs.declared.own.OwnNames.{OwnNames}
-use Rattle.install_begin_laws.specs.Laws.{GainsNothing}
+use Rattle.install_stage_laws.specs.BeginLaws.{GainsNothing}
 use Rattle.install_laws.specs.Writes.{IsApartSector}
 use Rattle.install_settle.specs.Found.{AreFound, AreNamesNow, MaySettle, IsLeft, IsApartCopy, is_there, has_copy}
 use Rattle.install_settle.specs.Settles.{HasNames, finishes, stale_of, with_map_settled, with_all_settled, AreSettling, KeepsHeld, IsBeside, LeadsAsIn, KeepsPaths, KeepsMap, IsSettling, IsSettledIn, Settles}

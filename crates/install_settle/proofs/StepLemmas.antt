@@ -15,14 +15,14 @@ use Rattle.minix_remove.specs.Removed.{GainsNoZone, RemovesFile, Removes, Answer
 use Rattle.minix_remove.specs.Renamed.{Renames}
 use Rattle.minix_remove.specs.Target.{refusal_of}
 use Rattle.minix_remove_laws.specs.Held.{held_name}
-use Rattle.minix_sees_laws.specs.Tree.{HasTreeWith}
+use Rattle.minix_change_laws.specs.Tree.{HasTreeWith}
 use Rattle.minix_steps.specs.Written.{parts_now}
 use Rattle.minix_tree.specs.declared.stat.Stat.{Stat}
-use Rattle.minix_write.specs.declared.write_fault.WriteFault.{WriteFault}
-use Rattle.minix_write.specs.declared.write_fault.WriteFault.TheVariants.{Device}
+use Rattle.minix_choice.specs.declared.write_fault.WriteFault.{WriteFault}
+use Rattle.minix_choice.specs.declared.write_fault.WriteFault.TheVariants.{Device}
 use Rattle.minix_zones.specs.Volume.{volume_view, past_of, HasDeviceCause}
 use Rattle.minix_zones.specs.declared.volume.Volume.{Volume}
-use Rattle.install_begin_laws.specs.Laws.{GainsNothing}
+use Rattle.install_stage_laws.specs.BeginLaws.{GainsNothing}
 use Rattle.install_apart.specs.Names.{IsPair, AreTwins, is_replaceable, is_file_found}
 use Rattle.install_apart.specs.declared.name.NamePair.{NamePair}
 use Rattle.install_apart.specs.declared.name.OwnName.{OwnName}

@@ -11,13 +11,13 @@ use Rattle.lilo_model.specs.MinixLayout.{Kind, V1Short, V1Long, V2Short, V2Long,
 use Rattle.lilo_model.specs.MinixNames.{Named, PointsTo, Refers, IsSound}
 use Rattle.lilo_model.specs.MinixParts as parts
 use Rattle.lilo_model.specs.MinixParts.{Pointer, parts_of, is_directory}
-use Rattle.minix_beside_laws.proofs.Laid.{Laid, laid}
-use Rattle.minix_free.specs.Freed.{IsOffFile}
+use Rattle.minix_change_laws.proofs.Laid.{Laid, laid}
+use Rattle.minix_fill.specs.Freed.{IsOffFile}
 use Rattle.minix_layout.specs.View.{super_view}
 use Rattle.minix_remove.specs.Removed.{IsOffRemoved}
 use Rattle.minix_remove.specs.Renamed.{IsOffRenamed}
 use Rattle.minix_remove_laws.specs.Held.{held_name}
-use Rattle.minix_sees_laws.proofs.Seen.{opened}
+use Rattle.minix_change_laws.proofs.Seen.{opened}
 use Rattle.minix_steps.specs.Written.{parts_now}
 use Rattle.minix_zones.specs.Volume.{volume_view, past_of}
 use Rattle.minix_zones.specs.declared.volume.Volume.{Volume}

@@ -13,12 +13,12 @@ use Rattle.lilo_model.specs.MinixFindNames.{Names}
 use Rattle.lilo_model.specs.NamePlaces.{with_tilde, with_name}
 use Rattle.lilo_model.specs.Settled as model
 use Rattle.lilo_model.specs.Settled.{Finishes, Held, is_foreign, settled}
-use Rattle.minix_sees_laws.specs.Tree.{KeepsNamed}
-use Rattle.minix_write.specs.declared.write_fault.WriteFault.{WriteFault}
-use Rattle.minix_write.specs.declared.write_fault.WriteFault.TheVariants.{Device}
+use Rattle.minix_change_laws.specs.Tree.{KeepsNamed}
+use Rattle.minix_choice.specs.declared.write_fault.WriteFault.{WriteFault}
+use Rattle.minix_choice.specs.declared.write_fault.WriteFault.TheVariants.{Device}
 use Rattle.minix_zones.specs.Volume.{volume_view, past_of, KeepsVolume, HasDeviceCause}
 use Rattle.minix_zones.specs.declared.volume.Volume.{Volume}
-use Rattle.install_begin_laws.specs.Laws.{GainsNothing}
+use Rattle.install_stage_laws.specs.BeginLaws.{GainsNothing}
 use Rattle.install_laws.specs.Boots.{HasBootOf}
 use Rattle.install_laws.specs.Writes.{IsApartSector, IsWritable}
 use Rattle.install_settle.specs.declared.settling.LeftMap.{LeftMap}

@@ -11,17 +11,17 @@ use Rattle.lilo_model.specs.MinixNames.{IsSound}
 use Rattle.lilo_model.specs.NamePlaces.{with_tilde}
 use Rattle.minix_layout.specs.View.{super_view}
 use Rattle.minix_remove.specs.Moves.{IsMoving}
-use Rattle.minix_sees_laws.specs.Tree.{HasTreeWith, HasTreeMoved}
+use Rattle.minix_change_laws.specs.Tree.{HasTreeWith, HasTreeMoved}
 use Rattle.minix_steps.specs.Written.{parts_now}
 use Rattle.minix_turns.specs.Joined.{SeenOrWith}
-use Rattle.minix_write.specs.declared.write_fault.WriteFault.{WriteFault}
-use Rattle.minix_write.specs.declared.write_fault.WriteFault.TheVariants.{Device}
+use Rattle.minix_choice.specs.declared.write_fault.WriteFault.{WriteFault}
+use Rattle.minix_choice.specs.declared.write_fault.WriteFault.TheVariants.{Device}
 use Rattle.minix_zones.specs.Volume.{volume_view, past_of, KeepsVolume, HasDeviceCause}
 use Rattle.minix_zones.specs.declared.volume.Volume.{Volume}
 use Rattle.install_apart.specs.Names.{IsPair}
 use Rattle.install_apart.specs.declared.name.NamePair.{NamePair}
 use Rattle.install_apart.specs.declared.name.OwnName.{OwnName}
-use Rattle.install_begin_laws.specs.Laws.{GainsNothing}
+use Rattle.install_stage_laws.specs.BeginLaws.{GainsNothing}
 use Rattle.install_laws.specs.Writes.{IsWritable}
 use Rattle.install_settle.specs.At.{IsAt}
 use Rattle.install_settle.specs.declared.settling.LeftMap.{LeftMap}

@@ -5,7 +5,7 @@ ghost use Rattle.lilo_model.specs.Settled as model;
 ghost use Rattle.minix_layout.specs.View.{kind_view, super_view};
 ghost use Rattle.minix_names.specs.Component.{IsFileName};
 ghost use Rattle.minix_steps.specs.Written.{parts_now};
-ghost use Rattle.minix_write.specs.View.{HasWriteCause};
+ghost use Rattle.minix_choice.specs.View.{HasWriteCause};
 ghost use Rattle.minix_zones.specs.Volume.{past_of, faults_of};
 ghost use Rattle.install_apart.specs.Names.{IsInside, ArePairsInside, AreTwins, IsPair, is_replaceable};
 ghost use Rattle.install_apart.specs.Own.{AreInside, IsReplaceable};
@@ -25,8 +25,8 @@ ghost use Rattle.install_settle.specs.Steps.{DoesMap, DoesRemove, IsSomePair, Is
 use crate::settling::{LeftMap, Settling};
 use disk_trait::Disks;
 use install_apart::{NamePair, OwnName, OwnNames};
+use minix_choice::{WriteFault, WriteHalt};
 use minix_remove::{remove, replace_name};
-use minix_write::{WriteFault, WriteHalt};
 use minix_zones::Volume;
 
 // Removes a name of a regular file that is there.

@@ -28,7 +28,7 @@ use install_apart::{NamePair, OwnName, OwnNames};
 use minix_layout::FsKind;
 use minix_turns::most_links;
 use minix_zones::Volume;
-use old_map::{OldMapFault, holds_table};
+use present_map::{OldMapFault, holds_table};
 
 /// What is done with the name of a new map, `map~`, that an earlier installation left behind.
 #[derive(Clone, Copy, Debug, PartialEq, Eq)]

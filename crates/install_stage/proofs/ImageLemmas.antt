@@ -4,14 +4,14 @@ use Rattle.lilo_model.specs.Disks.{Image}
 use Rattle.lilo_model.specs.MinixNames.{Thing, File, names_in, reached, IsSound}
 use Rattle.lilo_model.specs.MinixParts.{Volume, parts_of}
 use Rattle.lilo_model.specs.NamePlaces.{with_tilde}
-use Rattle.minix_beside_laws.specs.Beside.{NamedIn}
-use Rattle.minix_sees_laws.specs.Sees.{SeenAsIn}
-use Rattle.minix_sees_laws.specs.Tree.{TreeAs}
-use Rattle.minix_sees_laws.proofs.Seen.{opened}
-use Rattle.minix_sees_laws.proofs.Tree.{sees_tree_law, tree_named_law}
+use Rattle.minix_change_laws.specs.Beside.{NamedIn}
+use Rattle.minix_change_laws.specs.Sees.{SeenAsIn}
+use Rattle.minix_change_laws.specs.Tree.{TreeAs}
+use Rattle.minix_change_laws.proofs.Seen.{opened}
+use Rattle.minix_change_laws.proofs.Tree.{sees_tree_law, tree_named_law}
 use Rattle.minix_turns.specs.Joined.{SeenOrWith}
-use Rattle.install_backup.specs.Staged.{with_backup, AreStaging, IsStaging}
-use Rattle.install_made_laws.specs.Named.{HasNamesBut}
+use Rattle.install_stage.specs.BackupStaged.{with_backup, AreStaging, IsStaging}
+use Rattle.install_stage.specs.Named.{HasNamesBut}
 use Rattle.install_settle.specs.Settles.{HasNames}
 use Rattle.install_settle.proofs.NamesLemmas.{with-as}
 use Rattle.install_stage_laws.proofs.Clear.{keeps_but_joined_law}

@@ -1,3 +1,14 @@
+pub mod HalfLemmas
+pub mod FileLemmas
+pub mod BackupImageLemmas
+pub mod CopyLemmas
+pub mod OverLemmas
+pub mod BackupStageLemmas
+pub mod Kept
+pub mod Within
+pub mod After
+pub mod Sectors
+pub mod Named
 pub mod BlockLemmas
 pub mod LongLemmas
 pub mod ContentLemmas

@@ -7,14 +7,14 @@ use Rattle.disk_trait.specs.declared.disks.Disks.{Ghosts}
 use Rattle.disk_trait.specs.Moments.{IsTold, IsQuiet, now, LeavesOnly}
 use Rattle.disk_trait.proofs.LawLemmas.{end_of_run_law}
 use Rattle.disk_trait.proofs.MomentLemmas.{at_now, told_or_not, leaves_weaker}
-use Rattle.install_begin_laws.proofs.Spared.{leaves_both, outside_stays_law}
+use Rattle.install_stage_laws.proofs.Spared.{leaves_both, outside_stays_law}
 use Rattle.install_laws.specs.InstallVerdict.{file_mode}
 use Rattle.install_laws.specs.Writes.{IsApartSector}
-use Rattle.install_made_laws.specs.Sectors.{HasSectors, IsFileThere}
-use Rattle.install_made_laws.specs.Within.{WritesWithin}
-use Rattle.install_made_laws.proofs.Named.{names_law}
-use Rattle.install_made_laws.proofs.Sectors.{lie_where_chosen, lie_in_order}
-use Rattle.install_made_laws.proofs.Within.{writes_within}
+use Rattle.install_stage.specs.Sectors.{HasSectors, IsFileThere}
+use Rattle.install_stage.specs.Within.{WritesWithin}
+use Rattle.install_stage.proofs.Named.{names_law}
+use Rattle.install_stage.proofs.Sectors.{lie_where_chosen, lie_in_order}
+use Rattle.install_stage.proofs.Within.{writes_within}
 use Rattle.install_settle.proofs.RenameLemmas.{leaves-untold}
 use Rattle.install_stage_laws.proofs.Clear.{added_keeps_law, seen_keeps_law}
 use Rattle.install_stage_laws.proofs.Held.{staged_held_law, seen_held_law}
@@ -35,11 +35,11 @@ use Rattle.minix_create.specs.Linked.{Creates}
 use Rattle.minix_create.specs.States.{CreatesOn}
 use Rattle.minix_create.specs.declared.chosen.Chosen.{Chosen}
 use Rattle.minix_create.proofs.ChosenLemmas.{few_blocks}
-use Rattle.minix_sees_laws.specs.Tree.{HasTreeWith}
-use Rattle.minix_sees_laws.proofs.Seen.{seen_sound_law}
+use Rattle.minix_change_laws.specs.Tree.{HasTreeWith}
+use Rattle.minix_change_laws.proofs.Seen.{seen_sound_law}
 use Rattle.minix_turns.specs.Joined.{SeenOrWith}
-use Rattle.minix_write.specs.declared.halt.WriteHalt.{WriteHalt}
-use Rattle.minix_write.specs.declared.write_fault.WriteFault.{WriteFault}
+use Rattle.minix_choice.specs.declared.halt.WriteHalt.{WriteHalt}
+use Rattle.minix_choice.specs.declared.write_fault.WriteFault.{WriteFault}
 use Rattle.minix_zones.specs.Volume.{volume_view, past_of}
 use Rattle.minix_zones.specs.declared.volume.Volume.{Volume}
 use Rattle.slot_lists.specs.Made.{place_view}

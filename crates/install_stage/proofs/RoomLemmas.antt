@@ -6,9 +6,9 @@ use Rattle.std.proofs.lemmas.Bool.{ne_eqb, or_left}
 use Rattle.disk_trait.specs.declared.disks.Disks.{Ghosts}
 use Rattle.disk_trait.specs.declared.disks.Span.{Span}
 use Rattle.install_laws.specs.InstallVerdict.{file_mode}
-use Rattle.install_made_laws.specs.Sectors.{IsWholeFile, AreGiven}
-use Rattle.install_made_laws.specs.Within.{is_chosen, IsFreeFile}
-use Rattle.install_made_laws.proofs.Within.{zones_data, free_promised}
+use Rattle.install_stage.specs.Sectors.{IsWholeFile, AreGiven}
+use Rattle.install_stage.specs.Within.{is_chosen, IsFreeFile}
+use Rattle.install_stage.proofs.Within.{zones_data, free_promised}
 use Rattle.install_stage_laws.specs.Staged.{IsChosenPlace}
 use Rattle.install_stage_laws.proofs.Sectors.{half}
 use Rattle.lilo_model.specs.Disks.{Machine}
@@ -19,13 +19,13 @@ use Rattle.lilo_model.specs.Plan.{map_size}
 use Rattle.map_sectors.specs.Map.{plan_view}
 use Rattle.map_sectors.specs.declared.map.MapPlan.{MapPlan}
 use Rattle.map_sectors.proofs.SectionLemmas.{length-plan}
-use Rattle.minix_bits.specs.Numbers.{has_number}
+use Rattle.minix_steps.specs.Numbers.{has_number}
 use Rattle.minix_create.specs.Chosen.{Suits, sector_of, block_with, content_with, new_inode, thing_with}
 use Rattle.minix_create.specs.declared.chosen.Chosen.{Chosen}
 use Rattle.minix_create.proofs.FromLemmas.{file_zone, has_one}
 use Rattle.minix_fill.specs.Fill.{IsOfFile}
-use Rattle.minix_fill_laws.specs.Sources.{Block}
-use Rattle.minix_fill_laws.proofs.Given.{given_length}
+use Rattle.minix_choice_laws.specs.Sources.{Block}
+use Rattle.minix_choice_laws.proofs.Given.{given_length}
 use Rattle.minix_layout.specs.View.{kind_view}
 use Rattle.minix_layout.specs.declared.superblock.Super.{Super}
 use Rattle.minix_zones.specs.Volume.{volume_view}

@@ -4,7 +4,7 @@ use Rattle.std.specs.List.{AllByRecursion}
 use Rattle.std.proofs.lemmas.Bool.{or_left}
 use Rattle.disk_trait.specs.declared.disks.Disks.{Ghosts}
 use Rattle.disk_trait.specs.Moments.{IsTold, now}
-use Rattle.install_made_laws.specs.Within.{is_chosen}
+use Rattle.install_stage.specs.Within.{is_chosen}
 use Rattle.install_room.specs.Room.{places_view}
 use Rattle.install_room.specs.declared.room.Room.{Room}
 use Rattle.install_stage_laws.specs.Committed.{IsStaged}

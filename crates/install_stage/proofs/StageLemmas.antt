@@ -10,13 +10,13 @@ use Rattle.disk_trait.specs.Past.{Past}
 use Rattle.disk_trait.proofs.CallLemmas.{goes_on_join}
 use Rattle.disk_trait.proofs.MomentLemmas.{leaves_none, leaves_weaker, leaves_join, told_or_not}
 use Rattle.disk_trait.proofs.NotWrittenLemmas.{not_written_join}
-use Rattle.install_backup.specs.Staged.{IsStaging}
-use Rattle.install_backup.specs.Stages.{IsStillFree, MayStage, StagesBackup, StagesFile}
-use Rattle.install_begin_laws.proofs.Spared.{leaves_both}
+use Rattle.install_stage.specs.BackupStaged.{IsStaging}
+use Rattle.install_stage.specs.BackupStages.{IsStillFree, MayStage, StagesBackup, StagesFile}
+use Rattle.install_stage_laws.proofs.Spared.{leaves_both}
 use Rattle.install_laws.specs.InstallVerdict.{file_mode}
 use Rattle.install_laws.specs.Writes.{IsApartSector, WritesOnly}
-use Rattle.install_made_laws.specs.Within.{and_zones, is_chosen}
-use Rattle.install_made_laws.proofs.After.{gains_join_law}
+use Rattle.install_stage.specs.Within.{and_zones, is_chosen}
+use Rattle.install_stage.proofs.After.{gains_join_law}
 use Rattle.install_room.specs.Room.{places_view}
 use Rattle.install_room.specs.declared.room.Room.{Room}
 use Rattle.install_settle.specs.Settles.{HasNames}
@@ -36,9 +36,9 @@ use Rattle.minix_create.specs.Chosen.{Suits, IsFreeNow, IsNewInode, thing_with}
 use Rattle.minix_create.specs.declared.chosen.Chosen.{Chosen}
 use Rattle.minix_steps.proofs.StepLemmas.{same_view}
 use Rattle.minix_turns.specs.Joined.{SeenOrWith}
-use Rattle.minix_write.specs.declared.halt.WriteHalt.{WriteHalt}
-use Rattle.minix_write.specs.declared.write_fault.WriteFault.{WriteFault}
-use Rattle.minix_write.specs.declared.write_fault.WriteFault.TheVariants.{Device}
+use Rattle.minix_choice.specs.declared.halt.WriteHalt.{WriteHalt}
+use Rattle.minix_choice.specs.declared.write_fault.WriteFault.{WriteFault}
+use Rattle.minix_choice.specs.declared.write_fault.WriteFault.TheVariants.{Device}
 use Rattle.minix_zones.specs.Volume.{volume_view, past_of, faults_of, KeepsVolume, SameVolume}
 use Rattle.minix_zones.specs.declared.volume.Volume.{Volume}
 use Rattle.minix_zones.proofs.WriteLemmas.{keeps_same, keeps_join, cause_after, goes_on_unchanged}

@@ -6,7 +6,7 @@ use Rattle.disk_trait.specs.declared.disks.Disks.{Ghosts}
 use Rattle.disk_trait.specs.Moments.{now}
 use Rattle.disk_trait.specs.Past.{Past}
 use Rattle.install_laws.specs.Writes.{IsWritable}
-use Rattle.install_made_laws.specs.Within.{is_chosen}
+use Rattle.install_stage.specs.Within.{is_chosen}
 use Rattle.install_stage_laws.specs.Committed.{IsStaged}
 use Rattle.install_stage_laws.specs.Staged.{KeepsRest, IsChosenPlace, IsStagedMap, IsNewBoot}
 use Rattle.install_stage_laws.proofs.Mapped.{mapped_joined_law}
@@ -23,7 +23,7 @@ use Rattle.map_laws.specs.MapLays.{HoldsMap}
 use Rattle.map_sectors.specs.Map.{plan_view}
 use Rattle.map_sectors.specs.declared.map.MapPlan.{MapPlan}
 use Rattle.minix_create.specs.declared.chosen.Chosen.{Chosen}
-use Rattle.minix_sees_laws.proofs.Seen.{opened}
+use Rattle.minix_change_laws.proofs.Seen.{opened}
 use Rattle.minix_zones.specs.Volume.{volume_view, past_of}
 use Rattle.minix_zones.specs.declared.volume.Volume.{Volume}
 use Rattle.slot_lists.specs.Made.{place_view}

@@ -9,8 +9,8 @@ use Rattle.minix_create.specs.States.{IsReservedSince, WritesBlock, GoesWrong}
 use Rattle.minix_create.specs.declared.chosen.Chosen.{Chosen}
 use Rattle.minix_create.specs.declared.reserved.Reserved.{Reserved}
 use Rattle.minix_create.proofs.StateLemmas.{later_wrong}
-use Rattle.minix_write.specs.View.{HasWriteCause}
-use Rattle.minix_write.specs.declared.write_fault.WriteFault.{WriteFault}
+use Rattle.minix_choice.specs.View.{HasWriteCause}
+use Rattle.minix_choice.specs.declared.write_fault.WriteFault.{WriteFault}
 use Rattle.minix_zones.specs.Volume.{past_of, faults_of}
 use Rattle.minix_zones.specs.declared.volume.Volume.{Volume}
 

@@ -1,3 +1,10 @@
+pub mod Halves
+pub mod Files
+pub mod BackupStaged
+pub mod BackupStages
+pub mod Within
+pub mod Sectors
+pub mod Named
 pub mod Blocks
 pub mod MapFile
 pub mod Staged

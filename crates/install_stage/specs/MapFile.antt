@@ -7,8 +7,8 @@ use Rattle.disk_trait.specs.Moments.{IsTold, now, LeavesOnly}
 use Rattle.disk_trait.specs.NotWritten.{NotWritten}
 use Rattle.install_laws.specs.InstallVerdict.{sectors_of_blocks}
 use Rattle.install_laws.specs.Writes.{IsApartSector, WritesOnly}
-use Rattle.install_made_laws.specs.Named.{HasNamesBut, HasOldOrNew}
-use Rattle.install_made_laws.specs.Within.{is_chosen, AreDataZones, FreeWherePromised}
+use Rattle.install_stage.specs.Named.{HasNamesBut, HasOldOrNew}
+use Rattle.install_stage.specs.Within.{is_chosen, AreDataZones, FreeWherePromised}
 use Rattle.install_room.specs.Making.{MayMake}
 use Rattle.install_room.specs.Room.{HasNoHole}
 use Rattle.install_stage_laws.specs.ClearMap.{KeepsFiles}
@@ -29,8 +29,8 @@ use Rattle.map_sectors.specs.declared.map.MapPlan.{MapPlan}
 use Rattle.minix_create.specs.Linked.{Creates}
 use Rattle.minix_create.specs.declared.chosen.Chosen.{Chosen}
 use Rattle.minix_layout.specs.View.{super_view}
-use Rattle.minix_sees_laws.specs.Tree.{HasTreeWith}
-use Rattle.minix_write.specs.declared.write_fault.WriteFault.{WriteFault}
+use Rattle.minix_change_laws.specs.Tree.{HasTreeWith}
+use Rattle.minix_choice.specs.declared.write_fault.WriteFault.{WriteFault}
 use Rattle.minix_zones.specs.View.{span_view}
 use Rattle.minix_zones.specs.Volume.{volume_view, past_of}
 use Rattle.minix_zones.specs.declared.volume.Volume as volumes

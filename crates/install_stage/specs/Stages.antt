@@ -18,14 +18,14 @@ use Rattle.map_sectors.specs.declared.map.MapPlan.{MapPlan}
 use Rattle.minix_create.specs.Chosen.{IsNewInode}
 use Rattle.minix_create.specs.Several.{AreApartOn}
 use Rattle.minix_create.specs.declared.chosen.Chosen.{Chosen}
-use Rattle.minix_write.specs.declared.write_fault.WriteFault.{WriteFault}
-use Rattle.minix_write.specs.declared.write_fault.WriteFault.TheVariants.{Device}
+use Rattle.minix_choice.specs.declared.write_fault.WriteFault.{WriteFault}
+use Rattle.minix_choice.specs.declared.write_fault.WriteFault.TheVariants.{Device}
 use Rattle.minix_zones.specs.Volume.{volume_view, past_of, KeepsVolume, HasDeviceCause}
 use Rattle.minix_zones.specs.declared.volume.Volume as volumes
-use Rattle.install_backup.specs.Staged.{made_at, with_backup, AreStaging, KeepsApart}
-use Rattle.install_backup.specs.Stages.{HasOtherName, MayStageFile}
+use Rattle.install_stage.specs.BackupStaged.{made_at, with_backup, AreStaging, KeepsApart}
+use Rattle.install_stage.specs.BackupStages.{HasOtherName, MayStageFile}
 use Rattle.install_laws.specs.Writes.{IsApartSector, WritesOnly}
-use Rattle.install_made_laws.specs.Within.{and_zones, is_chosen}
+use Rattle.install_stage.specs.Within.{and_zones, is_chosen}
 use Rattle.install_room.specs.Room.{places_view}
 use Rattle.install_room.specs.declared.room.Room.{Room}
 use Rattle.install_settle.specs.Settles.{HasNames}

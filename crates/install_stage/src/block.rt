@@ -3,7 +3,7 @@ ghost use Rattle.std.specs.Prelude.{◌≡◌, ◌<◌, ◌+◌, ◌*◌, ◌^�
 ghost use Rattle.lilo_model.specs.Disks.{Machine};
 ghost use Rattle.install_stage.specs.Blocks.{MayLieAt, block_of_sectors, sector_or_zeros, sectors_of_map};
 
-use install_backup::block_of;
+use crate::halves::block_of;
 use map_sectors::MapPlan;
 use sector_parts::Sector;
 use slot_lists::DiskSector;

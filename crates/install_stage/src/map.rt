@@ -6,7 +6,7 @@ ghost use Rattle.lilo_model.specs.Disks.{Machine};
 ghost use Rattle.minix_create.specs.Chosen.{Suits, IsFreeNow, new_inode};
 ghost use Rattle.minix_create.specs.States.{CreatesOn};
 ghost use Rattle.minix_fill.specs.Fill.{IsOfFile};
-ghost use Rattle.minix_write.specs.View.{HasWriteCause};
+ghost use Rattle.minix_choice.specs.View.{HasWriteCause};
 ghost use Rattle.minix_zones.specs.Volume.{past_of, faults_of};
 ghost use Rattle.install_stage.specs.Blocks.{AreMapBlocks};
 ghost use Rattle.install_stage.specs.MapFile.{IsMapRoom, MakesMap};
@@ -14,8 +14,8 @@ ghost use Rattle.install_stage.specs.MapFile.{IsMapRoom, MakesMap};
 use crate::block::map_block;
 use disk_trait::Disks;
 use map_sectors::MapPlan;
+use minix_choice::WriteHalt;
 use minix_create::Chosen;
-use minix_write::WriteHalt;
 use minix_zones::Volume;
 use slot_lists::DiskSector;
 

@@ -2,21 +2,21 @@
 ghost use Rattle.std.specs.Prelude.{◌≡◌, ℕ, List, All, IfSome, Option, Ok, Err, IfOk, IfErr};
 ghost use Rattle.disk_trait.specs.Moments.{IsTold, IsQuiet};
 ghost use Rattle.install_apart.specs.Own.{IsBackupInside, IsBackupNamed, IsBackupTwins};
-ghost use Rattle.install_backup.specs.Stages.{IsForSome};
+ghost use Rattle.install_stage.specs.BackupStages.{IsForSome};
 ghost use Rattle.install_laws.specs.InstallVerdict.{file_mode};
 ghost use Rattle.install_room.specs.Room.{HasNoHole, SuitRoom};
 ghost use Rattle.lilo_model.specs.Disks.{Machine};
-ghost use Rattle.minix_write.specs.View.{HasWriteCause};
+ghost use Rattle.minix_choice.specs.View.{HasWriteCause};
 ghost use Rattle.minix_zones.specs.Volume.{past_of, faults_of};
 ghost use Rattle.install_stage.specs.Stages.{MayStageRoom, MayStageSomeRoom, StagesRoom};
 
+use crate::backup_stage::stage_backup;
 use crate::map::make_map;
 use disk_trait::Disks;
 use install_apart::NamePair;
-use install_backup::stage_backup;
 use install_room::Room;
 use map_sectors::MapPlan;
-use minix_write::WriteHalt;
+use minix_choice::WriteHalt;
 use minix_zones::Volume;
 use sector_parts::Sector;
 

@@ -18,13 +18,13 @@ use Rattle.lilo_model.specs.Partitions.{TableFault, span_of}
 use Rattle.lilo_model.specs.Plan.{MappedFile, MappedSection, filled_places}
 use Rattle.lilo_model.specs.Planned.{first_sector, system_places, mapped_inode, optional_file, file_inode, kernel_section, mapped_by, mapped_section, planned}
 use Rattle.minix_laws.proofs.Inside.{length-trail_of}
-use Rattle.minix_sees_laws.proofs.Seen.{opened}
-use Rattle.minix_sees_laws.proofs.Tree.{sees_tree_law, keeps_join_law}
-use Rattle.minix_sees_laws.specs.Tree.{TreeAs}
+use Rattle.minix_change_laws.proofs.Seen.{opened}
+use Rattle.minix_change_laws.proofs.Tree.{sees_tree_law, keeps_join_law}
+use Rattle.minix_change_laws.specs.Tree.{TreeAs}
 use Rattle.map_laws.proofs.MeantFiles.{inode-named}
 use Rattle.map_laws.specs.MapStays.{file_sectors_of, section_places}
 use Rattle.install_laws.specs.Writes.{IsApartSector}
-use Rattle.install_stays_laws.specs.Laws.{planned_places}
+use Rattle.install_stage_laws.specs.StaysLaws.{planned_places}
 use Rattle.install_stage_laws.specs.ClearMap.{AddedKeepsLaw, SeenKeepsLaw, KeepsJoinedLaw, KeepsAllLaw, KeepsButJoinedLaw}
 use Rattle.install_stage_laws.specs.Mapped.{OnFile, OnKernel, OnSection, StaysThere, StagedClearLaw}
 use Rattle.install_stage_laws.proofs.Devices.{others-apart, tables-apart, device-apart}

@@ -18,23 +18,23 @@ use Rattle.lilo_model.specs.MinixNames.{names_in, reached, IsSound}
 use Rattle.lilo_model.specs.MinixParts.{Volume, sector_of, bit, inode_mark_sector, zone_bit, zone_mark_sector, parts_of}
 use Rattle.lilo_model.specs.NamePlaces.{with_tilde}
 use Rattle.lilo_model.specs.Planned.{devices_in, planned}
-use Rattle.minix_beside_laws.specs.Beside.{IsOfBitmaps, Regions}
-use Rattle.minix_beside_laws.specs.Keeps.{Keeps}
-use Rattle.minix_beside_laws.proofs.Harmless.{region_law}
-use Rattle.minix_beside_laws.proofs.Laid.{place-from}
-use Rattle.minix_sees_laws.proofs.Kept.{kept_is_seen_law}
-use Rattle.minix_sees_laws.proofs.Seen.{opened, seen_parts_law}
-use Rattle.minix_sees_laws.proofs.Tree.{sees_tree_law}
-use Rattle.minix_sees_laws.specs.Sees.{SeenAsIn}
-use Rattle.minix_sees_laws.specs.Tree.{TreeAs}
+use Rattle.minix_change_laws.specs.Beside.{IsOfBitmaps, Regions}
+use Rattle.minix_change_laws.specs.Keeps.{Keeps}
+use Rattle.minix_change_laws.proofs.Harmless.{region_law}
+use Rattle.minix_change_laws.proofs.Laid.{place-from}
+use Rattle.minix_change_laws.proofs.Kept.{kept_is_seen_law}
+use Rattle.minix_change_laws.proofs.Seen.{opened, seen_parts_law}
+use Rattle.minix_change_laws.proofs.Tree.{sees_tree_law}
+use Rattle.minix_change_laws.specs.Sees.{SeenAsIn}
+use Rattle.minix_change_laws.specs.Tree.{TreeAs}
 use Rattle.map_laws.proofs.AcceptedWhole.{accepted_lies_law}
 use Rattle.map_laws.proofs.Laid.{accepted_lays_law, lays_stays_law}
 use Rattle.map_laws.proofs.Planned.{map-lies}
 use Rattle.map_laws.specs.Accepted.{IsWritten}
 use Rattle.map_laws.specs.MapLays.{HoldsMap}
 use Rattle.map_laws.specs.PlannedLies.{PlannedLies, targets_for}
-use Rattle.install_stays_laws.specs.Laws.{planned_places}
-use Rattle.install_stays_laws.proofs.Stays.{clear_stays_law, tidy_law}
+use Rattle.install_stage_laws.specs.StaysLaws.{planned_places}
+use Rattle.install_stage_laws.proofs.Stays.{clear_stays_law, tidy_law}
 use Rattle.install_stage_laws.specs.Mapped.{KeepsMapped}
 use Rattle.install_stage_laws.specs.Committed.{SectorsSeenLaw, CommitSeenLaw, CommitHoldsLaw, IsStaged, StagedLaysLaw, StagedTidiesLaw, TidiedLaysLaw}
 use Rattle.install_stage_laws.proofs.BootBytes.{boot-long}

@@ -17,7 +17,7 @@ use Rattle.lilo_model.specs.NamePlaces.{backup_option}
 use Rattle.map_laws.proofs.Accepted.{both-pass, required}
 use Rattle.minix_zones.proofs.ZoneLemmas.{zones_fit}
 use Rattle.install_laws.specs.Writes.{IsApartSector}
-use Rattle.install_begin_laws.proofs.Apart.{sound-passes}
+use Rattle.install_stage_laws.proofs.Apart.{sound-passes}
 use Rattle.install_stage_laws.specs.Devices.{AreDevicesApart, ApartDevicesLaw}
 
 -- ---- the checks of devices

@@ -7,10 +7,10 @@ use Rattle.lilo_model.specs.MinixParts.{Volume, parts_of}
 use Rattle.lilo_model.specs.NamePlaces.{with_tilde}
 use Rattle.lilo_model.specs.Settled.{Holds, Held, NamesInFile, is_foreign}
 use Rattle.lilo_model.specs.Slots.{AddressFault, place_at}
-use Rattle.minix_sees_laws.specs.Tree.{KeepsNamed, TreeAs}
-use Rattle.minix_sees_laws.proofs.Seen.{opened}
-use Rattle.minix_sees_laws.proofs.Tree.{sees_tree_law}
-use Rattle.install_stage_laws.specs.Laws.{HolderStaysLaw, HoldsBesideLaw, StagedHeldLaw, SeenHeldLaw}
+use Rattle.minix_change_laws.specs.Tree.{KeepsNamed, TreeAs}
+use Rattle.minix_change_laws.proofs.Seen.{opened}
+use Rattle.minix_change_laws.proofs.Tree.{sees_tree_law}
+use Rattle.install_stage_laws.specs.StageLaws.{HolderStaysLaw, HoldsBesideLaw, StagedHeldLaw, SeenHeldLaw}
 
 module _ (old c : Image) (machine : Machine) (volume : Volume) (keeps : KeepsNamed volume.layout (parts_of volume old) (parts_of volume c)) where
   in-file : (number : ℕ) → Named volume.layout (parts_of volume old) number → Named volume.layout (parts_of volume c) number → (place : Result DiskSector AddressFault)

@@ -13,9 +13,9 @@ use Rattle.lilo_model.specs.NamePlaces.{with_tilde}
 use Rattle.lilo_model.specs.Plan.{Plan, map_size}
 use Rattle.lilo_model.specs.Planned.{sector_in_zone, inode_places}
 use Rattle.lilo_model.specs.Section.{sectors_for}
-use Rattle.minix_sees_laws.proofs.Seen.{opened}
-use Rattle.minix_sees_laws.specs.Sees.{SameButLinks}
-use Rattle.minix_sees_laws.specs.Tree.{KeepsNamed}
+use Rattle.minix_change_laws.proofs.Seen.{opened}
+use Rattle.minix_change_laws.specs.Sees.{SameButLinks}
+use Rattle.minix_change_laws.specs.Tree.{KeepsNamed}
 use Rattle.map_laws.specs.MapLays.{HoldsMap}
 use Rattle.install_stage_laws.specs.Committed.{HoldsMapStaysLaw}
 use Rattle.install_stage_laws.proofs.Clear.{no-directory}

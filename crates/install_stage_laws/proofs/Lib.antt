@@ -1,3 +1,6 @@
+pub mod Stays
+pub mod Apart
+pub mod Spared
 pub mod Mapped
 pub mod BootBytes
 pub mod Clear

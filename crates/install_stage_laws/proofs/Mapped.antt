@@ -8,8 +8,8 @@ use Rattle.lilo_model.specs.Disks.{Image}
 use Rattle.lilo_model.specs.MinixNames.{Named, reached, IsSound}
 use Rattle.lilo_model.specs.MinixParts.{Volume, parts_of, is_file}
 use Rattle.lilo_model.specs.Planned.{file_inode}
-use Rattle.minix_beside_laws.specs.Beside.{NamedIn}
-use Rattle.minix_sees_laws.specs.Tree.{KeepsNamed}
+use Rattle.minix_change_laws.specs.Beside.{NamedIn}
+use Rattle.minix_change_laws.specs.Tree.{KeepsNamed}
 use Rattle.map_laws.proofs.MeantFiles.{inode-named}
 use Rattle.install_stage_laws.specs.ClearMap.{KeepsFiles}
 use Rattle.install_stage_laws.specs.Mapped.{OnFile, OnKernel, OnSection, OnMapped, StaysThere, FilesKeepMappedLaw, ButKeepMappedLaw, MappedJoinedLaw}

@@ -11,14 +11,14 @@ use Rattle.lilo_model.specs.Disks.{Image, DiskSector}
 use Rattle.lilo_model.specs.MinixNames.{Named, Refers, IsSound}
 use Rattle.lilo_model.specs.MinixParts.{Volume, Pointer, parts_of, block_pointer, is_file, is_directory}
 use Rattle.lilo_model.specs.Planned.{mapped_inode, optional_file}
-use Rattle.minix_beside_laws.specs.Beside.{IsDataZone}
-use Rattle.minix_beside_laws.proofs.Laid.{Laid, laid}
-use Rattle.minix_sees_laws.proofs.Seen.{opened}
+use Rattle.minix_change_laws.specs.Beside.{IsDataZone}
+use Rattle.minix_change_laws.proofs.Laid.{Laid, laid}
+use Rattle.minix_change_laws.proofs.Seen.{opened}
 use Rattle.install_laws.specs.Boots.{HasBootOf}
 use Rattle.install_laws.specs.Writes.{IsOfDirectory, MayBeWritten, IsWritable, IsApartSector}
 use Rattle.install_laws.proofs.Writes.{spares_law}
 use Rattle.install_stage_laws.specs.Staged.{KeepsRest, AreFree, IsChosenPlace}
-use Rattle.install_stage_laws.specs.Laws.{ApartKeptLaw, KeepsRestLaw, StagesLaw}
+use Rattle.install_stage_laws.specs.StageLaws.{ApartKeptLaw, KeepsRestLaw, StagesLaw}
 use Rattle.install_stage_laws.proofs.Files.{place_of, refers-block, Each, EachOptional, file-has, optional-has}
 
 -- ---- sectors of a volume

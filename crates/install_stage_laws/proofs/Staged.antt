@@ -29,7 +29,7 @@ use Rattle.map_laws.proofs.MeantFiles.{inode-named}
 use Rattle.install_laws.specs.Writes.{IsWritable, IsApartSector}
 use Rattle.install_laws.proofs.Planned.{accepted_means_law}
 use Rattle.install_stage_laws.specs.Staged.{KeepsRest, AreFree, IsChosenPlace}
-use Rattle.install_stage_laws.specs.Laws.{StagedWrittenLaw, StagedMeansLaw}
+use Rattle.install_stage_laws.specs.StageLaws.{StagedWrittenLaw, StagedMeansLaw}
 use Rattle.install_stage_laws.proofs.BootBytes.{boot-long, table-kept}
 use Rattle.install_stage_laws.proofs.Devices.{others-apart, tables-apart, device-apart}
 use Rattle.install_stage_laws.proofs.Files.{first-of, Each, EachOptional}
@@ -96,7 +96,7 @@ module _ (before staged : Image) (machine : Machine) (volume : Volume) (span : S
   abbrev image : Image
   image = past.with_sector staged span.disk span.start bytes
 
-  data-zones : (zone : ℕ) → chosen zone ≡ true → Rattle.minix_beside_laws.specs.Beside.IsDataZone volume.layout zone
+  data-zones : (zone : ℕ) → chosen zone ≡ true → Rattle.minix_change_laws.specs.Beside.IsDataZone volume.layout zone
   data-zones zone picked = (free zone picked).0
 
   -- a place in a chosen zone isn't the boot sector's

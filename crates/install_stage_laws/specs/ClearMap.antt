@@ -3,9 +3,9 @@ use Rattle.std.specs.Prelude.{◌≡◌, ◌≢◌, ℕ, List, Option, Some, Non
 use Rattle.lilo_model.specs.Disks.{Image}
 use Rattle.lilo_model.specs.MinixNames.{Thing, reached, IsSound}
 use Rattle.lilo_model.specs.MinixParts.{Volume, parts_of}
-use Rattle.minix_beside_laws.specs.Beside.{NamedIn}
-use Rattle.minix_sees_laws.specs.Sees.{SeenAsIn}
-use Rattle.minix_sees_laws.specs.Tree.{KeepsNamed, HasTreeWith}
+use Rattle.minix_change_laws.specs.Beside.{NamedIn}
+use Rattle.minix_change_laws.specs.Sees.{SeenAsIn}
+use Rattle.minix_change_laws.specs.Tree.{KeepsNamed, HasTreeWith}
 
 -- in an image the volume is sound, and each inode that was named in another one is so still, and stays
 pub record KeepsFiles (volume : Volume) (before c : Image) : Type 0 where

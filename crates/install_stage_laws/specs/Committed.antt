@@ -12,8 +12,8 @@ use Rattle.lilo_model.specs.MinixParts.{Volume, parts_of, sector_of}
 use Rattle.lilo_model.specs.NamePlaces.{with_tilde}
 use Rattle.lilo_model.specs.Plan.{Plan}
 use Rattle.lilo_model.specs.Planned.{devices_in, planned}
-use Rattle.minix_sees_laws.specs.Sees.{SeenAsIn}
-use Rattle.minix_sees_laws.specs.Tree.{KeepsNamed}
+use Rattle.minix_change_laws.specs.Sees.{SeenAsIn}
+use Rattle.minix_change_laws.specs.Tree.{KeepsNamed}
 use Rattle.map_laws.specs.Accepted.{IsAccepted}
 use Rattle.map_laws.specs.MapLays.{HoldsMap}
 use Rattle.install_laws.specs.Headline.{Means}

@@ -8,10 +8,10 @@ use Rattle.lilo_model.specs.Disks.{Image, Machine, Span, DiskSector}
 use Rattle.lilo_model.specs.MinixNames.{PointsTo, Refers, reached, IsSound}
 use Rattle.lilo_model.specs.MinixParts.{Volume, Pointer, parts_of}
 use Rattle.lilo_model.specs.Planned.{file_inode, planned}
-use Rattle.minix_beside_laws.specs.Beside.{NamedIn}
+use Rattle.minix_change_laws.specs.Beside.{NamedIn}
 use Rattle.map_laws.specs.MapLays.{HoldsMap}
 use Rattle.install_laws.specs.Writes.{IsApartSector}
-use Rattle.install_stays_laws.specs.Laws.{planned_places}
+use Rattle.install_stage_laws.specs.StaysLaws.{planned_places}
 use Rattle.install_stage_laws.specs.ClearMap.{KeepsFiles, KeepsFilesBut}
 use Rattle.install_stage_laws.specs.Devices.{AreDevicesApart}
 

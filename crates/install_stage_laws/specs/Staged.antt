@@ -9,7 +9,7 @@ use Rattle.lilo_model.specs.Lays.{AreAt}
 use Rattle.lilo_model.specs.MinixParts.{Volume, parts_of}
 use Rattle.lilo_model.specs.Plan.{plan_sectors, plan_boot_sector}
 use Rattle.lilo_model.specs.Planned.{planned}
-use Rattle.minix_beside_laws.specs.Beside.{IsDataZone}
+use Rattle.minix_change_laws.specs.Beside.{IsDataZone}
 use Rattle.map_laws.specs.Accepted.{IsInside}
 use Rattle.map_laws.specs.Lies.{IsNone}
 use Rattle.install_laws.specs.Writes.{IsWritable}

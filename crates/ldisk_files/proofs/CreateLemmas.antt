@@ -11,21 +11,21 @@ use Rattle.lilo_model.specs.MinixLayout.{IsSuper, inode_place, zone_sector}
 use Rattle.lilo_model.specs.MinixNames.{Thing, PointsTo, IsSound}
 use Rattle.lilo_model.specs.MinixParts as model
 use Rattle.lilo_model.specs.MinixParts.{Pointer, block_pointer, has_zones, is_directory, parts_of, zone_mark_sector}
-use Rattle.minix_bits.specs.Numbers.{has_number}
+use Rattle.minix_steps.specs.Numbers.{has_number}
 use Rattle.minix_create.specs.Chosen.{Suits, thing_with, block_of}
 use Rattle.minix_create.specs.Linked.{Creates, IsOffName}
 use Rattle.minix_create.specs.States.{CreatesOn}
 use Rattle.minix_create.specs.declared.chosen.Chosen.{Chosen}
-use Rattle.minix_entry_laws.specs.Only.{zone_of_entry}
-use Rattle.minix_entry_laws.proofs.Only.{directory-refers}
+use Rattle.minix_change_laws.specs.Only.{zone_of_entry}
+use Rattle.minix_change_laws.proofs.Only.{directory-refers}
 use Rattle.std.proofs.lemmas.List.Elements.{All-contains}
-use Rattle.minix_bits.proofs.SetLemmas.{contains_from}
-use Rattle.minix_sees_laws.specs.Tree.{HasNamesWith, HasTreeWith}
-use Rattle.minix_sees_laws.proofs.Seen.{opened, seen_sound_law}
-use Rattle.minix_sees_laws.proofs.Tree.{has_names_law}
+use Rattle.minix_steps.proofs.SetLemmas.{contains_from}
+use Rattle.minix_change_laws.specs.Tree.{HasNamesWith, HasTreeWith}
+use Rattle.minix_change_laws.proofs.Seen.{opened, seen_sound_law}
+use Rattle.minix_change_laws.proofs.Tree.{has_names_law}
 use Rattle.minix_steps.proofs.RegionLemmas.{lies, place_there, zone_mark_in, bitmap_there}
 use Rattle.minix_turns.specs.Joined.{SeenOrWith}
-use Rattle.minix_write.specs.declared.write_fault.WriteFault.{WriteFault}
+use Rattle.minix_choice.specs.declared.write_fault.WriteFault.{WriteFault}
 use Rattle.minix_zones.specs.View.{IsDataZone}
 use Rattle.minix_zones.specs.Volume.{volume_view, past_of, KeepsVolume}
 use Rattle.minix_zones.specs.declared.volume.Volume.{Volume}

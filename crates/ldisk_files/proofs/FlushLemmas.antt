@@ -12,7 +12,7 @@ use Rattle.disk_trait.proofs.MomentLemmas.{leaves_join, leaves_weaker, left_told
 use Rattle.disk_trait.proofs.NotWrittenLemmas.{not_written_join}
 use Rattle.lilo_model.specs.MinixNames.{Thing, IsSound}
 use Rattle.lilo_model.specs.MinixParts as model
-use Rattle.minix_sees_laws.specs.Tree.{HasNamesWith}
+use Rattle.minix_change_laws.specs.Tree.{HasNamesWith}
 use Rattle.minix_zones.specs.Volume.{volume_view, past_of, Syncs}
 use Rattle.minix_zones.specs.declared.volume.Volume.{Volume}
 use Rattle.minix_zones.specs.declared.zone_fault.ZoneFault.{ZoneFault}

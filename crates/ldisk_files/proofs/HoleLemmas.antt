@@ -12,14 +12,14 @@ use Rattle.lilo_model.specs.MinixParts.{Parts, Pointer, IsPointer, block_pointer
 use Rattle.lilo_model.specs.MinixNames.{pointer, zone_number, PointsTo}
 use Rattle.write_model.specs.FileZones.{is_any, count_made, made_indirect}
 use Rattle.minix_laws.proofs.Inside.{is_pointer-block, some_numbers}
-use Rattle.minix_write.specs.Suits.{IsFileOf}
+use Rattle.minix_choice.specs.Suits.{IsFileOf}
 use Rattle.write_model.specs.Choice.{Choice}
-use Rattle.minix_fill_laws.specs.Sources.{Source, Block, Indirect, FileZones, zone_from, source_of}
-use Rattle.minix_fill_laws.proofs.Given.{past_end, given_hole, given_at, count_before}
-use Rattle.minix_fill_laws.proofs.Made.{under, get_of_drop, past_made}
-use Rattle.minix_fill_laws.proofs.Places.{at_zero, at_second, at_third, at_behind}
-use Rattle.minix_fill_laws.proofs.Pointers.{pointer_at, is_in_one, is_in_two, is_in_three, is_below_two, is_below_three, is_last, pointers_once, block_leads}
-use Rattle.minix_fill_laws.proofs.Sources.{top_one, top_two, top_three}
+use Rattle.minix_choice_laws.specs.Sources.{Source, Block, Indirect, FileZones, zone_from, source_of}
+use Rattle.minix_choice_laws.proofs.Given.{past_end, given_hole, given_at, count_before}
+use Rattle.minix_choice_laws.proofs.Made.{under, get_of_drop, past_made}
+use Rattle.minix_choice_laws.proofs.Places.{at_zero, at_second, at_third, at_behind}
+use Rattle.minix_choice_laws.proofs.Pointers.{pointer_at, is_in_one, is_in_two, is_in_three, is_below_two, is_below_three, is_last, pointers_once, block_leads}
+use Rattle.minix_choice_laws.proofs.Sources.{top_one, top_two, top_three}
 
 -- ---- more numbers than there is room for
 

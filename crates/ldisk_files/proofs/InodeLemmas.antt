@@ -13,7 +13,7 @@ use Rattle.lilo_model.specs.MinixParts as model
 use Rattle.lilo_model.specs.MinixParts.{Pointer, has_zones, parts_of, volume_at}
 use Rattle.lilo_model.specs.MinixNames.{Named, PointsTo, IsSound}
 use Rattle.minix_choice_laws.specs.Choice.{file_of}
-use Rattle.minix_fill_laws.proofs.Given.{given_length}
+use Rattle.minix_choice_laws.proofs.Given.{given_length}
 use Rattle.minix_layout.specs.View.{kind_view}
 use Rattle.minix_zones.specs.View.{IsDataZone}
 use Rattle.minix_create.specs.Linked.{Creates}

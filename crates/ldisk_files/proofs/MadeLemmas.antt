@@ -16,8 +16,8 @@ use Rattle.minix_choice_laws.specs.Choice.{MayHavePlace, file_of}
 use Rattle.minix_create.specs.Chosen.{Suits, HasDots, IsFreeNow, MayBeMade, MayNest, IsPromisedNow, block_of, block_with, content_with, new_inode, thing_with}
 use Rattle.minix_create.specs.Grown.{MayGrowIn}
 use Rattle.minix_create.specs.declared.chosen.Chosen.{Chosen}
-use Rattle.minix_fill_laws.specs.Laws.{MayBeFile}
-use Rattle.minix_fill_laws.proofs.Given.{given_length}
+use Rattle.minix_choice_laws.specs.FillLaws.{MayBeFile}
+use Rattle.minix_choice_laws.proofs.Given.{given_length}
 use Rattle.minix_layout.specs.View.{kind_view, inode_view}
 use Rattle.minix_layout.specs.declared.superblock.Super as layouts
 use Rattle.minix_names.specs.declared.place.NamePlace.{NamePlace}

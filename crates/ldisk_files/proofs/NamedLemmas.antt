@@ -16,7 +16,7 @@ use Rattle.minix_layout.specs.View.{kind_view, inode_view}
 use Rattle.minix_layout.specs.declared.superblock.Super as layouts
 use Rattle.minix_names.specs.declared.place.NamePlace.{NamePlace}
 use Rattle.minix_tree.specs.View.{IsStat, IsNode}
-use Rattle.minix_write.specs.declared.wish.Wish.{Wish}
+use Rattle.minix_choice.specs.declared.wish.Wish.{Wish}
 use Rattle.minix_zones.specs.Volume.{volume_view, past_of, SameVolume}
 use Rattle.minix_zones.specs.declared.volume.Volume.{Volume}
 use Rattle.minix_zones.proofs.SameLemmas.{told_forth}

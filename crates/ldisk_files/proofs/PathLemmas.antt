@@ -29,7 +29,7 @@ use Rattle.minix_zones.specs.declared.zone_fault.ZoneFault.{ZoneFault}
 use Rattle.minix_zones.specs.declared.zone_fault.ZoneFault.TheVariants as zones
 use Rattle.minix_layout.specs.View.{super_view}
 use Rattle.minix_names.specs.declared.place.NamePlace.{NamePlace}
-use Rattle.minix_sees_laws.specs.Tree.{HasNamesWith}
+use Rattle.minix_change_laws.specs.Tree.{HasNamesWith}
 use Rattle.ldisk_files.specs.Answer.{Answers, HasFileCause, IsLaid, IsRemovable, IsSomeRemovable, GivesRemovable, GivesChecked, Refuses, is_refusal, zone_fault}
 use Rattle.ldisk_model.specs.FileVerdict.{FileRefusal, NoVolume, volume_check, sound_check, gone_check, checked_status}
 use Rattle.ldisk_files.specs.Left.{HasNamesOf, HasNamesBetween, HasNamed, HasEither, HasSoundVolume, IsNamed, IsEither, ChangesName, LeavesOn, LeavesNames}

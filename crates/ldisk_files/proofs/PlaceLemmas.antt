@@ -13,7 +13,7 @@ use Rattle.lilo_model.specs.MinixParts.{Parts, Volume, parts_of, is_directory}
 use Rattle.lilo_model.specs.NamePlaces.{plain_path, name_path}
 use Rattle.minix_names.specs.Places.{GivesPlace, GivesPath, GivesThere, LeadsToDirectory}
 use Rattle.minix_names.specs.declared.place.NamePlace.{NamePlace}
-use Rattle.minix_sees_laws.proofs.Seen.{opened}
+use Rattle.minix_change_laws.proofs.Seen.{opened}
 use Rattle.minix_tree.specs.declared.stat.Stat.{Stat}
 use Rattle.minix_tree.specs.declared.tree_fault.TreeFault.{TreeFault}
 use Rattle.ldisk_model.specs.FileVerdict.{NewDirectory, NewLink, NoPlace, IsThere, making_check, new_check}

@@ -14,14 +14,14 @@ use Rattle.lilo_model.specs.MinixParts.{Pointer, parts_of}
 use Rattle.minix_remove.specs.Removed.{Removes, AnswersRight, IsOffRemoved}
 use Rattle.minix_remove.specs.Target.{refusal_of, IsDirectoryNow}
 use Rattle.minix_remove_laws.specs.Held.{held_name}
-use Rattle.minix_sees_laws.specs.Tree.{HasNamesWith, HasTreeWith}
-use Rattle.minix_sees_laws.proofs.Seen.{opened, seen_sound_law}
-use Rattle.minix_sees_laws.proofs.Tree.{has_names_law}
+use Rattle.minix_change_laws.specs.Tree.{HasNamesWith, HasTreeWith}
+use Rattle.minix_change_laws.proofs.Seen.{opened, seen_sound_law}
+use Rattle.minix_change_laws.proofs.Tree.{has_names_law}
 use Rattle.minix_steps.proofs.RegionLemmas.{lies, place_there}
 use Rattle.minix_steps.specs.Written.{parts_now}
 use Rattle.minix_turns.specs.Joined.{SeenOrWith, LeadsPath}
-use Rattle.minix_write.specs.declared.write_fault.WriteFault.{WriteFault}
-use Rattle.minix_write.specs.declared.write_fault.WriteFault.TheVariants as writes
+use Rattle.minix_choice.specs.declared.write_fault.WriteFault.{WriteFault}
+use Rattle.minix_choice.specs.declared.write_fault.WriteFault.TheVariants as writes
 use Rattle.minix_zones.specs.Volume.{volume_view, past_of, Syncs}
 use Rattle.minix_zones.specs.declared.volume.Volume.{Volume}
 use Rattle.minix_zones.specs.declared.zone_fault.ZoneFault.{ZoneFault}

@@ -5,15 +5,15 @@ use Rattle.lilo_model.specs.Checks.{◌>>=◌, with_fault}
 use Rattle.lilo_model.specs.MinixNames.{reached}
 use Rattle.lilo_model.specs.MinixParts as model
 use Rattle.lilo_model.specs.MinixParts.{Parts, parts_of}
-use Rattle.minix_bits.specs.Numbers.{has_number}
+use Rattle.minix_steps.specs.Numbers.{has_number}
 use Rattle.minix_create.specs.declared.chosen.Chosen.{Chosen}
 use Rattle.minix_tree.specs.declared.tree_fault.TreeFault.{TreeFault}
 use Rattle.minix_tree.specs.declared.tree_fault.TreeFault.TheVariants as trees
-use Rattle.minix_write.specs.View as writers
-use Rattle.minix_write.specs.View.{Promised, taken_view, wish_view}
-use Rattle.minix_write.specs.declared.wish.Wish.{Wish}
-use Rattle.minix_write.specs.declared.write_fault.WriteFault.{WriteFault}
-use Rattle.minix_write.specs.declared.write_fault.WriteFault.TheVariants as writes
+use Rattle.minix_choice.specs.View as writers
+use Rattle.minix_choice.specs.View.{Promised, taken_view, wish_view}
+use Rattle.minix_choice.specs.declared.wish.Wish.{Wish}
+use Rattle.minix_choice.specs.declared.write_fault.WriteFault.{WriteFault}
+use Rattle.minix_choice.specs.declared.write_fault.WriteFault.TheVariants as writes
 use Rattle.minix_zones.specs.declared.zone_fault.ZoneFault.{ZoneFault}
 use Rattle.minix_zones.specs.declared.zone_fault.ZoneFault.TheVariants as zones
 use Rattle.write_model.specs.Choice.{Choice, choose, choose_blocks}

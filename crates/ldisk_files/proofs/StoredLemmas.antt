@@ -15,18 +15,18 @@ use Rattle.lilo_model.specs.MinixNames.{File, blocks, IsSound}
 use Rattle.lilo_model.specs.MinixParts as model
 use Rattle.lilo_model.specs.MinixParts.{parts_of, blocks_for, is_directory}
 use Rattle.lilo_model.specs.MinixSurvey.{survey}
-use Rattle.minix_bits.proofs.BitmapLemmas.{fits}
+use Rattle.minix_steps.proofs.BitmapLemmas.{fits}
 use Rattle.minix_choice_laws.proofs.Choose.{choice_law, blocks_length}
 use Rattle.minix_create.specs.Chosen.{IsMade, Suits, IsFreeWhereSound, LinksWhereSound, MayBeMade, MayNest, block_of, block_with, content_with, new_inode, thing_with}
 use Rattle.minix_create.specs.declared.chosen.Chosen.{Chosen}
-use Rattle.minix_fill_laws.proofs.Given.{given_at, given_hole, given_length, count_before}
-use Rattle.minix_fill_laws.specs.Sources.{FileZones}
+use Rattle.minix_choice_laws.proofs.Given.{given_at, given_hole, given_length, count_before}
+use Rattle.minix_choice_laws.specs.Sources.{FileZones}
 use Rattle.minix_layout.specs.View.{kind_view, super_view, inode_view}
 use Rattle.minix_layout.specs.declared.superblock.Super as layouts
 use Rattle.minix_names.specs.declared.place.NamePlace.{NamePlace}
 use Rattle.minix_tree.specs.View.{IsStat, IsNode}
-use Rattle.minix_write.specs.View.{wish_view}
-use Rattle.minix_write.specs.declared.wish.Wish.{Wish}
+use Rattle.minix_choice.specs.View.{wish_view}
+use Rattle.minix_choice.specs.declared.wish.Wish.{Wish}
 use Rattle.minix_zones.specs.Volume.{volume_view, past_of, SameVolume}
 use Rattle.minix_zones.specs.declared.volume.Volume.{Volume}
 use Rattle.minix_zones.proofs.SameLemmas.{told_back, told_forth}

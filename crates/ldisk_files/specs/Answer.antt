@@ -18,8 +18,8 @@ use Rattle.minix_tree.specs.declared.tree_fault.TreeFault.TheVariants as trees
 use Rattle.minix_survey.specs.declared.findings.Findings.{Findings}
 use Rattle.minix_survey.specs.declared.survey_fault.SurveyFault.{SurveyFault}
 use Rattle.minix_survey.specs.declared.survey_fault.SurveyFault.TheVariants as surveys
-use Rattle.minix_write.specs.declared.write_fault.WriteFault.{WriteFault}
-use Rattle.minix_write.specs.declared.write_fault.WriteFault.TheVariants as writes
+use Rattle.minix_choice.specs.declared.write_fault.WriteFault.{WriteFault}
+use Rattle.minix_choice.specs.declared.write_fault.WriteFault.TheVariants as writes
 use Rattle.minix_zones.specs.declared.zone_fault.ZoneFault.{ZoneFault}
 use Rattle.minix_zones.specs.declared.zone_fault.ZoneFault.TheVariants as zones
 use Rattle.ldisk_model.specs.FileVerdict.{FileRefusal, checked_status, sound_check, gone_check, is_removable_thing}

@@ -10,7 +10,7 @@ use Rattle.lilo_model.specs.Disks.{Image, Span}
 use Rattle.lilo_model.specs.MinixNames.{Thing, names_in, IsSound}
 use Rattle.lilo_model.specs.MinixParts.{Volume, volume_at}
 use Rattle.lilo_model.specs.NamePlaces.{name_path}
-use Rattle.minix_sees_laws.specs.Tree.{HasNamesWith}
+use Rattle.minix_change_laws.specs.Tree.{HasNamesWith}
 use Rattle.minix_zones.specs.Volume.{volume_view, past_of, faults_of, KeepsVolume}
 use Rattle.minix_zones.specs.declared.volume.Volume as held
 use Rattle.ldisk_files.specs.Answer.{is_refusal, HasFileCause}

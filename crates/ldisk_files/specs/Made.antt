@@ -20,7 +20,7 @@ use Rattle.minix_layout.specs.View.{kind_view}
 use Rattle.minix_layout.specs.declared.superblock.Super as layouts
 use Rattle.minix_names.specs.Places.{LeadsToDirectory, IsPlace}
 use Rattle.minix_names.specs.declared.place.NamePlace.{NamePlace}
-use Rattle.minix_write.specs.declared.wish.Wish.{Wish}
+use Rattle.minix_choice.specs.declared.wish.Wish.{Wish}
 use Rattle.minix_zones.specs.Volume.{volume_view, past_of}
 use Rattle.minix_zones.specs.declared.volume.Volume.{Volume}
 use Rattle.write_model.specs.Choice.{choose_blocks}

@@ -14,7 +14,7 @@ use Rattle.lilo_model.specs.MinixParts.{blocks_for}
 use Rattle.minix_create.specs.Chosen.{Suits}
 use Rattle.minix_layout.specs.declared.superblock.Super as layouts
 use Rattle.minix_names.specs.declared.place.NamePlace.{NamePlace}
-use Rattle.minix_write.specs.declared.wish.Wish.{Wish}
+use Rattle.minix_choice.specs.declared.wish.Wish.{Wish}
 use Rattle.minix_zones.specs.Volume.{volume_view, past_of}
 use Rattle.minix_zones.specs.declared.volume.Volume.{Volume}
 use Rattle.ldisk_model.specs.FileVerdict.{NewFile, stored_block, most_stored, zero_blocks, checked_status, volume_check, sound_check, new_check, room_check}

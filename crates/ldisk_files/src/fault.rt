@@ -2,9 +2,9 @@
 ghost use Rattle.std.specs.Prelude.{◌≡◌};
 ghost use Rattle.ldisk_files.specs.Answer.{fault_status, zone_fault, tree_fault, survey_fault, write_fault};
 
+use minix_choice::WriteFault;
 use minix_survey::SurveyFault;
 use minix_tree::TreeFault;
-use minix_write::WriteFault;
 use minix_zones::ZoneFault;
 
 /// Why no name is changed.

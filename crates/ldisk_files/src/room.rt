@@ -29,9 +29,9 @@ use crate::fault::{FileFault, write_fault};
 use crate::making::{Making, first_block, length_in, mode_of};
 use crate::place::find_new;
 use disk_trait::Disks;
+use minix_choice::{Taken, Wish};
 use minix_create::{Chosen, choose};
 use minix_names::NamePlace;
-use minix_write::{Taken, Wish};
 use minix_zones::Volume;
 use std::alloc::Global;
 

@@ -9,7 +9,7 @@ ghost use Rattle.minix_create.specs.Chosen.{Suits, IsFreeNow, MayBeMade, block_o
 ghost use Rattle.minix_create.specs.States.{CreatesFile, CreationHalts};
 ghost use Rattle.minix_layout.specs.View.{kind_view};
 ghost use Rattle.minix_names.specs.Component.{HasNoZero};
-ghost use Rattle.minix_write.specs.View.{HasWriteCause};
+ghost use Rattle.minix_choice.specs.View.{HasWriteCause};
 ghost use Rattle.minix_zones.specs.View.{span_view};
 ghost use Rattle.minix_zones.specs.Volume.{volume_view, past_of, faults_of};
 ghost use Rattle.ldisk_files.specs.Answer.{IsLaid, HasFileCause};
@@ -33,8 +33,8 @@ use crate::fault::{FileFault, write_fault};
 use crate::put_fault::PutFault;
 use crate::stored::{Stored, choose_stored};
 use disk_trait::{Disks, Span};
+use minix_choice::WriteHalt;
 use minix_create::{Chosen, Linked};
-use minix_write::WriteHalt;
 use minix_zones::Volume;
 use std::alloc::Global;
 use stream_trait::Source;

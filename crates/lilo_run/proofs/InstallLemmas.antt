@@ -33,7 +33,7 @@ use Rattle.conf_file.specs.declared.file_fault.FileFault.TheVariants as files
 use Rattle.conf_settings.specs.View.{fault_view}
 use Rattle.mbr_table.specs.declared.table_fault.TableFault as declared
 use Rattle.mbr_table.specs.declared.table_fault.TableFault.TheVariants as tables
-use Rattle.install_answers.specs.Texts.{device_status}
+use Rattle.install_run.specs.Texts.{device_status}
 use Rattle.install_begin.specs.Begin as begins
 use Rattle.install_begin.specs.Begin.{answer_on, begun_at, begun_on, begun_with, named_conf, placed_by}
 use Rattle.install_begin.specs.View.{RefusesText}
@@ -42,7 +42,7 @@ use Rattle.install_laws.specs.Boots.{BootsAs, HasBootOf}
 use Rattle.install_laws.specs.InstallVerdict as installs
 use Rattle.install_laws.specs.InstallVerdict.{Answer, InstallRefusal, Reading, answer_text, install_line, install_room, install_verdict, verdict_by}
 use Rattle.install_laws.specs.Stopped.{StaysAsBefore}
-use Rattle.install_preview.specs.Previews.{AnswersVerdict}
+use Rattle.install_run.specs.Previews.{AnswersVerdict}
 use Rattle.install_run.specs.Answers as outcomes
 use Rattle.install_run.specs.Answers.{AnswersInstall, IsDiskFault, IsSettledFrom, install_on, lost_line, settled_answer}
 use Rattle.install_run.specs.Keeps.{KeepsMost}

@@ -12,7 +12,7 @@ use Rattle.lilo_model.specs.Verdict.{verdict_of}
 use Rattle.conf_file.specs.declared.file_fault.FileFault.TheVariants as files
 use Rattle.conf_settings.specs.View.{fault_view}
 use Rattle.install_laws.specs.InstallVerdict.{Answer, InstallRefusal, Reading, install_line, test_text, verdict_by}
-use Rattle.install_preview.specs.Previews.{AnswersPreview}
+use Rattle.install_run.specs.Previews.{AnswersPreview}
 use Rattle.install_begin.specs.Begin.{Begun, begun_at, test_on}
 use Rattle.install_begin.specs.View.{Refuses, HasBeginCause}
 use Rattle.install_begin.specs.declared.fault.BeginFault.{BeginFault}

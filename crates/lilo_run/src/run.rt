@@ -54,7 +54,7 @@ use stream_trait::{Sink, Source, Words, answer};
 /// makes the default line another, that line's sector is written and made durable. The options `-C`, `--root` and `-v`
 /// before `-q DEVICE` and `boot` have no effect, nor have `-C` and `-v` before `-u`.
 /// `-t` looks at and plans what an installation by a configuration would do at a time, in seconds since 1970, by
-/// [`install_preview::preview_begun`], and prints it; it writes nothing. An installation does it, by
+/// [`install_run::preview_begun`], and prints it; it writes nothing. An installation does it, by
 /// [`install_run::install_begun`], and prints it before it is done.
 ///
 /// | status | comes | text |

@@ -11,7 +11,7 @@ ghost use Rattle.lilo_run.specs.Verdict.{test_effect};
 use crate::conf::{ConfHalt, say_conf};
 use disk_trait::Disks;
 use install_begin::{BeginFault, begin};
-use install_preview::preview_begun;
+use install_run::preview_begun;
 use mbr_table::Device;
 use std::alloc::Global;
 use stream_trait::{Shown, Sink};

@@ -1,17 +1,19 @@
-//! Tests of the loader, by what the crates of this room offer to others.
+//! Tests of the loader and of what it is made of: tables of boots.
 #![tactic(auto)]
 
 #[cfg(test)]
-mod asking;
+mod boot;
 #[cfg(test)]
-mod bios;
+mod failures;
 #[cfg(test)]
-mod boots;
+mod installation;
 #[cfg(test)]
-mod default_lines;
+mod kernels;
 #[cfg(test)]
-mod fixture;
+mod keys;
 #[cfg(test)]
-mod loading;
+mod lines;
 #[cfg(test)]
-mod prompts;
+mod refusals;
+#[cfg(test)]
+mod systems;

@@ -1,243 +1,288 @@
+// The header of a kernel: its fields, where the kernel lies in memory, and the fields that a loader replaces.
 use sector_parts::{Sector, put_part};
 use setup_header::{Header, Layout, Region, SetupFault, patch, plan_memory};
 use std::test::Fail;
 
-/// The bytes of a memory that most tests have.
-const MEMORY: u32 = 16_777_216;
-
-/// The least bytes of a memory.
-const LEAST: u32 = 1_048_576;
-
-/// Where a protected-mode part lies.
-const HIGH: u32 = 0x10_0000;
-
-const LOW: u32 = 0x1_0000;
-
-/// The last byte of an initrd before 2.03.
-const OLD: u32 = 0x37FF_FFFF;
-
-// The first two sectors of a kernel of protocol 2.06 with one setup sector, loaded high.
-fn modern() -> (Sector, Sector) {
-    let (mut first, mut second) = bare();
-    put_part(&mut second, 0x2, b"HdrS\x06\x02");
-    put_part(&mut second, 0x11, b"\x01");
-    put_part(&mut second, 0x2C, b"\xFF\xFF\xFF\x37");
-    put_part(&mut second, 0x38, b"\xFF\0\0\0");
-    put_part(&mut first, 0x1F1, b"\x01");
-    (first, second)
-}
-
-// The first two sectors of a kernel with one setup sector and no version.
-fn bare() -> (Sector, Sector) {
-    let mut first = [0; 512];
-    let second = [0; 512];
-    put_part(&mut first, 0x1F1, b"\x01");
-    put_part(&mut first, 0x1FE, b"\x55\xAA");
-    (first, second)
-}
-
-// The header that the first of these kernels has.
-fn modern_header() -> Header {
-    Header {
-        setup: 1,
-        version: Some(0x0206),
-        high: true,
-        initrd_max: 0x37FF_FFFF,
-        line_limit: 255,
-    }
-}
-
-// The header that the second has.
-fn bare_header() -> Header {
-    Header {
-        version: None,
-        high: false,
-        ..modern_header()
-    }
-}
-
-fn region(address: u32, length: u32) -> Region {
-    Region { address, length }
-}
-
-#[test]
-fn lengths_and_setup_sectors_are_checked(rt: HostRuntime) {
-    for (setup, flag, length, answer) in [
-        (1, 0xAA, 1029, Ok(modern_header())),
-        (1, 0xAA, 1024, Ok(modern_header())),
-        (1, 0xAA, 1023, Err(SetupFault::TooShort)),
-        (1, 0xAA, 511, Err(SetupFault::TooShort)),
-        (1, 0, 511, Err(SetupFault::TooShort)),
-        (1, 0, 1029, Err(SetupFault::NoBootFlag)),
-        (65, 0, 1029, Err(SetupFault::NoBootFlag)),
-        (65, 0xAA, 1029, Err(SetupFault::SetupTooLarge(65))),
-        (64, 0xAA, 33_279, Err(SetupFault::TooShort)),
-        (
-            64,
-            0xAA,
-            33_280,
-            Ok(Header {
-                setup: 64,
-                ..modern_header()
-            }),
-        ),
-        (0, 0xAA, 2559, Err(SetupFault::TooShort)),
-        (
-            0,
-            0xAA,
-            2565,
-            Ok(Header {
-                setup: 4,
-                ..modern_header()
-            }),
-        ),
-    ] {
-        let (mut first, second) = modern();
-        put_part(&mut first, 0x1F1, &[setup]);
-        put_part(&mut first, 0x1FF, &[flag]);
-        assert_eq!(rt;
-            Header::read(&first, &second, length),
-            answer,
-            "at {setup} and {length}"
-        );
-    }
-}
-
-#[test]
-fn fields_are_read_from_their_versions_on(rt: HostRuntime) {
-    for (mark, flags, version, high, initrd_max, line_limit) in [
-        (b"HdrS\0\x02", 1, Some(0x0200), true, OLD, 255),
-        (b"HdrS\x02\x02", 0x80, Some(0x0202), false, OLD, 255),
-        (b"HdrS\x03\x02", 0x81, Some(0x0203), true, 0xFF_FFFF, 255),
-        (b"HdrS\x05\x02", 1, Some(0x0205), true, 0xFF_FFFF, 255),
-        (b"HdrS\x06\x02", 1, Some(0x0206), true, 0xFF_FFFF, 100),
-        (b"Hdrs\x06\x02", 1, None, false, OLD, 255),
-    ] {
-        let (first, mut second) = bare();
-        put_part(&mut second, 0x2, mark);
-        put_part(&mut second, 0x11, &[flags]);
-        put_part(&mut second, 0x2C, b"\xFF\xFF\xFF\0");
-        put_part(&mut second, 0x38, b"\x64\0\0\0");
-        let header = Header {
-            setup: 1,
-            version,
-            high,
-            initrd_max,
-            line_limit,
-        };
-        assert_eq!(rt;
-            Header::read(&first, &second, 1029),
-            Ok(header),
-            "at {mark:?}"
-        );
-    }
-}
-
-// The layout of a kernel with these first two sectors and `rest` bytes after its one setup sector.
-fn plan(
-    sectors: &(Sector, Sector),
-    rest: u32,
-    initrd: Option<u32>,
-    line: u32,
-    memory: u32,
-) -> Result<Layout, SetupFault> {
-    let length = rest.saturating_add(1024);
-    let header = Header::read(&sectors.0, &sectors.1, length)?;
-    plan_memory(&header, length, initrd, line, memory)
-}
-
-// The layout of a kernel with one setup sector, and a line of 33 bytes.
-fn layout(protected: Region, initrd: Option<Region>) -> Layout {
-    Layout {
-        real: region(0x90000, 1024),
-        protected,
-        initrd,
-        line: region(0x99800, 34),
-    }
-}
-
-// The sectors of a low kernel with a version.
-fn low() -> (Sector, Sector) {
-    edited(&modern(), &[(0x211, b"\0")])
-}
-
-// The sectors of a kernel that takes an initrd below 0x200000 alone.
-fn near() -> (Sector, Sector) {
-    edited(&modern(), &[(0x22C, b"\xFF\xFF\x1F\0")])
-}
-
-// The sectors of a kernel that takes an initrd anywhere.
-fn far() -> (Sector, Sector) {
-    edited(&modern(), &[(0x22C, b"\xFF\xFF\xFF\xFF")])
-}
-
-#[test]
-fn layouts_are_planned(rt: HostRuntime) {
-    let (modern, bare, low, near, far) = (modern(), bare(), low(), near(), far());
-    for (sectors, rest, memory, protected, initrd) in [
-        (&modern, 5, MEMORY, HIGH, None),
-        (&modern, 5, 1_048_581, HIGH, None),
-        (&modern, 5, MEMORY, HIGH, Some((700, 0xFF_F000))),
-        (&modern, 5, MEMORY, HIGH, Some((0, 0x100_0000))),
-        (&modern, 5, MEMORY, HIGH, Some((15_724_544, 0x10_1000))),
-        (&near, 5, MEMORY, HIGH, Some((700, 0x1F_F000))),
-        (&far, 5, 1_073_741_824, HIGH, Some((700, 0x3FFF_F000))),
-        (&low, 524_288, LEAST, LOW, None),
-        (&low, 5, MEMORY, LOW, Some((700, 0xFF_F000))),
-        (&bare, 5, MEMORY, LOW, None),
-    ] {
-        let length = initrd.map(|(length, _)| length);
-        let placed = initrd.map(|(length, address)| region(address, length));
-        assert_eq!(rt;
-            plan(sectors, rest, length, 33, memory),
-            Ok(layout(region(protected, rest), placed)),
-            "at {rest}, {initrd:?}, {memory}"
-        );
-    }
-}
-
-#[test]
-fn what_does_not_fit_is_refused(rt: HostRuntime) {
-    let (modern, bare, low, near) = (modern(), bare(), low(), near());
-    for (sectors, initrd, memory, need, have) in [
-        (&modern, None, LEAST, 1_048_581, 1_048_576),
-        (&modern, Some(700), LEAST, 1_048_581, 1_048_576),
-        (&modern, Some(15_724_545), MEMORY, 16_777_217, 16_777_216),
-        (&near, Some(1_044_481), MEMORY, 2_097_153, 2_097_152),
-        (&low, Some(700), LEAST, 1_049_276, 1_048_576),
-    ] {
-        let fault = Err(SetupFault::NoRoom { need, have });
-        assert_eq!(rt;
-            plan(sectors, 5, initrd, 33, memory),
-            fault,
-            "at {initrd:?}, {memory}"
-        );
-    }
-    for (sectors, rest, initrd, line, fault) in [
-        (&modern, 5, None, 256, SetupFault::LineTooLong(256)),
-        (&bare, 5, Some(700), 256, SetupFault::NoInitrd),
-        (
-            &bare,
-            524_289,
-            Some(700),
-            33,
-            SetupFault::LowTooLarge(524_289),
-        ),
-        (&low, 524_289, None, 256, SetupFault::LowTooLarge(524_289)),
-    ] {
-        assert_eq!(rt;
-            plan(sectors, rest, initrd, line, LEAST),
-            Err(fault),
-            "at {rest}, {line}"
-        );
-    }
-}
-
-// An offset in a kernel, and the bytes that are there.
+// Bytes of the first two sectors, from an offset on.
 type Edit = (usize, &'static [u8]);
 
-/// No edit.
-const NONE: Edit = (0, b"");
+// A kernel with one setup sector and no version; one of protocol 2.06 that is loaded high; one that is loaded low; and
+// ones that take an initrd below 0x200000 alone, and anywhere.
+const BARE: &[Edit] = &[(0x1F1, b"\x01"), (0x1FE, b"\x55\xAA")];
+
+const MODERN: &[Edit] = &[
+    (0x1F1, b"\x01"),
+    (0x1FE, b"\x55\xAA"),
+    (0x202, b"HdrS\x06\x02"),
+    (0x211, b"\x01"),
+    (0x22C, b"\xFF\xFF\xFF\x37"),
+    (0x238, b"\xFF\0\0\0"),
+];
+
+const LOW: &[Edit] = &[
+    (0x1F1, b"\x01"),
+    (0x1FE, b"\x55\xAA"),
+    (0x202, b"HdrS\x06\x02"),
+    (0x22C, b"\xFF\xFF\xFF\x37"),
+    (0x238, b"\xFF\0\0\0"),
+];
+
+const NEAR: &[Edit] = &[
+    (0x1F1, b"\x01"),
+    (0x1FE, b"\x55\xAA"),
+    (0x202, b"HdrS\x06\x02"),
+    (0x211, b"\x01"),
+    (0x22C, b"\xFF\xFF\x1F\0"),
+    (0x238, b"\xFF\0\0\0"),
+];
+
+const ANYWHERE: &[Edit] = &[
+    (0x1F1, b"\x01"),
+    (0x1FE, b"\x55\xAA"),
+    (0x202, b"HdrS\x06\x02"),
+    (0x211, b"\x01"),
+    (0x22C, b"\xFF\xFF\xFF\xFF"),
+    (0x238, b"\xFF\0\0\0"),
+];
+
+// The header of Debian's kernel 6.1 for amd64 (protocol 2.15).
+const DEBIAN: &[Edit] = &[
+    (0x1F1, b"\x27"),
+    (0x1FE, b"\x55\xAA"),
+    (0x202, b"HdrS\x0F\x02"),
+    (0x211, b"\x01"),
+    (0x224, b"\xE0\x5B"),
+    (0x22C, b"\xFF\xFF\xFF\x7F"),
+    (0x238, b"\xFF\x07\0\0"),
+];
+
+// The header that the second of these has, and that of the first; an initrd's last byte is this before 2.03.
+const MODERN_HEADER: Header = Header {
+    setup: 1,
+    version: Some(0x0206),
+    high: true,
+    initrd_max: 0x37FF_FFFF,
+    line_limit: 255,
+};
+
+const BARE_HEADER: Header = Header {
+    version: None,
+    high: false,
+    ..MODERN_HEADER
+};
+
+// A kernel with some bytes replaced, its length, and its header.
+struct Read {
+    kernel: &'static [Edit],
+    edits: &'static [Edit],
+    length: u32,
+    header: Result<Header, SetupFault>,
+}
+
+const READ: &[Read] = &[
+    // Lengths and setup sectors.
+    Read {
+        kernel: MODERN,
+        edits: &[],
+        length: 1029,
+        header: Ok(MODERN_HEADER),
+    },
+    Read {
+        kernel: MODERN,
+        edits: &[],
+        length: 1024,
+        header: Ok(MODERN_HEADER),
+    },
+    Read {
+        kernel: MODERN,
+        edits: &[],
+        length: 1023,
+        header: Err(SetupFault::TooShort),
+    },
+    Read {
+        kernel: MODERN,
+        edits: &[],
+        length: 511,
+        header: Err(SetupFault::TooShort),
+    },
+    Read {
+        kernel: MODERN,
+        edits: &[(0x1FF, b"\0")],
+        length: 511,
+        header: Err(SetupFault::TooShort),
+    },
+    Read {
+        kernel: MODERN,
+        edits: &[(0x1FF, b"\0")],
+        length: 1029,
+        header: Err(SetupFault::NoBootFlag),
+    },
+    Read {
+        kernel: MODERN,
+        edits: &[(0x1F1, b"\x41"), (0x1FF, b"\0")],
+        length: 1029,
+        header: Err(SetupFault::NoBootFlag),
+    },
+    Read {
+        kernel: MODERN,
+        edits: &[(0x1F1, b"\x41")],
+        length: 1029,
+        header: Err(SetupFault::SetupTooLarge(65)),
+    },
+    Read {
+        kernel: MODERN,
+        edits: &[(0x1F1, b"\x40")],
+        length: 33_279,
+        header: Err(SetupFault::TooShort),
+    },
+    Read {
+        kernel: MODERN,
+        edits: &[(0x1F1, b"\x40")],
+        length: 33_280,
+        header: Ok(Header {
+            setup: 64,
+            ..MODERN_HEADER
+        }),
+    },
+    Read {
+        kernel: MODERN,
+        edits: &[(0x1F1, b"\0")],
+        length: 2559,
+        header: Err(SetupFault::TooShort),
+    },
+    Read {
+        kernel: MODERN,
+        edits: &[(0x1F1, b"\0")],
+        length: 2565,
+        header: Ok(Header {
+            setup: 4,
+            ..MODERN_HEADER
+        }),
+    },
+    // Fields from their versions on.
+    Read {
+        kernel: MODERN,
+        edits: &[
+            (0x202, b"HdrS\0\x02"),
+            (0x22C, b"\xFF\xFF\xFF\0\0"),
+            (0x238, b"\x64"),
+        ],
+        length: 1029,
+        header: Ok(Header {
+            version: Some(0x0200),
+            ..MODERN_HEADER
+        }),
+    },
+    Read {
+        kernel: MODERN,
+        edits: &[
+            (0x202, b"HdrS\x02\x02"),
+            (0x211, b"\x80"),
+            (0x22C, b"\xFF\xFF\xFF\0"),
+            (0x238, b"\x64"),
+        ],
+        length: 1029,
+        header: Ok(Header {
+            version: Some(0x0202),
+            high: false,
+            ..MODERN_HEADER
+        }),
+    },
+    Read {
+        kernel: MODERN,
+        edits: &[
+            (0x202, b"HdrS\x03\x02"),
+            (0x211, b"\x81"),
+            (0x22C, b"\xFF\xFF\xFF\0"),
+            (0x238, b"\x64"),
+        ],
+        length: 1029,
+        header: Ok(Header {
+            version: Some(0x0203),
+            initrd_max: 0xFF_FFFF,
+            ..MODERN_HEADER
+        }),
+    },
+    Read {
+        kernel: MODERN,
+        edits: &[
+            (0x202, b"HdrS\x05\x02"),
+            (0x22C, b"\xFF\xFF\xFF\0"),
+            (0x238, b"\x64"),
+        ],
+        length: 1029,
+        header: Ok(Header {
+            version: Some(0x0205),
+            initrd_max: 0xFF_FFFF,
+            ..MODERN_HEADER
+        }),
+    },
+    Read {
+        kernel: MODERN,
+        edits: &[(0x22C, b"\xFF\xFF\xFF\0"), (0x238, b"\x64")],
+        length: 1029,
+        header: Ok(Header {
+            initrd_max: 0xFF_FFFF,
+            line_limit: 100,
+            ..MODERN_HEADER
+        }),
+    },
+    Read {
+        kernel: MODERN,
+        edits: &[
+            (0x202, b"Hdrs\x06\x02"),
+            (0x22C, b"\xFF\xFF\xFF\0"),
+            (0x238, b"\x64"),
+        ],
+        length: 1029,
+        header: Ok(BARE_HEADER),
+    },
+    // A distribution's kernel.
+    Read {
+        kernel: DEBIAN,
+        edits: &[],
+        length: 8_247_232,
+        header: Ok(Header {
+            setup: 39,
+            version: Some(0x020F),
+            high: true,
+            initrd_max: 0x7FFF_FFFF,
+            line_limit: 255,
+        }),
+    },
+];
+
+#[test]
+fn headers_are_read(rt: HostRuntime) -> Result<(), Fail> {
+    for row in READ {
+        let (first, second) = sectors_of(row.kernel, row.edits);
+        assert!(rt;
+            Header::read(&first, &second, row.length) == row.header,
+            "{:?}",
+            row.edits
+        );
+    }
+    Ok(())
+}
+
+// The first two sectors of a kernel with some bytes replaced.
+fn sectors_of(kernel: &[Edit], edits: &[Edit]) -> (Sector, Sector) {
+    let mut first = [0; 512];
+    let mut second = [0; 512];
+    put_all(&mut first, &mut second, kernel);
+    put_all(&mut first, &mut second, edits);
+    (first, second)
+}
+
+fn put_all(first: &mut Sector, second: &mut Sector, edits: &[Edit]) {
+    for (at, bytes) in edits {
+        if *at < 512 {
+            put(first, *at, bytes);
+        } else {
+            put(second, *at - 512, bytes);
+        }
+    }
+}
 
 fn put(sector: &mut Sector, at: usize, bytes: &[u8]) {
     if at <= 512 && bytes.len() <= 512 - at {
@@ -245,111 +290,337 @@ fn put(sector: &mut Sector, at: usize, bytes: &[u8]) {
     }
 }
 
-// These sectors with some bytes replaced.
-fn edited(sectors: &(Sector, Sector), edits: &[Edit]) -> (Sector, Sector) {
-    let mut sectors = *sectors;
-    for (at, bytes) in edits {
-        if *at < 512 {
-            put(&mut sectors.0, *at, bytes);
-        } else {
-            put(&mut sectors.1, *at - 512, bytes);
-        }
-    }
-    sectors
+// A kernel with so many bytes in its real-mode part and after it, an initrd, a line, and the bytes of memory; and where the
+// protected-mode part and the initrd lie then.
+struct Placed {
+    kernel: &'static [Edit],
+    real: u32,
+    rest: u32,
+    initrd: Option<u32>,
+    line: u32,
+    memory: u32,
+    places: Result<(u32, Option<u32>), SetupFault>,
 }
 
+const PLAIN: Placed = Placed {
+    kernel: MODERN,
+    real: 1024,
+    rest: 5,
+    initrd: None,
+    line: 33,
+    memory: 16_777_216,
+    places: Ok((0x10_0000, None)),
+};
+
+const PLACED: &[Placed] = &[
+    PLAIN,
+    Placed {
+        memory: 1_048_581,
+        ..PLAIN
+    },
+    Placed {
+        initrd: Some(700),
+        places: Ok((0x10_0000, Some(0xFF_F000))),
+        ..PLAIN
+    },
+    Placed {
+        initrd: Some(0),
+        places: Ok((0x10_0000, Some(0x100_0000))),
+        ..PLAIN
+    },
+    Placed {
+        initrd: Some(15_724_544),
+        places: Ok((0x10_0000, Some(0x10_1000))),
+        ..PLAIN
+    },
+    Placed {
+        kernel: NEAR,
+        initrd: Some(700),
+        places: Ok((0x10_0000, Some(0x1F_F000))),
+        ..PLAIN
+    },
+    Placed {
+        kernel: ANYWHERE,
+        initrd: Some(700),
+        memory: 1_073_741_824,
+        places: Ok((0x10_0000, Some(0x3FFF_F000))),
+        ..PLAIN
+    },
+    Placed {
+        kernel: LOW,
+        rest: 524_288,
+        memory: 1_048_576,
+        places: Ok((0x1_0000, None)),
+        ..PLAIN
+    },
+    Placed {
+        kernel: LOW,
+        initrd: Some(700),
+        places: Ok((0x1_0000, Some(0xFF_F000))),
+        ..PLAIN
+    },
+    Placed {
+        kernel: BARE,
+        places: Ok((0x1_0000, None)),
+        ..PLAIN
+    },
+    Placed {
+        kernel: DEBIAN,
+        real: 20_480,
+        rest: 8_226_752,
+        initrd: Some(1_028_475),
+        places: Ok((0x10_0000, Some(0x00F0_4000))),
+        ..PLAIN
+    },
+    // What doesn't fit.
+    Placed {
+        memory: 1_048_576,
+        places: Err(SetupFault::NoRoom {
+            need: 1_048_581,
+            have: 1_048_576,
+        }),
+        ..PLAIN
+    },
+    Placed {
+        initrd: Some(700),
+        memory: 1_048_576,
+        places: Err(SetupFault::NoRoom {
+            need: 1_048_581,
+            have: 1_048_576,
+        }),
+        ..PLAIN
+    },
+    Placed {
+        initrd: Some(15_724_545),
+        places: Err(SetupFault::NoRoom {
+            need: 16_777_217,
+            have: 16_777_216,
+        }),
+        ..PLAIN
+    },
+    Placed {
+        kernel: NEAR,
+        initrd: Some(1_044_481),
+        places: Err(SetupFault::NoRoom {
+            need: 2_097_153,
+            have: 2_097_152,
+        }),
+        ..PLAIN
+    },
+    Placed {
+        kernel: LOW,
+        initrd: Some(700),
+        memory: 1_048_576,
+        places: Err(SetupFault::NoRoom {
+            need: 1_049_276,
+            have: 1_048_576,
+        }),
+        ..PLAIN
+    },
+    Placed {
+        line: 256,
+        memory: 1_048_576,
+        places: Err(SetupFault::LineTooLong(256)),
+        ..PLAIN
+    },
+    Placed {
+        kernel: BARE,
+        initrd: Some(700),
+        line: 256,
+        memory: 1_048_576,
+        places: Err(SetupFault::NoInitrd),
+        ..PLAIN
+    },
+    Placed {
+        kernel: BARE,
+        rest: 524_289,
+        initrd: Some(700),
+        memory: 1_048_576,
+        places: Err(SetupFault::LowTooLarge(524_289)),
+        ..PLAIN
+    },
+    Placed {
+        kernel: LOW,
+        rest: 524_289,
+        line: 256,
+        memory: 1_048_576,
+        places: Err(SetupFault::LowTooLarge(524_289)),
+        ..PLAIN
+    },
+];
+
 #[test]
-fn fields_are_replaced_from_their_versions_on(rt: HostRuntime) -> Result<(), Fail> {
-    let initrd = Some(region(0x00FF_F000, 700));
-    let offset: Edit = (0x20, b"\x3F\xA3\0\x98");
-    let loader: Edit = (0x210, b"\x02");
-    let image: Edit = (0x218, b"\0\xF0\xFF\0\xBC\x02\0\0");
-    let heap: Edit = (0x224, b"\0\x96");
-    let flags: Edit = (0x211, b"\x81");
-    let line: Edit = (0x228, b"\0\x98\x09\0");
-    let mode: Edit = (0x1FA, b"\x04\x0F");
-    for (version, vga, initrd, edits) in [
-        (
-            b"HdrS\x06\x02",
-            None,
-            initrd,
-            [loader, image, heap, flags, line],
-        ),
-        (
-            b"HdrS\x06\x02",
-            None,
-            None,
-            [loader, heap, flags, line, NONE],
-        ),
-        (
-            b"HdrS\x02\x02",
-            Some(0x0F04),
-            None,
-            [loader, heap, flags, line, mode],
-        ),
-        (
-            b"HdrS\x01\x02",
-            None,
-            initrd,
-            [loader, image, heap, flags, offset],
-        ),
-        (
-            b"HdrS\0\x02",
-            None,
-            initrd,
-            [loader, image, offset, NONE, NONE],
-        ),
-        (
-            b"Hdrs\x06\x02",
-            Some(0x0F04),
-            None,
-            [mode, offset, NONE, NONE, NONE],
-        ),
-    ] {
-        let (mut first, mut second) = modern();
-        put_part(&mut second, 0x2, version);
-        let wanted = edited(&(first, second), &edits);
-        let header = Header::read(&first, &second, 1029)?;
-        let layout = layout(region(0x10_0000, 5), initrd);
-        patch(&header, &layout, vga, &mut first, &mut second);
-        assert_eq!(rt; first.as_slice(), wanted.0.as_slice(), "at {version:?}");
-        assert_eq!(rt; second.as_slice(), wanted.1.as_slice(), "at {version:?}");
+fn layouts_are_planned(rt: HostRuntime) -> Result<(), Fail> {
+    for row in PLACED {
+        assert!(rt;
+            planned(row) == layout_of(row),
+            "{} {:?} {}",
+            row.rest,
+            row.initrd,
+            row.memory
+        );
     }
     Ok(())
 }
 
-// The header of Debian's kernel 6.1 for amd64 (protocol 2.15).
-#[test]
-fn a_distribution_kernel_is_loaded(rt: HostRuntime) -> Result<(), Fail> {
-    let sectors = edited(
-        &bare(),
-        &[
-            (0x1F1, b"\x27"),
-            (0x202, b"HdrS\x0F\x02"),
-            (0x211, b"\x01"),
-            (0x224, b"\xE0\x5B"),
-            (0x22C, b"\xFF\xFF\xFF\x7F"),
-            (0x238, b"\xFF\x07\0\0"),
+fn planned(row: &Placed) -> Result<Layout, SetupFault> {
+    let (first, second) = sectors_of(row.kernel, &[]);
+    let length = row.rest.saturating_add(row.real);
+    let header = Header::read(&first, &second, length)?;
+    plan_memory(&header, length, row.initrd, row.line, row.memory)
+}
+
+fn layout_of(row: &Placed) -> Result<Layout, SetupFault> {
+    match row.places {
+        Ok((protected, initrd)) => Ok(Layout {
+            real: region(0x90000, row.real),
+            protected: region(protected, row.rest),
+            initrd: initrd.map(|address| region(address, row.initrd.unwrap_or(0))),
+            line: region(0x99800, row.line.saturating_add(1)),
+        }),
+        Err(fault) => Err(fault),
+    }
+}
+
+fn region(address: u32, length: u32) -> Region {
+    Region { address, length }
+}
+
+// A kernel with the mark of a version, its length, a video mode, an initrd's address and length, and the bytes that are
+// replaced.
+struct Patched {
+    kernel: &'static [Edit],
+    mark: Edit,
+    length: u32,
+    vga: Option<u16>,
+    initrd: Option<Region>,
+    edits: &'static [Edit],
+}
+
+const INITRD: Option<Region> = Some(Region {
+    address: 0x00FF_F000,
+    length: 700,
+});
+
+const PATCHED: &[Patched] = &[
+    Patched {
+        kernel: MODERN,
+        mark: (0x202, b"HdrS\x06\x02"),
+        length: 1029,
+        vga: None,
+        initrd: INITRD,
+        edits: &[
+            (0x210, b"\x02\x81"),
+            (0x218, b"\0\xF0\xFF\0\xBC\x02\0\0"),
+            (0x224, b"\0\x96"),
+            (0x228, b"\0\x98\x09\0"),
         ],
-    );
-    let (mut first, mut second) = sectors;
-    let header = Header::read(&first, &second, 8_247_232)?;
-    assert_eq!(rt; header.line_limit, 255);
-    let layout = plan_memory(&header, 8_247_232, Some(1_028_475), 33, 16_777_216)?;
-    assert_eq!(rt; layout.real, region(0x90000, 20_480));
-    assert_eq!(rt; layout.protected, region(0x10_0000, 8_226_752));
-    assert_eq!(rt; layout.initrd, Some(region(0x00F0_4000, 1_028_475)));
-    patch(&header, &layout, None, &mut first, &mut second);
-    let wanted = edited(
-        &sectors,
-        &[
+    },
+    Patched {
+        kernel: MODERN,
+        mark: (0x202, b"HdrS\x06\x02"),
+        length: 1029,
+        vga: None,
+        initrd: None,
+        edits: &[
+            (0x210, b"\x02\x81"),
+            (0x224, b"\0\x96"),
+            (0x228, b"\0\x98\x09\0"),
+        ],
+    },
+    Patched {
+        kernel: MODERN,
+        mark: (0x202, b"HdrS\x02\x02"),
+        length: 1029,
+        vga: Some(0x0F04),
+        initrd: None,
+        edits: &[
+            (0x1FA, b"\x04\x0F"),
+            (0x210, b"\x02\x81"),
+            (0x224, b"\0\x96"),
+            (0x228, b"\0\x98\x09\0"),
+        ],
+    },
+    Patched {
+        kernel: MODERN,
+        mark: (0x202, b"HdrS\x01\x02"),
+        length: 1029,
+        vga: None,
+        initrd: INITRD,
+        edits: &[
+            (0x20, b"\x3F\xA3\0\x98"),
+            (0x210, b"\x02\x81"),
+            (0x218, b"\0\xF0\xFF\0\xBC\x02\0\0"),
+            (0x224, b"\0\x96"),
+        ],
+    },
+    Patched {
+        kernel: MODERN,
+        mark: (0x202, b"HdrS\0\x02"),
+        length: 1029,
+        vga: None,
+        initrd: INITRD,
+        edits: &[
+            (0x20, b"\x3F\xA3\0\x98"),
+            (0x210, b"\x02"),
+            (0x218, b"\0\xF0\xFF\0\xBC\x02\0\0"),
+        ],
+    },
+    Patched {
+        kernel: MODERN,
+        mark: (0x202, b"Hdrs\x06\x02"),
+        length: 1029,
+        vga: Some(0x0F04),
+        initrd: None,
+        edits: &[(0x20, b"\x3F\xA3\0\x98"), (0x1FA, b"\x04\x0F")],
+    },
+    Patched {
+        kernel: DEBIAN,
+        mark: (0x202, b"HdrS\x0F\x02"),
+        length: 8_247_232,
+        vga: None,
+        initrd: Some(Region {
+            address: 0x00F0_4000,
+            length: 1_028_475,
+        }),
+        edits: &[
             (0x210, b"\x02\x81"),
             (0x218, b"\0\x40\xF0\0\x7B\xB1\x0F\0"),
             (0x224, b"\0\x96"),
             (0x228, b"\0\x98\x09\0"),
         ],
-    );
-    assert_eq!(rt; first.as_slice(), wanted.0.as_slice());
-    assert_eq!(rt; second.as_slice(), wanted.1.as_slice());
+    },
+];
+
+#[test]
+fn fields_are_replaced(rt: HostRuntime) -> Result<(), Fail> {
+    for row in PATCHED {
+        assert!(rt; is_patched(row), "{:?}", row.mark);
+    }
     Ok(())
+}
+
+fn is_patched(row: &Patched) -> bool {
+    let (mut first, mut second) = sectors_of(row.kernel, &[row.mark]);
+    let layout = Layout {
+        real: region(0x90000, 1024),
+        protected: region(0x10_0000, 5),
+        initrd: row.initrd,
+        line: region(0x99800, 34),
+    };
+    match Header::read(&first, &second, row.length) {
+        Ok(header) => {
+            patch(&header, &layout, row.vga, &mut first, &mut second);
+            let (mut wanted, mut next) = sectors_of(row.kernel, &[row.mark]);
+            for (at, bytes) in row.edits {
+                if *at < 512 {
+                    put(&mut wanted, *at, bytes);
+                } else {
+                    put(&mut next, *at - 512, bytes);
+                }
+            }
+            first == wanted && second == next
+        }
+        Err(_) => false,
+    }
 }

@@ -1,11 +1,17 @@
-//! Tests of the map, by what the crates of this room offer to others.
+//! Tests of planned maps, of their boots, and of what both are made of: tables of them.
 #![tactic(auto)]
 
 #[cfg(test)]
-mod boot_sectors;
+mod boots;
 #[cfg(test)]
-mod fixture;
+mod disks;
 #[cfg(test)]
 mod headers;
 #[cfg(test)]
-mod sections;
+mod lists;
+#[cfg(test)]
+mod plans;
+#[cfg(test)]
+mod reads;
+#[cfg(test)]
+mod refusals;

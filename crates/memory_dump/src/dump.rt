@@ -68,7 +68,7 @@ fn dump_part<O: Sink>(out: &mut Shown<'_, O>, ram: &mut Ram, region: Region)
 
 /// Shows bytes of memory: a line with their address and how many they are, and then the bytes. Many lines are
 /// put at a time.
-pub(crate) fn dump_region<O: Sink>(out: &mut Shown<'_, O>, address: u32, bytes: &[u8])
+fn dump_region<O: Sink>(out: &mut Shown<'_, O>, address: u32, bytes: &[u8])
     ensures shown { Shows (sink_of O.Sink out.old)
         (region_text (record { address = address; bytes = bytes.now })) (sink_of O.Sink out.new) }
     ensures same_reference { out.new.out.ghost_name ≡ out.old.out.ghost_name }
@@ -135,6 +135,3 @@ fn hex_digit(digit: u8) -> u8
         digit + (b'a' - 10)
     }
 }
-
-#[cfg(test)]
-mod tests;

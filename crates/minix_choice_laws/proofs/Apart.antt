@@ -12,7 +12,7 @@ use Rattle.minix_choice_laws.specs.Choice.{file_of}
 use Rattle.minix_choice_laws.specs.Growth.{ArePromised}
 use Rattle.minix_choice_laws.proofs.Growth.{IsIn, IsNext, either, next-zone, taken-apart, file-first, after-taken, after-chosen, before-or, either-true, second-true, free, made, free_growth, promised_after}
 use Rattle.minix_choice_laws.proofs.NewPlace.{new_is_free, not_promised}
-use Rattle.minix_fill_laws.specs.Sources.{Source, zone_from}
+use Rattle.minix_choice_laws.specs.Sources.{Source, zone_from}
 use Rattle.write_model.specs.Choice.{Choice, choose, taken_with}
 use Rattle.write_model.specs.Wish.{Wish, Taken, Promise}
 

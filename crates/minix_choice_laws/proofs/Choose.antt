@@ -13,10 +13,10 @@ use Rattle.write_model.specs.FileZones.{data_blocks, without_holes}
 use Rattle.write_model.specs.Growth.{missing_on_way, promised_zones, count_fresh, completed}
 use Rattle.write_model.specs.Places.{all_entries, has_name, is_overlooked, new_place}
 use Rattle.write_model.specs.Choice.{Choice, is_left, free_inode, left_zones, first_zones, some_or, in_zone, name_check, file_need, choice_with, zones_check, choose_blocks, choose}
-use Rattle.minix_fill_laws.specs.Laws.{MayBeFile}
-use Rattle.minix_fill_laws.proofs.Chosen.{chosen_law}
+use Rattle.minix_choice_laws.specs.FillLaws.{MayBeFile}
+use Rattle.minix_choice_laws.proofs.Chosen.{chosen_law}
 use Rattle.minix_choice_laws.specs.Choice.{IsFreeZone, IsFreeChoice, file_of}
-use Rattle.minix_choice_laws.specs.Laws.{ChoiceLaw, FileLaw}
+use Rattle.minix_choice_laws.specs.ChoiceLaws.{ChoiceLaw, FileLaw}
 use Rattle.minix_choice_laws.proofs.Rising.{Rises, rises_range, rises_take, rises_at, are_rising, find_range}
 
 -- ---- what passed checks gave

@@ -13,8 +13,8 @@ use Rattle.lilo_model.specs.MinixParts.{Parts}
 use Rattle.minix_choice_laws.specs.Choice.{file_of, IsFreeZone, IsFreeChoice}
 use Rattle.minix_choice_laws.specs.Growth.{IsPromisedZone, IsSameStep, ArePromised, IsFreeGrowth, FreeGrowthLaw, PromisesLaw}
 use Rattle.minix_choice_laws.proofs.Choose.{IsMadeOf, made_by, choice_law, many}
-use Rattle.minix_fill_laws.specs.Sources.{Source, Block, Indirect, FileZones, zone_from}
-use Rattle.minix_fill_laws.proofs.Given.{given_hole, given_at, count_before}
+use Rattle.minix_choice_laws.specs.Sources.{Source, Block, Indirect, FileZones, zone_from}
+use Rattle.minix_choice_laws.proofs.Given.{given_hole, given_at, count_before}
 use Rattle.write_model.specs.Choice.{Choice, file_need, choice_with, is_one_of, taken_with, choose}
 use Rattle.write_model.specs.FileZones.{data_blocks, count_made, made_indirect, given}
 use Rattle.write_model.specs.Growth.{first_beside, is_growth_of, promised_zone, count_fresh, completed}

@@ -1,3 +1,10 @@
+pub mod Chosen
+pub mod Filled
+pub mod Given
+pub mod Made
+pub mod Places
+pub mod Pointers
+pub mod Sources
 pub mod Choose
 pub mod Growth
 pub mod Place

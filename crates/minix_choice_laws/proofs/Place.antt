@@ -11,7 +11,7 @@ use Rattle.lilo_model.specs.MinixEntries.{Entry, entry_with, entry_at, entries_p
 use Rattle.lilo_model.specs.MinixNames.{entry, lookup, reached, zone_number, Named, HasSomeEntry, Sound}
 use Rattle.std.proofs.lemmas.List.{length-append}
 use Rattle.std.proofs.lemmas.List.FromFn.{length-map-range_with_len}
-use Rattle.minix_entry_laws.specs.Only.{zone_of_entry}
+use Rattle.minix_change_laws.specs.Only.{zone_of_entry}
 use Rattle.minix_laws.proofs.FirstNamed.{first_named-none}
 use Rattle.minix_laws.proofs.Given.{given_law}
 use Rattle.write_model.specs.Wish.{Wish, Taken}
@@ -19,7 +19,7 @@ use Rattle.write_model.specs.FileZones.{data_blocks}
 use Rattle.write_model.specs.Growth.{Way, way_on, way_along, missing_on_way, promised_zone}
 use Rattle.write_model.specs.Places.{entries_to, all_entries, is_named, has_name, is_overlooked, is_promised, first_free, first_from, within, new_place, most_places}
 use Rattle.write_model.specs.Choice.{Choice}
-use Rattle.minix_choice_laws.specs.Laws.{PlaceLaw}
+use Rattle.minix_choice_laws.specs.ChoiceLaws.{PlaceLaw}
 use Rattle.minix_choice_laws.proofs.Choose.{passed, PassesName, passes_name, IsMadeOf, made_by, none_promised}
 
 -- ---- the way to a block

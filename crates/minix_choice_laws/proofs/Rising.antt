@@ -2,7 +2,7 @@
 use Rattle.std.proofs.Common.{◌≡◌, ◌≤◌, ◌<◌, ◌+◌, ℕ, zero, suc, Bool, true, false, List, [], ◌∷◌, length, take, filter, find, Some, refl, sym, ap, ◌∙◌, arith}
 use Rattle.std.specs.Prelude.{slice_index}
 use Rattle.std.specs.List.{range_with_len}
-use Rattle.minix_fill_laws.specs.Chosen.{AreRising}
+use Rattle.minix_choice_laws.specs.Chosen.{AreRising}
 
 -- numbers from one on and below another, each greater than the one before, that pass a test
 abbrev pub Rises : (ℕ → Bool) → ℕ → ℕ → List ℕ → Type 0

@@ -5,15 +5,15 @@ use Rattle.lilo_model.specs.Disks.{Image}
 use Rattle.lilo_model.specs.MinixEntries.{Entry, entries_per_block, places}
 use Rattle.lilo_model.specs.MinixNames.{entry, zone_number, lookup, then_lookup, reached, Named, Refers, IsSound}
 use Rattle.lilo_model.specs.MinixParts.{Parts, Volume, block_pointer, is_directory, parts_of}
-use Rattle.minix_entry_laws.specs.Only.{zone_of_entry}
-use Rattle.minix_entry_laws.proofs.Only.{directory-refers}
-use Rattle.minix_sees_laws.specs.Sees.{SeenAsIn}
-use Rattle.minix_sees_laws.specs.Tree.{TreeAs}
-use Rattle.minix_sees_laws.proofs.Seen.{opened}
-use Rattle.minix_sees_laws.proofs.Sees.{directory-same, named-new}
-use Rattle.minix_sees_laws.proofs.Tree.{sees_tree_law}
+use Rattle.minix_change_laws.specs.Only.{zone_of_entry}
+use Rattle.minix_change_laws.proofs.Only.{directory-refers}
+use Rattle.minix_change_laws.specs.Sees.{SeenAsIn}
+use Rattle.minix_change_laws.specs.Tree.{TreeAs}
+use Rattle.minix_change_laws.proofs.Seen.{opened}
+use Rattle.minix_change_laws.proofs.Sees.{directory-same, named-new}
+use Rattle.minix_change_laws.proofs.Tree.{sees_tree_law}
 use Rattle.minix_choice_laws.specs.Choice.{HasNamePlace}
-use Rattle.minix_choice_laws.specs.Laws.{PlaceStaysLaw, MayHaveStaysLaw, PlaceLiesLaw}
+use Rattle.minix_choice_laws.specs.ChoiceLaws.{PlaceStaysLaw, MayHaveStaysLaw, PlaceLiesLaw}
 
 module _ (volume : Volume) (old new : Image) (outer : List (List ℕ)) (directory place : ℕ) (name : List ℕ) (sound : IsSound volume old) (seen : SeenAsIn volume old new)
     (has : HasNamePlace volume old outer directory place name) where

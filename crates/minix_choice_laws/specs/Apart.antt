@@ -5,7 +5,7 @@ use Rattle.lilo_model.specs.MinixLayout.{Kind, Super}
 use Rattle.lilo_model.specs.MinixParts.{Parts}
 use Rattle.minix_choice_laws.specs.Choice.{file_of}
 use Rattle.minix_choice_laws.specs.Growth.{IsSameStep, ArePromised}
-use Rattle.minix_fill_laws.specs.Sources.{Source, zone_from}
+use Rattle.minix_choice_laws.specs.Sources.{Source, zone_from}
 use Rattle.write_model.specs.Choice.{Choice, choose, taken_with}
 use Rattle.write_model.specs.Wish.{Wish, Taken, Promise}
 

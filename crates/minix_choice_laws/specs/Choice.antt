@@ -5,11 +5,11 @@ use Rattle.lilo_model.specs.MinixLayout.{Super, name_size, reach}
 use Rattle.lilo_model.specs.MinixParts.{Parts, Volume, parts_of, is_directory, blocks_for}
 use Rattle.lilo_model.specs.MinixEntries.{places, is_dots}
 use Rattle.lilo_model.specs.MinixNames.{entry, lookup, reached}
-use Rattle.minix_entry_bytes_laws.specs.Written.{IsPlaced}
-use Rattle.minix_entry_laws.specs.Enter.{MayEnter}
-use Rattle.minix_entry_laws.specs.Only.{zone_of_entry}
-use Rattle.minix_fill_laws.specs.Chosen.{AreRising, chosen_zones}
-use Rattle.minix_fill_laws.specs.Sources.{FileZones}
+use Rattle.minix_change_laws.specs.Written.{IsPlaced}
+use Rattle.minix_change_laws.specs.Enter.{MayEnter}
+use Rattle.minix_change_laws.specs.Only.{zone_of_entry}
+use Rattle.minix_choice_laws.specs.Chosen.{AreRising, chosen_zones}
+use Rattle.minix_choice_laws.specs.Sources.{FileZones}
 use Rattle.write_model.specs.Choice.{Choice, file_need}
 use Rattle.write_model.specs.FileZones.{data_blocks}
 use Rattle.write_model.specs.Places.{most_places}

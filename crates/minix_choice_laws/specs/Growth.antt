@@ -5,7 +5,7 @@ use Rattle.lilo_model.specs.MinixEntries.{entries_per_block}
 use Rattle.lilo_model.specs.MinixLayout.{Kind, Super, numbers_in_zone}
 use Rattle.lilo_model.specs.MinixParts.{Parts}
 use Rattle.minix_choice_laws.specs.Choice.{file_of}
-use Rattle.minix_fill_laws.specs.Sources.{Source, zone_from}
+use Rattle.minix_choice_laws.specs.Sources.{Source, zone_from}
 use Rattle.write_model.specs.Choice.{Choice, choose, taken_with}
 use Rattle.write_model.specs.Growth.{first_beside}
 use Rattle.write_model.specs.Wish.{Wish, Taken, Promise}

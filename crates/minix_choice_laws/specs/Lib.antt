@@ -1,4 +1,7 @@
+pub mod Chosen
+pub mod FillLaws
+pub mod Sources
 pub mod Choice
 pub mod Growth
-pub mod Laws
+pub mod ChoiceLaws
 pub mod Apart

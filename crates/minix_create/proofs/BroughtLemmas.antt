@@ -17,10 +17,10 @@ use Rattle.lilo_model.specs.MinixLayout.{Kind, V1Short, V1Long, V2Short, V2Long,
 use Rattle.lilo_model.specs.MinixNames.{entry, Named, PointsTo, IsSound}
 use Rattle.lilo_model.specs.MinixParts as model
 use Rattle.lilo_model.specs.MinixParts.{Parts, Pointer, is_directory, blocks_for}
-use Rattle.minix_entry_laws.specs.Only.{zone_of_entry}
-use Rattle.minix_entry_laws.proofs.Only.{directory-refers}
-use Rattle.minix_growth_laws.specs.Changes.{ChangesZone, ChangesNode, with_size}
-use Rattle.minix_growth_laws.proofs.Holes.{hole_law}
+use Rattle.minix_change_laws.specs.Only.{zone_of_entry}
+use Rattle.minix_change_laws.proofs.Only.{directory-refers}
+use Rattle.minix_change_laws.specs.Changes.{ChangesZone, ChangesNode, with_size}
+use Rattle.minix_change_laws.proofs.Holes.{hole_law}
 use Rattle.minix_grow.specs.Others.{IsOneOf}
 use Rattle.minix_grow.specs.Places.{size_to, IsNextPlaceNow}
 use Rattle.minix_grow.proofs.KeepLemmas.{keeps_none, keeps_join, keeps_size, keeps_bytes}
@@ -28,8 +28,8 @@ use Rattle.minix_grow.proofs.ExtendLemmas.{past_at, may_have_size, view_after}
 use Rattle.minix_grow.proofs.PlaceLemmas.{places_to}
 use Rattle.minix_layout.specs.View.{kind_view, super_view, inode_view}
 use Rattle.minix_layout.specs.declared.superblock.Super.{Super}
-use Rattle.minix_sees_laws.proofs.Seen.{opened}
-use Rattle.minix_sees_laws.proofs.Sees.{named-new, directory-same}
+use Rattle.minix_change_laws.proofs.Seen.{opened}
+use Rattle.minix_change_laws.proofs.Sees.{named-new, directory-same}
 use Rattle.minix_steps.specs.Written.{with_sector_of, inode_rewritten, parts_now}
 use Rattle.minix_steps.proofs.ReadyLemmas.{quiet_ready}
 use Rattle.minix_steps.proofs.StepLemmas.{same_view, no_step}
@@ -40,12 +40,12 @@ use Rattle.minix_turns.specs.Names.{PastUnseen, PastFree}
 use Rattle.minix_turns.specs.Part.{TurnsFreeEntry, HasEntryPart}
 use Rattle.minix_turns.proofs.JoinedLemmas.{steps_unseen, unseen_join}
 use Rattle.minix_turns.proofs.SeenLemmas.{node_size}
-use Rattle.minix_zone_bytes_laws.specs.Part.{with_zone_part, free_bytes}
-use Rattle.minix_zone_bytes_laws.proofs.Part.{part_law}
+use Rattle.minix_change_laws.specs.Part.{with_zone_part, free_bytes}
+use Rattle.minix_change_laws.proofs.Part.{part_law}
 use Rattle.minix_zones.specs.Volume.{volume_view, past_of, faults_of, KeepsVolume, SameVolume}
-use Rattle.minix_write.specs.View.{HasWriteCause}
-use Rattle.minix_write.specs.declared.write_fault.WriteFault.{WriteFault}
-use Rattle.minix_write.specs.declared.write_fault.WriteFault.TheVariants as refusals
+use Rattle.minix_choice.specs.View.{HasWriteCause}
+use Rattle.minix_choice.specs.declared.write_fault.WriteFault.{WriteFault}
+use Rattle.minix_choice.specs.declared.write_fault.WriteFault.TheVariants as refusals
 use Rattle.minix_zones.specs.View as View
 use Rattle.minix_zones.specs.declared.volume.Volume.{Volume}
 use Rattle.minix_zones.specs.declared.zone_fault.ZoneFault.{ZoneFault}

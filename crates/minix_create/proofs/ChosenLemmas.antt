@@ -11,27 +11,27 @@ use Rattle.lilo_model.specs.MinixEntries.{entries_per_block, places, is_dots}
 use Rattle.lilo_model.specs.MinixNames.{entry, lookup}
 use Rattle.lilo_model.specs.MinixLayout.{Kind, is_size, numbers_in_zone, reach}
 use Rattle.lilo_model.specs.MinixParts.{blocks_for, parts_of}
-use Rattle.minix_bits.proofs.BitmapLemmas.{fits}
+use Rattle.minix_steps.proofs.BitmapLemmas.{fits}
 use Rattle.minix_choice_laws.proofs.Choose.{blocks_length, choice_law, file_law}
 use Rattle.minix_choice_laws.specs.Apart.{IsHeld, AreApart}
 use Rattle.minix_choice_laws.proofs.Apart.{held_law, held_stays_law, apart_law}
 use Rattle.minix_choice_laws.proofs.Growth.{free_growth_law, promises_law}
 use Rattle.minix_choice_laws.proofs.Place.{place_law}
-use Rattle.minix_fill_laws.proofs.Chosen.{few_by}
-use Rattle.minix_fill_laws.proofs.Given.{given_length, given_at, count_before}
-use Rattle.minix_fill_laws.specs.Sources.{FileZones}
+use Rattle.minix_choice_laws.proofs.Chosen.{few_by}
+use Rattle.minix_choice_laws.proofs.Given.{given_length, given_at, count_before}
+use Rattle.minix_choice_laws.specs.Sources.{FileZones}
 use Rattle.minix_grow.specs.Way.{depth_of, number_above}
 use Rattle.minix_grow.proofs.MissingLemmas.{growth_law}
 use Rattle.minix_layout.specs.View.{kind_view, super_view}
-use Rattle.minix_sees_laws.proofs.Seen.{opened}
+use Rattle.minix_change_laws.proofs.Seen.{opened}
 use Rattle.minix_steps.specs.Written.{parts_now}
 use Rattle.minix_layout.specs.declared.superblock.Super.{Super}
 use Rattle.minix_tree.proofs.StatLemmas.{blocks_reached}
-use Rattle.minix_entry_bytes_laws.specs.Written.{FitsEntry}
-use Rattle.minix_write.specs.Suits.{SuitsWish}
-use Rattle.minix_write.specs.declared.wish.Wish.{Wish}
-use Rattle.minix_write.specs.Taken.{with_choice}
-use Rattle.minix_write.specs.View.{Promised, taken_view}
+use Rattle.minix_change_laws.specs.Written.{FitsEntry}
+use Rattle.minix_choice.specs.Suits.{SuitsWish}
+use Rattle.minix_choice.specs.declared.wish.Wish.{Wish}
+use Rattle.minix_choice.specs.Taken.{with_choice}
+use Rattle.minix_choice.specs.View.{Promised, taken_view}
 use Rattle.minix_zones.specs.Volume.{volume_view, past_of}
 use Rattle.minix_zones.specs.declared.volume.Volume.{Volume}
 use Rattle.disk_trait.specs.declared.disks.Span.{Span}

@@ -6,11 +6,11 @@ use Rattle.lilo_model.specs.MinixEntries.{entry_of, entry_in, entries_per_block,
 use Rattle.lilo_model.specs.MinixLayout.{Kind, V1Short, V1Long, V2Short, V2Long, Super, entry_size, name_size, reach}
 use Rattle.lilo_model.specs.MinixNames.{block, entry, depth_limit}
 use Rattle.lilo_model.specs.MinixParts.{Parts, is_directory}
-use Rattle.minix_entry_bytes_laws.specs.Written.{FitsEntry, entry_bytes}
-use Rattle.minix_entry_bytes_laws.proofs.EntryBytes.{entry_bytes_law}
-use Rattle.minix_entry_laws.specs.Comes.{HasOnlyDots}
-use Rattle.minix_entry_laws.specs.Enter.{DirectoryMayStand}
-use Rattle.minix_entry_laws.proofs.Dots.{new_directory_law}
+use Rattle.minix_change_laws.specs.Written.{FitsEntry, entry_bytes}
+use Rattle.minix_change_laws.proofs.EntryBytes.{entry_bytes_law}
+use Rattle.minix_change_laws.specs.Comes.{HasOnlyDots}
+use Rattle.minix_change_laws.specs.Enter.{DirectoryMayStand}
+use Rattle.minix_change_laws.proofs.Dots.{new_directory_law}
 use Rattle.minix_fill.specs.Fill.{IsNewFit}
 use Rattle.minix_create.specs.Chosen.{HasDots}
 use Rattle.minix_create.specs.Dots.{dots_of}

@@ -17,21 +17,21 @@ use Rattle.lilo_model.specs.MinixParts as model
 use Rattle.lilo_model.specs.MinixParts.{Parts, Pointer, is_directory}
 use Rattle.minix_choice_laws.specs.Choice.{HasNamePlace}
 use Rattle.minix_choice_laws.proofs.Stay.{lies, place_stays_law}
-use Rattle.minix_entry_bytes_laws.specs.Written.{entry_bytes}
-use Rattle.minix_entry_bytes_laws.proofs.Written.{written_law}
-use Rattle.minix_entry_laws.specs.Only.{zone_of_entry, ChangesOnlyEntry}
-use Rattle.minix_entry_laws.proofs.Only.{directory-refers, named-node, named-above}
+use Rattle.minix_change_laws.specs.Written.{entry_bytes}
+use Rattle.minix_change_laws.proofs.Written.{written_law}
+use Rattle.minix_change_laws.specs.Only.{zone_of_entry, ChangesOnlyEntry}
+use Rattle.minix_change_laws.proofs.Only.{directory-refers, named-node, named-above}
 use Rattle.minix_grow.specs.Others.{KeepsOthers}
 use Rattle.minix_grow.proofs.KeepLemmas.{keeps_bytes}
-use Rattle.minix_growth_laws.specs.Changes.{ChangesZone}
+use Rattle.minix_change_laws.specs.Changes.{ChangesZone}
 use Rattle.minix_layout.specs.View.{kind_view, super_view}
 use Rattle.minix_layout.specs.declared.superblock.Super.{Super}
-use Rattle.minix_sees_laws.specs.Sees.{SeenAsIn, with_links}
-use Rattle.minix_sees_laws.specs.Tree.{HasTreeWith}
-use Rattle.minix_made_laws.proofs.Places.{seen_places_law, entry_places_law, join_places_law}
-use Rattle.minix_sees_laws.proofs.Inode.{thing-directory, points-old, points-new}
-use Rattle.minix_sees_laws.proofs.Seen.{opened}
-use Rattle.minix_sees_laws.proofs.Sees.{reached-same, named-new}
+use Rattle.minix_change_laws.specs.Sees.{SeenAsIn, with_links}
+use Rattle.minix_change_laws.specs.Tree.{HasTreeWith}
+use Rattle.minix_create.proofs.MadePlaces.{seen_places_law, entry_places_law, join_places_law}
+use Rattle.minix_change_laws.proofs.Inode.{thing-directory, points-old, points-new}
+use Rattle.minix_change_laws.proofs.Seen.{opened}
+use Rattle.minix_change_laws.proofs.Sees.{reached-same, named-new}
 use Rattle.minix_steps.specs.Written.{parts_now}
 use Rattle.minix_steps.proofs.StepLemmas.{leaves_told, same_view}
 use Rattle.minix_turns.specs.Joined.{Unseen, LeadsPath}
@@ -40,10 +40,10 @@ use Rattle.minix_turns.specs.Part.{TurnsNamedEntry, HasEntryPart, WithOrWithoutE
 use Rattle.minix_turns.proofs.EntryLemmas.{entry-long}
 use Rattle.minix_turns.proofs.JoinedLemmas.{unseen_then_leads}
 use Rattle.minix_turns.proofs.NameLemmas.{entry_at}
-use Rattle.minix_write.specs.declared.write_fault.WriteFault.{WriteFault}
-use Rattle.minix_write.specs.declared.write_fault.WriteFault.TheVariants as refusals
-use Rattle.minix_zone_bytes_laws.specs.Part.{with_zone_part}
-use Rattle.minix_zone_bytes_laws.proofs.Part.{part_law}
+use Rattle.minix_choice.specs.declared.write_fault.WriteFault.{WriteFault}
+use Rattle.minix_choice.specs.declared.write_fault.WriteFault.TheVariants as refusals
+use Rattle.minix_change_laws.specs.Part.{with_zone_part}
+use Rattle.minix_change_laws.proofs.Part.{part_law}
 use Rattle.minix_zones.specs.Volume.{volume_view, past_of, faults_of}
 use Rattle.minix_zones.specs.declared.volume.Volume.{Volume}
 use Rattle.minix_zones.specs.declared.zone_fault.ZoneFault.{ZoneFault}

@@ -13,19 +13,19 @@ use Rattle.lilo_model.specs.MinixLayout as layout
 use Rattle.lilo_model.specs.MinixNames.{Named, IsSound}
 use Rattle.lilo_model.specs.MinixParts as model
 use Rattle.lilo_model.specs.MinixParts.{Parts, zone_at}
-use Rattle.minix_entry_laws.specs.Only.{zone_of_entry}
+use Rattle.minix_change_laws.specs.Only.{zone_of_entry}
 use Rattle.minix_laws.proofs.Inside.{sound_law}
 use Rattle.minix_layout.specs.View.{kind_view, super_view, inode_view}
 use Rattle.minix_layout.specs.declared.inode.Inode.{Inode}
-use Rattle.minix_sees_laws.proofs.Inode.{directory-zones}
-use Rattle.minix_sees_laws.proofs.Seen.{opened}
+use Rattle.minix_change_laws.proofs.Inode.{directory-zones}
+use Rattle.minix_change_laws.proofs.Seen.{opened}
 use Rattle.minix_steps.specs.Written.{parts_now}
 use Rattle.minix_tree.specs.View as trees
 use Rattle.minix_tree.specs.declared.tree_fault.TreeFault.{TreeFault}
 use Rattle.minix_tree.specs.declared.tree_fault.TreeFault.TheVariants as treefaults
-use Rattle.minix_write.specs.View.{zone_refusal, tree_refusal}
-use Rattle.minix_write.specs.declared.write_fault.WriteFault.{WriteFault}
-use Rattle.minix_write.specs.declared.write_fault.WriteFault.TheVariants.{Device}
+use Rattle.minix_choice.specs.View.{zone_refusal, tree_refusal}
+use Rattle.minix_choice.specs.declared.write_fault.WriteFault.{WriteFault}
+use Rattle.minix_choice.specs.declared.write_fault.WriteFault.TheVariants.{Device}
 use Rattle.minix_zones.specs.View as zones
 use Rattle.minix_zones.specs.Volume.{volume_view, past_of}
 use Rattle.minix_zones.specs.declared.volume.Volume.{Volume}

@@ -12,16 +12,16 @@ use Rattle.lilo_model.specs.MinixLayout.{Kind, V1Short, V1Long, V2Short, V2Long,
 use Rattle.lilo_model.specs.MinixNames.{thing, block, blocks, content, zone_number, PointsTo}
 use Rattle.lilo_model.specs.MinixParts.{Pointer, is_directory, zone_bytes, blocks_for, block_pointer}
 use Rattle.minix_choice_laws.specs.Choice.{file_of}
-use Rattle.minix_entry_laws.specs.Enter.{DirectoryMayStand}
+use Rattle.minix_change_laws.specs.Enter.{DirectoryMayStand}
 use Rattle.minix_fill.specs.Fill as fill
 use Rattle.minix_fill.specs.Fill.{FillsFile, AreMarked, IsOfSome, MayGetName, IsFitThen}
 use Rattle.minix_fill.specs.Numbers.{tops_of}
-use Rattle.minix_fill_laws.specs.Laws.{MayBeFile}
-use Rattle.minix_fill_laws.specs.Sources.{Source, Block, Indirect, zone_from, source_of}
-use Rattle.minix_fill_laws.proofs.Filled.{content_law, pointers_law}
+use Rattle.minix_choice_laws.specs.FillLaws.{MayBeFile}
+use Rattle.minix_choice_laws.specs.Sources.{Source, Block, Indirect, zone_from, source_of}
+use Rattle.minix_choice_laws.proofs.Filled.{content_law, pointers_law}
 use Rattle.minix_laws.proofs.Inside.{is_pointer-block}
-use Rattle.minix_fill_laws.proofs.Pointers.{block_leads}
-use Rattle.minix_fill_laws.proofs.Given.{past_end}
+use Rattle.minix_choice_laws.proofs.Pointers.{block_leads}
+use Rattle.minix_choice_laws.proofs.Given.{past_end}
 use Rattle.minix_grow.specs.Others.{IsClearOf}
 use Rattle.minix_layout.specs.View.{kind_view, super_view}
 use Rattle.minix_layout.specs.declared.superblock.Super.{Super}

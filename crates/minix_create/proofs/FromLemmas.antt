@@ -3,11 +3,11 @@ use Rattle.std.proofs.Common.{◌≡◌, ◌≢◌, ◌<◌, ◌==◌, ℕ, zero
 use Rattle.std.specs.Prelude.{slice_index}
 use Rattle.std.proofs.lemmas.Bool.{eq-eqb}
 use Rattle.lilo_model.specs.MinixLayout.{Kind}
-use Rattle.minix_bits.specs.Numbers.{has_number}
+use Rattle.minix_steps.specs.Numbers.{has_number}
 use Rattle.minix_choice_laws.specs.Choice.{file_of}
-use Rattle.minix_fill_laws.specs.Sources.{Source, Block, Indirect, zone_from}
-use Rattle.minix_fill_laws.proofs.Given.{past_end}
-use Rattle.minix_write.specs.Suits.{IsFileOf}
+use Rattle.minix_choice_laws.specs.Sources.{Source, Block, Indirect, zone_from}
+use Rattle.minix_choice_laws.proofs.Given.{past_end}
+use Rattle.minix_choice.specs.Suits.{IsFileOf}
 use Rattle.write_model.specs.Choice.{Choice}
 use Rattle.write_model.specs.FileZones.{given, count_made}
 

@@ -15,11 +15,11 @@ use Rattle.lilo_model.specs.MinixNames.{PointsTo, Refers, IsSound}
 use Rattle.lilo_model.specs.MinixParts as model
 use Rattle.lilo_model.specs.MinixParts.{Parts, Pointer, IsPointer, is_directory, blocks_for, parts_of, block_pointer, pointer_with}
 use Rattle.lilo_model.specs.MinixWalk.{branch_of, place_in_branch, stop_pointer}
-use Rattle.minix_beside_laws.specs.Beside.{Beside}
-use Rattle.minix_beside_laws.proofs.Beside.{named_law}
+use Rattle.minix_change_laws.specs.Beside.{Beside}
+use Rattle.minix_change_laws.proofs.Beside.{named_law}
 use Rattle.minix_choice_laws.proofs.Stay.{free_still}
-use Rattle.minix_entry_laws.specs.Only.{zone_of_entry}
-use Rattle.minix_entry_laws.proofs.Blocks.{block-below}
+use Rattle.minix_change_laws.specs.Only.{zone_of_entry}
+use Rattle.minix_change_laws.proofs.Blocks.{block-below}
 use Rattle.minix_grow.specs.Grow as grow
 use Rattle.minix_grow.specs.Others.{KeepsOthers, KeepsOthersNow}
 use Rattle.minix_grow.specs.Places.{IsFreePlace}
@@ -32,18 +32,18 @@ use Rattle.minix_grow.proofs.OtherLemmas.{all_off_stay}
 use Rattle.minix_grow.proofs.WayLemmas.{pointer_highest}
 use Rattle.minix_layout.specs.View.{kind_view, super_view, inode_view}
 use Rattle.minix_layout.specs.declared.superblock.Super as layouts
-use Rattle.minix_sees_laws.specs.Sees.{SeenAsIn}
-use Rattle.minix_sees_laws.proofs.Inode.{directory-zones}
-use Rattle.minix_sees_laws.proofs.Seen.{seen_beside_law}
-use Rattle.minix_sees_laws.proofs.Sees.{directory-same, named-old, named-new}
+use Rattle.minix_change_laws.specs.Sees.{SeenAsIn}
+use Rattle.minix_change_laws.proofs.Inode.{directory-zones}
+use Rattle.minix_change_laws.proofs.Seen.{seen_beside_law}
+use Rattle.minix_change_laws.proofs.Sees.{directory-same, named-old, named-new}
 use Rattle.minix_steps.specs.Steps.{Steps}
 use Rattle.minix_steps.specs.Written.{parts_now}
 use Rattle.minix_steps.proofs.StepLemmas.{same_view}
 use Rattle.minix_turns.specs.Joined.{Unseen}
 use Rattle.minix_turns.proofs.JoinedLemmas.{unseen_join}
-use Rattle.minix_write.specs.View.{HasWriteCause, zone_refusal}
-use Rattle.minix_write.specs.declared.write_fault.WriteFault.{WriteFault}
-use Rattle.minix_write.specs.declared.write_fault.WriteFault.TheVariants as refusals
+use Rattle.minix_choice.specs.View.{HasWriteCause, zone_refusal}
+use Rattle.minix_choice.specs.declared.write_fault.WriteFault.{WriteFault}
+use Rattle.minix_choice.specs.declared.write_fault.WriteFault.TheVariants as refusals
 use Rattle.minix_zones.specs.Volume.{volume_view, past_of, faults_of, SameVolume}
 use Rattle.minix_zones.specs.declared.volume.Volume.{Volume}
 use Rattle.minix_zones.specs.declared.zone_fault.ZoneFault.{ZoneFault}

@@ -1,3 +1,6 @@
+pub mod MadePlaces
+pub mod MadeSteps
+pub mod MadeOther
 pub mod BroughtLemmas
 pub mod GrownLemmas
 pub mod ChosenLemmas

@@ -22,36 +22,36 @@ use Rattle.lilo_model.specs.MinixParts as model
 use Rattle.lilo_model.specs.MinixParts.{Parts, Pointer, block_pointer, has_zones, is_directory}
 use Rattle.minix_choice_laws.specs.Choice.{file_of, MayHavePlace, LiesThere, HasNamePlace}
 use Rattle.minix_choice_laws.proofs.Stay.{zone_lies, may_have_stays_law, place_lies_law}
-use Rattle.minix_beside_laws.specs.Beside.{Beside}
-use Rattle.minix_beside_laws.specs.Keeps.{Keeps}
-use Rattle.minix_beside_laws.proofs.Beside.{keeps}
-use Rattle.minix_entry_laws.specs.Comes.{IsFit}
-use Rattle.minix_entry_laws.specs.Only.{zone_of_entry, KeepsInode}
-use Rattle.minix_entry_laws.proofs.Only.{directory-refers}
-use Rattle.minix_entry_laws.proofs.Blocks.{block-below}
+use Rattle.minix_change_laws.specs.Beside.{Beside}
+use Rattle.minix_change_laws.specs.Keeps.{Keeps}
+use Rattle.minix_change_laws.proofs.Beside.{keeps}
+use Rattle.minix_change_laws.specs.Comes.{IsFit}
+use Rattle.minix_change_laws.specs.Only.{zone_of_entry, KeepsInode}
+use Rattle.minix_change_laws.proofs.Only.{directory-refers}
+use Rattle.minix_change_laws.proofs.Blocks.{block-below}
 use Rattle.minix_grow.specs.Others.{IsOneOf, KeepsOthers}
 use Rattle.minix_grow.specs.Places.{IsFreePlace}
 use Rattle.minix_grow.proofs.KeepLemmas.{fit_kept}
 use Rattle.minix_grow.proofs.OtherLemmas.{all_off_stay}
-use Rattle.minix_fill_laws.specs.Sources.{Source, zone_from}
+use Rattle.minix_choice_laws.specs.Sources.{Source, zone_from}
 use Rattle.minix_laws.proofs.Inside.{is_pointer-block}
-use Rattle.minix_made_laws.specs.Made.{KeepsPlaces}
-use Rattle.minix_made_laws.proofs.Places.{seen_places_law, join_places_law}
+use Rattle.minix_create.specs.Made.{KeepsPlaces}
+use Rattle.minix_create.proofs.MadePlaces.{seen_places_law, join_places_law}
 use Rattle.minix_layout.specs.View.{kind_view, super_view}
 use Rattle.minix_layout.specs.declared.superblock.Super.{Super}
-use Rattle.minix_sees_laws.specs.Sees.{Sees}
-use Rattle.minix_sees_laws.proofs.Inode.{same-node, keeps-above, points-old}
-use Rattle.minix_sees_laws.proofs.Seen.{opened}
-use Rattle.minix_sees_laws.proofs.Sees.{directory-same, named-new}
+use Rattle.minix_change_laws.specs.Sees.{Sees}
+use Rattle.minix_change_laws.proofs.Inode.{same-node, keeps-above, points-old}
+use Rattle.minix_change_laws.proofs.Seen.{opened}
+use Rattle.minix_change_laws.proofs.Sees.{directory-same, named-new}
 use Rattle.minix_steps.specs.Steps.{IsReady}
 use Rattle.minix_steps.specs.Written.{parts_now}
 use Rattle.minix_steps.proofs.ReadyLemmas.{quiet_ready}
 use Rattle.minix_steps.proofs.StepLemmas.{leaves_told, same_view, beside_before, now_beside}
 use Rattle.minix_turns.specs.Joined.{Unseen}
 use Rattle.minix_turns.proofs.JoinedLemmas.{steps_unseen, unseen_join, unseen_then_leads}
-use Rattle.minix_write.specs.View.{HasWriteCause}
-use Rattle.minix_write.specs.declared.write_fault.WriteFault.{WriteFault}
-use Rattle.minix_write.specs.declared.write_fault.WriteFault.TheVariants as refusals
+use Rattle.minix_choice.specs.View.{HasWriteCause}
+use Rattle.minix_choice.specs.declared.write_fault.WriteFault.{WriteFault}
+use Rattle.minix_choice.specs.declared.write_fault.WriteFault.TheVariants as refusals
 use Rattle.lilo_model.specs.Faults.{Rose}
 use Rattle.minix_zones.specs.Volume.{volume_view, past_of, faults_of, SameVolume}
 use Rattle.minix_zones.specs.declared.volume.Volume.{Volume}

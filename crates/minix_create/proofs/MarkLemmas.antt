@@ -12,9 +12,9 @@ use Rattle.disk_trait.proofs.NotWrittenLemmas.{not_written_join}
 use Rattle.disk_trait.proofs.RangeLemmas.{outside_is_other}
 use Rattle.lilo_model.specs.MinixParts as model
 use Rattle.lilo_model.specs.MinixParts.{Parts, inode_mark_sector}
-use Rattle.minix_beside_laws.specs.Beside.{IsOfBitmaps}
-use Rattle.minix_bits.specs.Laws.{OneInodeMark}
-use Rattle.minix_bits.specs.Numbers.{has_number}
+use Rattle.minix_change_laws.specs.Beside.{IsOfBitmaps}
+use Rattle.minix_steps.specs.BitLaws.{OneInodeMark}
+use Rattle.minix_steps.specs.Numbers.{has_number}
 use Rattle.minix_fill.specs.Marks.{ZonesMarked, IsOffZoneMap, MarksZones}
 use Rattle.minix_layout.specs.View.{super_view}
 use Rattle.minix_layout.specs.declared.superblock.Super.{Super}

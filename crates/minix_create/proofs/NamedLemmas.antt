@@ -4,12 +4,12 @@ use Rattle.lilo_model.specs.MinixEntries.{entry_with, here_name, above_name}
 use Rattle.lilo_model.specs.MinixLayout.{Super, Inode}
 use Rattle.lilo_model.specs.MinixNames.{thing, Named, PointsTo}
 use Rattle.lilo_model.specs.MinixParts.{Parts, Pointer, is_directory}
-use Rattle.minix_entry_laws.specs.Comes.{IsFit}
-use Rattle.minix_entry_laws.specs.Enter.{MayStand, DirectoryMayStand}
-use Rattle.minix_entry_laws.specs.Only.{KeepsInode}
-use Rattle.minix_sees_laws.specs.Sees.{Sees}
-use Rattle.minix_sees_laws.proofs.Inode.{IsSameNode, same-node, directory-zones, keeps-above, points-new, has_entry-same, has_entry-kept, lookup-same, thing-same}
-use Rattle.minix_sees_laws.proofs.Sees.{named-old, all_lead-old}
+use Rattle.minix_change_laws.specs.Comes.{IsFit}
+use Rattle.minix_change_laws.specs.Enter.{MayStand, DirectoryMayStand}
+use Rattle.minix_change_laws.specs.Only.{KeepsInode}
+use Rattle.minix_change_laws.specs.Sees.{Sees}
+use Rattle.minix_change_laws.proofs.Inode.{IsSameNode, same-node, directory-zones, keeps-above, points-new, has_entry-same, has_entry-kept, lookup-same, thing-same}
+use Rattle.minix_change_laws.proofs.Sees.{named-old, all_lead-old}
 use Rattle.minix_create.specs.Entered.{MayBeNamed}
 
 module _ (super : Super) (old new : Parts) (number : ℕ) (kept : KeepsInode super old new number) where

@@ -10,15 +10,15 @@ use Rattle.disk_trait.specs.Range.{IsOutside}
 use Rattle.disk_trait.proofs.LawLemmas.{quiet_begun}
 use Rattle.disk_trait.proofs.NotWrittenLemmas.{not_written_join}
 use Rattle.lilo_model.specs.MinixLayout.{zone_sector}
-use Rattle.minix_beside_laws.specs.Beside.{IsDataZone}
+use Rattle.minix_change_laws.specs.Beside.{IsDataZone}
 use Rattle.minix_choice_laws.specs.Choice.{file_of}
 use Rattle.minix_fill.specs.Fill.{MayHoldFile, AreMarked}
 use Rattle.minix_fill.proofs.FillSteps.{held_free}
-use Rattle.minix_fill_laws.specs.Laws.{MayBeFile}
-use Rattle.minix_fill_laws.specs.Sources.{Source, Block, zone_from}
+use Rattle.minix_choice_laws.specs.FillLaws.{MayBeFile}
+use Rattle.minix_choice_laws.specs.Sources.{Source, Block, zone_from}
 use Rattle.minix_layout.specs.View.{kind_view, super_view}
 use Rattle.minix_layout.specs.declared.superblock.Super.{Super}
-use Rattle.minix_steps.specs.Laws.{OneZone}
+use Rattle.minix_steps.specs.StepLaws.{OneZone}
 use Rattle.minix_steps.specs.Steps.{IsReady, IsUnusedZone, IsUnnamedInode, Steps}
 use Rattle.minix_steps.specs.Written.{parts_now}
 use Rattle.minix_steps.proofs.ReadyLemmas.{quiet_ready, unmarked_unused, unmarked_unnamed}

@@ -13,11 +13,11 @@ use Rattle.lilo_model.specs.MinixLayout.{Inode, IsSuper, FitsInode, inode_bytes,
 use Rattle.lilo_model.specs.MinixParts as model
 use Rattle.lilo_model.specs.MinixParts.{Parts, is_directory, parts_of}
 use Rattle.lilo_model.specs.MinixNames.{Named, IsSound}
-use Rattle.minix_growth_laws.specs.Changes.{ChangesNode}
+use Rattle.minix_change_laws.specs.Changes.{ChangesNode}
 use Rattle.minix_layout.specs.View.{kind_view, super_view}
 use Rattle.minix_layout.specs.declared.superblock.Super.{Super}
-use Rattle.minix_sees_laws.specs.Sees.{with_links}
-use Rattle.minix_sees_laws.proofs.Seen.{opened}
+use Rattle.minix_change_laws.specs.Sees.{with_links}
+use Rattle.minix_change_laws.proofs.Seen.{opened}
 use Rattle.minix_steps.specs.Written.{with_sector_of, with_inode, parts_now}
 use Rattle.minix_steps.proofs.PartLemmas.{inode_bytes_law, kept_inode_law}
 use Rattle.minix_steps.proofs.RegionLemmas.{place_there}

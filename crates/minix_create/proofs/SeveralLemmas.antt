@@ -9,15 +9,15 @@ use Rattle.lilo_model.specs.MinixEntries.{entries_per_block}
 use Rattle.lilo_model.specs.MinixNames.{Thing, reached, Named, IsSound}
 use Rattle.lilo_model.specs.MinixParts as model
 use Rattle.lilo_model.specs.MinixParts.{Parts, Pointer, is_directory, parts_of}
-use Rattle.minix_bits.specs.Numbers.{has_number}
+use Rattle.minix_steps.specs.Numbers.{has_number}
 use Rattle.minix_choice_laws.specs.Apart.{AreApart}
 use Rattle.minix_choice_laws.specs.Choice.{file_of, MayHavePlace}
-use Rattle.minix_fill_laws.specs.Laws.{MayBeFile}
+use Rattle.minix_choice_laws.specs.FillLaws.{MayBeFile}
 use Rattle.minix_grow.specs.Way.{pointer_above, number_above}
 use Rattle.minix_layout.specs.View.{super_view}
-use Rattle.minix_made_laws.specs.Made.{HasMade}
-use Rattle.minix_made_laws.proofs.Other.{not_new, other_place_law, other_growth_law}
-use Rattle.minix_sees_laws.specs.Tree.{HasTreeWith}
+use Rattle.minix_create.specs.Made.{HasMade}
+use Rattle.minix_create.proofs.MadeOther.{not_new, other_place_law, other_growth_law}
+use Rattle.minix_change_laws.specs.Tree.{HasTreeWith}
 use Rattle.minix_steps.specs.Written.{parts_now}
 use Rattle.minix_steps.proofs.StepLemmas.{same_view}
 use Rattle.minix_zones.specs.Volume.{volume_view, past_of}

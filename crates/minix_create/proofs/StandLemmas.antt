@@ -3,13 +3,13 @@ use Rattle.std.proofs.Common.{ℕ, refl, sym, ◌∙◌, subst}
 use Rattle.lilo_model.specs.MinixLayout.{Super, Inode}
 use Rattle.lilo_model.specs.MinixNames.{Named, PointsTo, Sound}
 use Rattle.lilo_model.specs.MinixParts.{Parts, Pointer}
-use Rattle.minix_entry_laws.specs.Comes.{IsFit}
-use Rattle.minix_entry_laws.specs.Only.{KeepsInode}
-use Rattle.minix_growth_laws.specs.Changes.{ChangesNode}
-use Rattle.minix_growth_laws.proofs.Extends.{of-node}
-use Rattle.minix_sees_laws.specs.Sees.{Sees}
-use Rattle.minix_sees_laws.proofs.Inode.{HasSameNumbers, same-node, keeps-above, points-old}
-use Rattle.minix_sees_laws.proofs.Sees.{named-old}
+use Rattle.minix_change_laws.specs.Comes.{IsFit}
+use Rattle.minix_change_laws.specs.Only.{KeepsInode}
+use Rattle.minix_change_laws.specs.Changes.{ChangesNode}
+use Rattle.minix_change_laws.proofs.Extends.{of-node}
+use Rattle.minix_change_laws.specs.Sees.{Sees}
+use Rattle.minix_change_laws.proofs.Inode.{HasSameNumbers, same-node, keeps-above, points-old}
+use Rattle.minix_change_laws.proofs.Sees.{named-old}
 use Rattle.minix_create.specs.Brought.{StillFits, KeepsFiles}
 
 -- ---- one inode

@@ -11,22 +11,22 @@ use Rattle.disk_trait.specs.NotWritten.{NotWritten, IsOther}
 use Rattle.disk_trait.specs.Range.{IsOutside}
 use Rattle.disk_trait.proofs.NotWrittenLemmas.{not_written_join}
 use Rattle.lilo_model.specs.MinixLayout.{inode_place, zone_sector}
-use Rattle.minix_bits.specs.Numbers.{has_number}
+use Rattle.minix_steps.specs.Numbers.{has_number}
 use Rattle.minix_choice_laws.specs.Choice.{file_of}
 use Rattle.minix_fill.specs.Fill.{FillsFile, MayGetName, IsFitThen}
-use Rattle.minix_fill_laws.specs.Sources.{Block}
+use Rattle.minix_choice_laws.specs.Sources.{Block}
 use Rattle.minix_layout.specs.View.{kind_view, super_view}
 use Rattle.minix_layout.specs.declared.superblock.Super.{Super}
-use Rattle.minix_steps.specs.Laws.{OneZone}
+use Rattle.minix_steps.specs.StepLaws.{OneZone}
 use Rattle.minix_steps.specs.Steps.{Steps}
 use Rattle.minix_steps.specs.Written.{parts_now}
 use Rattle.minix_steps.proofs.ReadyLemmas.{quiet_ready}
 use Rattle.minix_steps.proofs.StepLemmas.{steps_join}
 use Rattle.minix_turns.proofs.JoinedLemmas.{steps_unseen}
-use Rattle.minix_write.specs.View.{HasWriteCause}
-use Rattle.minix_write.specs.declared.write_fault.WriteFault.{WriteFault}
-use Rattle.minix_write.specs.declared.write_fault.WriteFault.TheVariants as faults
-use Rattle.minix_write.specs.declared.write_fault.WriteFault.TheVariants.{Device}
+use Rattle.minix_choice.specs.View.{HasWriteCause}
+use Rattle.minix_choice.specs.declared.write_fault.WriteFault.{WriteFault}
+use Rattle.minix_choice.specs.declared.write_fault.WriteFault.TheVariants as faults
+use Rattle.minix_choice.specs.declared.write_fault.WriteFault.TheVariants.{Device}
 use Rattle.minix_zones.specs.Volume.{volume_view, past_of, faults_of, KeepsVolume, HasDeviceCause}
 use Rattle.minix_zones.specs.declared.volume.Volume.{Volume}
 use Rattle.minix_zones.specs.declared.zone_fault.ZoneFault.{ZoneFault}
@@ -38,7 +38,7 @@ use Rattle.minix_create.specs.States.{IsInHand, IsReservedSince, Reserves, Write
 use Rattle.minix_create.specs.declared.chosen.Chosen.{Chosen}
 use Rattle.minix_create.specs.declared.filled.Filled.{Filled}
 use Rattle.minix_create.specs.declared.linked.Linked.{Linked}
-use Rattle.minix_write.specs.declared.halt.WriteHalt.{WriteHalt}
+use Rattle.minix_choice.specs.declared.halt.WriteHalt.{WriteHalt}
 use Rattle.minix_create.specs.declared.reserved.Reserved.{Reserved}
 use Rattle.minix_create.proofs.ChosenLemmas.{few_blocks}
 use Rattle.minix_create.proofs.FillLemmas.{filled_with, fill_done, off_indirect_of}

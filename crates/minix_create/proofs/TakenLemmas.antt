@@ -5,11 +5,11 @@ use Rattle.std.proofs.lemmas.Bool.Decides.{nat_tests}
 use Rattle.std.proofs.lemmas.List.Folds.{list_any-append}
 use Rattle.lilo_model.specs.MinixLayout.{Super}
 use Rattle.lilo_model.specs.MinixParts.{Parts}
-use Rattle.minix_bits.specs.Numbers.{has_number, with_number}
+use Rattle.minix_steps.specs.Numbers.{has_number, with_number}
 use Rattle.minix_choice_laws.specs.Apart.{IsHeld}
 use Rattle.minix_choice_laws.specs.Growth.{ArePromised}
-use Rattle.minix_write.specs.Taken.{with_numbers, with_choice}
-use Rattle.minix_write.specs.View.{Promised, taken_view}
+use Rattle.minix_choice.specs.Taken.{with_numbers, with_choice}
+use Rattle.minix_choice.specs.View.{Promised, taken_view}
 use Rattle.write_model.specs.Choice.{Choice, is_one_of, taken_with}
 use Rattle.write_model.specs.Wish.{Taken, Promise}
 

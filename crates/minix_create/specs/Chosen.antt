@@ -10,15 +10,15 @@ use Rattle.lilo_model.specs.MinixNames.{Thing, File, Link, Directory, Other, blo
 use Rattle.lilo_model.specs.MinixParts.{blocks_for, is_directory, is_file, is_link}
 use Rattle.minix_choice_laws.specs.Choice.{file_of, MayHavePlace}
 use Rattle.minix_choice_laws.specs.Growth.{ArePromised}
-use Rattle.minix_entry_bytes_laws.specs.Written.{FitsEntry}
+use Rattle.minix_change_laws.specs.Written.{FitsEntry}
 use Rattle.minix_fill.specs.Fill.{IsOfFile}
-use Rattle.minix_fill_laws.specs.Laws.{MayBeFile}
-use Rattle.minix_fill_laws.specs.Sources.{Source, zone_from}
+use Rattle.minix_choice_laws.specs.FillLaws.{MayBeFile}
+use Rattle.minix_choice_laws.specs.Sources.{Source, zone_from}
 use Rattle.minix_layout.specs.View.{kind_view, super_view}
 use Rattle.minix_layout.specs.declared.superblock.Super.{Super}
 use Rattle.minix_steps.specs.Written.{parts_now}
-use Rattle.minix_write.specs.Suits.{IsFileOf}
-use Rattle.minix_write.specs.declared.wish.Wish.{Wish}
+use Rattle.minix_choice.specs.Suits.{IsFileOf}
+use Rattle.minix_choice.specs.declared.wish.Wish.{Wish}
 use Rattle.minix_zones.specs.View.{IsDataZone}
 use Rattle.minix_zones.specs.Volume.{volume_view, past_of}
 use Rattle.minix_zones.specs.declared.volume.Volume.{Volume}

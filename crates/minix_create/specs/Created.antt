@@ -7,12 +7,12 @@ use Rattle.disk_trait.specs.Range.{IsOutside}
 use Rattle.lilo_model.specs.MinixLayout.{inode_place, reach, zone_sector}
 use Rattle.lilo_model.specs.MinixNames.{zone_number, thing, PointsTo}
 use Rattle.lilo_model.specs.MinixParts.{Parts, Pointer}
-use Rattle.minix_beside_laws.specs.Beside.{IsDataZone}
-use Rattle.minix_bits.specs.Numbers.{has_number}
+use Rattle.minix_change_laws.specs.Beside.{IsDataZone}
+use Rattle.minix_steps.specs.Numbers.{has_number}
 use Rattle.minix_choice_laws.specs.Choice.{file_of}
 use Rattle.minix_fill.specs.Fill.{MayHoldFile, AreMarked}
-use Rattle.minix_fill_laws.specs.Laws.{MayBeFile}
-use Rattle.minix_fill_laws.specs.Sources.{Source, zone_from}
+use Rattle.minix_choice_laws.specs.FillLaws.{MayBeFile}
+use Rattle.minix_choice_laws.specs.Sources.{Source, zone_from}
 use Rattle.minix_grow.specs.Others.{IsClearOf}
 use Rattle.minix_layout.specs.View.{kind_view, super_view}
 use Rattle.minix_steps.specs.Steps.{IsReady, IsUnnamedInode, Steps}

@@ -12,18 +12,18 @@ use Rattle.lilo_model.specs.MinixNames.{reached, thing, Named, PointsTo, IsSound
 use Rattle.lilo_model.specs.MinixParts as model
 use Rattle.lilo_model.specs.MinixParts.{Parts, Pointer, is_directory}
 use Rattle.minix_choice_laws.specs.Choice.{HasNamePlace}
-use Rattle.minix_entry_laws.specs.Enter.{MayStand, DirectoryMayStand}
-use Rattle.minix_beside_laws.specs.Beside.{IsInode, IsDataZone}
-use Rattle.minix_entry_laws.specs.Only.{zone_of_entry, KeepsInode}
+use Rattle.minix_change_laws.specs.Enter.{MayStand, DirectoryMayStand}
+use Rattle.minix_change_laws.specs.Beside.{IsInode, IsDataZone}
+use Rattle.minix_change_laws.specs.Only.{zone_of_entry, KeepsInode}
 use Rattle.minix_grow.specs.Hook.{IsOffInode}
-use Rattle.minix_growth_laws.specs.Changes.{ChangesNode}
+use Rattle.minix_change_laws.specs.Changes.{ChangesNode}
 use Rattle.minix_layout.specs.View.{kind_view, super_view}
-use Rattle.minix_made_laws.specs.Made.{KeepsPlaces}
-use Rattle.minix_sees_laws.specs.Sees.{with_links}
+use Rattle.minix_create.specs.Made.{KeepsPlaces}
+use Rattle.minix_change_laws.specs.Sees.{with_links}
 use Rattle.minix_steps.specs.Written.{parts_now}
 use Rattle.minix_turns.specs.Joined.{Unseen, LeadsPath}
-use Rattle.minix_write.specs.declared.write_fault.WriteFault.{WriteFault}
-use Rattle.minix_write.specs.declared.write_fault.WriteFault.TheVariants.{Device}
+use Rattle.minix_choice.specs.declared.write_fault.WriteFault.{WriteFault}
+use Rattle.minix_choice.specs.declared.write_fault.WriteFault.TheVariants.{Device}
 use Rattle.minix_zones.specs.Volume.{volume_view, past_of, faults_of}
 use Rattle.minix_zones.specs.declared.volume.Volume.{Volume}
 use Rattle.minix_create.specs.Brought.{KeepsFiles}

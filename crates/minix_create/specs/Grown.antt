@@ -20,8 +20,8 @@ use Rattle.minix_layout.specs.declared.inode.Inode as inodes
 use Rattle.minix_layout.specs.declared.superblock.Super as layouts
 use Rattle.minix_steps.specs.Written.{parts_now}
 use Rattle.minix_turns.specs.Joined.{Unseen}
-use Rattle.minix_write.specs.declared.write_fault.WriteFault.{WriteFault}
-use Rattle.minix_write.specs.declared.write_fault.WriteFault.TheVariants.{Device}
+use Rattle.minix_choice.specs.declared.write_fault.WriteFault.{WriteFault}
+use Rattle.minix_choice.specs.declared.write_fault.WriteFault.TheVariants.{Device}
 use Rattle.minix_zones.specs.Volume.{volume_view, past_of, faults_of}
 use Rattle.minix_zones.specs.declared.volume.Volume.{Volume}
 use Rattle.write_model.specs.Places.{most_places}

@@ -1,3 +1,5 @@
+pub mod Made
+pub mod MadeLaws
 pub mod Brought
 pub mod Chosen
 pub mod Created

@@ -10,17 +10,17 @@ use Rattle.lilo_model.specs.MinixLayout.{Super, reach, zone_sector}
 use Rattle.lilo_model.specs.MinixNames.{reached, PointsTo}
 use Rattle.lilo_model.specs.MinixParts as model
 use Rattle.lilo_model.specs.MinixParts.{Parts, is_directory, has_zones, block_pointer}
-use Rattle.minix_beside_laws.specs.Beside.{IsInode, IsDataZone}
-use Rattle.minix_bits.specs.Numbers.{has_number}
-use Rattle.minix_entry_laws.specs.Only.{zone_of_entry}
+use Rattle.minix_change_laws.specs.Beside.{IsInode, IsDataZone}
+use Rattle.minix_steps.specs.Numbers.{has_number}
+use Rattle.minix_change_laws.specs.Only.{zone_of_entry}
 use Rattle.minix_grow.specs.Hook.{IsOffInode}
 use Rattle.minix_grow.specs.Others.{IsNoneOf}
 use Rattle.minix_layout.specs.View.{kind_view, super_view}
-use Rattle.minix_made_laws.specs.Made.{HasMade}
+use Rattle.minix_create.specs.Made.{HasMade}
 use Rattle.minix_steps.specs.Written.{parts_now}
 use Rattle.minix_turns.specs.Joined.{LeadsPath}
-use Rattle.minix_write.specs.declared.write_fault.WriteFault.{WriteFault}
-use Rattle.minix_write.specs.declared.write_fault.WriteFault.TheVariants.{Device}
+use Rattle.minix_choice.specs.declared.write_fault.WriteFault.{WriteFault}
+use Rattle.minix_choice.specs.declared.write_fault.WriteFault.TheVariants.{Device}
 use Rattle.minix_zones.specs.Volume.{volume_view, past_of, faults_of}
 use Rattle.minix_zones.specs.declared.volume.Volume.{Volume}
 use Rattle.minix_create.specs.Chosen.{MayLinkNow, MayNest, IsNewInode, new_inode, thing_with}

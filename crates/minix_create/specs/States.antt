@@ -6,8 +6,8 @@ use Rattle.disk_trait.specs.NotWritten.{NotWritten}
 use Rattle.lilo_model.specs.Faults.{Rose}
 use Rattle.minix_layout.specs.View.{kind_view}
 use Rattle.minix_steps.specs.Steps.{Steps}
-use Rattle.minix_write.specs.declared.write_fault.WriteFault.{WriteFault}
-use Rattle.minix_write.specs.declared.write_fault.WriteFault.TheVariants.{Device}
+use Rattle.minix_choice.specs.declared.write_fault.WriteFault.{WriteFault}
+use Rattle.minix_choice.specs.declared.write_fault.WriteFault.TheVariants.{Device}
 use Rattle.minix_zones.specs.Volume.{past_of, faults_of}
 use Rattle.minix_zones.specs.declared.volume.Volume.{Volume}
 use Rattle.minix_create.specs.Chosen.{Suits, MayLinkNow, MayBeMade, MayNest}
@@ -17,7 +17,7 @@ use Rattle.minix_create.specs.Linked.{LinksFilled, Creates}
 use Rattle.minix_create.specs.declared.chosen.Chosen.{Chosen}
 use Rattle.minix_create.specs.declared.filled.Filled.{Filled}
 use Rattle.minix_create.specs.declared.linked.Linked.{Linked}
-use Rattle.minix_write.specs.declared.halt.WriteHalt.{WriteHalt}
+use Rattle.minix_choice.specs.declared.halt.WriteHalt.{WriteHalt}
 use Rattle.minix_create.specs.declared.reserved.Reserved.{Reserved}
 
 -- a file that is reserved may be gone on with: its next block is no hole, or there is none

@@ -6,17 +6,17 @@ ghost use Rattle.minix_create.specs.Brought.{MayBring, IsNextAt, Brings};
 ghost use Rattle.minix_grow.specs.Places.{size_to};
 ghost use Rattle.minix_layout.specs.View.{kind_view, inode_view};
 ghost use Rattle.minix_zones.specs.View.{IsDataZone};
-ghost use Rattle.minix_write.specs.View.{HasWriteCause};
+ghost use Rattle.minix_choice.specs.View.{HasWriteCause};
 ghost use Rattle.minix_zones.specs.Volume.{past_of, faults_of, KeepsVolume, SameVolume, HasDeviceCause};
 ghost use Rattle.write_model.specs.Places.{most_places};
 
 use crate::place_at::{PlaceAt, place_at};
 use disk_trait::Disks;
+use minix_choice::WriteFault;
 use minix_grow::slot_of;
 use minix_layout::FsKind;
 use minix_tree::{entry_size, places};
 use minix_turns::{turn_free, turn_size};
-use minix_write::WriteFault;
 use minix_zones::{Volume, ZoneFault};
 
 /// How many places a directory can have.

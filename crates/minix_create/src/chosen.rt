@@ -12,14 +12,14 @@ ghost use Rattle.minix_create.specs.Chosen.{
 };
 ghost use Rattle.minix_create.specs.Several.{PromisesWhereFree};
 ghost use Rattle.minix_layout.specs.View.{kind_view, super_view};
-ghost use Rattle.minix_write.specs.Taken.{with_choice};
-ghost use Rattle.minix_write.specs.View.{taken_view, wish_view, Gives, HasWriteCause};
+ghost use Rattle.minix_choice.specs.Taken.{with_choice};
+ghost use Rattle.minix_choice.specs.View.{taken_view, wish_view, Gives, HasWriteCause};
 ghost use Rattle.minix_zones.specs.Volume.{volume_view, past_of, faults_of, SameVolume};
 ghost use Rattle.write_model.specs.Choice.{choose};
 
 use conf_text::Text;
 use disk_trait::Disks;
-use minix_write::{Choice, Taken, Wish, WriteFault};
+use minix_choice::{Choice, Taken, Wish, WriteFault};
 use minix_zones::Volume;
 use std::alloc::Global;
 
@@ -36,11 +36,11 @@ pub struct Chosen {
     pub(crate) start: u64,
 }
 
-/// What is chosen for a wish, as minix_write chooses it. Nothing is written.
+/// What is chosen for a wish, as minix_choice chooses it. Nothing is written.
 ///
 /// # Errors
 ///
-/// Those of minix_write's `choose`, in its order. Nothing more is taken then.
+/// Those of minix_choice's `choose`, in its order. Nothing more is taken then.
 pub fn choose<D: Disks>(
     alloc: Global,
     volume: &mut Volume<'_, D>,
@@ -78,7 +78,7 @@ pub fn choose<D: Disks>(
     ensures same { SameVolume volume.old volume.new }
 {
     let name = Text::new(alloc, wish.name)?;
-    let choice = minix_write::choose(alloc, volume, wish, taken)?;
+    let choice = minix_choice::choose(alloc, volume, wish, taken)?;
     Ok(Chosen {
         choice,
         mode: wish.mode,

@@ -4,13 +4,13 @@ ghost use Rattle.disk_trait.specs.Moments.{IsTold, IsQuiet};
 ghost use Rattle.minix_create.specs.Chosen.{Suits, IsFreeNow, MayBeMade, block_of};
 ghost use Rattle.minix_create.specs.States.{CreatesFile, CreationHalts};
 ghost use Rattle.minix_layout.specs.View.{kind_view};
-ghost use Rattle.minix_write.specs.View.{HasWriteCause};
+ghost use Rattle.minix_choice.specs.View.{HasWriteCause};
 ghost use Rattle.minix_zones.specs.Volume.{past_of, faults_of};
 
 use crate::chosen::Chosen;
 use crate::linked::Linked;
 use disk_trait::Disks;
-use minix_write::WriteHalt;
+use minix_choice::WriteHalt;
 use minix_zones::Volume;
 
 /// Makes a file of what was chosen, or a directory with nothing in it but `.` and `..`. Its blocks are given, also

@@ -3,7 +3,7 @@ use crate::chosen::Chosen;
 use crate::linked::Linked;
 use crate::steps::link_chosen;
 use disk_trait::Disks;
-use minix_write::WriteHalt;
+use minix_choice::WriteHalt;
 use minix_zones::Volume;
 
 /// A file that is there but for its name.
@@ -16,7 +16,7 @@ pub struct Filled<'d, D: Disks> {
 impl<'d, D: Disks> Filled<'d, D> {
     ghost use Rattle.std.specs.Prelude.{IfOk, IfErr};
     ghost use Rattle.minix_create.specs.States.{IsInPlace, Links, LinkHalts};
-    ghost use Rattle.minix_write.specs.View.{HasWriteCause};
+    ghost use Rattle.minix_choice.specs.View.{HasWriteCause};
     ghost use Rattle.minix_zones.specs.Volume.{faults_of};
 
     /// Makes the name of the file at its place, and makes that durable.

@@ -7,16 +7,16 @@ ghost use Rattle.minix_create.specs.Chosen.{Suits};
 ghost use Rattle.minix_create.specs.Grown.{MayGrowNow, LiesNow, IsLastNow, IsAmong, HasRoom, MayGoTo, GrowsChosen};
 ghost use Rattle.minix_grow.specs.Zones.{AreData};
 ghost use Rattle.minix_layout.specs.View.{kind_view, inode_view};
-ghost use Rattle.minix_write.specs.View.{HasWriteCause};
+ghost use Rattle.minix_choice.specs.View.{HasWriteCause};
 ghost use Rattle.minix_zones.specs.Volume.{past_of, faults_of, SameVolume};
 
 use crate::brought::{bring, most_places};
 use crate::chosen::Chosen;
 use crate::place_at::place_at;
 use disk_trait::Disks;
+use minix_choice::{WriteFault, WriteHalt};
 use minix_layout::{Inode, Super};
 use minix_tree::places;
-use minix_write::{WriteFault, WriteHalt};
 use minix_zones::Volume;
 
 /// Whether a zone is among the first of some.

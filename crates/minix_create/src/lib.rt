@@ -11,6 +11,7 @@ mod filled;
 mod grown;
 mod laws;
 mod linked;
+mod made_laws;
 mod place_at;
 mod raised;
 mod reserved;
@@ -23,4 +24,8 @@ pub use filled::Filled;
 pub use grown::grow_directory;
 pub use laws::other_is_left_free;
 pub use linked::Linked;
+pub use made_laws::{
+    changed_entry_keeps_places, growth_of_another_is_unused, kept_places_join,
+    place_of_another_may_be_had, unseen_change_keeps_places,
+};
 pub use reserved::Reserved;

@@ -3,14 +3,14 @@ ghost use Rattle.std.specs.Prelude.{◌≡◌, ◌≢◌, ◌≤◌, true, IfOk,
 ghost use Rattle.lilo_model.specs.MinixLayout.{FitsInode, is_size};
 ghost use Rattle.minix_create.specs.Brought.{GivesPlace};
 ghost use Rattle.minix_layout.specs.View.{kind_view, inode_view};
-ghost use Rattle.minix_write.specs.View.{HasWriteCause};
+ghost use Rattle.minix_choice.specs.View.{HasWriteCause};
 ghost use Rattle.minix_zones.specs.View.{IsDataZone};
 ghost use Rattle.minix_zones.specs.Volume.{faults_of, SameVolume};
 
 use disk_trait::Disks;
+use minix_choice::WriteFault;
 use minix_layout::Inode;
 use minix_tree::{entries_per_block, stat_of};
-use minix_write::WriteFault;
 use minix_zones::{Volume, ZoneAt, reach, zone_at};
 
 /// The inode of a directory, and the zone with the entry at a place of it, 0 in a hole.

@@ -4,14 +4,14 @@ ghost use Rattle.disk_trait.specs.Moments.{IsTold, IsQuiet};
 ghost use Rattle.lilo_model.specs.MinixLayout.{most_links};
 ghost use Rattle.minix_create.specs.Entered.{IsDirectoryNow, RaisesLinks};
 ghost use Rattle.minix_layout.specs.View.{kind_view};
-ghost use Rattle.minix_write.specs.View.{HasWriteCause};
+ghost use Rattle.minix_choice.specs.View.{HasWriteCause};
 ghost use Rattle.minix_zones.specs.Volume.{past_of, faults_of, KeepsVolume};
 
 use disk_trait::Disks;
+use minix_choice::WriteFault;
 use minix_layout::FsKind;
 use minix_tree::stat_of;
 use minix_turns::turn_links;
-use minix_write::WriteFault;
 use minix_zones::Volume;
 
 /// The most links that an inode can have.

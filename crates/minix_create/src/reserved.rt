@@ -9,8 +9,8 @@ use crate::chosen::Chosen;
 use crate::filled::Filled;
 use crate::steps::{fill_chosen, mark_chosen};
 use disk_trait::Disks;
+use minix_choice::{WriteFault, WriteHalt};
 use minix_steps::write_zone;
-use minix_write::{WriteFault, WriteHalt};
 use minix_zones::Volume;
 
 /// A file whose inode and zones are marked, and of whose blocks the first are written.

@@ -11,7 +11,7 @@ ghost use Rattle.minix_create.specs.Linked.{LinksFilled};
 ghost use Rattle.minix_fill.specs.Fill.{FillsFile, MayGetName, IsFitThen};
 ghost use Rattle.minix_layout.specs.View.{inode_view};
 ghost use Rattle.minix_steps.specs.Steps.{IsReady};
-ghost use Rattle.minix_write.specs.View.{HasWriteCause};
+ghost use Rattle.minix_choice.specs.View.{HasWriteCause};
 ghost use Rattle.minix_zones.specs.View.{IsDataZone};
 ghost use Rattle.minix_zones.specs.Volume.{past_of, faults_of, KeepsVolume};
 
@@ -20,12 +20,12 @@ use crate::grown::grow_chosen;
 use crate::place_at::place_at;
 use crate::raised::raise_links;
 use disk_trait::Disks;
+use minix_choice::WriteFault;
 use minix_fill::{FileZones, fill_file, mark_zones};
 use minix_grow::slot_of;
 use minix_layout::{Inode, Super};
 use minix_steps::{put_inode_mark, settle};
 use minix_turns::turn_entry;
-use minix_write::WriteFault;
 use minix_zones::{Volume, ZoneFault};
 
 /// Sets the bits of what was chosen, and makes that durable.

@@ -5,11 +5,11 @@ use Rattle.std.proofs.lemmas.Bool.{cases_eq, cases_lt}
 use Rattle.lilo_model.specs.MinixLayout.{Kind, V1Short, V1Long, V2Short, V2Long, Super, Inode, FitsInode, IsSuper, is_v1, number_size, numbers_in_zone, most_links, kept_inode}
 use Rattle.lilo_model.specs.MinixParts as model
 use Rattle.lilo_model.specs.MinixParts.{Parts, is_directory}
-use Rattle.minix_beside_laws.specs.Beside.{IsDataZone}
-use Rattle.minix_fill_laws.specs.Sources.{Source, Block, Indirect, FileZones, zone_from, top_source}
-use Rattle.minix_fill_laws.proofs.Given.{past_end}
-use Rattle.minix_fill_laws.specs.Laws.{MayBeFile}
-use Rattle.minix_steps.specs.Laws.{OneZone}
+use Rattle.minix_change_laws.specs.Beside.{IsDataZone}
+use Rattle.minix_choice_laws.specs.Sources.{Source, Block, Indirect, FileZones, zone_from, top_source}
+use Rattle.minix_choice_laws.proofs.Given.{past_end}
+use Rattle.minix_choice_laws.specs.FillLaws.{MayBeFile}
+use Rattle.minix_steps.specs.StepLaws.{OneZone}
 use Rattle.minix_fill.specs.Numbers.{AreNumbers, HasNumbers, tops_of}
 use Rattle.minix_fill.specs.Fill.{NumbersWritten}
 

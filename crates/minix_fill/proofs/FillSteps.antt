@@ -16,17 +16,17 @@ use Rattle.lilo_model.specs.MinixLayout.{Inode, FitsInode, most_links, number_si
 use Rattle.lilo_model.specs.MinixParts as model
 use Rattle.lilo_model.specs.MinixParts.{Parts, Pointer, is_directory}
 use Rattle.lilo_model.specs.MinixNames.{Named, Refers}
-use Rattle.minix_beside_laws.specs.Beside.{IsDataZone}
-use Rattle.minix_entry_laws.specs.Enter.{MayStand}
-use Rattle.minix_entry_laws.proofs.Names.{new_file_law}
-use Rattle.minix_fill_laws.specs.Sources.{Indirect, FileZones, zone_from}
-use Rattle.minix_fill_laws.specs.Laws.{MayBeFile, IsNewInode, AreNewZones}
-use Rattle.minix_fill_laws.proofs.Filled.{fit_filled_law, filled_law}
-use Rattle.minix_fill_laws.proofs.Given.{past_end}
+use Rattle.minix_change_laws.specs.Beside.{IsDataZone}
+use Rattle.minix_change_laws.specs.Enter.{MayStand}
+use Rattle.minix_change_laws.proofs.Names.{new_file_law}
+use Rattle.minix_choice_laws.specs.Sources.{Indirect, FileZones, zone_from}
+use Rattle.minix_choice_laws.specs.FillLaws.{MayBeFile, IsNewInode, AreNewZones}
+use Rattle.minix_choice_laws.proofs.Filled.{fit_filled_law, filled_law}
+use Rattle.minix_choice_laws.proofs.Given.{past_end}
 use Rattle.minix_layout.specs.View.{kind_view, super_view, inode_view}
 use Rattle.minix_layout.specs.declared.inode.Inode as layouts
 use Rattle.minix_layout.specs.declared.superblock.Super.{Super}
-use Rattle.minix_steps.specs.Laws.{OneZone, OneInode}
+use Rattle.minix_steps.specs.StepLaws.{OneZone, OneInode}
 use Rattle.minix_steps.specs.Steps.{IsReady, IsUnnamedInode, Steps}
 use Rattle.minix_steps.specs.Written.{parts_now}
 use Rattle.minix_steps.proofs.PartLemmas.{kept_inode_law}

@@ -3,3 +3,8 @@ pub mod FillSteps
 pub mod MarkLemmas
 pub mod MarkSteps
 pub mod NumberLemmas
+pub mod ChangeLemmas
+pub mod FileLemmas
+pub mod FreedLemmas
+pub mod LoopLemmas
+pub mod WalkLemmas

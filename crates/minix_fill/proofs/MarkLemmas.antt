@@ -8,13 +8,13 @@ use Rattle.disk_trait.proofs.MomentLemmas.{here, here_true, here_is, with_same, 
 use Rattle.lilo_model.specs.Disks.{Image}
 use Rattle.lilo_model.specs.MinixLayout.{Super, IsSuper}
 use Rattle.lilo_model.specs.MinixParts.{Parts, Volume, sector_of, parts_of, zone_bit, zone_mark_sector, bit, with_bit}
-use Rattle.minix_beside_laws.specs.Beside.{IsDataZone, IsOfBitmaps, Harmless}
-use Rattle.minix_beside_laws.proofs.Harmless.{set_bit_law}
+use Rattle.minix_change_laws.specs.Beside.{IsDataZone, IsOfBitmaps, Harmless}
+use Rattle.minix_change_laws.proofs.Harmless.{set_bit_law}
 use Rattle.lilo_model.specs.MinixNames.{IsSound}
-use Rattle.minix_bits.specs.Laws.{OneZoneMark, with_mark}
-use Rattle.minix_bits.specs.Numbers.{has_number}
-use Rattle.minix_bits.proofs.BitLemmas.{bit_elsewhere}
-use Rattle.minix_bits.proofs.MarkLaws.{one_zone_mark}
+use Rattle.minix_steps.specs.BitLaws.{OneZoneMark, with_mark}
+use Rattle.minix_steps.specs.Numbers.{has_number}
+use Rattle.minix_steps.proofs.BitLemmas.{bit_elsewhere}
+use Rattle.minix_steps.proofs.MarkLaws.{one_zone_mark}
 use Rattle.minix_steps.specs.Written.{with_sector_of}
 use Rattle.minix_fill.specs.Marks.{with_marks, ZonesMarked}
 

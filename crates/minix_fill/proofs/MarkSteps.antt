@@ -15,8 +15,8 @@ use Rattle.disk_trait.proofs.RangeLemmas.{outside_is_other}
 use Rattle.lilo_model.specs.MinixParts as model
 use Rattle.lilo_model.specs.MinixParts.{Parts, sector_of, parts_of, zone_mark_sector}
 use Rattle.lilo_model.specs.MinixLayout.{super_sector}
-use Rattle.minix_beside_laws.specs.Beside.{Harmless, IsOfBitmaps}
-use Rattle.minix_bits.proofs.BitmapLemmas.{fits}
+use Rattle.minix_change_laws.specs.Beside.{Harmless, IsOfBitmaps}
+use Rattle.minix_steps.proofs.BitmapLemmas.{fits}
 use Rattle.minix_layout.specs.View.{super_view}
 use Rattle.minix_layout.specs.declared.superblock.Super.{Super}
 use Rattle.minix_steps.specs.Steps.{IsReady, Steps}

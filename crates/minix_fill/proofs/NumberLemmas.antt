@@ -5,9 +5,9 @@ use Rattle.std.proofs.Math.Nat.{mul-le-mul}
 use Rattle.lilo_model.specs.Bytes.{with_part}
 use Rattle.lilo_model.specs.MinixLayout.{Kind, Super, numbers_in_zone, number_size}
 use Rattle.lilo_model.specs.MinixParts.{number_in}
-use Rattle.minix_zone_bytes_laws.specs.Part.{number_bytes, offset_of_number}
-use Rattle.minix_zone_bytes_laws.proofs.Numbers.{number_bytes_law}
-use Rattle.minix_fill_laws.specs.Sources.{FileZones, zone_from, below_source}
+use Rattle.minix_change_laws.specs.Part.{number_bytes, offset_of_number}
+use Rattle.minix_change_laws.proofs.Numbers.{number_bytes_law}
+use Rattle.minix_choice_laws.specs.Sources.{FileZones, zone_from, below_source}
 use Rattle.minix_fill.specs.Numbers.{HasFirstNumbers}
 
 -- products that fit

@@ -8,11 +8,11 @@ use Rattle.lilo_model.specs.MinixLayout.{Super, Inode, inode_place, kept_inode, 
 use Rattle.lilo_model.specs.MinixParts as model
 use Rattle.lilo_model.specs.MinixNames.{Named}
 use Rattle.lilo_model.specs.MinixParts.{Parts, is_directory}
-use Rattle.minix_beside_laws.specs.Beside.{IsDataZone}
-use Rattle.minix_entry_laws.specs.Comes.{IsFit}
-use Rattle.minix_entry_laws.specs.Enter.{MayStand}
-use Rattle.minix_fill_laws.specs.Sources.{Source, FileZones, zone_from}
-use Rattle.minix_fill_laws.specs.Laws.{HasZones}
+use Rattle.minix_change_laws.specs.Beside.{IsDataZone}
+use Rattle.minix_change_laws.specs.Comes.{IsFit}
+use Rattle.minix_change_laws.specs.Enter.{MayStand}
+use Rattle.minix_choice_laws.specs.Sources.{Source, FileZones, zone_from}
+use Rattle.minix_choice_laws.specs.FillLaws.{HasZones}
 use Rattle.minix_layout.specs.View.{kind_view, super_view}
 use Rattle.minix_steps.specs.Steps.{IsUnusedZone, Steps}
 use Rattle.minix_steps.specs.Written.{parts_now}

@@ -1,3 +1,5 @@
 pub mod Fill
 pub mod Marks
 pub mod Numbers
+pub mod Changes
+pub mod Freed

@@ -7,8 +7,8 @@ use Rattle.disk_trait.specs.Range.{IsOutside}
 use Rattle.lilo_model.specs.MinixLayout.{Super}
 use Rattle.lilo_model.specs.MinixParts as model
 use Rattle.lilo_model.specs.MinixParts.{Parts, zone_bit, zone_mark_sector, with_bit}
-use Rattle.minix_beside_laws.specs.Beside.{IsDataZone}
-use Rattle.minix_bits.specs.Numbers.{has_number}
+use Rattle.minix_change_laws.specs.Beside.{IsDataZone}
+use Rattle.minix_steps.specs.Numbers.{has_number}
 use Rattle.minix_steps.specs.Steps.{Steps}
 use Rattle.minix_steps.specs.Written.{parts_now}
 use Rattle.minix_zones.specs.Volume.{volume_view, past_of, HasDeviceCause}

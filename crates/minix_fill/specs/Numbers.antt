@@ -3,8 +3,8 @@ use Rattle.std.specs.Prelude.{◌≡◌, ◌<◌, ℕ, ◌+◌, ◌^◌, List, [
 use Rattle.lilo_model.specs.MinixLayout.{Kind, numbers_in_zone, number_size}
 use Rattle.lilo_model.specs.MinixParts.{number_in}
 use Rattle.minix_fill.specs.declared.numbers.FileZones.{FileZones}
-use Rattle.minix_fill_laws.specs.Sources as laws
-use Rattle.minix_fill_laws.specs.Sources.{Source, zone_from, below_source}
+use Rattle.minix_choice_laws.specs.Sources as laws
+use Rattle.minix_choice_laws.specs.Sources.{Source, zone_from, below_source}
 
 -- the zones of a file
 abbrev pub zones_view : FileZones → laws.FileZones

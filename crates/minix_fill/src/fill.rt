@@ -2,7 +2,7 @@
 ghost use Rattle.std.specs.Prelude.{◌≡◌, ◌+◌, ◌≤◌, ◌<◌, ◌^◌, true, length};
 ghost use Rattle.disk_trait.specs.Moments.{IsTold};
 ghost use Rattle.lilo_model.specs.MinixLayout.{FitsInode, is_size, reach};
-ghost use Rattle.minix_fill_laws.specs.Laws.{MayBeFile};
+ghost use Rattle.minix_choice_laws.specs.FillLaws.{MayBeFile};
 ghost use Rattle.minix_layout.specs.View.{kind_view, inode_view};
 ghost use Rattle.minix_steps.specs.Steps.{IsReady, IsUnnamedInode};
 ghost use Rattle.minix_zones.specs.Volume.{past_of};

@@ -6,9 +6,8 @@ ghost use Rattle.minix_steps.specs.Steps.{IsReady};
 ghost use Rattle.minix_fill.specs.Marks.{with_marks, AreTogether, MarksZones};
 
 use disk_trait::Disks;
-use minix_bits::{put_bit, zone_bit, zone_bit_sector};
 use minix_layout::Super;
-use minix_steps::write_beside;
+use minix_steps::{put_bit, write_beside, zone_bit, zone_bit_sector};
 use minix_zones::{Volume, ZoneFault};
 use sector_parts::Sector;
 

@@ -3,8 +3,8 @@ ghost use Rattle.std.specs.Prelude.{◌≡◌, ◌≤◌, ◌<◌, ◌^◌, slic
 ghost use Rattle.lilo_model.specs.Bytes.{with_part};
 ghost use Rattle.lilo_model.specs.MinixLayout.{numbers_in_zone, number_size};
 ghost use Rattle.minix_layout.specs.View.{kind_view, inode_view};
-ghost use Rattle.minix_zone_bytes_laws.specs.Part.{number_bytes, offset_of_number};
-ghost use Rattle.minix_fill_laws.specs.Sources.{zone_from, below_source};
+ghost use Rattle.minix_change_laws.specs.Part.{number_bytes, offset_of_number};
+ghost use Rattle.minix_choice_laws.specs.Sources.{zone_from, below_source};
 ghost use Rattle.minix_fill.specs.Numbers.{zones_view, AreNumbers, HasNumbers, tops_of};
 
 use minix_layout::{FsKind, Inode};
@@ -36,7 +36,7 @@ fn number_at(numbers: &[u32], at: usize) -> u32
 }
 
 // The number at an index of the indirect zone at a place, where an indirect zone has so many.
-#[tactic(auto, unfolding(minix_fill_laws::specs::Sources::below_source), using(crate::proofs::NumberLemmas::product_few))]
+#[tactic(auto, unfolding(minix_choice_laws::specs::Sources::below_source), using(crate::proofs::NumberLemmas::product_few))]
 fn number_below(per: usize, zones: &FileZones<'_>, place: usize, index: usize) -> u32
     requires few { per ≤ 512 }
     requires place { place < 2 ^ 32 }

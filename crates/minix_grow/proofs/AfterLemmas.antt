@@ -9,13 +9,13 @@ use Rattle.lilo_model.specs.MinixLayout.{Inode}
 use Rattle.lilo_model.specs.MinixNames.{Named, IsSound}
 use Rattle.lilo_model.specs.MinixParts as model
 use Rattle.lilo_model.specs.MinixParts.{Parts, is_directory}
-use Rattle.minix_beside_laws.specs.Beside.{Beside}
-use Rattle.minix_beside_laws.specs.Keeps.{Keeps}
-use Rattle.minix_beside_laws.proofs.Beside.{keeps, beside_law, named_law}
-use Rattle.minix_growth_laws.specs.Changes.{MaySize}
+use Rattle.minix_change_laws.specs.Beside.{Beside}
+use Rattle.minix_change_laws.specs.Keeps.{Keeps}
+use Rattle.minix_change_laws.proofs.Beside.{keeps, beside_law, named_law}
+use Rattle.minix_change_laws.specs.Changes.{MaySize}
 use Rattle.minix_layout.specs.View.{kind_view}
-use Rattle.minix_sees_laws.proofs.Inode.{HasSameNumbers, same-node, KeepsZones, keeps-above, directory-zones, pointer-same, entry-same}
-use Rattle.minix_sees_laws.proofs.Seen.{opened}
+use Rattle.minix_change_laws.proofs.Inode.{HasSameNumbers, same-node, KeepsZones, keeps-above, directory-zones, pointer-same, entry-same}
+use Rattle.minix_change_laws.proofs.Seen.{opened}
 use Rattle.minix_steps.specs.Steps.{IsReady, Steps}
 use Rattle.minix_steps.proofs.StepLemmas.{same_view, beside_before, now_beside}
 use Rattle.minix_zones.specs.Volume.{volume_view, past_of}

@@ -9,20 +9,20 @@ use Rattle.lilo_model.specs.MinixLayout.{Inode, numbers_in_zone, number_size}
 use Rattle.lilo_model.specs.MinixNames.{Named, Refers, IsSound}
 use Rattle.lilo_model.specs.MinixParts as model
 use Rattle.lilo_model.specs.MinixParts.{Parts, Pointer, is_directory, number_below, number_in}
-use Rattle.minix_beside_laws.specs.Beside.{IsDataZone}
-use Rattle.minix_growth_laws.specs.Changes.{ChangesZone, MayHook, HasNumber}
-use Rattle.minix_growth_laws.specs.Grows.{below}
+use Rattle.minix_change_laws.specs.Beside.{IsDataZone}
+use Rattle.minix_change_laws.specs.Changes.{ChangesZone, MayHook, HasNumber}
+use Rattle.minix_change_laws.specs.Grows.{below}
 use Rattle.minix_layout.specs.View.{kind_view, super_view}
-use Rattle.minix_sees_laws.specs.Sees.{SeenAsIn}
-use Rattle.minix_sees_laws.proofs.Inode.{directory-zones}
-use Rattle.minix_sees_laws.proofs.Seen.{opened}
-use Rattle.minix_sees_laws.proofs.Sees.{directory-same, named-new}
+use Rattle.minix_change_laws.specs.Sees.{SeenAsIn}
+use Rattle.minix_change_laws.proofs.Inode.{directory-zones}
+use Rattle.minix_change_laws.proofs.Seen.{opened}
+use Rattle.minix_change_laws.proofs.Sees.{directory-same, named-new}
 use Rattle.minix_steps.specs.Written.{parts_now}
 use Rattle.minix_turns.specs.Names.{MayHookAt, HooksUnseen}
 use Rattle.minix_turns.specs.Part.{HasNumberPart}
-use Rattle.minix_zone_bytes_laws.specs.Part.{HasZonePart, with_zone_part, PartIsWritten, number_bytes, offset_of_number}
-use Rattle.minix_zone_bytes_laws.proofs.Numbers.{number_bytes_law}
-use Rattle.minix_zone_bytes_laws.proofs.Part.{part_law}
+use Rattle.minix_change_laws.specs.Part.{HasZonePart, with_zone_part, PartIsWritten, number_bytes, offset_of_number}
+use Rattle.minix_change_laws.proofs.Numbers.{number_bytes_law}
+use Rattle.minix_change_laws.proofs.Part.{part_law}
 use Rattle.minix_zones.specs.Volume.{volume_view, past_of}
 use Rattle.minix_zones.specs.declared.volume.Volume.{Volume}
 use Rattle.minix_zones.specs.declared.zone_fault.ZoneFault.{ZoneFault}

@@ -6,9 +6,9 @@ use Rattle.std.proofs.lemmas.Nat.{mod_below}
 use Rattle.lilo_model.specs.MinixLayout.{Super, numbers_in_zone, number_size}
 use Rattle.lilo_model.specs.MinixParts.{Parts, number_in}
 use Rattle.lilo_model.specs.MinixWalk.{place_in_branch}
-use Rattle.minix_growth_laws.specs.Grows.{HoldsOnly, IsApart, IsChain}
-use Rattle.minix_growth_laws.proofs.Zeros.{number-zeros}
-use Rattle.minix_zone_bytes_laws.proofs.Numbers.{number_bytes_law}
+use Rattle.minix_change_laws.specs.Grows.{HoldsOnly, IsApart, IsChain}
+use Rattle.minix_change_laws.proofs.Zeros.{number-zeros}
+use Rattle.minix_change_laws.proofs.Numbers.{number_bytes_law}
 use Rattle.minix_grow.specs.Way.{index_above, zones_below, grown_bytes, AreGrown}
 
 module _ (super : Super) (parts : Parts) (block : ℕ) (growth : List ℕ) (count : ℕ) (grown : AreGrown super parts block growth count) (small : (level : ℕ) → level < count → slice_index growth level < 256 ^ number_size super.kind)

@@ -6,12 +6,12 @@ use Rattle.lilo_model.specs.MinixEntries.{entry_in, entries_per_block}
 use Rattle.lilo_model.specs.MinixLayout.{Kind, Super, Inode, number_size}
 use Rattle.lilo_model.specs.MinixNames.{pointer, zone_number, block, entry, Named}
 use Rattle.lilo_model.specs.MinixParts.{Parts, Pointer, IsPointer, block_pointer, follow, number_below, number_in, zone_at_pointer, zone_bytes, is_directory}
-use Rattle.minix_growth_laws.specs.Changes.{MayHook}
-use Rattle.minix_growth_laws.specs.Grows.{down}
-use Rattle.minix_growth_laws.proofs.Zeros.{entry-zeros}
+use Rattle.minix_change_laws.specs.Changes.{MayHook}
+use Rattle.minix_change_laws.specs.Grows.{down}
+use Rattle.minix_change_laws.proofs.Zeros.{entry-zeros}
 use Rattle.minix_laws.proofs.Inside.{some_numbers}
 use Rattle.minix_laws.proofs.Pointers.{pointer_law}
-use Rattle.minix_sees_laws.proofs.Inode.{shorter}
+use Rattle.minix_change_laws.proofs.Inode.{shorter}
 use Rattle.minix_grow.specs.Way.{depth_of, pointer_above, index_above, number_on_way, number_above, zones_below, grown_bytes, AreGrown}
 use Rattle.minix_grow.proofs.ChainLemmas.{holds, chain}
 use Rattle.minix_grow.proofs.WayLemmas.{pointer_below, pointer_lowest, down_below}

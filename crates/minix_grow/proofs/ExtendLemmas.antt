@@ -8,9 +8,9 @@ use Rattle.lilo_model.specs.MinixEntries.{entries_per_block}
 use Rattle.lilo_model.specs.MinixLayout.{Inode, FitsInode, entry_size, is_size, inode_place}
 use Rattle.lilo_model.specs.MinixNames.{Named, IsSound}
 use Rattle.lilo_model.specs.MinixParts as model
-use Rattle.minix_growth_laws.specs.Changes.{ChangesZone, ChangesNode, with_size, MaySize}
+use Rattle.minix_change_laws.specs.Changes.{ChangesZone, ChangesNode, with_size, MaySize}
 use Rattle.minix_layout.specs.View.{kind_view, super_view}
-use Rattle.minix_sees_laws.proofs.Seen.{opened}
+use Rattle.minix_change_laws.proofs.Seen.{opened}
 use Rattle.minix_steps.proofs.StepLemmas.{same_view}
 use Rattle.minix_steps.specs.Written.{with_sector_of, inode_rewritten, parts_now}
 use Rattle.minix_turns.specs.Inode.{TurnsInode, MayHaveSize}
@@ -19,8 +19,8 @@ use Rattle.minix_turns.specs.Names.{IsPastAt, PastUnseen, PastFree}
 use Rattle.minix_turns.specs.Part.{HasEntryPart}
 use Rattle.minix_turns.proofs.SeenLemmas.{node_size}
 use Rattle.minix_turns.proofs.JoinedLemmas.{unseen_join}
-use Rattle.minix_zone_bytes_laws.specs.Part.{with_zone_part, free_bytes}
-use Rattle.minix_zone_bytes_laws.proofs.Part.{part_law}
+use Rattle.minix_change_laws.specs.Part.{with_zone_part, free_bytes}
+use Rattle.minix_change_laws.proofs.Part.{part_law}
 use Rattle.minix_zones.specs.Volume.{volume_view, past_of}
 use Rattle.minix_zones.specs.declared.volume.Volume.{Volume}
 use Rattle.minix_zones.specs.declared.zone_fault.ZoneFault.{ZoneFault}

@@ -16,22 +16,22 @@ use Rattle.lilo_model.specs.MinixNames.{zone_number, pointer, entry, Named, Soun
 use Rattle.lilo_model.specs.MinixParts as model
 use Rattle.lilo_model.specs.MinixParts.{Parts, inside, number_below, is_directory, blocks_for}
 use Rattle.lilo_model.specs.MinixWalk.{place_in_branch}
-use Rattle.minix_entry_laws.specs.Only.{zone_of_entry}
-use Rattle.minix_entry_laws.proofs.Blocks.{block-below, entry-fits, index-below, some-entry}
-use Rattle.minix_growth_laws.specs.Changes.{MaySize}
-use Rattle.minix_growth_laws.proofs.Holes.{hole_law}
+use Rattle.minix_change_laws.specs.Only.{zone_of_entry}
+use Rattle.minix_change_laws.proofs.Blocks.{block-below, entry-fits, index-below, some-entry}
+use Rattle.minix_change_laws.specs.Changes.{MaySize}
+use Rattle.minix_change_laws.proofs.Holes.{hole_law}
 use Rattle.minix_laws.proofs.Inside.{inside-hole, inside-zone, some_numbers}
 use Rattle.minix_layout.specs.View.{kind_view, super_view}
 use Rattle.minix_layout.specs.declared.superblock.Super as layouts
-use Rattle.minix_sees_laws.proofs.Inode.{directory-zones}
-use Rattle.minix_sees_laws.proofs.Seen.{opened}
+use Rattle.minix_change_laws.proofs.Inode.{directory-zones}
+use Rattle.minix_change_laws.proofs.Seen.{opened}
 use Rattle.minix_steps.specs.Written.{parts_now}
 use Rattle.minix_steps.proofs.ReadyLemmas.{quiet_ready}
 use Rattle.minix_steps.proofs.StepLemmas.{no_step}
 use Rattle.minix_tree.proofs.StatLemmas.{blocks_reached}
 use Rattle.minix_turns.specs.Joined.{Unseen}
 use Rattle.minix_turns.proofs.JoinedLemmas.{steps_unseen}
-use Rattle.minix_zone_bytes_laws.specs.Part.{offset_of_number}
+use Rattle.minix_change_laws.specs.Part.{offset_of_number}
 use Rattle.minix_zones.specs.View.{Refuses, IsDataZone, span_view}
 use Rattle.minix_zones.specs.Volume.{volume_view, past_of, faults_of, SameVolume, HasDeviceCause}
 use Rattle.minix_zones.specs.declared.volume.Volume.{Volume}

@@ -11,12 +11,12 @@ use Rattle.lilo_model.specs.MinixNames.{pointer, zone_number, Named}
 use Rattle.lilo_model.specs.MinixParts as model
 use Rattle.lilo_model.specs.MinixParts.{Parts, Pointer, IsPointer, block_pointer, follow, number_below, number_in, zone_bytes, is_directory}
 use Rattle.lilo_model.specs.MinixWalk.{Branch, branch_of}
-use Rattle.minix_growth_laws.specs.Changes.{ChangesNode, MayHook, with_top}
-use Rattle.minix_growth_laws.specs.Grows.{pointer_at, below}
+use Rattle.minix_change_laws.specs.Changes.{ChangesNode, MayHook, with_top}
+use Rattle.minix_change_laws.specs.Grows.{pointer_at, below}
 use Rattle.minix_layout.specs.View.{kind_view, super_view}
-use Rattle.minix_sees_laws.specs.Sees.{SeenAsIn}
-use Rattle.minix_sees_laws.proofs.Seen.{opened}
-use Rattle.minix_sees_laws.proofs.Sees.{directory-same, named-new}
+use Rattle.minix_change_laws.specs.Sees.{SeenAsIn}
+use Rattle.minix_change_laws.proofs.Seen.{opened}
+use Rattle.minix_change_laws.proofs.Sees.{directory-same, named-new}
 use Rattle.minix_steps.specs.Written.{with_sector_of, inode_rewritten, parts_now}
 use Rattle.minix_tree.proofs.StatLemmas.{blocks_reached}
 use Rattle.minix_turns.specs.Inode.{TurnsInode, FitsTop, tops, IsNamedNow, MayHaveTop}

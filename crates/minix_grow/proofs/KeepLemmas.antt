@@ -7,18 +7,18 @@ use Rattle.lilo_model.specs.MinixEntries.{Entry}
 use Rattle.lilo_model.specs.MinixLayout.{Kind, Super, Inode}
 use Rattle.lilo_model.specs.MinixNames.{pointer, Named, PointsTo, Refers, Sound}
 use Rattle.lilo_model.specs.MinixParts.{Parts, Pointer, is_directory}
-use Rattle.minix_beside_laws.specs.Keeps.{Keeps}
-use Rattle.minix_entry_laws.specs.Comes.{IsFit}
-use Rattle.minix_entry_laws.specs.Only.{zone_of_entry, KeepsInode}
-use Rattle.minix_entry_laws.proofs.Only.{directory-refers, above-kept}
-use Rattle.minix_growth_laws.specs.Changes.{ChangesZone, ChangesNode, MayHook, MaySize, HasNumber, with_size, with_top}
-use Rattle.minix_growth_laws.specs.Grows.{pointer_at, below, Deeper, IsApart, IsChain}
-use Rattle.minix_growth_laws.proofs.Changes.{top_law, number_law}
-use Rattle.minix_growth_laws.proofs.Extends.{of-node}
-use Rattle.minix_sees_laws.specs.Sees.{IsFresh, Sees}
-use Rattle.minix_sees_laws.proofs.Inode.{HasSameNumbers, IsSameNode, same-node, keeps-above, points-old, points-new, directory-zones, entry-same}
-use Rattle.minix_sees_laws.proofs.Kept.{kept_is_seen_law}
-use Rattle.minix_sees_laws.proofs.Sees.{named-old, named-new, refers-old, sees_law}
+use Rattle.minix_change_laws.specs.Keeps.{Keeps}
+use Rattle.minix_change_laws.specs.Comes.{IsFit}
+use Rattle.minix_change_laws.specs.Only.{zone_of_entry, KeepsInode}
+use Rattle.minix_change_laws.proofs.Only.{directory-refers, above-kept}
+use Rattle.minix_change_laws.specs.Changes.{ChangesZone, ChangesNode, MayHook, MaySize, HasNumber, with_size, with_top}
+use Rattle.minix_change_laws.specs.Grows.{pointer_at, below, Deeper, IsApart, IsChain}
+use Rattle.minix_change_laws.proofs.Changes.{top_law, number_law}
+use Rattle.minix_change_laws.proofs.Extends.{of-node}
+use Rattle.minix_change_laws.specs.Sees.{IsFresh, Sees}
+use Rattle.minix_change_laws.proofs.Inode.{HasSameNumbers, IsSameNode, same-node, keeps-above, points-old, points-new, directory-zones, entry-same}
+use Rattle.minix_change_laws.proofs.Kept.{kept_is_seen_law}
+use Rattle.minix_change_laws.proofs.Sees.{named-old, named-new, refers-old, sees_law}
 use Rattle.minix_grow.specs.Others.{IsOneOf, IsNoneOf, IsClearOf, ChangesZones, KeepsOthers}
 use Rattle.minix_grow.specs.Way.{zones_below}
 

@@ -7,7 +7,7 @@ use Rattle.disk_trait.proofs.LawLemmas.{quiet_begun}
 use Rattle.lilo_model.specs.MinixNames.{Named, Refers, IsSound}
 use Rattle.lilo_model.specs.MinixParts as model
 use Rattle.minix_layout.specs.View.{super_view}
-use Rattle.minix_sees_laws.proofs.Seen.{opened}
+use Rattle.minix_change_laws.proofs.Seen.{opened}
 use Rattle.minix_steps.specs.Written.{parts_now}
 use Rattle.minix_turns.specs.Joined.{Unseen}
 use Rattle.minix_zones.specs.Volume.{volume_view, past_of}

@@ -8,7 +8,7 @@ use Rattle.disk_trait.specs.Range.{IsOutside}
 use Rattle.lilo_model.specs.MinixLayout.{Inode, inode_place, numbers_in_zone, zone_sector}
 use Rattle.lilo_model.specs.MinixParts.{zone_mark_sector}
 use Rattle.lilo_model.specs.MinixWalk.{Branch, branch_of}
-use Rattle.minix_growth_laws.specs.Changes.{with_top}
+use Rattle.minix_change_laws.specs.Changes.{with_top}
 use Rattle.minix_layout.specs.View.{kind_view, super_view}
 use Rattle.minix_layout.specs.declared.superblock.Super.{Super}
 use Rattle.minix_turns.specs.Inode.{TurnsInode}
@@ -16,7 +16,7 @@ use Rattle.minix_zones.specs.Volume.{KeepsVolume}
 use Rattle.minix_zones.specs.declared.volume.Volume.{Volume}
 use Rattle.minix_zones.specs.declared.zone_fault.ZoneFault.{ZoneFault}
 use Rattle.minix_zones.specs.declared.zone_fault.ZoneFault.TheVariants.{Device}
-use Rattle.minix_zone_bytes_laws.specs.Part.{offset_of_number}
+use Rattle.minix_change_laws.specs.Part.{offset_of_number}
 use Rattle.minix_grow.specs.Below.{IsOffNumber}
 use Rattle.minix_grow.specs.Hook.{IsOffInode, hooked}
 use Rattle.minix_grow.specs.Way.{index_above}

@@ -5,16 +5,16 @@ use Rattle.lilo_model.specs.MinixEntries.{entries_per_block, places}
 use Rattle.lilo_model.specs.MinixLayout.{Kind, V1Short, V1Long, V2Short, V2Long, Inode, entry_size, is_size}
 use Rattle.lilo_model.specs.MinixNames.{zone_number, entry, Refers, Named}
 use Rattle.lilo_model.specs.MinixParts.{Parts, Volume, block_pointer, parts_of}
-use Rattle.minix_beside_laws.specs.Beside.{IsDataZone}
-use Rattle.minix_entry_laws.specs.Only.{zone_of_entry}
-use Rattle.minix_entry_laws.proofs.Only.{directory-refers}
-use Rattle.minix_growth_laws.specs.Changes.{ChangesZone, MaySize}
-use Rattle.minix_sees_laws.specs.Sees.{SeenAsIn}
-use Rattle.minix_sees_laws.proofs.Seen.{opened}
-use Rattle.minix_sees_laws.proofs.Sees.{directory-same, named-new}
+use Rattle.minix_change_laws.specs.Beside.{IsDataZone}
+use Rattle.minix_change_laws.specs.Only.{zone_of_entry}
+use Rattle.minix_change_laws.proofs.Only.{directory-refers}
+use Rattle.minix_change_laws.specs.Changes.{ChangesZone, MaySize}
+use Rattle.minix_change_laws.specs.Sees.{SeenAsIn}
+use Rattle.minix_change_laws.proofs.Seen.{opened}
+use Rattle.minix_change_laws.proofs.Sees.{directory-same, named-new}
 use Rattle.minix_tree.proofs.StatLemmas.{blocks_reached}
-use Rattle.minix_zone_bytes_laws.specs.Part.{HasZonePart, with_zone_part, IsPast}
-use Rattle.minix_zone_bytes_laws.proofs.Part.{part_law}
+use Rattle.minix_change_laws.specs.Part.{HasZonePart, with_zone_part, IsPast}
+use Rattle.minix_change_laws.proofs.Part.{part_law}
 use Rattle.minix_grow.specs.Places.{size_to, IsFreePlace, IsNextPlace}
 
 -- so many places lie below such a size

@@ -9,17 +9,17 @@ use Rattle.lilo_model.specs.MinixLayout.{Kind, V1Short, V1Long, V2Short, V2Long,
 use Rattle.lilo_model.specs.MinixNames.{zone_number, entry, IsSound}
 use Rattle.lilo_model.specs.MinixParts as model
 use Rattle.lilo_model.specs.MinixParts.{Parts, parts_of}
-use Rattle.minix_entry_laws.specs.Only.{zone_of_entry}
-use Rattle.minix_entry_laws.proofs.Blocks.{block-below}
-use Rattle.minix_growth_laws.specs.Changes.{with_size, MaySize}
+use Rattle.minix_change_laws.specs.Only.{zone_of_entry}
+use Rattle.minix_change_laws.proofs.Blocks.{block-below}
+use Rattle.minix_change_laws.specs.Changes.{with_size, MaySize}
 use Rattle.minix_layout.specs.View.{kind_view, super_view}
-use Rattle.minix_sees_laws.proofs.Seen.{opened}
+use Rattle.minix_change_laws.proofs.Seen.{opened}
 use Rattle.minix_steps.proofs.ReadyLemmas.{quiet_ready}
 use Rattle.minix_tree.proofs.StatLemmas.{blocks_reached}
 use Rattle.minix_turns.specs.Inode.{TurnsInode, MayHaveSize}
 use Rattle.minix_turns.specs.Joined.{Unseen}
 use Rattle.minix_turns.proofs.JoinedLemmas.{steps_unseen}
-use Rattle.minix_zone_bytes_laws.specs.Part.{IsPast}
+use Rattle.minix_change_laws.specs.Part.{IsPast}
 use Rattle.minix_zones.specs.Volume.{volume_view, past_of}
 use Rattle.minix_zones.specs.declared.volume.Volume.{Volume}
 use Rattle.minix_zones.specs.declared.zone_fault.ZoneFault.{ZoneFault}

@@ -4,7 +4,7 @@ use Rattle.std.proofs.Math.Nat.{pow-zero, pow-succ', div-div-eq-div-mul}
 use Rattle.lilo_model.specs.MinixLayout.{Kind, numbers_in_zone}
 use Rattle.lilo_model.specs.MinixParts.{Pointer, trail_of, pointer_with, pointer_by, block_pointer}
 use Rattle.lilo_model.specs.MinixWalk.{branch_of, place_in_branch, stop_pointer}
-use Rattle.minix_growth_laws.specs.Grows.{pointer_at, below, down}
+use Rattle.minix_change_laws.specs.Grows.{pointer_at, below, down}
 use Rattle.minix_grow.specs.Way.{depth_of, pointer_above, index_above, zones_below}
 
 -- a level further up

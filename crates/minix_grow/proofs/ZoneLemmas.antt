@@ -9,10 +9,10 @@ use Rattle.lilo_model.specs.MinixLayout as model-layout
 use Rattle.lilo_model.specs.MinixLayout.{Kind, IsSuper, number_size}
 use Rattle.lilo_model.specs.MinixNames.{Refers}
 use Rattle.lilo_model.specs.MinixParts as model
-use Rattle.minix_bits.specs.Laws.{OneZoneMark}
+use Rattle.minix_steps.specs.BitLaws.{OneZoneMark}
 use Rattle.minix_layout.specs.View.{kind_view, super_view}
 use Rattle.minix_layout.specs.declared.superblock.Super.{Super}
-use Rattle.minix_steps.specs.Laws.{OneZone}
+use Rattle.minix_steps.specs.StepLaws.{OneZone}
 use Rattle.minix_steps.specs.Steps.{IsReady, Steps}
 use Rattle.minix_steps.specs.Written.{parts_now}
 use Rattle.minix_steps.proofs.StepLemmas.{no_step, same_view}

@@ -13,7 +13,7 @@ use Rattle.minix_layout.specs.View.{kind_view, super_view}
 use Rattle.minix_steps.specs.Written.{parts_now}
 use Rattle.minix_turns.specs.Inode.{IsNamedNow}
 use Rattle.minix_turns.specs.Joined.{Unseen}
-use Rattle.minix_zone_bytes_laws.specs.Part.{offset_of_number}
+use Rattle.minix_change_laws.specs.Part.{offset_of_number}
 use Rattle.minix_zones.specs.Volume.{volume_view, past_of}
 use Rattle.minix_zones.specs.declared.volume.Volume.{Volume}
 use Rattle.minix_grow.specs.Hook.{IsOffInode}

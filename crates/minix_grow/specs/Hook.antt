@@ -5,7 +5,7 @@ use Rattle.disk_trait.specs.NotWritten.{IsOther, NotWritten}
 use Rattle.lilo_model.specs.MinixLayout.{Kind, Inode, inode_place, numbers_in_zone}
 use Rattle.lilo_model.specs.MinixParts.{is_directory}
 use Rattle.lilo_model.specs.MinixWalk.{branch_of}
-use Rattle.minix_growth_laws.specs.Changes.{MaySize, with_top}
+use Rattle.minix_change_laws.specs.Changes.{MaySize, with_top}
 use Rattle.minix_layout.specs.View.{kind_view, super_view}
 use Rattle.minix_steps.specs.Written.{parts_now}
 use Rattle.minix_turns.specs.Inode.{IsNamedNow}

@@ -7,9 +7,9 @@ use Rattle.lilo_model.specs.MinixLayout.{Super, Inode}
 use Rattle.lilo_model.specs.MinixNames.{Named, PointsTo}
 use Rattle.lilo_model.specs.MinixParts as model
 use Rattle.lilo_model.specs.MinixParts.{Parts, Pointer}
-use Rattle.minix_beside_laws.specs.Beside.{IsInode, IsDataZone}
-use Rattle.minix_entry_laws.specs.Comes.{IsFit}
-use Rattle.minix_entry_laws.specs.Only.{KeepsInode}
+use Rattle.minix_change_laws.specs.Beside.{IsInode, IsDataZone}
+use Rattle.minix_change_laws.specs.Comes.{IsFit}
+use Rattle.minix_change_laws.specs.Only.{KeepsInode}
 use Rattle.minix_layout.specs.View.{super_view}
 use Rattle.minix_steps.specs.Written.{parts_now}
 use Rattle.minix_zones.specs.Volume.{volume_view, past_of}

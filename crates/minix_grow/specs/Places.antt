@@ -8,10 +8,10 @@ use Rattle.lilo_model.specs.MinixEntries.{entries_per_block, places}
 use Rattle.lilo_model.specs.MinixLayout.{Kind, Inode, entry_size, zone_sector}
 use Rattle.lilo_model.specs.MinixNames.{entry, IsSound}
 use Rattle.lilo_model.specs.MinixParts.{Volume, parts_of}
-use Rattle.minix_entry_bytes_laws.specs.Written.{IsPlaced}
-use Rattle.minix_entry_laws.specs.Only.{zone_of_entry}
+use Rattle.minix_change_laws.specs.Written.{IsPlaced}
+use Rattle.minix_change_laws.specs.Only.{zone_of_entry}
 use Rattle.minix_layout.specs.View.{kind_view}
-use Rattle.minix_zone_bytes_laws.specs.Part.{IsPast}
+use Rattle.minix_change_laws.specs.Part.{IsPast}
 use Rattle.minix_zones.specs.Volume.{volume_view, past_of}
 use Rattle.minix_zones.specs.declared.volume.Volume as code
 use Rattle.minix_grow.specs.Hook.{IsOffInode}

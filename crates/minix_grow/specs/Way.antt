@@ -7,9 +7,9 @@ use Rattle.lilo_model.specs.MinixLayout.{Kind, Super, Inode, numbers_in_zone}
 use Rattle.lilo_model.specs.MinixNames.{pointer}
 use Rattle.lilo_model.specs.MinixParts.{Parts, Pointer, zone_at_pointer}
 use Rattle.lilo_model.specs.MinixWalk.{branch_of, place_in_branch, stop_pointer}
-use Rattle.minix_growth_laws.specs.Grows.{Deeper}
-use Rattle.minix_sees_laws.specs.Sees.{IsFresh}
-use Rattle.minix_zone_bytes_laws.specs.Part.{number_bytes, offset_of_number}
+use Rattle.minix_change_laws.specs.Grows.{Deeper}
+use Rattle.minix_change_laws.specs.Sees.{IsFresh}
+use Rattle.minix_change_laws.specs.Part.{number_bytes, offset_of_number}
 
 -- ---- the numbers on the way
 

@@ -8,7 +8,7 @@ ghost use Rattle.minix_grow.specs.Way.{grown_bytes};
 ghost use Rattle.minix_grow.specs.Zones.{AreData, AreUnused, AreMarked, AreWritten, AreGrownNow, WritesZonesAlone};
 ghost use Rattle.minix_layout.specs.View.{kind_view};
 ghost use Rattle.minix_steps.specs.Steps.{IsReady, Steps};
-ghost use Rattle.minix_zone_bytes_laws.specs.Part.{number_bytes, offset_of_number};
+ghost use Rattle.minix_change_laws.specs.Part.{number_bytes, offset_of_number};
 ghost use Rattle.minix_zones.specs.Volume.{past_of, HasDeviceCause};
 
 use crate::way::index_above;

@@ -9,3 +9,6 @@ pub mod MoveLemmas
 pub mod RenamedLemmas
 pub mod OverLemmas
 pub mod RenameLemmas
+pub mod Refers
+pub mod Renamed
+pub mod Free

@@ -9,11 +9,11 @@ use Rattle.lilo_model.specs.MinixNames.{Thing, thing, names, names_in, reached, 
 use Rattle.lilo_model.specs.MinixParts as model
 use Rattle.lilo_model.specs.MinixParts.{Parts, parts_of}
 use Rattle.minix_layout.specs.View.{super_view}
-use Rattle.minix_sees_laws.specs.Sees.{SeenAsIn}
-use Rattle.minix_sees_laws.specs.Tree.{HasTreeWith, HasTreeMoved}
-use Rattle.minix_sees_laws.proofs.Seen.{seen_sound_law, seen_join_law, seen_same_law}
-use Rattle.minix_sees_laws.proofs.Sees.{reached-same}
-use Rattle.minix_sees_laws.proofs.Tree.{keeps_join_law, tree_after_law, moved_tree_after_law, moved_tree_before_law}
+use Rattle.minix_change_laws.specs.Sees.{SeenAsIn}
+use Rattle.minix_change_laws.specs.Tree.{HasTreeWith, HasTreeMoved}
+use Rattle.minix_change_laws.proofs.Seen.{seen_sound_law, seen_join_law, seen_same_law}
+use Rattle.minix_change_laws.proofs.Sees.{reached-same}
+use Rattle.minix_change_laws.proofs.Tree.{keeps_join_law, tree_after_law, moved_tree_after_law, moved_tree_before_law}
 use Rattle.minix_steps.specs.Written.{with_sector_of, parts_now}
 use Rattle.minix_steps.proofs.StepLemmas.{leaves_told, same_view}
 use Rattle.minix_turns.specs.Joined.{Unseen, SeenOrWith, LeadsPath}

@@ -14,17 +14,17 @@ use Rattle.lilo_model.specs.MinixLayout.{Inode, entry_size, name_size, most_link
 use Rattle.lilo_model.specs.MinixNames.{reached, Named, PointsTo, Sound, IsSound}
 use Rattle.lilo_model.specs.MinixParts as model
 use Rattle.lilo_model.specs.MinixParts.{Parts, Pointer, is_directory, has_zones, parts_of}
-use Rattle.minix_beside_laws.specs.Beside.{IsDataZone}
-use Rattle.minix_entry_bytes_laws.specs.Written.{entry_bytes, FitsEntry, IsPlaced}
-use Rattle.minix_entry_bytes_laws.specs.Still.{StandsAsIn}
-use Rattle.minix_entry_bytes_laws.proofs.EntryBytes.{entry_bytes_law}
-use Rattle.minix_entry_bytes_laws.proofs.Images.{redirect_bytes_law}
-use Rattle.minix_entry_bytes_laws.proofs.Still.{still_law}
-use Rattle.minix_entry_laws.specs.Enter.{MayStand, MayRemove, IsLeft, IsOnlyName}
-use Rattle.minix_entry_laws.specs.Only.{zone_of_entry}
-use Rattle.minix_entry_laws.proofs.Only.{fit_law}
-use Rattle.minix_free.proofs.FileLemmas.{off_file_kept}
-use Rattle.minix_growth_laws.specs.Changes.{AreEnough, ChangesNode, ChangesZone}
+use Rattle.minix_change_laws.specs.Beside.{IsDataZone}
+use Rattle.minix_change_laws.specs.Written.{entry_bytes, FitsEntry, IsPlaced}
+use Rattle.minix_change_laws.specs.Still.{StandsAsIn}
+use Rattle.minix_change_laws.proofs.EntryBytes.{entry_bytes_law}
+use Rattle.minix_change_laws.proofs.Images.{redirect_bytes_law}
+use Rattle.minix_change_laws.proofs.Still.{still_law}
+use Rattle.minix_change_laws.specs.Enter.{MayStand, MayRemove, IsLeft, IsOnlyName}
+use Rattle.minix_change_laws.specs.Only.{zone_of_entry}
+use Rattle.minix_change_laws.proofs.Only.{fit_law}
+use Rattle.minix_fill.proofs.FileLemmas.{off_file_kept}
+use Rattle.minix_change_laws.specs.Changes.{AreEnough, ChangesNode, ChangesZone}
 use Rattle.minix_layout.specs.View.{kind_view, super_view, inode_view}
 use Rattle.minix_layout.specs.declared.superblock.Super.{Super}
 use Rattle.minix_remove_laws.specs.Files.{KeepsFiles}
@@ -32,10 +32,10 @@ use Rattle.minix_remove_laws.specs.Held.{held_name}
 use Rattle.minix_remove_laws.proofs.Files.{kept_files_law, raised_node, raised_range, keeps_raised, former_range, former_enough, former_left}
 use Rattle.minix_remove_laws.proofs.Held.{no-directory}
 use Rattle.minix_remove_laws.proofs.Released.{only-name}
-use Rattle.minix_sees_laws.specs.Sees.{with_links, SeenAsIn}
-use Rattle.minix_sees_laws.proofs.Seen.{opened}
-use Rattle.minix_sees_laws.proofs.Sees.{reached-same, named-new, all_lead-old}
-use Rattle.minix_sees_laws.proofs.Tree.{sees-keeps}
+use Rattle.minix_change_laws.specs.Sees.{with_links, SeenAsIn}
+use Rattle.minix_change_laws.proofs.Seen.{opened}
+use Rattle.minix_change_laws.proofs.Sees.{reached-same, named-new, all_lead-old}
+use Rattle.minix_change_laws.proofs.Tree.{sees-keeps}
 use Rattle.minix_steps.specs.Written.{parts_now}
 use Rattle.minix_steps.proofs.StepLemmas.{same_view}
 use Rattle.minix_turns.specs.Inode.{TurnsInode, MayHaveLinks}
@@ -47,8 +47,8 @@ use Rattle.minix_turns.proofs.JoinedLemmas.{unseen_join}
 use Rattle.minix_turns.proofs.LinkLemmas.{raised_links_law}
 use Rattle.minix_turns.proofs.NameLemmas.{entry_at}
 use Rattle.minix_turns.proofs.ReplaceLemmas.{zone_stays, off_entry_stays}
-use Rattle.minix_zone_bytes_laws.specs.Part.{HasZonePart, free_bytes, with_zone_part}
-use Rattle.minix_zone_bytes_laws.proofs.Part.{part_law}
+use Rattle.minix_change_laws.specs.Part.{HasZonePart, free_bytes, with_zone_part}
+use Rattle.minix_change_laws.proofs.Part.{part_law}
 use Rattle.minix_zones.specs.Volume.{volume_view, past_of, KeepsVolume, HasDeviceCause}
 use Rattle.minix_zones.specs.declared.volume.Volume.{Volume}
 use Rattle.minix_zones.specs.declared.zone_fault.ZoneFault.{ZoneFault}

@@ -6,22 +6,22 @@ use Rattle.lilo_model.specs.MinixLayout.{Super, Inode, entry_size, reach}
 use Rattle.lilo_model.specs.MinixNames.{Thing, entry, thing, reached, Named, Sound, IsSound}
 use Rattle.lilo_model.specs.MinixParts as model
 use Rattle.lilo_model.specs.MinixParts.{Parts, is_directory, blocks_for, parts_of}
-use Rattle.minix_entry_bytes_laws.specs.Replaced.{ReplacedIn}
-use Rattle.minix_entry_bytes_laws.specs.Written.{IsPlaced, HasEntryBytes}
-use Rattle.minix_entry_bytes_laws.proofs.Images.{redirect_bytes_law}
-use Rattle.minix_entry_bytes_laws.proofs.Replace.{replace_bytes_law}
-use Rattle.minix_entry_bytes_laws.proofs.Written.{written_law}
-use Rattle.minix_entry_laws.specs.Enter.{MayStand, MayRemove}
-use Rattle.minix_entry_laws.specs.Only.{zone_of_entry, ChangesOnlyEntry}
-use Rattle.minix_made_laws.proofs.Places.{seen_places_law, entry_places_law}
-use Rattle.minix_sees_laws.specs.Sees.{Sees}
-use Rattle.minix_sees_laws.specs.Tree.{TreeWith, TreeMoved, HasTreeWith}
-use Rattle.minix_sees_laws.proofs.Seen.{opened}
-use Rattle.minix_sees_laws.proofs.Sees.{directory-same, named-new}
+use Rattle.minix_change_laws.specs.Replaced.{ReplacedIn}
+use Rattle.minix_change_laws.specs.Written.{IsPlaced, HasEntryBytes}
+use Rattle.minix_change_laws.proofs.Images.{redirect_bytes_law}
+use Rattle.minix_change_laws.proofs.ReplaceBytes.{replace_bytes_law}
+use Rattle.minix_change_laws.proofs.Written.{written_law}
+use Rattle.minix_change_laws.specs.Enter.{MayStand, MayRemove}
+use Rattle.minix_change_laws.specs.Only.{zone_of_entry, ChangesOnlyEntry}
+use Rattle.minix_create.proofs.MadePlaces.{seen_places_law, entry_places_law}
+use Rattle.minix_change_laws.specs.Sees.{Sees}
+use Rattle.minix_change_laws.specs.Tree.{TreeWith, TreeMoved, HasTreeWith}
+use Rattle.minix_change_laws.proofs.Seen.{opened}
+use Rattle.minix_change_laws.proofs.Sees.{directory-same, named-new}
 use Rattle.minix_turns.proofs.EntryLemmas.{free-long, free-inode}
 use Rattle.minix_turns.proofs.NameLemmas.{entry_at}
 use Rattle.minix_turns.proofs.ReplaceLemmas.{zone_stays}
-use Rattle.minix_zone_bytes_laws.specs.Part.{HasZonePart, free_bytes}
+use Rattle.minix_change_laws.specs.Part.{HasZonePart, free_bytes}
 use Rattle.minix_remove.specs.Removed.{KeepsEachPlace}
 
 -- ---- directories that keep their names

@@ -4,11 +4,11 @@ use Rattle.lilo_model.specs.MinixEntries.{entries_per_block}
 use Rattle.lilo_model.specs.MinixLayout.{Super}
 use Rattle.lilo_model.specs.MinixNames.{Named, PointsTo, Refers, Sound}
 use Rattle.lilo_model.specs.MinixParts.{Parts, Pointer, IsPointer, is_directory}
-use Rattle.minix_beside_laws.specs.Beside.{IsDataZone}
-use Rattle.minix_entry_laws.specs.Only.{zone_of_entry}
-use Rattle.minix_entry_laws.proofs.Only.{Here, directory-refers}
+use Rattle.minix_change_laws.specs.Beside.{IsDataZone}
+use Rattle.minix_change_laws.specs.Only.{zone_of_entry}
+use Rattle.minix_change_laws.proofs.Only.{Here, directory-refers}
 use Rattle.minix_laws.proofs.Pointers.{pointer_law}
-use Rattle.minix_sees_laws.proofs.Inode.{KeepsAbove, points-old, same-node}
+use Rattle.minix_change_laws.proofs.Inode.{KeepsAbove, points-old, same-node}
 use Rattle.minix_remove.specs.Removed.{GainsNoZone}
 
 module _ (super : Super) (old new : Parts) (directory : ℕ) (sound : Sound super old) (named : Named super old directory) (is : is_directory (old.node directory) ≡ true)

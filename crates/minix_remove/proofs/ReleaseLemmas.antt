@@ -10,19 +10,19 @@ use Rattle.lilo_model.specs.MinixLayout.{IsSuper, Inode, FitsInode, is_size, mos
 use Rattle.lilo_model.specs.MinixNames.{HasSound, IsSound}
 use Rattle.lilo_model.specs.MinixParts as model
 use Rattle.lilo_model.specs.MinixParts.{Parts, Pointer, sector_of, inode_part, parts_of}
-use Rattle.minix_beside_laws.specs.Beside.{NamedIn, RefersIn}
-use Rattle.minix_beside_laws.proofs.Replaced.{length-with_part}
-use Rattle.minix_entry_laws.specs.Enter.{IsLeft}
-use Rattle.minix_free.specs.Changes.{Changes}
-use Rattle.minix_free.specs.Freed.{FreesFile, MayFree, IsOffFile}
-use Rattle.minix_free.proofs.ChangeLemmas.{cause_of}
-use Rattle.minix_growth_laws.specs.Changes.{AreEnough, ChangesNode}
+use Rattle.minix_change_laws.specs.Beside.{NamedIn, RefersIn}
+use Rattle.minix_change_laws.proofs.Replaced.{length-with_part}
+use Rattle.minix_change_laws.specs.Enter.{IsLeft}
+use Rattle.minix_fill.specs.Changes.{Changes}
+use Rattle.minix_fill.specs.Freed.{FreesFile, MayFree, IsOffFile}
+use Rattle.minix_fill.proofs.ChangeLemmas.{cause_of}
+use Rattle.minix_change_laws.specs.Changes.{AreEnough, ChangesNode}
 use Rattle.minix_layout.specs.View.{kind_view, super_view}
 use Rattle.minix_remove_laws.proofs.Links.{any_links_law}
-use Rattle.minix_sees_laws.specs.Laws.{KeepsSectors}
-use Rattle.minix_sees_laws.specs.Sees.{with_links, SeenAsIn}
-use Rattle.minix_sees_laws.proofs.Seen.{opened, seen_parts_law}
-use Rattle.minix_steps.specs.Laws.{OneInode}
+use Rattle.minix_change_laws.specs.SeesLaws.{KeepsSectors}
+use Rattle.minix_change_laws.specs.Sees.{with_links, SeenAsIn}
+use Rattle.minix_change_laws.proofs.Seen.{opened, seen_parts_law}
+use Rattle.minix_steps.specs.StepLaws.{OneInode}
 use Rattle.minix_steps.specs.Steps.{IsUnnamedInode}
 use Rattle.minix_steps.specs.Written.{with_sector_of, with_inode, inode_rewritten, parts_now}
 use Rattle.minix_steps.proofs.PartLemmas.{at_sector, other_sector, fits, inode_bytes_law, kept_inode_law}

@@ -11,8 +11,8 @@ use Rattle.disk_trait.proofs.NotWrittenLemmas.{not_written_none}
 use Rattle.lilo_model.specs.MinixLayout.{reach, zone_sector}
 use Rattle.lilo_model.specs.MinixNames.{reached, PointsTo}
 use Rattle.lilo_model.specs.MinixParts.{Parts, Pointer, blocks_for}
-use Rattle.minix_free.proofs.FileLemmas.{off_file_kept}
-use Rattle.minix_entry_laws.specs.Only.{zone_of_entry}
+use Rattle.minix_fill.proofs.FileLemmas.{off_file_kept}
+use Rattle.minix_change_laws.specs.Only.{zone_of_entry}
 use Rattle.minix_layout.specs.View.{super_view, inode_view}
 use Rattle.minix_remove_laws.specs.Held.{held_name, is_removable, HoldsName}
 use Rattle.minix_steps.specs.Written.{parts_now}
@@ -23,9 +23,9 @@ use Rattle.minix_tree.specs.declared.tree_fault.TreeFault.{TreeFault}
 use Rattle.minix_tree.specs.declared.tree_fault.TreeFault.TheVariants as faults
 use Rattle.minix_turns.specs.Joined.{Unseen}
 use Rattle.minix_turns.proofs.JoinedLemmas.{steps_unseen, unseen_then_leads}
-use Rattle.minix_write.specs.View.{tree_refusal, zone_refusal}
-use Rattle.minix_write.specs.declared.write_fault.WriteFault.{WriteFault}
-use Rattle.minix_write.specs.declared.write_fault.WriteFault.TheVariants as refusals
+use Rattle.minix_choice.specs.View.{tree_refusal, zone_refusal}
+use Rattle.minix_choice.specs.declared.write_fault.WriteFault.{WriteFault}
+use Rattle.minix_choice.specs.declared.write_fault.WriteFault.TheVariants as refusals
 use Rattle.minix_zones.specs.Volume.{past_of, faults_of, SameVolume}
 use Rattle.minix_zones.specs.declared.volume.Volume.{Volume}
 use Rattle.minix_zones.specs.declared.zone_fault.ZoneFault.{ZoneFault}

@@ -10,13 +10,13 @@ use Rattle.disk_trait.proofs.MomentLemmas.{on_ok}
 use Rattle.lilo_model.specs.MinixLayout.{name_size, zone_sector}
 use Rattle.lilo_model.specs.MinixNames.{reached, PointsTo}
 use Rattle.lilo_model.specs.MinixParts.{Pointer}
-use Rattle.minix_entry_bytes_laws.specs.Written.{FitsEntry}
-use Rattle.minix_free.proofs.FileLemmas.{off_file_kept}
+use Rattle.minix_change_laws.specs.Written.{FitsEntry}
+use Rattle.minix_fill.proofs.FileLemmas.{off_file_kept}
 use Rattle.minix_layout.specs.View.{kind_view}
 use Rattle.minix_remove_laws.specs.Held.{held_name}
 use Rattle.minix_steps.specs.Written.{parts_now}
-use Rattle.minix_write.specs.View.{HasWriteCause, zone_refusal}
-use Rattle.minix_write.specs.declared.write_fault.WriteFault.{WriteFault}
+use Rattle.minix_choice.specs.View.{HasWriteCause, zone_refusal}
+use Rattle.minix_choice.specs.declared.write_fault.WriteFault.{WriteFault}
 use Rattle.minix_zones.specs.Volume.{past_of, faults_of, SameVolume}
 use Rattle.minix_zones.specs.declared.volume.Volume.{Volume}
 use Rattle.minix_zones.specs.declared.zone_fault.ZoneFault.{ZoneFault}

@@ -9,26 +9,26 @@ use Rattle.lilo_model.specs.MinixLayout.{entry_size, name_size, zone_sector}
 use Rattle.lilo_model.specs.MinixNames.{reached}
 use Rattle.lilo_model.specs.MinixParts as model
 use Rattle.lilo_model.specs.MinixParts.{Parts, parts_of}
-use Rattle.minix_entry_bytes_laws.specs.Written.{entry_bytes}
-use Rattle.minix_entry_bytes_laws.proofs.EntryBytes.{entry_bytes_law}
-use Rattle.minix_entry_bytes_laws.proofs.Images.{rename_bytes_law}
-use Rattle.minix_entry_bytes_laws.proofs.Written.{written_law}
-use Rattle.minix_growth_laws.specs.Changes.{ChangesZone}
+use Rattle.minix_change_laws.specs.Written.{entry_bytes}
+use Rattle.minix_change_laws.proofs.EntryBytes.{entry_bytes_law}
+use Rattle.minix_change_laws.proofs.Images.{rename_bytes_law}
+use Rattle.minix_change_laws.proofs.Written.{written_law}
+use Rattle.minix_change_laws.specs.Changes.{ChangesZone}
 use Rattle.minix_layout.specs.View.{kind_view, super_view}
 use Rattle.minix_remove_laws.specs.Files.{KeepsFiles}
 use Rattle.minix_remove_laws.specs.Held.{held_name, IsAbsent}
 use Rattle.minix_remove_laws.proofs.Files.{keeps_zone}
 use Rattle.minix_remove_laws.proofs.Held.{absent_law}
-use Rattle.minix_sees_laws.specs.Tree.{HasTreeMoved}
-use Rattle.minix_sees_laws.proofs.Seen.{opened}
+use Rattle.minix_change_laws.specs.Tree.{HasTreeMoved}
+use Rattle.minix_change_laws.proofs.Seen.{opened}
 use Rattle.minix_steps.specs.Written.{with_sector_of, parts_now}
 use Rattle.minix_steps.proofs.StepLemmas.{same_view}
 use Rattle.minix_turns.specs.Part.{part_rewritten, TurnsNamedEntry, HasEntryPart}
 use Rattle.minix_turns.proofs.EntryLemmas.{entry-long}
 use Rattle.minix_turns.proofs.NameLemmas.{entry_at}
 use Rattle.minix_turns.proofs.PartLemmas.{entry_has}
-use Rattle.minix_zone_bytes_laws.specs.Part.{with_zone_part}
-use Rattle.minix_zone_bytes_laws.proofs.Part.{part_law}
+use Rattle.minix_change_laws.specs.Part.{with_zone_part}
+use Rattle.minix_change_laws.proofs.Part.{part_law}
 use Rattle.minix_zones.specs.Volume.{volume_view, past_of}
 use Rattle.minix_zones.specs.declared.volume.Volume.{Volume}
 use Rattle.minix_zones.specs.declared.zone_fault.ZoneFault.{ZoneFault}

@@ -15,22 +15,22 @@ use Rattle.lilo_model.specs.MinixLayout.{Inode, entry_size, is_size, zone_sector
 use Rattle.lilo_model.specs.MinixNames.{reached, Named, PointsTo, IsSound}
 use Rattle.lilo_model.specs.MinixParts as model
 use Rattle.lilo_model.specs.MinixParts.{Parts, Pointer, has_zones, is_directory, is_file, is_link, parts_of}
-use Rattle.minix_beside_laws.specs.Beside.{IsInode, IsDataZone}
-use Rattle.minix_entry_bytes_laws.specs.Written.{HasEntryBytes, IsPlaced}
-use Rattle.minix_entry_bytes_laws.proofs.Written.{written_law}
-use Rattle.minix_entry_laws.specs.Enter.{BecomesFree, IsLeft}
-use Rattle.minix_entry_laws.proofs.Only.{Here, directory-refers}
-use Rattle.minix_free.proofs.ChangeLemmas.{cause_later}
-use Rattle.minix_free.proofs.FileLemmas.{off_file_kept}
-use Rattle.minix_growth_laws.specs.Changes.{AreEnough, ChangesZone}
+use Rattle.minix_change_laws.specs.Beside.{IsInode, IsDataZone}
+use Rattle.minix_change_laws.specs.Written.{HasEntryBytes, IsPlaced}
+use Rattle.minix_change_laws.proofs.Written.{written_law}
+use Rattle.minix_change_laws.specs.Enter.{BecomesFree, IsLeft}
+use Rattle.minix_change_laws.proofs.Only.{Here, directory-refers}
+use Rattle.minix_fill.proofs.ChangeLemmas.{cause_later}
+use Rattle.minix_fill.proofs.FileLemmas.{off_file_kept}
+use Rattle.minix_change_laws.specs.Changes.{AreEnough, ChangesZone}
 use Rattle.minix_layout.specs.View.{kind_view, super_view, inode_view}
 use Rattle.minix_remove_laws.specs.Files.{KeepsFiles, KeepsFile}
 use Rattle.minix_remove_laws.specs.Held.{is_removable, MayGoFrom, IsReleased}
 use Rattle.minix_remove_laws.proofs.Files.{keeps_zone}
 use Rattle.minix_remove_laws.proofs.Held.{held_law, no-directory}
 use Rattle.minix_remove_laws.proofs.Released.{released_law}
-use Rattle.minix_sees_laws.specs.Sees.{SeenAsIn}
-use Rattle.minix_sees_laws.proofs.Seen.{opened}
+use Rattle.minix_change_laws.specs.Sees.{SeenAsIn}
+use Rattle.minix_change_laws.proofs.Seen.{opened}
 use Rattle.minix_steps.specs.Written.{parts_now}
 use Rattle.minix_steps.proofs.StepLemmas.{same_view}
 use Rattle.minix_turns.specs.Joined.{Unseen, LeadsPath}
@@ -40,8 +40,8 @@ use Rattle.minix_turns.proofs.EntryLemmas.{free-long, free-inode}
 use Rattle.minix_turns.proofs.JoinedLemmas.{leads_then_unseen}
 use Rattle.minix_turns.proofs.NameLemmas.{entry_at}
 use Rattle.minix_turns.proofs.PartLemmas.{entry_fits}
-use Rattle.minix_zone_bytes_laws.specs.Part.{free_bytes, with_zone_part}
-use Rattle.minix_zone_bytes_laws.proofs.Part.{part_law}
+use Rattle.minix_change_laws.specs.Part.{free_bytes, with_zone_part}
+use Rattle.minix_change_laws.proofs.Part.{part_law}
 use Rattle.minix_zones.specs.View.{HasZoneCause}
 use Rattle.minix_zones.specs.Volume.{volume_view, past_of, faults_of, KeepsVolume}
 use Rattle.minix_zones.specs.declared.volume.Volume.{Volume}

@@ -13,8 +13,8 @@ use Rattle.lilo_model.specs.MinixLayout.{reach}
 use Rattle.lilo_model.specs.MinixNames.{zone_number, entry, Named, IsSound}
 use Rattle.lilo_model.specs.MinixParts as model
 use Rattle.lilo_model.specs.MinixParts.{Parts, blocks_for, is_directory, parts_of, zone_at}
-use Rattle.minix_entry_laws.specs.Only.{zone_of_entry}
-use Rattle.minix_growth_laws.proofs.Holes.{hole_law}
+use Rattle.minix_change_laws.specs.Only.{zone_of_entry}
+use Rattle.minix_change_laws.proofs.Holes.{hole_law}
 use Rattle.minix_laws.specs.Plain.{IsGiven}
 use Rattle.minix_laws.proofs.Inside.{sound_law}
 use Rattle.minix_layout.specs.View.{kind_view, super_view, inode_view}
@@ -22,8 +22,8 @@ use Rattle.minix_layout.specs.declared.inode.Inode.{Inode}
 use Rattle.minix_remove_laws.specs.Held.{held_name, is_removable, HoldsEntry}
 use Rattle.minix_remove_laws.proofs.Held.{entry_named_law}
 use Rattle.minix_steps.specs.Written.{parts_now}
-use Rattle.minix_sees_laws.proofs.Inode.{directory-zones}
-use Rattle.minix_sees_laws.proofs.Seen.{opened}
+use Rattle.minix_change_laws.proofs.Inode.{directory-zones}
+use Rattle.minix_change_laws.proofs.Seen.{opened}
 use Rattle.minix_tree.specs.View.{Refuses, HasTreeCause}
 use Rattle.minix_tree.specs.declared.tree_fault.TreeFault.{TreeFault}
 use Rattle.minix_tree.specs.declared.tree_fault.TreeFault.TheVariants as faults

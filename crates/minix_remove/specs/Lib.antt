@@ -4,3 +4,4 @@ pub mod Released
 pub mod Removed
 pub mod Moves
 pub mod Renamed
+pub mod Replaced

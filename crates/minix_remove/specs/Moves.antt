@@ -8,8 +8,8 @@ use Rattle.disk_trait.specs.Moments.{IsTold, now, LeavesOnly}
 use Rattle.lilo_model.specs.MinixNames.{names_in, reached}
 use Rattle.lilo_model.specs.MinixParts as model
 use Rattle.lilo_model.specs.MinixParts.{parts_of}
-use Rattle.minix_sees_laws.specs.Sees.{SeenAsIn}
-use Rattle.minix_sees_laws.specs.Tree.{HasTreeWith, HasTreeMoved}
+use Rattle.minix_change_laws.specs.Sees.{SeenAsIn}
+use Rattle.minix_change_laws.specs.Tree.{HasTreeWith, HasTreeMoved}
 use Rattle.minix_zones.specs.Volume.{volume_view, past_of, KeepsVolume}
 use Rattle.minix_zones.specs.declared.volume.Volume.{Volume}
 

@@ -7,12 +7,12 @@ use Rattle.lilo_model.specs.MinixLayout.{Inode, is_size}
 use Rattle.lilo_model.specs.MinixNames.{PointsTo, IsSound}
 use Rattle.lilo_model.specs.MinixParts as model
 use Rattle.lilo_model.specs.MinixParts.{Parts, Pointer, has_zones}
-use Rattle.minix_beside_laws.specs.Beside.{IsDataZone}
-use Rattle.minix_entry_laws.specs.Enter.{IsLeft}
-use Rattle.minix_free.specs.Freed.{FreesFile, IsOffFile}
-use Rattle.minix_growth_laws.specs.Changes.{AreEnough, ChangesNode}
+use Rattle.minix_change_laws.specs.Beside.{IsDataZone}
+use Rattle.minix_change_laws.specs.Enter.{IsLeft}
+use Rattle.minix_fill.specs.Freed.{FreesFile, IsOffFile}
+use Rattle.minix_change_laws.specs.Changes.{AreEnough, ChangesNode}
 use Rattle.minix_layout.specs.View.{kind_view, super_view}
-use Rattle.minix_sees_laws.specs.Sees.{with_links}
+use Rattle.minix_change_laws.specs.Sees.{with_links}
 use Rattle.minix_steps.specs.Written.{parts_now}
 use Rattle.minix_turns.specs.Joined.{Unseen}
 use Rattle.minix_zones.specs.View.{HasZoneCause}

@@ -9,17 +9,17 @@ use Rattle.lilo_model.specs.Faults.{Rose}
 use Rattle.lilo_model.specs.MinixLayout.{Super, zone_sector}
 use Rattle.lilo_model.specs.MinixNames.{reached, PointsTo}
 use Rattle.lilo_model.specs.MinixParts.{Parts, Pointer}
-use Rattle.minix_beside_laws.specs.Beside.{IsInode, IsDataZone}
-use Rattle.minix_free.specs.Freed.{no_inode, IsOffFile}
+use Rattle.minix_change_laws.specs.Beside.{IsInode, IsDataZone}
+use Rattle.minix_fill.specs.Freed.{no_inode, IsOffFile}
 use Rattle.minix_layout.specs.View.{super_view}
-use Rattle.minix_made_laws.specs.Made.{KeepsPlaces}
+use Rattle.minix_create.specs.Made.{KeepsPlaces}
 use Rattle.minix_remove_laws.specs.Held.{held_name}
-use Rattle.minix_sees_laws.specs.Sees.{with_links}
+use Rattle.minix_change_laws.specs.Sees.{with_links}
 use Rattle.minix_steps.specs.Written.{parts_now}
 use Rattle.minix_tree.specs.declared.tree_fault.TreeFault.{TreeFault}
 use Rattle.minix_turns.specs.Joined.{LeadsPath}
-use Rattle.minix_write.specs.declared.write_fault.WriteFault.{WriteFault}
-use Rattle.minix_write.specs.declared.write_fault.WriteFault.TheVariants.{Tree, Device}
+use Rattle.minix_choice.specs.declared.write_fault.WriteFault.{WriteFault}
+use Rattle.minix_choice.specs.declared.write_fault.WriteFault.TheVariants.{Tree, Device}
 use Rattle.minix_zones.specs.Volume.{past_of, faults_of, KeepsVolume, SameVolume, HasDeviceCause}
 use Rattle.minix_zones.specs.declared.volume.Volume.{Volume}
 use Rattle.minix_zones.specs.declared.zone_fault.ZoneFault.{ZoneFault}

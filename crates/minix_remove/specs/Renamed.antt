@@ -12,16 +12,16 @@ use Rattle.lilo_model.specs.MinixLayout.{Kind, name_size, most_links, zone_secto
 use Rattle.lilo_model.specs.MinixLayout as model
 use Rattle.lilo_model.specs.MinixNames.{reached, PointsTo}
 use Rattle.lilo_model.specs.MinixParts.{Parts, Pointer, is_file}
-use Rattle.minix_entry_bytes_laws.specs.Written.{FitsEntry}
-use Rattle.minix_free.specs.Freed.{IsOffFile}
+use Rattle.minix_change_laws.specs.Written.{FitsEntry}
+use Rattle.minix_fill.specs.Freed.{IsOffFile}
 use Rattle.minix_layout.specs.View.{kind_view, super_view}
 use Rattle.minix_layout.specs.declared.superblock.Super.{Super}
 use Rattle.minix_remove_laws.specs.Files.{KeepsFiles}
 use Rattle.minix_remove_laws.specs.Held.{held_name}
 use Rattle.minix_steps.specs.Written.{parts_now}
 use Rattle.minix_tree.specs.declared.tree_fault.TreeFault.TheVariants.{NotFound, NotFile}
-use Rattle.minix_write.specs.declared.write_fault.WriteFault.{WriteFault}
-use Rattle.minix_write.specs.declared.write_fault.WriteFault.TheVariants.{Tree, NameTooLong, Links, Device}
+use Rattle.minix_choice.specs.declared.write_fault.WriteFault.{WriteFault}
+use Rattle.minix_choice.specs.declared.write_fault.WriteFault.TheVariants.{Tree, NameTooLong, Links, Device}
 use Rattle.minix_zones.specs.Volume.{past_of, faults_of, KeepsVolume, SameVolume, HasDeviceCause}
 use Rattle.minix_zones.specs.declared.volume.Volume.{Volume}
 use Rattle.minix_zones.specs.declared.zone_fault.ZoneFault.{ZoneFault}

@@ -6,7 +6,7 @@ use Rattle.lilo_model.specs.MinixLayout.{FitsInode, Inode, reach}
 use Rattle.lilo_model.specs.MinixNames.{entry, Named, IsSound}
 use Rattle.lilo_model.specs.MinixParts.{Parts, blocks_for, is_directory}
 use Rattle.lilo_model.specs.MinixLayout as model
-use Rattle.minix_entry_laws.specs.Only.{zone_of_entry}
+use Rattle.minix_change_laws.specs.Only.{zone_of_entry}
 use Rattle.minix_layout.specs.View.{kind_view, super_view, inode_view}
 use Rattle.minix_layout.specs.declared.inode.Inode as layout
 use Rattle.minix_layout.specs.declared.superblock.Super.{Super}

@@ -1,6 +1,5 @@
-//! A name of a regular file or a symbolic link that is removed from a sound Minix volume, versions 1 and 2, and one of
-//! a regular file that takes the place of another. At any moment a stop leaves a sound volume that has the names before
-//! or after, or on which both names lead to the one file.
+//! The law of a name that takes the place of another on a Minix volume: what was chosen for a file before stays free,
+//! and its name may still be made. A public function with an empty body, which no code needs to call.
 #![tactic(auto)]
 
 mod find;
@@ -9,8 +8,10 @@ mod removal;
 mod rename;
 mod renaming;
 mod replace;
+mod replaced_laws;
 mod take;
 mod target;
 
 pub use removal::remove;
 pub use rename::replace_name;
+pub use replaced_laws::other_is_left_free_by_renaming;

@@ -4,13 +4,13 @@ ghost use Rattle.disk_trait.specs.Moments.{IsTold, IsQuiet};
 ghost use Rattle.lilo_model.specs.MinixLayout.{FitsInode};
 ghost use Rattle.minix_layout.specs.View.{kind_view, inode_view};
 ghost use Rattle.minix_remove.specs.Released.{MayRelease, Releases};
-ghost use Rattle.minix_sees_laws.specs.Sees.{with_links};
+ghost use Rattle.minix_change_laws.specs.Sees.{with_links};
 ghost use Rattle.minix_turns.specs.Inode.{TurnsInode};
 ghost use Rattle.minix_turns.specs.Joined.{Unseen};
 ghost use Rattle.minix_zones.specs.Volume.{past_of};
 
 use disk_trait::Disks;
-use minix_free::free_file;
+use minix_fill::free_file;
 use minix_layout::Inode;
 use minix_turns::turn_links;
 use minix_zones::{Volume, ZoneFault};

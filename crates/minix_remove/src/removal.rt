@@ -3,13 +3,13 @@ ghost use Rattle.std.specs.Prelude.{◌≤◌, Ok, Err, OnOk, IfOk, IfErr};
 ghost use Rattle.disk_trait.specs.Moments.{IsTold, IsQuiet};
 ghost use Rattle.minix_remove.specs.Removed.{Removes};
 ghost use Rattle.minix_remove.specs.Target.{IsDirectoryNow};
-ghost use Rattle.minix_write.specs.View.{HasWriteCause};
+ghost use Rattle.minix_choice.specs.View.{HasWriteCause};
 ghost use Rattle.minix_zones.specs.Volume.{past_of, faults_of};
 
 use crate::take::take_away;
 use crate::target::find_target;
 use disk_trait::Disks;
-use minix_write::{WriteFault, WriteHalt};
+use minix_choice::{WriteFault, WriteHalt};
 use minix_zones::Volume;
 
 /// Removes the name of a regular file or a symbolic link from a directory that is the root or has a name, on a sound

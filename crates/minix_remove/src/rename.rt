@@ -3,13 +3,13 @@ ghost use Rattle.std.specs.Prelude.{◌≢◌, ◌≤◌, length, All, Ok, Err, 
 ghost use Rattle.disk_trait.specs.Moments.{IsTold, IsQuiet};
 ghost use Rattle.minix_remove.specs.Renamed.{Renames};
 ghost use Rattle.minix_remove.specs.Target.{IsDirectoryNow};
-ghost use Rattle.minix_write.specs.View.{HasWriteCause};
+ghost use Rattle.minix_choice.specs.View.{HasWriteCause};
 ghost use Rattle.minix_zones.specs.Volume.{past_of, faults_of};
 
 use crate::renaming::find_renaming;
 use crate::replace::carry_out;
 use disk_trait::Disks;
-use minix_write::{WriteFault, WriteHalt};
+use minix_choice::{WriteFault, WriteHalt};
 use minix_zones::Volume;
 
 /// Renames a regular file in a directory that is the root or has a name, on a sound volume, from a quiet moment on. The

@@ -5,15 +5,15 @@ ghost use Rattle.minix_layout.specs.View.{kind_view};
 ghost use Rattle.minix_remove.specs.Renamed.{FitsFormer, FitsRenaming, GivesMoved, GivesFormer, GivesRenaming};
 ghost use Rattle.minix_remove.specs.Renamed.{lacks_link};
 ghost use Rattle.minix_remove.specs.Target.{FitsTarget};
-ghost use Rattle.minix_write.specs.View.{HasWriteCause};
+ghost use Rattle.minix_choice.specs.View.{HasWriteCause};
 ghost use Rattle.minix_zones.specs.Volume.{faults_of, SameVolume};
 
 use crate::target::{Target, find_target};
 use disk_trait::Disks;
+use minix_choice::WriteFault;
 use minix_layout::FsKind;
 use minix_tree::{TreeFault, entry_size, is_file};
 use minix_turns::most_links;
-use minix_write::WriteFault;
 use minix_zones::Volume;
 
 /// A name and the one that it is to become: what the one leads to, and what the other does where it is there.

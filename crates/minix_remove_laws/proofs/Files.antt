@@ -3,13 +3,13 @@ use Rattle.std.proofs.Common.{◌≡◌, ◌≢◌, ◌+◌, ◌-◌, ℕ, List,
 use Rattle.lilo_model.specs.MinixLayout.{Super, Inode}
 use Rattle.lilo_model.specs.MinixNames.{Named, PointsTo, Refers, Sound}
 use Rattle.lilo_model.specs.MinixParts.{Parts, Pointer}
-use Rattle.minix_beside_laws.specs.Beside.{IsInode, IsDataZone}
-use Rattle.minix_entry_laws.specs.Enter.{HasLinkMore, IsLeft}
-use Rattle.minix_growth_laws.specs.Changes.{AreEnough, ChangesNode, ChangesZone}
-use Rattle.minix_growth_laws.proofs.Extends.{of-node}
-use Rattle.minix_sees_laws.specs.Sees.{with_links, Sees}
-use Rattle.minix_sees_laws.proofs.Inode.{HasSameNumbers, KeepsZones, same-node, keeps-above, points-old, points-new}
-use Rattle.minix_sees_laws.proofs.Sees.{named-old, all_lead-old}
+use Rattle.minix_change_laws.specs.Beside.{IsInode, IsDataZone}
+use Rattle.minix_change_laws.specs.Enter.{HasLinkMore, IsLeft}
+use Rattle.minix_change_laws.specs.Changes.{AreEnough, ChangesNode, ChangesZone}
+use Rattle.minix_change_laws.proofs.Extends.{of-node}
+use Rattle.minix_change_laws.specs.Sees.{with_links, Sees}
+use Rattle.minix_change_laws.proofs.Inode.{HasSameNumbers, KeepsZones, same-node, keeps-above, points-old, points-new}
+use Rattle.minix_change_laws.proofs.Sees.{named-old, all_lead-old}
 use Rattle.minix_remove_laws.specs.Files.{KeepsFiles, KeptFilesLaw}
 
 -- ---- where nothing but a directory's zones gets other bytes

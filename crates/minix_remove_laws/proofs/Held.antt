@@ -7,12 +7,12 @@ use Rattle.lilo_model.specs.MinixEntries.{Entry, entry_with, named_inode, here_n
 use Rattle.lilo_model.specs.MinixLayout.{Super, Inode}
 use Rattle.lilo_model.specs.MinixNames.{entry, first_named, lookup, then_lookup, reached, zone_number, Named, HasEntry, HasSomeEntry, Sound}
 use Rattle.lilo_model.specs.MinixParts.{Parts, is_directory, is_file}
-use Rattle.minix_beside_laws.specs.Change.{ChangesEntry}
-use Rattle.minix_beside_laws.proofs.Entries.{entry_law}
-use Rattle.minix_entry_laws.specs.Enter.{MayRemove}
-use Rattle.minix_entry_laws.proofs.Finds.{named-is, leaf-file}
-use Rattle.minix_entry_laws.proofs.Replace.{stood_law}
-use Rattle.minix_growth_laws.proofs.Holes.{hole_law}
+use Rattle.minix_change_laws.specs.Change.{ChangesEntry}
+use Rattle.minix_change_laws.proofs.Entries.{entry_law}
+use Rattle.minix_change_laws.specs.Enter.{MayRemove}
+use Rattle.minix_change_laws.proofs.Finds.{named-is, leaf-file}
+use Rattle.minix_change_laws.proofs.Replace.{stood_law}
+use Rattle.minix_change_laws.proofs.Holes.{hole_law}
 use Rattle.minix_remove_laws.specs.Held.{held_name, is_removable, HoldsEntry}
 use Rattle.minix_remove_laws.specs.Laws.{AbsentLaw, EntryLaw, HeldLaw}
 

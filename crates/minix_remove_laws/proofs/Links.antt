@@ -3,10 +3,10 @@ use Rattle.std.proofs.Common.{◌≡◌, ◌≢◌, ◌≤◌, ℕ, List, [], �
 use Rattle.lilo_model.specs.MinixLayout.{Super, Inode}
 use Rattle.lilo_model.specs.MinixNames.{Named, AllLead, AreDistinct, Sound}
 use Rattle.lilo_model.specs.MinixParts.{Parts}
-use Rattle.minix_growth_laws.specs.Changes.{AreEnough, ChangesNode}
-use Rattle.minix_growth_laws.proofs.Extends.{of-node}
-use Rattle.minix_sees_laws.specs.Sees.{with_links, SameButLinks, Sees}
-use Rattle.minix_sees_laws.proofs.Kept.{same-is-but-links, links_law}
+use Rattle.minix_change_laws.specs.Changes.{AreEnough, ChangesNode}
+use Rattle.minix_change_laws.proofs.Extends.{of-node}
+use Rattle.minix_change_laws.specs.Sees.{with_links, SameButLinks, Sees}
+use Rattle.minix_change_laws.proofs.Kept.{same-is-but-links, links_law}
 use Rattle.minix_remove_laws.specs.Laws.{AnyLinksLaw}
 
 module _ (super : Super) (old new : Parts) (number links : ℕ) (sound : Sound super old) (enough : AreEnough super old number links)

@@ -3,12 +3,12 @@ use Rattle.std.proofs.Common.{◌≡◌, ◌≢◌, ◌≤◌, ℕ, List, [], �
 use Rattle.lilo_model.specs.MinixLayout.{Super}
 use Rattle.lilo_model.specs.MinixNames.{reached, Named, Sound}
 use Rattle.lilo_model.specs.MinixParts.{Parts}
-use Rattle.minix_beside_laws.proofs.Change.{path-cases}
-use Rattle.minix_entry_laws.specs.Enter.{BecomesFree, IsOnlyName}
-use Rattle.minix_entry_laws.proofs.Names.{remove_last_law}
-use Rattle.minix_entry_laws.proofs.Only.{named-node, named-above}
-use Rattle.minix_entry_laws.proofs.Replace.{remove_lower_law}
-use Rattle.minix_sees_laws.proofs.Inode.{points-old, points-new}
+use Rattle.minix_change_laws.proofs.Change.{path-cases}
+use Rattle.minix_change_laws.specs.Enter.{BecomesFree, IsOnlyName}
+use Rattle.minix_change_laws.proofs.Names.{remove_last_law}
+use Rattle.minix_change_laws.proofs.Only.{named-node, named-above}
+use Rattle.minix_change_laws.proofs.Replace.{remove_lower_law}
+use Rattle.minix_change_laws.proofs.Inode.{points-old, points-new}
 use Rattle.minix_remove_laws.specs.Held.{HoldsName, MayGoFrom}
 use Rattle.minix_remove_laws.specs.Laws.{ReleasedLaw}
 use Rattle.minix_remove_laws.proofs.Held.{held_law}

@@ -3,7 +3,7 @@ use Rattle.std.specs.Prelude.{◌≡◌, ◌≢◌, ℕ}
 use Rattle.lilo_model.specs.MinixLayout.{Super}
 use Rattle.lilo_model.specs.MinixNames.{Named, PointsTo, Sound}
 use Rattle.lilo_model.specs.MinixParts.{Parts, Pointer}
-use Rattle.minix_beside_laws.specs.Beside.{IsInode, IsDataZone}
+use Rattle.minix_change_laws.specs.Beside.{IsInode, IsDataZone}
 
 -- no inode and no bit is another, and no bytes but those of the directory's zones
 pub record KeepsFiles (super : Super) (old new : Parts) (directory : ℕ) : Type 0 where

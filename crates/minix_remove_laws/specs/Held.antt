@@ -5,10 +5,10 @@ use Rattle.lilo_model.specs.MinixEntries.{entry_with, places, is_dots}
 use Rattle.lilo_model.specs.MinixLayout.{Super, Inode}
 use Rattle.lilo_model.specs.MinixNames.{entry, first_named, lookup, reached, Named, PointsTo}
 use Rattle.lilo_model.specs.MinixParts.{Parts, Pointer, is_directory, is_file, is_link}
-use Rattle.minix_beside_laws.specs.Beside.{IsDataZone}
-use Rattle.minix_entry_laws.specs.Enter.{MayRemove, IsLeft}
-use Rattle.minix_entry_laws.specs.Only.{zone_of_entry}
-use Rattle.minix_growth_laws.specs.Changes.{AreEnough}
+use Rattle.minix_change_laws.specs.Beside.{IsDataZone}
+use Rattle.minix_change_laws.specs.Enter.{MayRemove, IsLeft}
+use Rattle.minix_change_laws.specs.Only.{zone_of_entry}
+use Rattle.minix_change_laws.specs.Changes.{AreEnough}
 
 -- the inode of the first entry of a name in a directory, `.` and `..` too
 abbrev pub held_name : Super → Parts → ℕ → List ℕ → Option ℕ

@@ -3,9 +3,9 @@ use Rattle.std.specs.Prelude.{◌≡◌, ℕ, true, List, Some, None}
 use Rattle.lilo_model.specs.MinixLayout.{Super}
 use Rattle.lilo_model.specs.MinixNames.{reached, Named, Sound}
 use Rattle.lilo_model.specs.MinixParts.{Parts, is_directory}
-use Rattle.minix_entry_laws.specs.Enter.{BecomesFree}
-use Rattle.minix_growth_laws.specs.Changes.{AreEnough, ChangesNode}
-use Rattle.minix_sees_laws.specs.Sees.{with_links, Sees}
+use Rattle.minix_change_laws.specs.Enter.{BecomesFree}
+use Rattle.minix_change_laws.specs.Changes.{AreEnough, ChangesNode}
+use Rattle.minix_change_laws.specs.Sees.{with_links, Sees}
 use Rattle.minix_remove_laws.specs.Held.{held_name, HoldsEntry, HoldsName, MayGoFrom, IsAbsent, IsReleased}
 
 -- an inode of which a directory has an entry has a name or is the root: also that of `.` and `..`

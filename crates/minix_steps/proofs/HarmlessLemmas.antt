@@ -4,9 +4,9 @@ use Rattle.disk_trait.specs.declared.disks.Disks.{Ghosts}
 use Rattle.disk_trait.specs.Moments.{IsTold, now, begun}
 use Rattle.lilo_model.specs.MinixLayout.{inode_size, inode_place}
 use Rattle.lilo_model.specs.MinixParts.{sector_of, inode_mark_sector, zone_bit, zone_mark_sector}
-use Rattle.minix_beside_laws.specs.Beside.{Harmless, IsOfBitmaps, IsOfZone}
-use Rattle.minix_beside_laws.proofs.Harmless.{unused_zone_law, unnamed_inode_law, set_bit_law, clear_inode_law, clear_zone_law}
-use Rattle.minix_bits.specs.Mark.{remarked, zone_remarked, inode_remarked}
+use Rattle.minix_change_laws.specs.Beside.{Harmless, IsOfBitmaps, IsOfZone}
+use Rattle.minix_change_laws.proofs.Harmless.{unused_zone_law, unnamed_inode_law, set_bit_law, clear_inode_law, clear_zone_law}
+use Rattle.minix_steps.specs.Mark.{remarked, zone_remarked, inode_remarked}
 use Rattle.minix_layout.specs.View.{super_view}
 use Rattle.minix_zones.specs.Volume.{volume_view, past_of}
 use Rattle.minix_zones.specs.declared.volume.Volume.{Volume}

@@ -8,7 +8,7 @@ use Rattle.lilo_model.specs.Bytes.{with_part}
 use Rattle.lilo_model.specs.MinixLayout.{Place, inode_size, inode_place, super_sector}
 use Rattle.lilo_model.specs.MinixParts as model
 use Rattle.lilo_model.specs.MinixParts.{sector_of}
-use Rattle.minix_beside_laws.specs.Beside.{Harmless}
+use Rattle.minix_change_laws.specs.Beside.{Harmless}
 use Rattle.minix_layout.specs.View.{super_view}
 use Rattle.minix_layout.specs.declared.superblock.Super.{Super}
 use Rattle.minix_zones.specs.Volume.{volume_view, past_of, faults_of, SameVolume, WritesSector}

@@ -1,9 +1,9 @@
 -- The calls of minix_bits that set and clear bitmap bits are steps.
 use Rattle.std.proofs.Common.{◌≤◌, ◌<◌, ℕ, true, false, Result}
 use Rattle.disk_trait.specs.declared.disks.Disks.{Ghosts}
-use Rattle.minix_bits.specs.declared.bit_fault.BitFault.{BitFault}
-use Rattle.minix_bits.specs.declared.bit_fault.BitFault.TheVariants.{Device}
-use Rattle.minix_bits.specs.Mark.{zone_remarked, inode_remarked}
+use Rattle.minix_steps.specs.declared.bit_fault.BitFault.{BitFault}
+use Rattle.minix_steps.specs.declared.bit_fault.BitFault.TheVariants.{Device}
+use Rattle.minix_steps.specs.Mark.{zone_remarked, inode_remarked}
 use Rattle.lilo_model.specs.MinixParts.{inode_mark_sector, zone_mark_sector}
 use Rattle.minix_layout.specs.View.{super_view}
 use Rattle.minix_zones.specs.Volume.{WritesSector}

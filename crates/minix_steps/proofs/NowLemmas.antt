@@ -6,13 +6,13 @@ use Rattle.lilo_model.specs.Disks.{Image}
 use Rattle.lilo_model.specs.MinixLayout.{inode_size, inode_place}
 use Rattle.lilo_model.specs.MinixParts as model
 use Rattle.lilo_model.specs.MinixParts.{inode_mark_sector, zone_mark_sector}
-use Rattle.minix_bits.specs.Laws.{OneZoneMark, OneInodeMark}
-use Rattle.minix_bits.specs.Mark.{zone_remarked, inode_remarked}
-use Rattle.minix_bits.proofs.MarkLaws.{one_zone_mark, one_inode_mark}
+use Rattle.minix_steps.specs.BitLaws.{OneZoneMark, OneInodeMark}
+use Rattle.minix_steps.specs.Mark.{zone_remarked, inode_remarked}
+use Rattle.minix_steps.proofs.MarkLaws.{one_zone_mark, one_inode_mark}
 use Rattle.minix_layout.specs.View.{super_view}
 use Rattle.minix_zones.specs.Volume.{volume_view, past_of}
 use Rattle.minix_zones.specs.declared.volume.Volume.{Volume}
-use Rattle.minix_steps.specs.Laws.{OneZone, OneInode}
+use Rattle.minix_steps.specs.StepLaws.{OneZone, OneInode}
 use Rattle.minix_steps.specs.Steps.{IsReady, Steps}
 use Rattle.minix_steps.specs.Written.{with_sector_of, with_zone, with_inode, parts_now}
 use Rattle.minix_steps.proofs.HarmlessLemmas.{held, zone_mark_inside, inode_mark_inside, place_inside}

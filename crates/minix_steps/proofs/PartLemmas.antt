@@ -11,11 +11,11 @@ use Rattle.lilo_model.specs.Disks.{Image}
 use Rattle.lilo_model.specs.MinixLayout.{Kind, V1Short, V1Long, V2Short, V2Long, Super, Inode, IsSuper, is_size, inode_of, inode_at, inode_bytes, inode_place, inode_size, kept_inode, zone_sector}
 use Rattle.lilo_model.specs.MinixParts.{Volume, sector_of, bit, parts_of, inode_mark_sector, zone_bit, zone_mark_sector}
 use Rattle.minix_layout.proofs.Reading.{inode_law}
-use Rattle.minix_steps.specs.Laws.{OneZone, ZoneBytesLaw, OneInode, InodeBytesLaw, KeptInodeLaw}
+use Rattle.minix_steps.specs.StepLaws.{OneZone, ZoneBytesLaw, OneInode, InodeBytesLaw, KeptInodeLaw}
 use Rattle.minix_steps.specs.Written.{with_sector_of, with_zone, IsPartOfZone, with_inode}
 use Rattle.minix_steps.proofs.RegionLemmas.{mark_in, zone_mark_in, lies}
-use Rattle.minix_beside_laws.proofs.Laid.{place-from, place-below}
-use Rattle.minix_beside_laws.proofs.Replaced.{part-other}
+use Rattle.minix_change_laws.proofs.Laid.{place-from, place-below}
+use Rattle.minix_change_laws.proofs.Replaced.{part-other}
 
 module _ (volume : Volume) (image : Image) (sector : ℕ) (bytes : List ℕ) where
   abbrev written : Image

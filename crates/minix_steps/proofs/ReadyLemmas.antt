@@ -6,8 +6,8 @@ use Rattle.disk_trait.specs.Moments.{IsTold, now, begun, IsQuiet}
 use Rattle.disk_trait.proofs.LawLemmas.{quiet_begun}
 use Rattle.lilo_model.specs.MinixParts.{parts_of, inode_mark_sector, zone_mark_sector}
 use Rattle.lilo_model.specs.MinixNames.{IsSound}
-use Rattle.minix_beside_laws.specs.Beside.{Beside}
-use Rattle.minix_beside_laws.proofs.Beside.{same_law}
+use Rattle.minix_change_laws.specs.Beside.{Beside}
+use Rattle.minix_change_laws.proofs.Beside.{same_law}
 use Rattle.minix_layout.specs.View.{super_view}
 use Rattle.minix_zones.specs.Volume.{volume_view, past_of}
 use Rattle.minix_zones.specs.declared.volume.Volume.{Volume}

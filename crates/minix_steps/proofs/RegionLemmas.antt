@@ -4,9 +4,9 @@ use Rattle.std.proofs.lemmas.Bool.Decides.{nat_tests}
 use Rattle.lilo_model.specs.Checks.{◌>>=◌, require}
 use Rattle.lilo_model.specs.MinixLayout.{Super, IsSuper, BadSize, Inodes, Zones, InodeMap, ZoneMap, FirstZone, super_checks, zone_map_holds, table_start, table_blocks, inode_place}
 use Rattle.lilo_model.specs.MinixParts.{inode_mark_sector, zone_mark_sector}
-use Rattle.minix_beside_laws.specs.Beside.{IsOfBitmaps}
-use Rattle.minix_beside_laws.proofs.Laid.{Laid, mark-below, zone_mark-from, zone_mark-below, place-from, place-below}
-use Rattle.minix_bits.proofs.BitmapLemmas.{fits}
+use Rattle.minix_change_laws.specs.Beside.{IsOfBitmaps}
+use Rattle.minix_change_laws.proofs.Laid.{Laid, mark-below, zone_mark-from, zone_mark-below, place-from, place-below}
+use Rattle.minix_steps.proofs.BitmapLemmas.{fits}
 
 passed : {F : Type 0} (test : Bool) (fault : F) (rest : Result (Unit {0}) F) → (require test fault >>= λ a. rest) ≡ Ok tt → rest ≡ Ok tt
 passed true fault rest all = all

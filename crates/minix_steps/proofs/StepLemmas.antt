@@ -9,8 +9,8 @@ use Rattle.disk_trait.proofs.MomentLemmas.{at_now, left_told, leaves_none, leave
 use Rattle.disk_trait.proofs.CallLemmas.{goes_on_join}
 use Rattle.lilo_model.specs.MinixParts as model
 use Rattle.lilo_model.specs.MinixNames.{IsSound}
-use Rattle.minix_beside_laws.specs.Beside.{Harmless, Beside, SoundAsIn, IsUnused, IsUnnamed}
-use Rattle.minix_beside_laws.proofs.Beside.{beside_law, named_law, same_law, join_law, write_law}
+use Rattle.minix_change_laws.specs.Beside.{Harmless, Beside, SoundAsIn, IsUnused, IsUnnamed}
+use Rattle.minix_change_laws.proofs.Beside.{beside_law, named_law, same_law, join_law, write_law}
 use Rattle.minix_layout.specs.View.{super_view}
 use Rattle.minix_layout.specs.declared.superblock.Super.{Super}
 use Rattle.disk_trait.specs.declared.disks.Span.{Span}

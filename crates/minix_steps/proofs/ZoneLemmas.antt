@@ -10,7 +10,7 @@ use Rattle.disk_trait.proofs.NotWrittenLemmas.{not_written_join}
 use Rattle.disk_trait.proofs.RangeLemmas.{outside_is_other}
 use Rattle.lilo_model.specs.Bytes.{part_of}
 use Rattle.lilo_model.specs.MinixLayout.{super_sector, zone_sector}
-use Rattle.minix_beside_laws.specs.Beside.{Harmless}
+use Rattle.minix_change_laws.specs.Beside.{Harmless}
 use Rattle.minix_layout.specs.View.{super_view}
 use Rattle.minix_layout.specs.declared.superblock.Super.{Super}
 use Rattle.minix_zones.specs.Volume.{volume_view, past_of, KeepsVolume, WritesSector}

@@ -1,3 +1,9 @@
-pub mod Laws
+pub mod Bitmap
+pub mod Find
+pub mod Free
+pub mod BitLaws
+pub mod Mark
+pub mod Numbers
+pub mod StepLaws
 pub mod Steps
 pub mod Written

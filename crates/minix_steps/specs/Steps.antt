@@ -7,7 +7,7 @@ use Rattle.disk_trait.specs.Moments.{IsTold, begun, MayLeave, LeavesOnly}
 use Rattle.disk_trait.specs.Calls.{GoesOn}
 use Rattle.lilo_model.specs.MinixParts as model
 use Rattle.lilo_model.specs.MinixNames.{IsSound}
-use Rattle.minix_beside_laws.specs.Beside.{IsUnnamed, IsUnused, Beside, SoundAsIn}
+use Rattle.minix_change_laws.specs.Beside.{IsUnnamed, IsUnused, Beside, SoundAsIn}
 use Rattle.minix_zones.specs.Volume.{volume_view, past_of, KeepsVolume}
 use Rattle.minix_zones.specs.declared.volume.Volume.{Volume}
 

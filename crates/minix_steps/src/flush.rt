@@ -1,7 +1,7 @@
 // What makes steps durable.
 ghost use Rattle.std.specs.Prelude.{◌≡◌, OnOk};
 ghost use Rattle.disk_trait.specs.Moments.{IsTold, now, begun};
-ghost use Rattle.minix_beside_laws.specs.Beside.{SoundAsIn};
+ghost use Rattle.minix_change_laws.specs.Beside.{SoundAsIn};
 ghost use Rattle.minix_zones.specs.Volume.{volume_view, past_of, Syncs};
 ghost use Rattle.minix_steps.specs.Steps.{IsReady, Steps};
 

@@ -5,7 +5,7 @@ ghost use Rattle.lilo_model.specs.Bytes.{with_part};
 ghost use Rattle.lilo_model.specs.MinixLayout.{inode_size, inode_bytes, inode_place, most_links, number_size};
 ghost use Rattle.minix_layout.specs.View.{kind_view, super_view, inode_view};
 ghost use Rattle.minix_zones.specs.Volume.{volume_view, past_of, WritesSector};
-ghost use Rattle.minix_steps.specs.Laws.{OneInode};
+ghost use Rattle.minix_steps.specs.StepLaws.{OneInode};
 ghost use Rattle.minix_steps.specs.Steps.{IsReady, IsUnnamedInode, Steps};
 ghost use Rattle.minix_steps.specs.Written.{inode_rewritten, parts_now};
 

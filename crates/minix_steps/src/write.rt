@@ -2,7 +2,7 @@
 ghost use Rattle.std.specs.Prelude.{◌≢◌, ◌*◌, ◌<◌};
 ghost use Rattle.disk_trait.specs.Moments.{IsTold, begun};
 ghost use Rattle.lilo_model.specs.MinixLayout.{super_sector};
-ghost use Rattle.minix_beside_laws.specs.Beside.{Harmless};
+ghost use Rattle.minix_change_laws.specs.Beside.{Harmless};
 ghost use Rattle.minix_zones.specs.Volume.{volume_view, past_of, WritesSector};
 ghost use Rattle.minix_steps.specs.Steps.{IsReady, Steps};
 

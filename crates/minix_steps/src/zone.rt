@@ -6,7 +6,7 @@ ghost use Rattle.disk_trait.specs.Range.{IsOutside};
 ghost use Rattle.lilo_model.specs.Bytes.{part_of};
 ghost use Rattle.lilo_model.specs.MinixLayout.{zone_sector};
 ghost use Rattle.minix_zones.specs.Volume.{volume_view, past_of, HasDeviceCause};
-ghost use Rattle.minix_steps.specs.Laws.{OneZone};
+ghost use Rattle.minix_steps.specs.StepLaws.{OneZone};
 ghost use Rattle.minix_steps.specs.Steps.{IsReady, IsUnusedZone, Steps};
 ghost use Rattle.minix_steps.specs.Written.{with_zone, IsPartOfZone, parts_now};
 

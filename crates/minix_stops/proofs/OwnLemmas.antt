@@ -5,10 +5,10 @@ use Rattle.lilo_model.specs.Disks.{Image}
 use Rattle.lilo_model.specs.MinixLayout.{inode_size, super_at, inode_of, inode_place, zone_sector, super_sector}
 use Rattle.lilo_model.specs.MinixParts.{Volume, sector_of, bit, inode_mark_sector, zone_bit, zone_mark_sector, parts_of}
 use Rattle.lilo_model.specs.MinixNames.{names_in, HasSound, IsSound}
-use Rattle.minix_beside_laws.specs.Keeps.{Keeps, SoundAs}
-use Rattle.minix_beside_laws.specs.Beside.{SoundAsIn}
-use Rattle.minix_beside_laws.proofs.Keeps.{keeps_law}
-use Rattle.minix_beside_laws.proofs.Laid.{Laid, laid, mark-below, zone_mark-below, place-below}
+use Rattle.minix_change_laws.specs.Keeps.{Keeps, SoundAs}
+use Rattle.minix_change_laws.specs.Beside.{SoundAsIn}
+use Rattle.minix_change_laws.proofs.Keeps.{keeps_law}
+use Rattle.minix_change_laws.proofs.Laid.{Laid, laid, mark-below, zone_mark-below, place-below}
 use Rattle.minix_stops.specs.Laws.{HasSectorsOf, OwnSectorsLaw, OwnNamesLaw}
 
 module _ (volume : Volume) (old image : Image) (same : HasSectorsOf volume old image) (sound : HasSound volume old) where

@@ -3,7 +3,7 @@ use Rattle.std.specs.Prelude.{◌≡◌, ◌<◌, ◌*◌, ◌↔◌, ℕ}
 use Rattle.lilo_model.specs.Disks.{Image}
 use Rattle.lilo_model.specs.MinixParts.{Volume, sector_of}
 use Rattle.lilo_model.specs.MinixNames.{IsSound}
-use Rattle.minix_beside_laws.specs.Beside.{SoundAsIn}
+use Rattle.minix_change_laws.specs.Beside.{SoundAsIn}
 
 -- an image has in each sector of a volume what another has there
 abbrev pub HasSectorsOf : Volume → Image → Image → Type 0

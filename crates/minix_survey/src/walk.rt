@@ -25,8 +25,8 @@ use crate::spot::{ROOT, Spot};
 use crate::survey_fault::SurveyFault;
 use crate::tables::Tables;
 use disk_trait::Disks;
-use minix_bits::{inode_is_marked, zone_is_marked};
 use minix_layout::Inode;
+use minix_steps::{inode_is_marked, zone_is_marked};
 use minix_tree::{
     DirEntry, TreeFault, directory_blocks, entries_per_block, entry_at, is_directory, is_file,
     is_link, places, stat_of,

@@ -1,14 +1,16 @@
-//! Tests of the Minix volume, by what the crates of this room offer to others.
+//! Tests of the crates of Minix volumes, by what they offer to others.
 #![tactic(auto)]
 
 #[cfg(test)]
-mod bits;
+mod calls;
+#[cfg(test)]
+mod disk;
 #[cfg(test)]
 mod layout;
 #[cfg(test)]
 mod search;
 #[cfg(test)]
-mod survey;
+mod steps;
 #[cfg(test)]
 mod tree;
 #[cfg(test)]

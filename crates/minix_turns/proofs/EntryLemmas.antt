@@ -5,8 +5,8 @@ use Rattle.std.proofs.Math.Seq.{take-append_seam}
 use Rattle.lilo_model.specs.Bytes.{with_part, number16, bytes16, filled_bytes}
 use Rattle.lilo_model.specs.MinixEntries.{entry_of}
 use Rattle.lilo_model.specs.MinixLayout.{Kind, V1Short, V1Long, V2Short, V2Long, name_size, entry_size}
-use Rattle.minix_entry_bytes_laws.specs.Written.{entry_bytes}
-use Rattle.minix_zone_bytes_laws.specs.Part.{free_bytes}
+use Rattle.minix_change_laws.specs.Written.{entry_bytes}
+use Rattle.minix_change_laws.specs.Part.{free_bytes}
 use Rattle.minix_turns.specs.Part.{IsEntry}
 
 pub filled-long : (len : ℕ) (name : List ℕ) → length name ≤ len → length (filled_bytes len name) ≡ len

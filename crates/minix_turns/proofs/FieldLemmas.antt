@@ -5,8 +5,8 @@ use Rattle.std.proofs.lemmas.List.Elements.{All-set}
 use Rattle.lilo_model.specs.MinixLayout.{Kind, V1Short, V1Long, V2Short, V2Long, Inode, FitsInode, is_size, most_links, number_size, inode_size, inode_of, inode_at, inode_bytes, v1_inode_bytes, v2_inode_bytes, bytes32_of, kept_inode}
 use Rattle.minix_layout.proofs.Reading.{kept_law}
 use Rattle.minix_layout.proofs.Written.{length-bytes16_of, length-bytes32_of}
-use Rattle.minix_growth_laws.specs.Changes.{with_size, with_top}
-use Rattle.minix_sees_laws.specs.Sees.{with_links}
+use Rattle.minix_change_laws.specs.Changes.{with_size, with_top}
+use Rattle.minix_change_laws.specs.Sees.{with_links}
 use Rattle.minix_turns.specs.Inode.{FitsTop}
 
 -- ---- what is written

@@ -4,10 +4,10 @@ use Rattle.disk_trait.specs.declared.disks.Disks.{Ghosts}
 use Rattle.disk_trait.specs.Past.{Image}
 use Rattle.disk_trait.specs.Moments.{IsTold, now}
 use Rattle.lilo_model.specs.MinixLayout.{Inode, FitsInode, most_links, inode_place}
-use Rattle.minix_growth_laws.specs.Changes.{with_size, with_top}
-use Rattle.minix_growth_laws.specs.Grows.{Deeper}
+use Rattle.minix_change_laws.specs.Changes.{with_size, with_top}
+use Rattle.minix_change_laws.specs.Grows.{Deeper}
 use Rattle.minix_layout.specs.View.{super_view}
-use Rattle.minix_sees_laws.specs.Sees.{with_links, SeenAsIn}
+use Rattle.minix_change_laws.specs.Sees.{with_links, SeenAsIn}
 use Rattle.minix_steps.specs.Written.{with_sector_of, inode_rewritten, parts_now}
 use Rattle.minix_turns.specs.Inode.{TurnsInode, FitsTop, IsNamedNow, MayHaveLinks, MayHaveSize, MayHaveTop}
 use Rattle.minix_turns.specs.Joined.{Unseen}

@@ -7,12 +7,12 @@ use Rattle.disk_trait.proofs.CallLemmas.{goes_on_join}
 use Rattle.disk_trait.proofs.LawLemmas.{quiet_begun}
 use Rattle.disk_trait.proofs.MomentLemmas.{leaves_weaker, leaves_join, on_ok}
 use Rattle.lilo_model.specs.MinixNames.{Thing, IsSound}
-use Rattle.minix_sees_laws.specs.Sees.{SeenAsIn}
-use Rattle.minix_sees_laws.specs.Tree.{HasTreeWith}
+use Rattle.minix_change_laws.specs.Sees.{SeenAsIn}
+use Rattle.minix_change_laws.specs.Tree.{HasTreeWith}
 use Rattle.lilo_model.specs.MinixParts as model
-use Rattle.minix_beside_laws.specs.Beside.{Beside}
-use Rattle.minix_sees_laws.proofs.Seen.{seen_same_law, seen_beside_law, seen_join_law}
-use Rattle.minix_sees_laws.proofs.Tree.{tree_after_law, tree_before_law}
+use Rattle.minix_change_laws.specs.Beside.{Beside}
+use Rattle.minix_change_laws.proofs.Seen.{seen_same_law, seen_beside_law, seen_join_law}
+use Rattle.minix_change_laws.proofs.Tree.{tree_after_law, tree_before_law}
 use Rattle.minix_steps.specs.Written.{with_sector_of}
 use Rattle.minix_steps.specs.Steps.{IsReady, Steps}
 use Rattle.minix_steps.proofs.ReadyLemmas.{quiet_ready}

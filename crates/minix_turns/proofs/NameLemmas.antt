@@ -9,10 +9,10 @@ use Rattle.lilo_model.specs.MinixLayout.{entry_size, name_size, number_size, num
 use Rattle.lilo_model.specs.MinixNames.{pointer, entry}
 use Rattle.lilo_model.specs.MinixParts as model
 use Rattle.lilo_model.specs.MinixParts.{Pointer}
-use Rattle.minix_entry_bytes_laws.specs.Written.{entry_bytes, place_of_entry, HasEntryBytes}
-use Rattle.minix_entry_bytes_laws.proofs.EntryBytes.{entry_bytes_law}
-use Rattle.minix_entry_bytes_laws.proofs.Images.{enter_bytes_law, enter_directory_bytes_law, redirect_bytes_law, remove_bytes_law}
-use Rattle.minix_entry_laws.specs.Only.{zone_of_entry}
+use Rattle.minix_change_laws.specs.Written.{entry_bytes, place_of_entry, HasEntryBytes}
+use Rattle.minix_change_laws.proofs.EntryBytes.{entry_bytes_law}
+use Rattle.minix_change_laws.proofs.Images.{enter_bytes_law, enter_directory_bytes_law, redirect_bytes_law, remove_bytes_law}
+use Rattle.minix_change_laws.specs.Only.{zone_of_entry}
 use Rattle.minix_layout.specs.View.{kind_view, super_view}
 use Rattle.minix_steps.specs.Written.{with_sector_of, parts_now}
 use Rattle.minix_steps.proofs.RegionLemmas.{zone_behind}
@@ -23,8 +23,8 @@ use Rattle.minix_turns.proofs.PastLemmas.{past_entry}
 use Rattle.minix_turns.proofs.JoinedLemmas.{turn_unseen, turn_leads}
 use Rattle.minix_turns.proofs.PastLemmas.{past_entry}
 use Rattle.minix_turns.proofs.PartLemmas.{entry_has, number_has}
-use Rattle.minix_zone_bytes_laws.specs.Part.{HasZonePart, number_bytes, offset_of_number, offset_in_block}
-use Rattle.minix_zone_bytes_laws.proofs.Unseen.{seen_number_law, seen_past_law}
+use Rattle.minix_change_laws.specs.Part.{HasZonePart, number_bytes, offset_of_number, offset_in_block}
+use Rattle.minix_change_laws.proofs.Unseen.{seen_number_law, seen_past_law}
 use Rattle.minix_zones.specs.Volume.{volume_view, past_of}
 use Rattle.minix_zones.specs.declared.volume.Volume.{Volume}
 

@@ -7,15 +7,15 @@ use Rattle.disk_trait.proofs.MomentLemmas.{leaves_weaker, on_ok}
 use Rattle.lilo_model.specs.Bytes.{bytes16, bytes32}
 use Rattle.lilo_model.specs.MinixEntries.{entries_per_block}
 use Rattle.lilo_model.specs.MinixLayout.{Kind, V1Short, V1Long, V2Short, V2Long, is_v1, entry_size, numbers_in_zone, super_sector, zone_sector}
-use Rattle.minix_entry_laws.proofs.Blocks.{entry-fits, entry-in_sector, some-entry}
+use Rattle.minix_change_laws.proofs.Blocks.{entry-fits, entry-in_sector, some-entry}
 use Rattle.minix_layout.specs.View.{kind_view, super_view}
 use Rattle.minix_layout.specs.declared.kind.FsKind.{FsKind}
 use Rattle.minix_zones.specs.Volume.{volume_view, past_of}
 use Rattle.minix_zones.specs.declared.volume.Volume.{Volume}
 use Rattle.minix_steps.specs.Written.{with_sector_of}
 use Rattle.minix_steps.proofs.RegionLemmas.{sector_there, zone_behind}
-use Rattle.minix_zone_bytes_laws.specs.Part.{number_bytes, offset_of_number}
-use Rattle.minix_zone_bytes_laws.proofs.Part.{write_part_law}
+use Rattle.minix_change_laws.specs.Part.{number_bytes, offset_of_number}
+use Rattle.minix_change_laws.proofs.Part.{write_part_law}
 use Rattle.minix_turns.specs.Turns.{WithOrWithout, Turns}
 use Rattle.minix_turns.specs.Part.{part_rewritten, TurnsPart, TurnsNumber, TurnsEntry, HasPart, WithOrWithoutPart, HasNumberPart, WithOrWithoutNumber, HasEntryPart, WithOrWithoutEntry}
 

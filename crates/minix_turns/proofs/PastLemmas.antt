@@ -7,13 +7,13 @@ use Rattle.lilo_model.specs.MinixEntries.{entry_of, entry_in, entries_per_block}
 use Rattle.lilo_model.specs.MinixLayout.{entry_size}
 use Rattle.lilo_model.specs.MinixNames.{zone_number, block, entry, Refers, IsSound}
 use Rattle.lilo_model.specs.MinixParts.{Parts, Volume, block_pointer, zone_bytes, parts_of}
-use Rattle.minix_entry_laws.specs.Only.{zone_of_entry}
-use Rattle.minix_entry_laws.proofs.Blocks.{entry-fits, index-below, part-same}
-use Rattle.minix_entry_laws.proofs.Only.{directory-refers}
-use Rattle.minix_sees_laws.proofs.Seen.{opened}
-use Rattle.minix_zone_bytes_laws.specs.Part.{HasZonePart, PartIsWritten, offset_in_block, IsPast}
-use Rattle.minix_zone_bytes_laws.proofs.Part.{part_law}
-use Rattle.minix_zone_bytes_laws.proofs.Unseen.{seen_past_law}
+use Rattle.minix_change_laws.specs.Only.{zone_of_entry}
+use Rattle.minix_change_laws.proofs.Blocks.{entry-fits, index-below, part-same}
+use Rattle.minix_change_laws.proofs.Only.{directory-refers}
+use Rattle.minix_change_laws.proofs.Seen.{opened}
+use Rattle.minix_change_laws.specs.Part.{HasZonePart, PartIsWritten, offset_in_block, IsPast}
+use Rattle.minix_change_laws.proofs.Part.{part_law}
+use Rattle.minix_change_laws.proofs.Unseen.{seen_past_law}
 
 module _ (volume : Volume) (old image : Image) (directory place : ℕ) (bytes : List ℕ) (sound : IsSound volume old) (past : IsPast volume.layout (parts_of volume old) directory place) (size : length bytes ≡ entry_size volume.layout.kind)
     (has : HasZonePart volume old image (zone_of_entry volume.layout (parts_of volume old) directory place) (offset_in_block volume.layout place) bytes) where

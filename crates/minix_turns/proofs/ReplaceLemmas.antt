@@ -13,15 +13,15 @@ use Rattle.lilo_model.specs.MinixLayout.{Super, entry_size, zone_sector}
 use Rattle.lilo_model.specs.MinixNames.{zone_number, thing, Named, IsSound}
 use Rattle.lilo_model.specs.MinixParts as model
 use Rattle.lilo_model.specs.MinixParts.{Parts, is_directory, block_pointer, sector_of, parts_of}
-use Rattle.minix_entry_bytes_laws.specs.Written.{entry_bytes, IsPlaced, HasEntryBytes}
-use Rattle.minix_entry_bytes_laws.proofs.EntryBytes.{entry_bytes_law}
-use Rattle.minix_entry_bytes_laws.proofs.Replace.{replace_bytes_law}
-use Rattle.minix_entry_laws.specs.Enter.{MayStand, MayRemove}
-use Rattle.minix_entry_laws.specs.Only.{zone_of_entry}
-use Rattle.minix_entry_laws.proofs.Only.{directory-refers}
+use Rattle.minix_change_laws.specs.Written.{entry_bytes, IsPlaced, HasEntryBytes}
+use Rattle.minix_change_laws.proofs.EntryBytes.{entry_bytes_law}
+use Rattle.minix_change_laws.proofs.ReplaceBytes.{replace_bytes_law}
+use Rattle.minix_change_laws.specs.Enter.{MayStand, MayRemove}
+use Rattle.minix_change_laws.specs.Only.{zone_of_entry}
+use Rattle.minix_change_laws.proofs.Only.{directory-refers}
 use Rattle.minix_layout.specs.View.{kind_view, super_view}
 use Rattle.minix_layout.specs.declared.superblock.Super as layout
-use Rattle.minix_sees_laws.specs.Tree.{KeepsNamed, HasTreeWith}
+use Rattle.minix_change_laws.specs.Tree.{KeepsNamed, HasTreeWith}
 use Rattle.minix_steps.specs.Written.{with_sector_of, parts_now}
 use Rattle.minix_steps.proofs.StepLemmas.{leaves_told, same_view}
 use Rattle.minix_turns.specs.Joined.{LeadsPath}
@@ -32,8 +32,8 @@ use Rattle.minix_turns.specs.declared.replace.EntryPlace.{EntryPlace}
 use Rattle.minix_turns.proofs.EntryLemmas.{free-long, free-inode}
 use Rattle.minix_turns.proofs.PartLemmas.{entry_fits}
 use Rattle.minix_turns.proofs.NameLemmas.{entry_at}
-use Rattle.minix_zone_bytes_laws.specs.Part.{HasZonePart, free_bytes}
-use Rattle.minix_zone_bytes_laws.proofs.Part.{write_part_law}
+use Rattle.minix_change_laws.specs.Part.{HasZonePart, free_bytes}
+use Rattle.minix_change_laws.proofs.Part.{write_part_law}
 use Rattle.minix_zones.specs.Volume.{volume_view, past_of, KeepsVolume}
 use Rattle.minix_zones.proofs.WriteLemmas.{keeps_join}
 use Rattle.minix_zones.specs.declared.volume.Volume.{Volume}

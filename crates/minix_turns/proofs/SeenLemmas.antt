@@ -5,14 +5,14 @@ use Rattle.lilo_model.specs.Disks.{Image}
 use Rattle.lilo_model.specs.MinixLayout.{IsSuper, Inode, FitsInode, is_size, most_links, inode_size, inode_bytes, inode_place, kept_inode, super_sector}
 use Rattle.lilo_model.specs.MinixParts.{Parts, Volume, sector_of, inode_part, parts_of}
 use Rattle.lilo_model.specs.MinixNames.{Named, HasSound, IsSound}
-use Rattle.minix_beside_laws.proofs.Replaced.{length-with_part}
-use Rattle.minix_growth_laws.specs.Changes.{ChangesNode, AreEnough, with_size, MaySize, MayHook, with_top}
-use Rattle.minix_growth_laws.specs.Grows.{pointer_at, Deeper}
-use Rattle.minix_growth_laws.proofs.Changes.{links_change_law, size_change_law, top_law}
-use Rattle.minix_sees_laws.specs.Laws.{KeepsSectors}
-use Rattle.minix_sees_laws.specs.Sees.{with_links, Sees, SeenAsIn}
-use Rattle.minix_sees_laws.proofs.Seen.{opened, seen_parts_law}
-use Rattle.minix_steps.specs.Laws.{OneInode}
+use Rattle.minix_change_laws.proofs.Replaced.{length-with_part}
+use Rattle.minix_change_laws.specs.Changes.{ChangesNode, AreEnough, with_size, MaySize, MayHook, with_top}
+use Rattle.minix_change_laws.specs.Grows.{pointer_at, Deeper}
+use Rattle.minix_change_laws.proofs.Changes.{links_change_law, size_change_law, top_law}
+use Rattle.minix_change_laws.specs.SeesLaws.{KeepsSectors}
+use Rattle.minix_change_laws.specs.Sees.{with_links, Sees, SeenAsIn}
+use Rattle.minix_change_laws.proofs.Seen.{opened, seen_parts_law}
+use Rattle.minix_steps.specs.StepLaws.{OneInode}
 use Rattle.minix_steps.specs.Written.{with_sector_of, with_inode}
 use Rattle.minix_steps.proofs.PartLemmas.{at_sector, other_sector, fits, inode_bytes_law, kept_inode_law}
 use Rattle.minix_steps.proofs.RegionLemmas.{place_there, place_from}

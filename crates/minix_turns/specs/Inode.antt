@@ -5,9 +5,9 @@ use Rattle.disk_trait.specs.Moments.{now}
 use Rattle.lilo_model.specs.MinixLayout.{Kind, Super, Inode, is_v1, inode_place, number_size}
 use Rattle.lilo_model.specs.MinixNames.{Named, Sound, IsSound}
 use Rattle.lilo_model.specs.MinixParts.{Parts}
-use Rattle.minix_entry_laws.specs.Enter.{HasLinkMore}
-use Rattle.minix_growth_laws.specs.Changes.{AreEnough, MaySize, MayHook}
-use Rattle.minix_growth_laws.specs.Grows.{pointer_at, Deeper}
+use Rattle.minix_change_laws.specs.Enter.{HasLinkMore}
+use Rattle.minix_change_laws.specs.Changes.{AreEnough, MaySize, MayHook}
+use Rattle.minix_change_laws.specs.Grows.{pointer_at, Deeper}
 use Rattle.minix_layout.specs.View.{super_view}
 use Rattle.minix_steps.specs.Written.{inode_rewritten, parts_now}
 use Rattle.minix_turns.specs.Turns.{Turns}

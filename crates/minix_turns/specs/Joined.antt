@@ -6,8 +6,8 @@ use Rattle.disk_trait.specs.Past.{Image}
 use Rattle.disk_trait.specs.Moments.{IsTold, now, LeavesOnly}
 use Rattle.lilo_model.specs.MinixNames.{Thing}
 use Rattle.lilo_model.specs.MinixParts as model
-use Rattle.minix_sees_laws.specs.Sees.{SeenAsIn}
-use Rattle.minix_sees_laws.specs.Tree.{HasTreeWith}
+use Rattle.minix_change_laws.specs.Sees.{SeenAsIn}
+use Rattle.minix_change_laws.specs.Tree.{HasTreeWith}
 use Rattle.minix_zones.specs.Volume.{volume_view, past_of, KeepsVolume}
 use Rattle.minix_zones.specs.declared.volume.Volume.{Volume}
 use Rattle.minix_zones.specs.declared.zone_fault.ZoneFault.{ZoneFault}

@@ -7,15 +7,15 @@ use Rattle.lilo_model.specs.MinixEntries.{entries_per_block}
 use Rattle.lilo_model.specs.MinixNames.{Directory, entry, pointer, thing, IsSound}
 use Rattle.lilo_model.specs.MinixParts as model
 use Rattle.lilo_model.specs.MinixParts.{Pointer}
-use Rattle.minix_entry_bytes_laws.specs.Written.{FitsEntry, IsPlaced}
-use Rattle.minix_entry_laws.specs.Enter.{MayStand, DirectoryMayStand, MayEnter, MayRemove}
-use Rattle.minix_entry_laws.specs.Only.{zone_of_entry}
-use Rattle.minix_growth_laws.specs.Changes.{MayHook}
-use Rattle.minix_growth_laws.specs.Grows.{below, Deeper}
+use Rattle.minix_change_laws.specs.Written.{FitsEntry, IsPlaced}
+use Rattle.minix_change_laws.specs.Enter.{MayStand, DirectoryMayStand, MayEnter, MayRemove}
+use Rattle.minix_change_laws.specs.Only.{zone_of_entry}
+use Rattle.minix_change_laws.specs.Changes.{MayHook}
+use Rattle.minix_change_laws.specs.Grows.{below, Deeper}
 use Rattle.minix_layout.specs.View.{kind_view, super_view}
 use Rattle.minix_steps.specs.Written.{parts_now}
 use Rattle.minix_turns.specs.Joined.{Unseen, LeadsPath}
-use Rattle.minix_zone_bytes_laws.specs.Part.{IsPast}
+use Rattle.minix_change_laws.specs.Part.{IsPast}
 use Rattle.minix_zones.specs.Volume.{volume_view, past_of}
 use Rattle.minix_zones.specs.declared.volume.Volume.{Volume}
 

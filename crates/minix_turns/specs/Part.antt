@@ -6,12 +6,12 @@ use Rattle.disk_trait.specs.Moments.{now}
 use Rattle.lilo_model.specs.Bytes.{part_of, with_part, bytes16, filled_bytes}
 use Rattle.lilo_model.specs.MinixLayout.{entry_size, zone_sector}
 use Rattle.lilo_model.specs.MinixParts.{sector_of}
-use Rattle.minix_entry_bytes_laws.specs.Written.{entry_bytes}
+use Rattle.minix_change_laws.specs.Written.{entry_bytes}
 use Rattle.minix_layout.specs.View.{kind_view}
 use Rattle.minix_zones.specs.Volume.{volume_view, past_of}
 use Rattle.minix_zones.specs.declared.volume.Volume.{Volume}
 use Rattle.minix_turns.specs.Turns.{Turns}
-use Rattle.minix_zone_bytes_laws.specs.Part.{HasZonePart, number_bytes, offset_of_number, free_bytes}
+use Rattle.minix_change_laws.specs.Part.{HasZonePart, number_bytes, offset_of_number, free_bytes}
 
 -- the bytes of the sector with a part of a zone now, with others in place of that part
 abbrev pub part_rewritten : {D : Type 0} {disks : Ghosts D} → Volume D disks → ℕ → ℕ → List ℕ → List ℕ

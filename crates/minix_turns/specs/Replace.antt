@@ -9,18 +9,18 @@ use Rattle.lilo_model.specs.MinixEntries.{entries_per_block}
 use Rattle.lilo_model.specs.MinixLayout.{entry_size, zone_sector}
 use Rattle.lilo_model.specs.MinixNames.{thing}
 use Rattle.lilo_model.specs.MinixParts as model
-use Rattle.minix_entry_bytes_laws.specs.Replaced.{ReplacedIn}
-use Rattle.minix_entry_bytes_laws.specs.Written.{FitsEntry, entry_bytes}
-use Rattle.minix_entry_laws.specs.Enter.{MayStand, MayRemove}
+use Rattle.minix_change_laws.specs.Replaced.{ReplacedIn}
+use Rattle.minix_change_laws.specs.Written.{FitsEntry, entry_bytes}
+use Rattle.minix_change_laws.specs.Enter.{MayStand, MayRemove}
 use Rattle.minix_layout.specs.View.{kind_view, super_view}
 use Rattle.minix_layout.specs.declared.superblock.Super.{Super}
-use Rattle.minix_sees_laws.specs.Sees.{SeenAsIn}
-use Rattle.minix_sees_laws.specs.Tree.{HasTreeWith}
+use Rattle.minix_change_laws.specs.Sees.{SeenAsIn}
+use Rattle.minix_change_laws.specs.Tree.{HasTreeWith}
 use Rattle.minix_steps.specs.Written.{parts_now}
 use Rattle.minix_turns.specs.Names.{IsEntryAt}
 use Rattle.minix_turns.specs.Part.{HasEntryPart}
 use Rattle.minix_turns.specs.declared.replace.EntryPlace.{EntryPlace}
-use Rattle.minix_zone_bytes_laws.specs.Part.{HasZonePart, free_bytes}
+use Rattle.minix_change_laws.specs.Part.{HasZonePart, free_bytes}
 use Rattle.minix_zones.specs.Volume.{volume_view, past_of, KeepsVolume}
 use Rattle.minix_zones.specs.declared.volume.Volume.{Volume}
 

@@ -3,11 +3,11 @@ ghost use Rattle.std.specs.Prelude.{◌≡◌, ◌*◌, ◌≤◌, ◌<◌, leng
 ghost use Rattle.disk_trait.specs.Moments.{IsTold, now, IsQuiet, LeavesOnly};
 ghost use Rattle.lilo_model.specs.MinixEntries.{entries_per_block};
 ghost use Rattle.lilo_model.specs.MinixLayout.{name_size, entry_size};
-ghost use Rattle.minix_entry_bytes_laws.specs.Written.{entry_bytes};
+ghost use Rattle.minix_change_laws.specs.Written.{entry_bytes};
 ghost use Rattle.minix_layout.specs.View.{kind_view};
 ghost use Rattle.minix_turns.specs.Names.{PastFree, PastUnseen, MakesName, MakesDirectory, RedirectsName, RemovesName};
 ghost use Rattle.minix_turns.specs.Part.{TurnsNamedEntry, TurnsFreeEntry, HasEntryPart, WithOrWithoutEntry, IsEntry};
-ghost use Rattle.minix_zone_bytes_laws.specs.Part.{free_bytes};
+ghost use Rattle.minix_change_laws.specs.Part.{free_bytes};
 ghost use Rattle.minix_zones.specs.Volume.{past_of, HasDeviceCause};
 
 use crate::part::turn_part;

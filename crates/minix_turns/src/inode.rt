@@ -2,10 +2,10 @@
 ghost use Rattle.std.specs.Prelude.{◌≡◌, ◌≤◌, List};
 ghost use Rattle.disk_trait.specs.Moments.{IsTold, IsQuiet};
 ghost use Rattle.lilo_model.specs.MinixLayout.{FitsInode, most_links};
-ghost use Rattle.minix_growth_laws.specs.Changes.{with_size, with_top};
-ghost use Rattle.minix_growth_laws.specs.Grows.{Deeper};
+ghost use Rattle.minix_change_laws.specs.Changes.{with_size, with_top};
+ghost use Rattle.minix_change_laws.specs.Grows.{Deeper};
 ghost use Rattle.minix_layout.specs.View.{kind_view, inode_view};
-ghost use Rattle.minix_sees_laws.specs.Sees.{with_links};
+ghost use Rattle.minix_change_laws.specs.Sees.{with_links};
 ghost use Rattle.minix_turns.specs.Inode.{TurnsInode, FitsTop, MayHaveLinks, MayHaveSize, MayHaveTop};
 ghost use Rattle.minix_turns.specs.Joined.{Unseen};
 ghost use Rattle.minix_zones.specs.Volume.{past_of};

@@ -24,6 +24,7 @@ mod ConfCases1
 mod ConfCases2
 mod ConfCases3
 mod ConfCases4
+mod ConfCases5
 mod CouldBeOneCases1
 mod LayoutCases1
 mod LayoutCases2

@@ -13,8 +13,8 @@ use Rattle.minix_zones.specs.Volume.{volume_view, past_of}
 use Rattle.sector_address.specs.Machine.{machine_of}
 use Rattle.install_settle.specs.Found.{AreFound}
 use Rattle.install_settle.proofs.FoundLemmas.{on_disks_back}
-use Rattle.old_map.specs.Clear.{IsFound}
-use Rattle.old_map.specs.Old.{IsOldMap}
+use Rattle.present_map.specs.Clear.{IsFound}
+use Rattle.present_map.specs.Old.{IsOldMap}
 use Rattle.install_order.specs.Checks.{GivesPresent, GivesRest}
 use Rattle.install_order.proofs.ExamineLemmas.{refused_first, refused_second, both_found, all_told}
 use Rattle.install_order.proofs.examination.examine.Goals as goal

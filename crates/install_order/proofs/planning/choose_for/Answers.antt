@@ -7,7 +7,7 @@ use Rattle.lilo_model.specs.MinixParts as volumes
 use Rattle.lilo_conf.specs.View.{config_view}
 use Rattle.map_plan.specs.Sound.{machine_for}
 use Rattle.map_sectors.specs.Map.{plan_view}
-use Rattle.map_size_laws.proofs.Whole.{map_size_law}
+use Rattle.install_order.proofs.WholeMap.{map_size_law}
 use Rattle.minix_layout.specs.View.{kind_view}
 use Rattle.minix_zones.specs.View.{span_view}
 use Rattle.minix_zones.specs.Volume.{volume_view, past_of, faults_of}

@@ -1,7 +1,7 @@
 -- One zone more is looked at.
 use Rattle.std.proofs.Common.{◌≡◌, refl, sym, ◌∙◌, ap, subst}
-use Rattle.minix_bits.specs.Numbers.{has_number, with_number}
-use Rattle.minix_write.specs.View.{Promised}
+use Rattle.minix_steps.specs.Numbers.{has_number, with_number}
+use Rattle.minix_choice.specs.View.{Promised}
 use Rattle.install_room.proofs.RoomLemmas.{kept_with, kept_without, none_kept}
 use Rattle.install_room.proofs.avoid.keep_out.Goals.{then-has_zone, else-has_zone}
 use Rattle.install_room.proofs.avoid.keep_out.Goals as goal

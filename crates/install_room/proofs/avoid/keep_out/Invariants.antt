@@ -1,6 +1,6 @@
 -- The zones so far are kept out.
 use Rattle.std.proofs.Common.{◌≡◌, ◌&&◌, ℕ, nat_lt}
-use Rattle.minix_bits.specs.Numbers.{has_number}
+use Rattle.minix_steps.specs.Numbers.{has_number}
 use Rattle.install_room.proofs.avoid.keep_out.Given as goal
 
 abbrev pub invariant-loop-zone : goal.invariant-loop-zone

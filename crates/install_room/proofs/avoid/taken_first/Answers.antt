@@ -1,7 +1,7 @@
 -- The zones are kept out.
 use Rattle.std.proofs.Common.{◌≡◌, ◌&&◌, ℕ, nat_lt, ◌∙◌, ap, subst}
-use Rattle.minix_bits.specs.Numbers.{has_number}
-use Rattle.minix_write.specs.View.{Promised}
+use Rattle.minix_steps.specs.Numbers.{has_number}
+use Rattle.minix_choice.specs.View.{Promised}
 use Rattle.minix_zones.specs.Volume.{volume_view}
 use Rattle.install_room.proofs.RoomLemmas.{taken_as_first}
 use Rattle.install_room.proofs.avoid.taken_first.Goals as goal

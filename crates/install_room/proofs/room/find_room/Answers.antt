@@ -6,10 +6,10 @@ use Rattle.disk_trait.proofs.ToldLemmas.{told_all, told_both, told_map}
 use Rattle.disk_trait.specs.declared.disks.Span.{Span}
 use Rattle.lilo_model.specs.MinixParts.{parts_of}
 use Rattle.lilo_model.specs.MinixParts as parts
-use Rattle.minix_bits.proofs.BitmapLemmas.{fits}
+use Rattle.minix_steps.proofs.BitmapLemmas.{fits}
 use Rattle.minix_steps.specs.Written.{parts_now}
-use Rattle.minix_write.specs.View.{taken_view, Refuses}
-use Rattle.minix_write.specs.declared.write_fault.WriteFault.TheVariants as faults
+use Rattle.minix_choice.specs.View.{taken_view, Refuses}
+use Rattle.minix_choice.specs.declared.write_fault.WriteFault.TheVariants as faults
 use Rattle.minix_zones.specs.View.{span_view}
 use Rattle.minix_zones.specs.Volume.{volume_view, past_of}
 use Rattle.minix_zones.proofs.SameLemmas.{told_back}

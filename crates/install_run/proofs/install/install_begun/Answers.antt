@@ -11,7 +11,7 @@ use Rattle.mbr_table.specs.View.{span_view}
 use Rattle.sector_address.specs.Machine.{machine_of}
 use Rattle.stream_trait.specs.Shows.{sink_of}
 use Rattle.install_begin.specs.View.{begun_view}
-use Rattle.install_preview.proofs.TrialLemmas.{laid_told, of_some}
+use Rattle.install_run.proofs.TrialLemmas.{laid_told, of_some}
 use Rattle.install_run.specs.Installs.{InstallsBegun, OnVolume}
 use Rattle.install_run.specs.Phases.{FailsBy, FailsIn}
 use Rattle.install_run.proofs.InstalledLemmas.{no_volume, zone_known, zone_lost}

@@ -10,11 +10,16 @@ use Rattle.install_order.specs.View.{begun_of}
 use Rattle.install_run.proofs.PreparedLemmas.{Begins, are, begin_stays, begun_leaves, cause_from, gives_back, gives_planned, gives_refused, none_refused, planned_goes_on, planned_reference, planned_stays, ready_to_stage, refused_begin, some_of, told_after, unbegun_back}
 use Rattle.install_run.proofs.prepare.prepare.Goals as goal
 
+is-surveyed : (g : Rattle.install_run.proofs.prepare.prepare.Given.Over) (c : goal.After-from_residual g) → c.from_residual.result ≡ Err c.in_err-surveyed.field-0.0
+is-surveyed g c = search rules
+
+is-planned : (g : Rattle.install_run.proofs.prepare.prepare.Given.Over) (c : goal.After-from_residual-in_err-planned g) → c.from_residual-in_err-planned.result ≡ Err c.in_err-planned.field-0.0
+is-planned g c = search rules
+
 pub returns-in_err-surveyed-clause-gives : goal.returns-in_err-surveyed-clause-gives
 returns-in_err-surveyed-clause-gives g c =
     let halt = c.in_err-surveyed.field-0.0 in
-    let is : c.from_residual.result ≡ Err halt = search rules in
-    rw is
+    rw (is-surveyed g c)
     (IfSome_then c.args.config.boot c.in_err-surveyed.ensures.found
     (λ device found.
     told_map (past_of c.args.volume) _ _
@@ -25,15 +30,14 @@ returns-in_err-surveyed-clause-gives g c =
 pub returns-in_err-surveyed-clause-unbegun : goal.returns-in_err-surveyed-clause-unbegun
 returns-in_err-surveyed-clause-unbegun g c =
     let halt = c.in_err-surveyed.field-0.0 in
-    let is : c.from_residual.result ≡ Err halt = search rules in
-    rw is
+    rw (is-surveyed g c)
     (IfSome_then c.args.config.boot c.in_err-surveyed.ensures.found
     (λ device found. told_map (past_of c.args.volume) _ _ (λ now refuses other checks. c.in_err-surveyed.ensures.refused other) found))
 
 pub returns-in_err-planned-clause-unbegun : goal.returns-in_err-planned-clause-unbegun
 returns-in_err-planned-clause-unbegun g c =
     let halt = c.in_err-planned.field-0.0 in
-    let is : c.from_residual-in_err-planned.result ≡ Err halt = search rules in
+    let is : c.from_residual-in_err-planned.result ≡ Err halt = is-planned g c in
     let s = c.in_ok-surveyed.surveyed in
     let did = c.in_ok-surveyed.ensures in
     let begins : Begins c.args.volume c.args.config c.args.boot c.args.now s =
@@ -53,13 +57,12 @@ returns-clause-unbegun g c =
 pub returns-in_err-surveyed-clause-nothing : goal.returns-in_err-surveyed-clause-nothing
 returns-in_err-surveyed-clause-nothing g c =
     let halt = c.in_err-surveyed.field-0.0 in
-    let is : c.from_residual.result ≡ Err halt = search rules in
-    rw is c.in_err-surveyed.ensures.nothing
+    rw (is-surveyed g c) c.in_err-surveyed.ensures.nothing
 
 pub returns-in_err-planned-clause-nothing : goal.returns-in_err-planned-clause-nothing
 returns-in_err-planned-clause-nothing g c =
     let halt = c.in_err-planned.field-0.0 in
-    let is : c.from_residual-in_err-planned.result ≡ Err halt = search rules in
+    let is : c.from_residual-in_err-planned.result ≡ Err halt = is-planned g c in
     rw is
     (IfSome_then c.args.config.boot c.in_ok-surveyed.ensures.nothing
     (λ device stays. told_map (past_of c.args.volume) _ _ (λ image same none. c.in_err-planned.ensures.same.same_disks.same_past ∙ same none) stays))
@@ -74,23 +77,21 @@ returns-clause-nothing g c =
 pub returns-in_err-surveyed-clause-stays : goal.returns-in_err-surveyed-clause-stays
 returns-in_err-surveyed-clause-stays g c =
     let halt = c.in_err-surveyed.field-0.0 in
-    let is : c.from_residual.result ≡ Err halt = search rules in
-    rw is
+    rw (is-surveyed g c)
     (IfSome_then c.args.config.boot c.in_err-surveyed.ensures.leaves
     (λ device leaves. begin_stays c.args.volume halt.volume c.args.config device c.args.boot leaves))
 
 pub returns-in_err-surveyed-clause-goes_on : goal.returns-in_err-surveyed-clause-goes_on
 returns-in_err-surveyed-clause-goes_on g c =
     let halt = c.in_err-surveyed.field-0.0 in
-    let is : c.from_residual.result ≡ Err halt = search rules in
-    rw is
+    rw (is-surveyed g c)
     (some_of c.args.config.boot (λ device. Leaves c.args.volume halt.volume (begun_of c.args.volume c.args.config device c.args.boot)) _ c.requires.device
     c.in_err-surveyed.ensures.leaves (λ device leaves. leaves.goes_on))
 
 pub returns-in_err-planned-clause-gives : goal.returns-in_err-planned-clause-gives
 returns-in_err-planned-clause-gives g c =
     let halt = c.in_err-planned.field-0.0 in
-    let is : c.from_residual-in_err-planned.result ≡ Err halt = search rules in
+    let is : c.from_residual-in_err-planned.result ≡ Err halt = is-planned g c in
     let s = c.in_ok-surveyed.surveyed in
     let did = c.in_ok-surveyed.ensures in
     let begins : Begins c.args.volume c.args.config c.args.boot c.args.now s =
@@ -104,7 +105,7 @@ returns-in_err-planned-clause-gives g c =
 pub returns-in_err-planned-clause-stays : goal.returns-in_err-planned-clause-stays
 returns-in_err-planned-clause-stays g c =
     let halt = c.in_err-planned.field-0.0 in
-    let is : c.from_residual-in_err-planned.result ≡ Err halt = search rules in
+    let is : c.from_residual-in_err-planned.result ≡ Err halt = is-planned g c in
     let s = c.in_ok-surveyed.surveyed in
     let did = c.in_ok-surveyed.ensures in
     let begins : Begins c.args.volume c.args.config c.args.boot c.args.now s =
@@ -114,7 +115,7 @@ returns-in_err-planned-clause-stays g c =
 pub returns-in_err-planned-clause-goes_on : goal.returns-in_err-planned-clause-goes_on
 returns-in_err-planned-clause-goes_on g c =
     let halt = c.in_err-planned.field-0.0 in
-    let is : c.from_residual-in_err-planned.result ≡ Err halt = search rules in
+    let is : c.from_residual-in_err-planned.result ≡ Err halt = is-planned g c in
     let s = c.in_ok-surveyed.surveyed in
     let did = c.in_ok-surveyed.ensures in
     let begins : Begins c.args.volume c.args.config c.args.boot c.args.now s =
@@ -124,7 +125,7 @@ returns-in_err-planned-clause-goes_on g c =
 pub returns-in_err-planned-clause-cause : goal.returns-in_err-planned-clause-cause
 returns-in_err-planned-clause-cause g c =
     let halt = c.in_err-planned.field-0.0 in
-    let is : c.from_residual-in_err-planned.result ≡ Err halt = search rules in
+    let is : c.from_residual-in_err-planned.result ≡ Err halt = is-planned g c in
     let s = c.in_ok-surveyed.surveyed in
     let did = c.in_ok-surveyed.ensures in
     let begins : Begins c.args.volume c.args.config c.args.boot c.args.now s =
@@ -200,15 +201,14 @@ returns-clause-goes_on g c =
 pub returns-in_err-surveyed-clause-same_reference : goal.returns-in_err-surveyed-clause-same_reference
 returns-in_err-surveyed-clause-same_reference g c =
     let halt = c.in_err-surveyed.field-0.0 in
-    let is : c.from_residual.result ≡ Err halt = search rules in
-    rw is
+    rw (is-surveyed g c)
     (some_of c.args.config.boot (λ device. Leaves c.args.volume halt.volume (begun_of c.args.volume c.args.config device c.args.boot)) _ c.requires.device
     c.in_err-surveyed.ensures.leaves (λ device leaves. leaves.kept.same_reference))
 
 pub returns-in_err-planned-clause-same_reference : goal.returns-in_err-planned-clause-same_reference
 returns-in_err-planned-clause-same_reference g c =
     let halt = c.in_err-planned.field-0.0 in
-    let is : c.from_residual-in_err-planned.result ≡ Err halt = search rules in
+    let is : c.from_residual-in_err-planned.result ≡ Err halt = is-planned g c in
     let s = c.in_ok-surveyed.surveyed in
     let did = c.in_ok-surveyed.ensures in
     let begins : Begins c.args.volume c.args.config c.args.boot c.args.now s =

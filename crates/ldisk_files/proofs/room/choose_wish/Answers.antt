@@ -2,7 +2,7 @@
 use Rattle.std.proofs.Common.{◌≡◌, subst}
 use Rattle.disk_trait.proofs.ToldLemmas.{told_map}
 use Rattle.minix_create.specs.Chosen.{IsFreeWhereSound, LinksWhereSound}
-use Rattle.minix_write.specs.View.{taken_view}
+use Rattle.minix_choice.specs.View.{taken_view}
 use Rattle.minix_zones.specs.Volume.{volume_view, past_of}
 use Rattle.write_model.specs.Wish.{Taken}
 use Rattle.ldisk_model.specs.FileVerdict.{nothing_taken}

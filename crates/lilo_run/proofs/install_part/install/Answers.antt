@@ -14,7 +14,7 @@ use Rattle.install_run.proofs.PhaseLemmas.{fails_since}
 use Rattle.sector_address.specs.Machine.{machine_of}
 use Rattle.lilo_run.proofs.AloneLemmas.{carried_leaves}
 use Rattle.lilo_run.proofs.InstallLemmas.{begun_there, begun_found, refused_found}
-use Rattle.install_preview.proofs.StateLemmas.{told_from}
+use Rattle.install_run.proofs.PreviewStateLemmas.{told_from}
 use Rattle.lilo_run.proofs.RunLemmas.{conf_part_lost}
 use Rattle.lilo_run.proofs.TestLemmas.{begin_lost, begin_refuses, install_refusal_known}
 use Rattle.lilo_run.proofs.install_part.install.Goals as goal

@@ -17,7 +17,7 @@ use Rattle.lilo_run.proofs.AloneLemmas.{alone_end, alone_last, alone_more, done_
 use Rattle.lilo_run.proofs.ConfLemmas.{read_first, read_more}
 use Rattle.lilo_model.specs.ConfVerdict.{conf_path}
 use Rattle.lilo_run.proofs.MemoryLemmas.{boots_by}
-use Rattle.install_preview.proofs.StateLemmas.{told_from}
+use Rattle.install_run.proofs.PreviewStateLemmas.{told_from}
 use Rattle.lilo_run.proofs.RunLemmas.{Begun, place_within, continues_more, continues_end, continues_last, own_status, own_lost, own_write_lost, long_first, long_more, write_first, write_more, begun_more, begun_last, stays_more, unwritten_more, told_here, continues_start}
 use Rattle.lilo_model.proofs.RoseLemmas.{rose_after}
 use Rattle.loader_core.proofs.LeavesLemmas.{goes_on_self, same_self}

@@ -1,7 +1,7 @@
 use Rattle.std.proofs.Common.{◌≡◌, ◌+◌, ◌≤◌, Ok, Err, rules, arith}
 use Rattle.minix_layout.specs.View.{kind_view}
 use Rattle.write_model.specs.Places.{most_places}
-use Rattle.minix_write.specs.declared.write_fault.WriteFault.TheVariants.{Device, NoSpace}
+use Rattle.minix_choice.specs.declared.write_fault.WriteFault.TheVariants.{Device, NoSpace}
 use Rattle.minix_zones.proofs.WriteLemmas.{keeps_join, keeps_same}
 use Rattle.minix_create.proofs.BroughtLemmas.{brings_fewer, brings_failed, bring_none, bring_no_room, may_next, bring_on, same_self}
 use Rattle.minix_create.proofs.brought.bring.Goals as goal

@@ -1,6 +1,6 @@
 use Rattle.std.proofs.Common.{◌≤◌, Ok}
 use Rattle.disk_trait.specs.Moments.{IsTold, IsQuiet}
-use Rattle.minix_write.specs.declared.write_fault.WriteFault.TheVariants.{Device}
+use Rattle.minix_choice.specs.declared.write_fault.WriteFault.TheVariants.{Device}
 use Rattle.minix_zones.specs.Volume.{past_of, faults_of, KeepsVolume}
 use Rattle.minix_create.specs.Brought.{MayBring, Brings}
 use Rattle.minix_create.proofs.brought.bring.Given as goal

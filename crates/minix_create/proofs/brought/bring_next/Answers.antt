@@ -1,7 +1,7 @@
 use Rattle.std.proofs.Common.{◌≡◌, ◌+◌, ◌≤◌, Ok, Err, rules, arith}
 use Rattle.lilo_model.specs.MinixEntries.{places}
 use Rattle.minix_layout.specs.View.{kind_view, inode_view}
-use Rattle.minix_write.specs.declared.write_fault.WriteFault.TheVariants.{Device}
+use Rattle.minix_choice.specs.declared.write_fault.WriteFault.TheVariants.{Device}
 use Rattle.minix_zones.specs.declared.zone_fault.ZoneFault.TheVariants as zones
 use Rattle.minix_create.proofs.BroughtLemmas.{brings_done, brings_again, read_refused, read_below, next_at, read_then}
 use Rattle.minix_create.proofs.brought.bring_next.Goals as goal

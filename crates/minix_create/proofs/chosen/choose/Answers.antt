@@ -1,7 +1,7 @@
 use Rattle.std.proofs.Common.{◌≡◌, ◌<◌, ◌^◌, Ok, refl, sym, ap, ◌∙◌, rules}
 use Rattle.disk_trait.specs.declared.disks.Span.{Span}
 use Rattle.lilo_model.specs.MinixParts.{parts_of}
-use Rattle.minix_write.specs.View.{taken_view, wish_view}
+use Rattle.minix_choice.specs.View.{taken_view, wish_view}
 use Rattle.minix_zones.proofs.SameLemmas.{told_forth}
 use Rattle.minix_zones.proofs.WriteLemmas.{keeps_same}
 use Rattle.write_model.specs.Choice.{choose}

@@ -1,6 +1,6 @@
 use Rattle.std.proofs.Common.{◌≡◌, Err, true, rules}
 use Rattle.minix_layout.specs.View.{inode_view}
-use Rattle.minix_write.specs.View.{zone_refusal}
+use Rattle.minix_choice.specs.View.{zone_refusal}
 use Rattle.minix_create.specs.Grown.{HasRoom}
 use Rattle.minix_create.proofs.GrownLemmas.{last_may, last_unused, last_room, no_room, last_grown, last_failed}
 use Rattle.minix_create.proofs.grown.grow_last.Goals as goal

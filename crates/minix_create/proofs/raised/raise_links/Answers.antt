@@ -8,8 +8,8 @@ use Rattle.lilo_model.specs.MinixParts.{parts_of}
 use Rattle.minix_layout.specs.View.{kind_view, inode_view}
 use Rattle.minix_layout.specs.declared.superblock.Super.{Super}
 use Rattle.minix_steps.specs.Written.{parts_now}
-use Rattle.minix_write.specs.View.{tree_refusal}
-use Rattle.minix_write.specs.declared.write_fault.WriteFault.TheVariants.{Device}
+use Rattle.minix_choice.specs.View.{tree_refusal}
+use Rattle.minix_choice.specs.declared.write_fault.WriteFault.TheVariants.{Device}
 use Rattle.minix_zones.specs.Volume.{volume_view, past_of}
 use Rattle.minix_zones.specs.declared.zone_fault.ZoneFault.TheVariants as zones
 use Rattle.minix_zones.proofs.SameLemmas.{told_forth}

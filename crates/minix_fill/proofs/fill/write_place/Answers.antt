@@ -1,5 +1,5 @@
 use Rattle.minix_fill.specs.Numbers.{zones_view}
-use Rattle.minix_fill_laws.specs.Sources.{Indirect}
+use Rattle.minix_choice_laws.specs.Sources.{Indirect}
 use Rattle.minix_fill.proofs.FillSteps.{fit_numbers, writes_hole, writes_zone}
 use Rattle.minix_fill.proofs.fill.write_place.Goals as goal
 

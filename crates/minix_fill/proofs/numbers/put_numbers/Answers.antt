@@ -1,7 +1,7 @@
 use Rattle.std.proofs.Common.{◌≡◌, ◌<◌, ◌+◌, ◌^◌, ℕ, List, sym, subst, rules, arith}
 use Rattle.lilo_model.specs.MinixLayout.{numbers_in_zone, number_size}
 use Rattle.minix_layout.specs.View.{kind_view}
-use Rattle.minix_fill_laws.specs.Sources.{zone_from, below_source}
+use Rattle.minix_choice_laws.specs.Sources.{zone_from, below_source}
 use Rattle.minix_fill.specs.Numbers.{zones_view, HasFirstNumbers}
 use Rattle.minix_fill.proofs.NumberLemmas.{one_number_more}
 use Rattle.minix_fill.proofs.numbers.put_numbers.Goals as goal

@@ -1,5 +1,5 @@
 use Rattle.minix_layout.specs.View.{kind_view}
-use Rattle.minix_entry_bytes_laws.specs.Written.{entry_bytes}
+use Rattle.minix_change_laws.specs.Written.{entry_bytes}
 use Rattle.minix_zones.specs.declared.zone_fault.ZoneFault.TheVariants.{Device}
 use Rattle.minix_turns.proofs.EntryLemmas.{entry-long}
 use Rattle.minix_turns.proofs.NameLemmas.{makes, makes_directory, redirects}

@@ -1,5 +1,5 @@
 use Rattle.minix_layout.specs.View.{kind_view}
-use Rattle.minix_zone_bytes_laws.specs.Part.{free_bytes}
+use Rattle.minix_change_laws.specs.Part.{free_bytes}
 use Rattle.minix_zones.specs.declared.zone_fault.ZoneFault.TheVariants.{Device}
 use Rattle.minix_turns.proofs.EntryLemmas.{free-long, free-inode}
 use Rattle.minix_turns.proofs.NameLemmas.{past_unseen, past_free, removes}

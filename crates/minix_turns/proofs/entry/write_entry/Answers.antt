@@ -1,7 +1,7 @@
 use Rattle.std.proofs.Common.{◌*◌, ℕ, List, sym, ◌∙◌, ap, subst, ⊎_elim}
 use Rattle.lilo_model.specs.MinixLayout as model
 use Rattle.lilo_model.specs.MinixLayout.{Kind}
-use Rattle.minix_entry_bytes_laws.specs.Written.{entry_bytes}
+use Rattle.minix_change_laws.specs.Written.{entry_bytes}
 use Rattle.minix_layout.specs.declared.kind.FsKind.TheVariants.{V1Short, V1Long, V2Short, V2Long}
 use Rattle.minix_layout.specs.declared.superblock.Super.{Super}
 use Rattle.minix_zones.specs.declared.zone_fault.ZoneFault.TheVariants.{Device}

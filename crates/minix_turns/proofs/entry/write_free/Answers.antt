@@ -1,7 +1,7 @@
 use Rattle.std.proofs.Common.{sym, ◌∙◌, ap, ⊎_elim}
 use Rattle.minix_layout.specs.declared.kind.FsKind.TheVariants.{V1Short, V1Long, V2Short, V2Long}
 use Rattle.minix_layout.specs.declared.superblock.Super.{Super}
-use Rattle.minix_zone_bytes_laws.specs.Part.{free_bytes}
+use Rattle.minix_change_laws.specs.Part.{free_bytes}
 use Rattle.minix_zones.specs.declared.zone_fault.ZoneFault.TheVariants.{Device}
 use Rattle.minix_turns.proofs.PartLemmas.{entry_turns}
 use Rattle.minix_turns.proofs.entry.write_free.Goals as goal

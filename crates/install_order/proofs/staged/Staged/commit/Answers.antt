@@ -1,7 +1,7 @@
 -- What was staged may be tidied once it is committed.
 use Rattle.std.proofs.Common.{◌≡◌, length, Result, subst, arith}
 use Rattle.disk_trait.specs.declared.disks.DiskFault.{DiskFault}
-use Rattle.install_commit.specs.Commits.{Commits}
+use Rattle.install_order.specs.Commits.{Commits}
 use Rattle.install_order.proofs.CommittedLemmas.{may_tidy}
 use Rattle.install_order.proofs.staged.Staged.commit.Goals as goal
 

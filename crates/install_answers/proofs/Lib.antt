@@ -1,4 +1,0 @@
-pub mod TextLemmas
-pub mod LawLemmas
-pub mod StatusLemmas
-pub mod ReportLemmas

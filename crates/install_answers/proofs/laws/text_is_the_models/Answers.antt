@@ -1,5 +1,0 @@
-use Rattle.install_answers.proofs.LawLemmas.{text_law}
-use Rattle.install_answers.proofs.laws.text_is_the_models.Goals as goal
-
-pub returns : goal.returns
-returns c = text_law

@@ -1,5 +1,0 @@
-use Rattle.install_apart_laws.proofs.Surveyed.{begun_plans_law}
-use Rattle.install_apart_laws.proofs.laws.begun_installation_plans_the_same.Goals as goal
-
-pub returns : goal.returns
-returns c = begun_plans_law

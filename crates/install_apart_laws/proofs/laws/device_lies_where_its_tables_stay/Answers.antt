@@ -1,5 +1,0 @@
-use Rattle.install_apart_laws.proofs.Tables.{tables_law}
-use Rattle.install_apart_laws.proofs.laws.device_lies_where_its_tables_stay.Goals as goal
-
-pub returns : goal.returns
-returns c = tables_law

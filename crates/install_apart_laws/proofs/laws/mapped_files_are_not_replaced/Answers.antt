@@ -1,5 +1,0 @@
-use Rattle.install_apart_laws.proofs.Mapped.{mapped_apart_law}
-use Rattle.install_apart_laws.proofs.laws.mapped_files_are_not_replaced.Goals as goal
-
-pub returns : goal.returns
-returns c = mapped_apart_law

@@ -1,5 +1,0 @@
-use Rattle.install_apart_laws.proofs.Passing.{passing_law}
-use Rattle.install_apart_laws.proofs.laws.path_that_passes_by_fails_as_before.Goals as goal
-
-pub returns : goal.returns
-returns c = passing_law

@@ -1,5 +1,0 @@
-use Rattle.install_apart_laws.proofs.Plans.{settled_plan_law}
-use Rattle.install_apart_laws.proofs.laws.settled_configuration_plans_the_same.Goals as goal
-
-pub returns : goal.returns
-returns c = settled_plan_law

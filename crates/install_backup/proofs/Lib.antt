@@ -1,6 +1,0 @@
-pub mod BlockLemmas
-pub mod FileLemmas
-pub mod ImageLemmas
-pub mod CopyLemmas
-pub mod OverLemmas
-pub mod StageLemmas

@@ -1,4 +1,0 @@
-pub mod Blocks
-pub mod Files
-pub mod Staged
-pub mod Stages

@@ -1,5 +1,0 @@
-use Rattle.install_begin_laws.proofs.Apart.{apart_boot_law}
-use Rattle.install_begin_laws.proofs.laws.apart_boot_sector_is_outside.Goals as goal
-
-pub returns : goal.returns
-returns c = apart_boot_law

@@ -1,5 +1,0 @@
-use Rattle.install_begin_laws.proofs.Spared.{begins_law}
-use Rattle.install_begin_laws.proofs.laws.beginning_promises_what_the_headline_asks.Goals as goal
-
-pub returns : goal.returns
-returns c = begins_law

@@ -1,5 +1,0 @@
-use Rattle.install_begin_laws.proofs.Spared.{clear_again_law}
-use Rattle.install_begin_laws.proofs.laws.clear_map_is_clear_again.Goals as goal
-
-pub returns : goal.returns
-returns c = clear_again_law

@@ -1,0 +1,5 @@
+use Rattle.install_join_laws.proofs.LaidInstalled.{committed_lays_law}
+use Rattle.install_join_laws.proofs.join_laws.committed_map_lies_as_planned.Goals as goal
+
+pub returns : goal.returns
+returns g c = committed_lays_law g.D.Disks

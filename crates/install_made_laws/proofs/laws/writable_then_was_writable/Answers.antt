@@ -1,5 +1,0 @@
-use Rattle.install_made_laws.proofs.After.{was_writable}
-use Rattle.install_made_laws.proofs.laws.writable_then_was_writable.Goals as goal
-
-pub returns : goal.returns
-returns g c = was_writable c.args.start.now c.args.volume.now c.args.one.now c.requires.file c.requires.made

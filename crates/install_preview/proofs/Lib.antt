@@ -1,4 +1,0 @@
-pub mod PreviewLemmas
-pub mod StateLemmas
-pub mod RefusedLemmas
-pub mod TrialLemmas

@@ -1,5 +1,0 @@
-use Rattle.install_stage_laws.proofs.Clear.{keeps_joined_law}
-use Rattle.install_stage_laws.proofs.laws.files_are_kept_in_a_row.Goals as goal
-
-pub returns : goal.returns
-returns c = keeps_joined_law

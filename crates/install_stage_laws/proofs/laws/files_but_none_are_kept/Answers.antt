@@ -1,5 +1,0 @@
-use Rattle.install_stage_laws.proofs.Clear.{keeps_all_law}
-use Rattle.install_stage_laws.proofs.laws.files_but_none_are_kept.Goals as goal
-
-pub returns : goal.returns
-returns c = keeps_all_law

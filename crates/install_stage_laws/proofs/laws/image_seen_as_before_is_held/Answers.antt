@@ -1,5 +1,0 @@
-use Rattle.install_stage_laws.proofs.Held.{seen_held_law}
-use Rattle.install_stage_laws.proofs.laws.image_seen_as_before_is_held.Goals as goal
-
-pub returns : goal.returns
-returns c = seen_held_law

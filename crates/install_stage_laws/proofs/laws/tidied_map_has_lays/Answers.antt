@@ -1,5 +1,0 @@
-use Rattle.install_stage_laws.proofs.Committed.{tidied_lays_law}
-use Rattle.install_stage_laws.proofs.laws.tidied_map_has_lays.Goals as goal
-
-pub returns : goal.returns
-returns c = tidied_lays_law

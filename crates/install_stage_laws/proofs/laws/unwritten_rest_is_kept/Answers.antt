@@ -1,5 +1,0 @@
-use Rattle.install_stage_laws.proofs.Sectors.{keeps_rest_law}
-use Rattle.install_stage_laws.proofs.laws.unwritten_rest_is_kept.Goals as goal
-
-pub returns : goal.returns
-returns c = keeps_rest_law

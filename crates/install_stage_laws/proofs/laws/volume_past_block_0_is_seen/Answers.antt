@@ -1,5 +1,0 @@
-use Rattle.install_stage_laws.proofs.Committed.{sectors_seen_law}
-use Rattle.install_stage_laws.proofs.laws.volume_past_block_0_is_seen.Goals as goal
-
-pub returns : goal.returns
-returns c = sectors_seen_law

@@ -1,5 +1,0 @@
-use Rattle.install_stays_laws.proofs.Stays.{tidy_law}
-use Rattle.install_stays_laws.proofs.laws.tidying_leaves_what_is_meant.Goals as goal
-
-pub returns : goal.returns
-returns c = tidy_law

@@ -1,2 +1,0 @@
-pub mod TidiedLemmas
-pub mod TidyLemmas

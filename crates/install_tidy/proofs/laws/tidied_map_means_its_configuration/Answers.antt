@@ -1,5 +1,0 @@
-use Rattle.install_tidy.proofs.TidiedLemmas.{tidied_map_law}
-use Rattle.install_tidy.proofs.laws.tidied_map_means_its_configuration.Goals as goal
-
-pub returns : goal.returns
-returns c = tidied_map_law

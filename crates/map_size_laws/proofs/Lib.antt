@@ -1,3 +1,0 @@
-mod Files
-mod Sections
-pub mod Whole

@@ -1,0 +1,303 @@
+// Slots of lists of sectors, and what is counted of them.
+ghost use Rattle.std.specs.Prelude.{◌<◌, ◌≤◌, ◌^◌, All, IfOk, length};
+ghost use Rattle.slot_lists.specs.Runs.{IsRun, places_in};
+
+use conf_settings::Opt;
+use disk_trait::Geometry;
+use map_plan::{PlanFault, check_map_places, check_mapped_file};
+use map_section::{section_sectors, write_section};
+use run_sections::{Naming, count_slots, write_section_at};
+use sector_address::{AddressFault, Mode};
+use sector_parts::Sector;
+use slot_lists::{CompactFault, DiskSector, Run, RunList, check_places, compact, plain_slots};
+use std::alloc::{AllocError, Global};
+use std::test::Fail;
+
+// The first disk has 16 heads and 63 sectors per track.
+const GEOMETRY: Geometry = Geometry {
+    heads: 16,
+    sectors: 63,
+};
+
+// Numbers of sectors of the first disk, and their slots, of one sector each or joined; or the first of them without one.
+struct List {
+    numbers: &'static [u64],
+    mode: Mode,
+    is_joined: bool,
+    slots: Result<&'static [u8], AddressFault>,
+}
+
+const LISTS: &[List] = &[
+    List {
+        numbers: &[],
+        mode: Mode::Chs,
+        is_joined: true,
+        slots: Ok(b""),
+    },
+    // The last sector of head 1 and the first of head 2: a slot by cylinder, head and sector stays on its track, and one
+    // by number doesn't.
+    List {
+        numbers: &[125, 126],
+        mode: Mode::Chs,
+        is_joined: true,
+        slots: Ok(b"\x01\x80\x01\0\x3F\0\x01\0\x01\x80\x01\0\x01\0\x02\0"),
+    },
+    List {
+        numbers: &[125, 126],
+        mode: Mode::Linear,
+        is_joined: true,
+        slots: Ok(b"\x02\x80\x02\0\x7D\0\0\0"),
+    },
+    // Three sectors of a track, one apart from them, and that one again.
+    List {
+        numbers: &[82, 83, 84, 86, 86],
+        mode: Mode::Chs,
+        is_joined: true,
+        slots: Ok(
+            b"\x01\x80\x03\0\x14\0\x01\0\x01\x80\x01\0\x18\0\x01\0\x01\x80\x01\0\x18\0\x01\0",
+        ),
+    },
+    List {
+        numbers: &[82, 83, 84, 86, 86],
+        mode: Mode::Lba32,
+        is_joined: false,
+        slots: Ok(
+            b"\x03\x80\x01\0\x52\0\0\0\x03\x80\x01\0\x53\0\0\0\x03\x80\x01\0\x54\0\0\0\x03\x80\x01\0\x56\0\0\0\x03\x80\x01\0\x56\0\0\0",
+        ),
+    },
+    // Cylinder 1024 begins at sector 1,032,192; a number takes 32 bits at most.
+    List {
+        numbers: &[82, 4_294_967_296, 1_032_192],
+        mode: Mode::Lba32,
+        is_joined: true,
+        slots: Err(AddressFault::TooFar(4_294_967_296)),
+    },
+    List {
+        numbers: &[82, 1_032_192, 4_294_967_296],
+        mode: Mode::Chs,
+        is_joined: false,
+        slots: Err(AddressFault::Cylinder(1024)),
+    },
+    List {
+        numbers: &[1_032_191, 4_294_967_295],
+        mode: Mode::Lba32,
+        is_joined: false,
+        slots: Ok(b"\x03\x80\x01\0\xFF\xBF\x0F\0\x03\x80\x01\0\xFF\xFF\xFF\xFF"),
+    },
+    List {
+        numbers: &[1_032_191, 4_294_967_295],
+        mode: Mode::Linear,
+        is_joined: false,
+        slots: Err(AddressFault::Cylinder(4_260_880)),
+    },
+];
+
+#[test]
+fn lists_have_slots(rt: HostRuntime) -> Result<(), Fail> {
+    for row in LISTS {
+        assert!(rt; has_slots(rt.alloc(), row)?, "{:?}", row.numbers);
+    }
+    Ok(())
+}
+
+fn has_slots(alloc: Global, row: &List) -> Result<bool, AllocError> {
+    let places = places_of(alloc, row.numbers)?;
+    let made = section_of(alloc, &places, row);
+    let checked = check_places(&places, row.mode, GEOMETRY);
+    let in_map = check_map_places(row.mode, GEOMETRY, &places);
+    Ok(match row.slots {
+        Ok(bytes) => {
+            let len = bytes.len();
+            checked.is_ok()
+                && in_map.is_ok()
+                && matches!(made, Ok(sector)
+                    if len <= 512 && &sector[..len] == bytes && sector[len..].iter().all(|byte| *byte == 0))
+        }
+        Err(fault) => {
+            checked == Err(fault)
+                && matches!(in_map, Err(PlanFault::Address(Opt::Map, found)) if found == fault)
+                && made.err() == Some(CompactFault::Address(fault))
+        }
+    })
+}
+
+fn places_of(alloc: Global, numbers: &[u64]) -> Result<Vec<DiskSector>, AllocError>
+    ensures { IfOk result (λ places. All (λ place. place.disk ≤ 3) places.items) }
+{
+    let mut places = Vec::new(alloc);
+    for number in numbers {
+        places.push(DiskSector {
+            disk: 0,
+            sector: *number,
+        })?;
+    }
+    Ok(places)
+}
+
+// A section sector with the slots of a row.
+fn section_of(alloc: Global, places: &[DiskSector], row: &List) -> Result<Sector, CompactFault>
+    requires { All (λ place. place.disk ≤ 3) places.now }
+{
+    let slots = if row.is_joined {
+        compact(alloc, places, row.mode, GEOMETRY)?
+    } else {
+        plain_slots(alloc, places, row.mode, GEOMETRY)?
+    };
+    let mut sector = [5; 512];
+    if slots.len() <= 63 {
+        write_section(slots.as_slice(), None, &mut sector);
+    }
+    Ok(sector)
+}
+
+// Sectors in a row of the first disk, from a number on: how many slots they have, and a section sector of these.
+struct Stretch {
+    start: u32,
+    count: u32,
+    mode: Mode,
+    is_joined: bool,
+    slots: Result<u32, AddressFault>,
+    index: u32,
+    bytes: &'static [u8],
+}
+
+const STRETCHES: &[Stretch] = &[
+    // 63 slots of 127 sectors each fill a section sector, and the one after it has what is left.
+    Stretch {
+        start: 1000,
+        count: 8003,
+        mode: Mode::Lba32,
+        is_joined: true,
+        slots: Ok(64),
+        index: 1,
+        bytes: b"\x03\x80\x02\0\x29\x23",
+    },
+    Stretch {
+        start: 1000,
+        count: 64,
+        mode: Mode::Lba32,
+        is_joined: false,
+        slots: Ok(64),
+        index: 1,
+        bytes: b"\x03\x80\x01\0\x27\x04",
+    },
+    Stretch {
+        start: 1000,
+        count: 64,
+        mode: Mode::Lba32,
+        is_joined: false,
+        slots: Ok(64),
+        index: 2,
+        bytes: b"",
+    },
+    // 1024 cylinders of 16 heads and 63 sectors end before sector 1,032,192.
+    Stretch {
+        start: 1_032_190,
+        count: 3,
+        mode: Mode::Lba32,
+        is_joined: false,
+        slots: Ok(3),
+        index: 1,
+        bytes: b"",
+    },
+    Stretch {
+        start: 1_032_190,
+        count: 3,
+        mode: Mode::Chs,
+        is_joined: false,
+        slots: Err(AddressFault::Cylinder(1024)),
+        index: 0,
+        bytes: b"",
+    },
+    Stretch {
+        start: 1_032_190,
+        count: 3,
+        mode: Mode::Linear,
+        is_joined: true,
+        slots: Err(AddressFault::Cylinder(1024)),
+        index: 0,
+        bytes: b"",
+    },
+];
+
+#[test]
+fn stretches_have_sections(rt: HostRuntime) -> Result<(), Fail> {
+    for row in STRETCHES {
+        let runs = in_a_row(rt.alloc(), row.start, row.count)?;
+        assert!(rt; has_section(&runs, row), "{} {}", row.start, row.count);
+    }
+    Ok(())
+}
+
+fn in_a_row(alloc: Global, start: u32, count: u32) -> Result<RunList, AllocError>
+    ensures runs { IfOk result (λ runs. All IsRun runs) }
+    ensures few { IfOk result (λ runs. length (places_in runs) < 2 ^ 32) }
+{
+    let mut runs = Vec::new(alloc);
+    runs.push(Run::Stretch {
+        disk: 0,
+        start: u64::from(start),
+        count,
+    })?;
+    Ok(RunList::new(runs))
+}
+
+fn has_section(runs: &RunList, row: &Stretch) -> bool
+    requires runs { All IsRun runs.now }
+    requires few { length (places_in runs.now) < 2 ^ 32 }
+{
+    let naming = Naming {
+        mode: row.mode,
+        geometry: GEOMETRY,
+        compact: row.is_joined,
+    };
+    if count_slots(naming, runs) != row.slots {
+        return false;
+    }
+    if row.slots.is_err() {
+        return true;
+    }
+    let zero = DiskSector { disk: 0, sector: 7 };
+    let mut sector: Sector = [9; 512];
+    write_section_at(naming, runs, zero, row.index, None, &mut sector);
+    let len = row.bytes.len();
+    len <= 512 && &sector[..len] == row.bytes && sector[len..].iter().all(|byte| *byte == 0)
+}
+
+// 65,535 section sectors of 63 slots have 4,128,705.
+#[test]
+fn a_file_has_4128705_slots_at_most(rt: HostRuntime) -> Result<(), Fail> {
+    assert!(rt; refused_slots(rt.alloc(), 4_128_705)?.is_none());
+    assert!(rt; refused_slots(rt.alloc(), 4_128_706)? == Some(4_128_706));
+    Ok(())
+}
+
+// How many slots a hole of so many sectors has, where they are too many.
+fn refused_slots(alloc: Global, count: u32) -> Result<Option<u32>, AllocError> {
+    let runs = hole(alloc, count)?;
+    let naming = Naming {
+        mode: Mode::Lba32,
+        geometry: GEOMETRY,
+        compact: true,
+    };
+    Ok(match check_mapped_file(naming, Opt::Initrd, &runs) {
+        Err(PlanFault::TooManySlots(Opt::Initrd, found)) => Some(found),
+        _ => None,
+    })
+}
+
+fn hole(alloc: Global, count: u32) -> Result<RunList, AllocError>
+    ensures runs { IfOk result (λ runs. All IsRun runs) }
+    ensures few { IfOk result (λ runs. length (places_in runs) < 2 ^ 32) }
+{
+    let mut runs = Vec::new(alloc);
+    runs.push(Run::Hole { count })?;
+    Ok(RunList::new(runs))
+}
+
+#[test]
+fn slots_take_section_sectors(rt: HostRuntime) {
+    for (slots, sectors) in [(0, 0), (63, 1), (64, 2), (u32::MAX, 68_174_085)] {
+        assert!(rt; section_sectors(slots) == sectors);
+    }
+}

@@ -1,5 +1,0 @@
-use Rattle.minix_beside_laws.proofs.Beside.{named_law}
-use Rattle.minix_beside_laws.proofs.laws.harmless_bytes_keep_what_is_named.Goals as goal
-
-pub returns : goal.returns
-returns c = named_law

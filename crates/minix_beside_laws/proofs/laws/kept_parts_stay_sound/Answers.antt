@@ -1,5 +1,0 @@
-use Rattle.minix_beside_laws.proofs.Keeps.{keeps_law}
-use Rattle.minix_beside_laws.proofs.laws.kept_parts_stay_sound.Goals as goal
-
-pub returns : goal.returns
-returns c = keeps_law

@@ -1,5 +1,0 @@
-use Rattle.minix_beside_laws.proofs.Harmless.{region_law}
-use Rattle.minix_beside_laws.proofs.laws.parts_stand_on_the_volume.Goals as goal
-
-pub returns : goal.returns
-returns c = region_law

@@ -1,5 +1,0 @@
-use Rattle.minix_beside_laws.proofs.Harmless.{clear_inode_law}
-use Rattle.minix_beside_laws.proofs.laws.unnamed_inode_may_be_freed.Goals as goal
-
-pub returns : goal.returns
-returns c = clear_inode_law

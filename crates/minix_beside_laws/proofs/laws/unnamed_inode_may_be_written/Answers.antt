@@ -1,5 +1,0 @@
-use Rattle.minix_beside_laws.proofs.Harmless.{unnamed_inode_law}
-use Rattle.minix_beside_laws.proofs.laws.unnamed_inode_may_be_written.Goals as goal
-
-pub returns : goal.returns
-returns c = unnamed_inode_law

@@ -1,4 +1,0 @@
-pub mod Beside
-pub mod Change
-pub mod Keeps
-pub mod Laws

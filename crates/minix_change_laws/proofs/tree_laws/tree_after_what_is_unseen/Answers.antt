@@ -1,0 +1,5 @@
+use Rattle.minix_change_laws.proofs.Tree.{tree_after_law}
+use Rattle.minix_change_laws.proofs.tree_laws.tree_after_what_is_unseen.Goals as goal
+
+pub returns : goal.returns
+returns c = tree_after_law

@@ -1,5 +1,0 @@
-use Rattle.minix_choice_laws.proofs.Choose.{choice_law}
-use Rattle.minix_choice_laws.proofs.laws.choice_is_free.Goals as goal
-
-pub returns : goal.returns
-returns c = choice_law

@@ -1,5 +1,0 @@
-use Rattle.minix_choice_laws.proofs.Apart.{held_law}
-use Rattle.minix_choice_laws.proofs.laws.choice_is_held.Goals as goal
-
-pub returns : goal.returns
-returns c = held_law

@@ -1,5 +1,0 @@
-use Rattle.minix_choice_laws.proofs.Choose.{file_law}
-use Rattle.minix_choice_laws.proofs.laws.choice_may_be_a_file.Goals as goal
-
-pub returns : goal.returns
-returns c = file_law

@@ -1,5 +1,0 @@
-use Rattle.minix_choice_laws.proofs.Apart.{apart_law}
-use Rattle.minix_choice_laws.proofs.laws.choices_are_apart.Goals as goal
-
-pub returns : goal.returns
-returns c = apart_law

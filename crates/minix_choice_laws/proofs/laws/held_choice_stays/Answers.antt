@@ -1,5 +1,0 @@
-use Rattle.minix_choice_laws.proofs.Apart.{held_stays_law}
-use Rattle.minix_choice_laws.proofs.laws.held_choice_stays.Goals as goal
-
-pub returns : goal.returns
-returns c = held_stays_law

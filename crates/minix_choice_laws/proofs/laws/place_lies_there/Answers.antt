@@ -1,5 +1,0 @@
-use Rattle.minix_choice_laws.proofs.Stay.{place_lies_law}
-use Rattle.minix_choice_laws.proofs.laws.place_lies_there.Goals as goal
-
-pub returns : goal.returns
-returns c = place_lies_law

@@ -1,5 +1,0 @@
-use Rattle.minix_choice_laws.proofs.Growth.{promises_law}
-use Rattle.minix_choice_laws.proofs.laws.promises_stay.Goals as goal
-
-pub returns : goal.returns
-returns c = promises_law

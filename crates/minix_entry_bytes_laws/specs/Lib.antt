@@ -1,5 +1,0 @@
-pub mod Written
-pub mod Replaced
-pub mod Still
-pub mod Sample
-pub mod Laws

@@ -1,5 +1,0 @@
-use Rattle.minix_entry_laws.proofs.Dots.{new_directory_law}
-use Rattle.minix_entry_laws.proofs.laws.directory_with_dots_is_new.Goals as goal
-
-pub returns : goal.returns
-returns c = new_directory_law

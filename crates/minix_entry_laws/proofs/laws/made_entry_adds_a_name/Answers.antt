@@ -1,5 +1,0 @@
-use Rattle.minix_entry_laws.proofs.Names.{enter_law}
-use Rattle.minix_entry_laws.proofs.laws.made_entry_adds_a_name.Goals as goal
-
-pub returns : goal.returns
-returns c = enter_law

@@ -1,5 +1,0 @@
-use Rattle.minix_entry_laws.proofs.Names.{enter_directory_law}
-use Rattle.minix_entry_laws.proofs.laws.new_directory_adds_a_name.Goals as goal
-
-pub returns : goal.returns
-returns c = enter_directory_law

@@ -1,5 +1,0 @@
-use Rattle.minix_entry_laws.proofs.Names.{new_file_law}
-use Rattle.minix_entry_laws.proofs.laws.new_file_may_stand.Goals as goal
-
-pub returns : goal.returns
-returns c = new_file_law

@@ -1,5 +1,0 @@
-use Rattle.minix_entry_laws.proofs.Names.{redirect_law}
-use Rattle.minix_entry_laws.proofs.laws.redirected_entry_leads_its_name.Goals as goal
-
-pub returns : goal.returns
-returns c = redirect_law

@@ -1,5 +1,0 @@
-use Rattle.minix_entry_laws.proofs.Replace.{stood_law}
-use Rattle.minix_entry_laws.proofs.laws.standing_entry_leads_its_name.Goals as goal
-
-pub returns : goal.returns
-returns c = stood_law

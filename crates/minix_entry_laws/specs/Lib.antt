@@ -1,5 +1,0 @@
-pub mod Only
-pub mod Comes
-pub mod Enter
-pub mod Replaces
-pub mod Laws

@@ -1,5 +1,0 @@
-use Rattle.minix_fill_laws.proofs.Chosen.{chosen_law}
-use Rattle.minix_fill_laws.proofs.laws.chosen_zones_may_be_a_file.Goals as goal
-
-pub returns : goal.returns
-returns c = chosen_law

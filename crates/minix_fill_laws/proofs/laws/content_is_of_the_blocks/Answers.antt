@@ -1,5 +1,0 @@
-use Rattle.minix_fill_laws.proofs.Filled.{content_law}
-use Rattle.minix_fill_laws.proofs.laws.content_is_of_the_blocks.Goals as goal
-
-pub returns : goal.returns
-returns c = content_law

@@ -1,5 +1,0 @@
-use Rattle.minix_fill_laws.proofs.Filled.{fit_filled_law}
-use Rattle.minix_fill_laws.proofs.laws.filled_inode_is_fit.Goals as goal
-
-pub returns : goal.returns
-returns c = fit_filled_law

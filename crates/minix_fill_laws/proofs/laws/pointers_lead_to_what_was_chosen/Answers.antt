@@ -1,5 +1,0 @@
-use Rattle.minix_fill_laws.proofs.Filled.{pointers_law}
-use Rattle.minix_fill_laws.proofs.laws.pointers_lead_to_what_was_chosen.Goals as goal
-
-pub returns : goal.returns
-returns c = pointers_law

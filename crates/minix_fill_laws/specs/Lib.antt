@@ -1,3 +1,0 @@
-pub mod Chosen
-pub mod Laws
-pub mod Sources

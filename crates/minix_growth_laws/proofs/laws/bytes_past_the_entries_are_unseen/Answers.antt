@@ -1,5 +1,0 @@
-use Rattle.minix_growth_laws.proofs.Changes.{fill_law}
-use Rattle.minix_growth_laws.proofs.laws.bytes_past_the_entries_are_unseen.Goals as goal
-
-pub returns : goal.returns
-returns c = fill_law

@@ -1,5 +1,0 @@
-use Rattle.minix_growth_laws.proofs.Holes.{hole_law}
-use Rattle.minix_growth_laws.proofs.laws.entry_in_a_hole_is_free.Goals as goal
-
-pub returns : goal.returns
-returns c = hole_law

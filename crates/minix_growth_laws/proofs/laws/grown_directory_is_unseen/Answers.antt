@@ -1,5 +1,0 @@
-use Rattle.minix_growth_laws.proofs.Chain.{grows_law}
-use Rattle.minix_growth_laws.proofs.laws.grown_directory_is_unseen.Goals as goal
-
-pub returns : goal.returns
-returns c = grows_law

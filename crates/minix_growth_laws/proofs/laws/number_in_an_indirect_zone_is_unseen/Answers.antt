@@ -1,5 +1,0 @@
-use Rattle.minix_growth_laws.proofs.Changes.{number_law}
-use Rattle.minix_growth_laws.proofs.laws.number_in_an_indirect_zone_is_unseen.Goals as goal
-
-pub returns : goal.returns
-returns c = number_law

@@ -1,5 +1,0 @@
-use Rattle.minix_growth_laws.proofs.Changes.{top_law}
-use Rattle.minix_growth_laws.proofs.laws.number_in_the_inode_is_unseen.Goals as goal
-
-pub returns : goal.returns
-returns c = top_law

@@ -1,3 +1,0 @@
-pub mod Refers
-pub mod Renamed
-pub mod Free

@@ -1,7 +1,0 @@
-//! The law of a name that takes the place of another on a Minix volume: what was chosen for a file before stays free,
-//! and its name may still be made. A public function with an empty body, which no code needs to call.
-#![tactic(auto)]
-
-mod laws;
-
-pub use laws::other_is_left_free_by_renaming;

@@ -1,5 +1,0 @@
-use Rattle.minix_sees_laws.proofs.Seen.{seen_parts_law}
-use Rattle.minix_sees_laws.proofs.laws.seen_parts_are_a_volume.Goals as goal
-
-pub returns : goal.returns
-returns c = seen_parts_law

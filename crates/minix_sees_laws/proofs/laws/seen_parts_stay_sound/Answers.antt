@@ -1,5 +1,0 @@
-use Rattle.minix_sees_laws.proofs.Sees.{sees_law}
-use Rattle.minix_sees_laws.proofs.laws.seen_parts_stay_sound.Goals as goal
-
-pub returns : goal.returns
-returns c = sees_law

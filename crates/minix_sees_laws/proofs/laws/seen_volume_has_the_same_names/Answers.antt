@@ -1,5 +1,0 @@
-use Rattle.minix_sees_laws.proofs.Seen.{seen_sound_law}
-use Rattle.minix_sees_laws.proofs.laws.seen_volume_has_the_same_names.Goals as goal
-
-pub returns : goal.returns
-returns c = seen_sound_law

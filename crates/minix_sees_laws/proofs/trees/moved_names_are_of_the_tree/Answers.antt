@@ -1,5 +1,0 @@
-use Rattle.minix_sees_laws.proofs.Tree.{moved_names_law}
-use Rattle.minix_sees_laws.proofs.trees.moved_names_are_of_the_tree.Goals as goal
-
-pub returns : goal.returns
-returns c = moved_names_law

@@ -1,5 +1,0 @@
-use Rattle.minix_sees_laws.proofs.Tree.{tree_names_law}
-use Rattle.minix_sees_laws.proofs.trees.names_are_of_the_tree.Goals as goal
-
-pub returns : goal.returns
-returns c = tree_names_law

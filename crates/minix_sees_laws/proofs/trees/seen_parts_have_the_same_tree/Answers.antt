@@ -1,5 +1,0 @@
-use Rattle.minix_sees_laws.proofs.Tree.{sees_tree_law}
-use Rattle.minix_sees_laws.proofs.trees.seen_parts_have_the_same_tree.Goals as goal
-
-pub returns : goal.returns
-returns c = sees_tree_law

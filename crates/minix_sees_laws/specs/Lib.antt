@@ -1,4 +1,0 @@
-pub mod Sees
-pub mod Laws
-pub mod Tree
-pub mod TreeLaws

@@ -1,5 +1,0 @@
-use Rattle.minix_steps.proofs.PartLemmas.{zone_bytes_law}
-use Rattle.minix_steps.proofs.laws.written_zone_is_one_zone.Goals as goal
-
-pub returns : goal.returns
-returns c = zone_bytes_law

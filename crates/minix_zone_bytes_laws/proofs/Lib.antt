@@ -1,4 +1,0 @@
-pub mod Part
-pub mod Numbers
-pub mod Unseen
-pub mod Sample

@@ -1,5 +1,0 @@
-use Rattle.minix_zone_bytes_laws.proofs.Unseen.{seen_past_law}
-use Rattle.minix_zone_bytes_laws.proofs.laws.bytes_past_the_size_are_unseen.Goals as goal
-
-pub returns : goal.returns
-returns c = seen_past_law

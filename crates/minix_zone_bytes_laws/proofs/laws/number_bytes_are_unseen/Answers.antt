@@ -1,5 +1,0 @@
-use Rattle.minix_zone_bytes_laws.proofs.Unseen.{seen_number_law}
-use Rattle.minix_zone_bytes_laws.proofs.laws.number_bytes_are_unseen.Goals as goal
-
-pub returns : goal.returns
-returns c = seen_number_law

@@ -5,12 +5,17 @@
 //! IMAGE DEVICE PATH` stores standard input as one, `rm IMAGE DEVICE PATH` removes one, `mkdir IMAGE DEVICE PATH` makes
 //! a directory, and `ln IMAGE DEVICE PATH TARGET` a symbolic link. The image is the disk hda. All text goes to standard
 //! output, and the exit status is that of the arguments, 14 for an image that can't be used, or 13 where memory doesn't
-//! suffice.
+//! suffice. Each status but 0 and 12 has a line that says what it means. `--help` and `--version` print a text.
 #![tactic(auto)]
 
+mod fault;
+mod help;
+
 use disk_trait::{Geometry, untold};
+use fault::tell;
 use file_disks::{FileDisk, FileDisks};
-use host_parts::{StartFault, arguments, create_image, now_seconds, open_image};
+use help::text_of;
+use host_parts::{StartFault, arguments, create_image, now_seconds, open_image, show_text};
 use ldisk_make::are_placed;
 use ldisk_run::ldisk;
 use ldisk_words::{Asked, Command, ask};
@@ -22,16 +27,9 @@ fn main(rt: HostRuntime) -> ExitCode {
     match run(&rt) {
         Ok(status) => ExitCode::from(status),
         Err(fault) => {
-            tell(&rt, &fault);
+            let _ = println!(rt; "ldisk: {fault}");
             ExitCode::from(fault.status())
         }
-    }
-}
-
-/// Reports a fault. Arguments that ask for nothing have a status and no text.
-fn tell(rt: &HostRuntime, fault: &StartFault) {
-    if !matches!(fault, StartFault::NotText) {
-        let _ = println!(rt; "ldisk: {fault}");
     }
 }
 
@@ -39,18 +37,27 @@ fn run(rt: &HostRuntime) -> Result<u8, StartFault> {
     let alloc = rt.alloc();
     let mut words = Words::new(alloc);
     read_arguments(rt, &mut words)?;
+    if let Some(text) = text_of(&words) {
+        return Ok(show_text(rt, text));
+    }
     let mut disks = match ask(&words) {
         Some(asked) if is_carried_out(&asked) => open_disks(rt, &asked)?,
         _ => FileDisks::new(alloc),
     };
+    let status = serve(rt, &words, &mut disks);
+    // What was written before a fault isn't lost. The status stays: where it is 0 all was flushed already.
+    let _ = disks.write_out();
+    tell(rt, &words, status);
+    Ok(status)
+}
+
+/// Carries out the arguments, and answers the status.
+fn serve(rt: &HostRuntime, words: &Words, disks: &mut FileDisks<File>) -> u8 {
     let mut source = StdSource::new(rt.stdin());
     let mut out = StdSink::new(rt.stdout());
     let now = now_seconds(rt);
     untold();
-    let status = ldisk(alloc, &words, &mut disks, &mut source, &mut out, now);
-    // What was written before a fault isn't lost. The status stays: where it is 0 all was flushed already.
-    let _ = disks.write_out();
-    Ok(status)
+    ldisk(rt.alloc(), words, disks, &mut source, &mut out, now)
 }
 
 fn read_arguments(rt: &HostRuntime, words: &mut Words) -> Result<(), StartFault> {

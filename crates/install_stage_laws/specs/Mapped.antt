@@ -70,7 +70,7 @@ MappedJoinedLaw =
     → KeepsMapped volume config before middle → KeepsFiles volume middle c → KeepsMapped volume config before c
 
 -- There all the sectors that a planned map lies in are Clear, and those that it was planned from, where its own are those of a
--- file of its own: what install_stays_laws' `TidyLaw` asks of tidying.
+-- file of its own: what `TidyLaw` asks of tidying.
 abbrev pub StagedClearLaw : Type 0
 StagedClearLaw =
     (before c : Image) (machine : Machine) (volume : Volume) (span : Span) (config : Config) (device : Device) (time : ℕ)

@@ -1,8 +1,7 @@
 -- What `ldisk` answers and prints, as if nothing failed: for each command a list of checks in order, of which the first
 -- refusal decides, and then pieces of text, up to the first that is refused. They speak of what the disks hold, and read
 -- no device. (This project's own; the volume: Minix file system.)
-use Rattle.std.specs.Prelude.{ℕ, zero, suc, ◌==◌, nat_le, Bool, not, ◌||◌, if◌then◌else◌, List, [], ◌∷◌, ◌++◌, codes, decimal, Option, None, Some, Result, Ok}
-use Rattle.std.specs.Prelude.{Err}
+use Rattle.std.specs.Prelude.{ℕ, zero, suc, ◌==◌, nat_le, Bool, not, ◌||◌, if◌then◌else◌, List, [], ◌∷◌, ◌++◌, codes, decimal, Result, Ok, Err}
 use Rattle.lilo_model.specs.Checks.{◌>>=◌, require, with_fault}
 use Rattle.lilo_model.specs.Devices.{Device}
 use Rattle.lilo_model.specs.Disks.{Image, Machine, Span}
@@ -12,7 +11,7 @@ use Rattle.lilo_model.specs.MinixParts.{Parts, Volume, ZoneFault, parts_of, volu
 use Rattle.lilo_model.specs.MinixEntries.{Entry, entry_at, places, is_dots}
 use Rattle.lilo_model.specs.MinixFind.{TreeFault, Zone, find, readable, file_block}
 use Rattle.lilo_model.specs.Verdict.{Verdict, verdict_behind}
-use Rattle.lilo_model.specs.LdiskWords.{Command, Get, Ls, Asked, device_of, asked_at}
+use Rattle.lilo_model.specs.LdiskWords.{Command, Get, Ls, device_of}
 
 -- why a command is refused
 pub data Refusal : Type 0 where
@@ -151,12 +150,3 @@ verdict_on super parts (Ls device path) = ls_verdict super parts path
 unfoldable pub command_verdict : Image → Machine → Command → Verdict
 command_verdict now machine command =
     checked (volume_on now machine (device_of command)) (λ volume. verdict_on volume.layout (parts_of volume now) command)
-
--- arguments that ask for something, or are of no grammar
-abbrev pub asked_verdict : Image → Machine → Option Asked → Verdict
-asked_verdict now machine (Some asked) = command_verdict now machine asked.command
-asked_verdict now machine None = silent 1
-
--- what `ldisk` answers and prints for arguments, over disks that hold this image
-unfoldable pub ldisk_verdict : Image → Machine → List (List ℕ) → Verdict
-ldisk_verdict now machine words = asked_verdict now machine (asked_at words)

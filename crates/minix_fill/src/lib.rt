@@ -1,4 +1,5 @@
-//! Freeing an inode without a name on a sound Minix volume, versions 1 and 2, with its zones and no others.
+//! Filling a new file's inode and zones on a sound Minix volume, versions 1 and 2, and freeing an inode without a name,
+//! with its zones and no others.
 //!
 //! Nothing here touches what had a name at the last flush. So whatever a stop leaves, at any moment, the volume is
 //! sound, with the same Names as then.

@@ -1,5 +1,5 @@
-//! The law of a name that takes the place of another on a Minix volume: what was chosen for a file before stays free,
-//! and its name may still be made. A public function with an empty body, which no code needs to call.
+//! Removing and renaming a file of a sound Minix volume, versions 1 and 2: its name goes by one write, and what has no
+//! name after it is freed. At any moment a stop leaves a sound volume with the names before or those after.
 #![tactic(auto)]
 
 mod find;

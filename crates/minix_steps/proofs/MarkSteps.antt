@@ -1,4 +1,4 @@
--- The calls of minix_bits that set and clear bitmap bits are steps.
+-- The calls that set and clear bitmap bits are steps.
 use Rattle.std.proofs.Common.{◌≤◌, ◌<◌, ℕ, true, false, Result}
 use Rattle.disk_trait.specs.declared.disks.Disks.{Ghosts}
 use Rattle.minix_steps.specs.declared.bit_fault.BitFault.{BitFault}

@@ -3,10 +3,8 @@ use Rattle.std.specs.Prelude.{◌≤◌, ℕ, List, length, take}
 use Rattle.disk_trait.specs.declared.disks.Disks.{Ghosts}
 use Rattle.minix_layout.specs.declared.superblock.Super.{Super}
 use Rattle.minix_zones.specs.declared.volume.Volume.{Volume}
-use Rattle.minix_tree.specs.LinkText.{LinkText}
 use Rattle.minix_tree.specs.View.{IsStat, IsNode}
 use Rattle.minix_names.specs.Ends as model
-use Rattle.minix_names.specs.declared.walk.Next.{Next}
 use Rattle.minix_names.specs.declared.walk.PathEnd.{PathEnd}
 use Rattle.minix_names.specs.declared.walk.PathEnd.TheVariants as ends
 use Rattle.minix_names.specs.declared.walk.TextEnd.{TextEnd}
@@ -39,7 +37,3 @@ abbrev pub IsTextEndNow : {D : Type 0} {disks : Ghosts D} → Volume D disks →
 IsTextEndNow volume (texts.Ends stat) = IsNode volume stat
 IsTextEndNow volume (texts.Meets directory link rest) = IsNode volume directory × IsNode volume link
 IsTextEndNow volume (texts.Lacks directory name) = IsNode volume directory
-
--- what was written of a link's text and the one after it, by its length
-abbrev pub next_view : List ℕ → Next → LinkText
-next_view bytes next = record { from_root = next.from_root; text = take next.length bytes }

@@ -7,7 +7,7 @@ ghost use Rattle.lilo_model.specs.NamePlaces.{name_path};
 ghost use Rattle.minix_layout.specs.View.{super_view};
 ghost use Rattle.minix_zones.specs.Volume.{volume_view, past_of, faults_of, SameVolume};
 ghost use Rattle.minix_tree.specs.View.{HasTreeCause, IsStat, IsNode};
-ghost use Rattle.minix_names.specs.Component.{HasNoZero, IsFileName};
+ghost use Rattle.minix_tree.specs.Component.{HasNoZero, IsFileName};
 ghost use Rattle.minix_names.specs.Places.{GivesPlace};
 
 use crate::component::{count_components, split_at_last};

@@ -1,22 +1,20 @@
 // Where the walk of a path ends.
-ghost use Rattle.std.specs.Prelude.{◌≡◌, ◌≤◌, ◌<◌, ◌+◌, ◌++◌, ◌∷◌, [], length, take, IfOk, IfErr};
+ghost use Rattle.std.specs.Prelude.{◌≡◌, ◌≤◌, length, IfOk, IfErr};
 ghost use Rattle.disk_trait.specs.Past.{Told};
-ghost use Rattle.lilo_model.specs.Checks.{with_fault};
-ghost use Rattle.lilo_model.specs.MinixParts.{parts_of, content_at};
-ghost use Rattle.lilo_model.specs.MinixFind.{Zone, begins_with_slash, components, is_last};
-ghost use Rattle.minix_layout.specs.View.{super_view, inode_view};
+ghost use Rattle.lilo_model.specs.MinixParts.{parts_of};
+ghost use Rattle.lilo_model.specs.MinixFind.{components, is_last};
+ghost use Rattle.minix_layout.specs.View.{super_view};
 ghost use Rattle.minix_zones.specs.Volume.{volume_view, past_of, faults_of, SameVolume};
-ghost use Rattle.minix_tree.specs.LinkText.{link_text};
 ghost use Rattle.minix_tree.specs.View.{Gives, HasTreeCause, IsStat, IsNode};
 ghost use Rattle.minix_names.specs.Ends.{text_end, ends_through, path_end};
-ghost use Rattle.minix_names.specs.View.{end_view, text_view, next_view, HasName, IsTextEnd, IsTextEndNow};
+ghost use Rattle.minix_names.specs.View.{end_view, text_view, HasName, IsTextEnd, IsTextEndNow};
 
-use crate::component::first_component;
 use crate::entry::child_or_last;
 use disk_trait::Disks;
-use minix_layout::Inode;
-use minix_tree::{Stat, TreeFault, is_link, stat_of};
-use minix_zones::{Volume, read_at};
+use minix_tree::{
+    Stat, TreeFault, begins_with_slash, first_component, is_link, put_after, stat_of, text_through,
+};
+use minix_zones::Volume;
 
 /// The most bytes of a text that is walked.
 const TEXT: usize = 1024;
@@ -89,82 +87,6 @@ fn walk_text<'t, D: Disks>(
         position += 1;
     }
     Ok(TextEnd::Ends(directory))
-}
-
-/// Whether a text begins with a slash.
-fn begins_with_slash(text: &[u8]) -> bool
-    ensures { result ≡ begins_with_slash text.now }
-{
-    match text.first() {
-        Some(byte) => *byte == b'/',
-        None => false,
-    }
-}
-
-/// A text that is walked in place of a link's name and what comes after it.
-#[derive(Clone, Copy)]
-struct Next {
-    length: usize,
-    // Whether it is walked from the root.
-    from_root: bool,
-}
-
-/// Writes a text after the first bytes.
-fn put_after(into: &mut [u8; 1024], at: usize, text: &[u8])
-    requires { at + length text.now ≤ 1024 }
-    ensures { take (at + length text.now) into.new ≡ take at into.old ++ text.now }
-{
-    into[at..at + text.len()].copy_from_slice(text);
-}
-
-/// Reads the text of a link.
-fn read_link<D: Disks>(
-    volume: &mut Volume<'_, D>,
-    link: &Inode,
-    into: &mut [u8; 1024],
-) -> Result<(), TreeFault>
-    requires { link.now.size ≤ 1024 }
-    ensures text { Told (past_of volume.old) (λ now. Gives (λ _. take link.now.size into.new) result
-        (with_fault Zone (content_at (super_view volume.old.layout) (parts_of (volume_view volume.old) now)
-        (inode_view link.now)))) }
-    ensures cause { IfErr result (HasTreeCause (faults_of volume.old) (faults_of volume.new)) }
-    ensures later { faults_of volume.old ≤ faults_of volume.new }
-    ensures same { SameVolume volume.old volume.new }
-{
-    if link.size == 0 {
-        return Ok(());
-    }
-    read_at(volume, link, 0, into)?;
-    Ok(())
-}
-
-/// Writes the text of a link, and the text after it.
-fn text_through<D: Disks>(
-    volume: &mut Volume<'_, D>,
-    link: &Inode,
-    rest: &[u8],
-    into: &mut [u8; 1024],
-) -> Result<Next, TreeFault>
-    requires { length rest.now ≤ 1024 }
-    ensures text { Told (past_of volume.old) (λ now. Gives (next_view into.new) result
-        (link_text (super_view volume.old.layout) (parts_of (volume_view volume.old) now) (inode_view link.now)
-        rest.now)) }
-    ensures few { IfOk result (λ next. next.length ≤ 1024) }
-    ensures cause { IfErr result (HasTreeCause (faults_of volume.old) (faults_of volume.new)) }
-    ensures later { faults_of volume.old ≤ faults_of volume.new }
-    ensures same { SameVolume volume.old volume.new }
-{
-    let size = link.size as usize;
-    if size + rest.len() > TEXT {
-        return Err(TreeFault::PathTooLong);
-    }
-    read_link(volume, link, into)?;
-    let from_root = begins_with_slash(&into[..size]);
-    put_after(into, size, rest);
-    Ok(Next {
-        length: size + rest.len(),
-        from_root,
-    })
 }
 
 /// Where the walk of a text ends from a directory, with so many links at most. The text of a link, and the one after

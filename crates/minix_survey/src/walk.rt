@@ -28,8 +28,8 @@ use disk_trait::Disks;
 use minix_layout::Inode;
 use minix_steps::{inode_is_marked, zone_is_marked};
 use minix_tree::{
-    DirEntry, TreeFault, directory_blocks, entries_per_block, entry_at, is_directory, is_file,
-    is_link, places, stat_of,
+    DirEntry, TreeFault, directory_blocks, entries_per_block, entry_at, is_directory, is_dots,
+    is_file, is_link, places, stat_of,
 };
 use minix_zones::{HeldZones, Visit, Volume, Walk, ZoneFault, read_at};
 use std::alloc::Global;
@@ -341,14 +341,6 @@ fn is_bad_name(tables: &Tables, inode: u32, node: &Inode) -> bool
         && reached_in tables.now inode)) }
 {
     node.mode == 0 || inode == ROOT.inode || is_directory(node) && tables.has_reached(inode)
-}
-
-/// Whether a name is `.` or `..`.
-#[tactic(auto, unfolding(lilo_model::specs::MinixEntries::is_dots))]
-fn is_dots(name: &[u8]) -> bool
-    ensures { result ≡ is_dots name.now }
-{
-    b".".as_slice() == name || b"..".as_slice() == name
 }
 
 /// Whether the numbers in an inode are zones: a device has none.

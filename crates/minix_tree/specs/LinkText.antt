@@ -4,7 +4,7 @@ use Rattle.lilo_model.specs.Checks.{◌>>=◌, require, with_fault}
 use Rattle.lilo_model.specs.MinixLayout.{Super, Inode}
 use Rattle.lilo_model.specs.MinixParts.{Parts, content_at}
 use Rattle.lilo_model.specs.MinixFind.{TreeFault, PathTooLong, Zone, begins_with_slash, text_limit}
-use Rattle.minix_tree.specs.declared.find.Next.{Next}
+use Rattle.minix_tree.specs.declared.find.NextText.{NextText}
 
 pub record LinkText : Type 0 where
   -- whether it is walked from the root
@@ -22,5 +22,5 @@ link_text super parts link rest =
     >>= λ a. with_fault Zone (content_at super parts link) >>= λ text. Ok (text_with rest text)
 
 -- what was written, by its length
-abbrev pub next_view : List ℕ → Next → LinkText
+abbrev pub next_view : List ℕ → NextText → LinkText
 next_view bytes next = record { from_root = next.from_root; text = take next.length bytes }

@@ -3,7 +3,7 @@ ghost use Rattle.std.specs.Prelude.{◌≡◌, ◌≤◌, ◌<◌, ◌+◌, ◌*
 ghost use Rattle.std.specs.Iterator.{YieldsFirstBy, item_count};
 ghost use Rattle.lilo_model.specs.Bytes.{part_of, name_in};
 ghost use Rattle.lilo_model.specs.MinixLayout.{entry_size, name_size};
-ghost use Rattle.lilo_model.specs.MinixEntries.{entries_in, entries_per_block, placed_entry};
+ghost use Rattle.lilo_model.specs.MinixEntries.{entries_in, entries_per_block, is_dots, placed_entry};
 ghost use Rattle.minix_layout.specs.View.{kind_view};
 ghost use Rattle.minix_tree.specs.Placed.{entry_view, placed_from};
 
@@ -44,6 +44,14 @@ impl<'b> Model for Entries<'b> {
 
     ghost invariant = { λ entries. (entries.place ≤ entries.end)
         × (entries.end ≤ entries_per_block (kind_view entries.kind)) };
+}
+
+/// Whether a name is `.` or `..`.
+#[tactic(auto, unfolding(lilo_model::specs::MinixEntries::is_dots))]
+pub fn is_dots(name: &[u8]) -> bool
+    ensures { result ≡ is_dots name.now }
+{
+    b".".as_slice() == name || b"..".as_slice() == name
 }
 
 /// The bytes of a name at most.

@@ -69,7 +69,7 @@ pub fn lookup_name<D: Disks>(volume: &mut Volume<'_, D>, path: &[u8]) -> Result<
 }
 
 /// Whether a text begins with a slash.
-fn begins_with_slash(text: &[u8]) -> bool
+pub fn begins_with_slash(text: &[u8]) -> bool
     ensures { result ≡ begins_with_slash text.now }
 {
     match text.first() {
@@ -146,19 +146,24 @@ fn find_through<D: Disks>(
 
 /// A text that is walked in place of a link's name and what comes after it.
 #[derive(Clone, Copy)]
-struct Next {
-    length: usize,
-    // Whether it is walked from the root.
-    from_root: bool,
+pub struct NextText {
+    /// Its bytes.
+    pub length: usize,
+    /// Whether it is walked from the root.
+    pub from_root: bool,
 }
 
-/// Writes the text of a link, and the text after it.
-fn text_through<D: Disks>(
+/// Writes the text of a link, and the text after it, as they are walked on: the link is read once.
+///
+/// # Errors
+///
+/// `PathTooLong` where both have more than 1024 bytes; `Zone`.
+pub fn text_through<D: Disks>(
     volume: &mut Volume<'_, D>,
     link: &Inode,
     rest: &[u8],
     into: &mut [u8; 1024],
-) -> Result<Next, TreeFault>
+) -> Result<NextText, TreeFault>
     requires { length rest.now ≤ 1024 }
     ensures text { Told (past_of volume.old) (λ now. Gives (next_view into.new) result
         (link_text (super_view volume.old.layout) (parts_of (volume_view volume.old) now) (inode_view link.now)
@@ -174,8 +179,8 @@ fn text_through<D: Disks>(
     }
     read_link(volume, link, into)?;
     let from_root = begins_with_slash(&into[..size]);
-    put_behind(into, size, rest);
-    Ok(Next {
+    put_after(into, size, rest);
+    Ok(NextText {
         length: size + rest.len(),
         from_root,
     })
@@ -203,7 +208,7 @@ fn read_link<D: Disks>(
 }
 
 /// Writes a text after the first bytes.
-fn put_behind(into: &mut [u8; 1024], at: usize, text: &[u8])
+pub fn put_after(into: &mut [u8; 1024], at: usize, text: &[u8])
     requires { at + length text.now ≤ 1024 }
     ensures { take (at + length text.now) into.new ≡ take at into.old ++ text.now }
 {

@@ -17,12 +17,14 @@ mod stat;
 mod tree_fault;
 mod walk;
 
+pub use component::{Component, first_component};
 pub use directory::{directory_blocks, places, read_entries};
 pub use entry::{
-    DirEntry, Entries, entries_among, entries_in, entries_per_block, entry_at, entry_size,
+    DirEntry, Entries, entries_among, entries_in, entries_per_block, entry_at, entry_size, is_dots,
 };
 pub use file::{read_block, read_block_through, read_file};
-pub use find::{lookup, lookup_name};
+pub use find::{NextText, begins_with_slash, lookup, lookup_name, put_after, text_through};
 pub use laws::directory_is_its_blocks;
 pub use stat::{Stat, is_directory, is_file, is_link, stat_of};
 pub use tree_fault::TreeFault;
+pub use walk::child;

@@ -93,8 +93,13 @@ fn find_entry<D: Disks>(
     Ok(None)
 }
 
-/// The inode of a component in a directory.
-fn child<D: Disks>(
+/// The inode that a directory has under a name, which is the component at a position of a path, counted from 0. Each block of the
+/// directory is read once at most, and the inode once.
+///
+/// # Errors
+///
+/// `NotDirectory` and `NotFound` with the position; `BadEntry` where the entry's number is none of the volume's; `Zone`.
+pub fn child<D: Disks>(
     volume: &mut Volume<'_, D>,
     directory: &Stat,
     position: u16,

@@ -1,7 +1,7 @@
 use Rattle.std.proofs.Common.{◌≡◌, ◌≤◌, ◌+◌, ◌∷◌, length}
 use Rattle.lilo_model.specs.MinixFind.{components}
 use Rattle.lilo_model.specs.NamePlaces.{split_at_last}
-use Rattle.minix_names.specs.Component.{component_view, HasNoZero, IsFileName}
+use Rattle.minix_tree.specs.Component.{component_view, HasNoZero, IsFileName}
 use Rattle.minix_names.proofs.component.split_at_last.Given as goal
 
 -- the last component so far and those after it have the last one of all

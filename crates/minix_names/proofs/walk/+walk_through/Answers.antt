@@ -9,7 +9,8 @@ use Rattle.minix_tree.specs.View.{Gives, Refuses}
 use Rattle.minix_zones.proofs.SameLemmas.{told_back}
 use Rattle.minix_tree.proofs.WalkLemmas.{told_same}
 use Rattle.minix_names.specs.Ends.{start_of}
-use Rattle.minix_names.specs.View.{end_view, next_view}
+use Rattle.minix_names.specs.View.{end_view}
+use Rattle.minix_tree.specs.LinkText.{next_view}
 use Rattle.minix_names.proofs.EndLemmas.{through, walk_refused, walk_ends, walk_lacks, written-first, text_refused, goes_on}
 use Rattle.minix_names.proofs.walk.+walk_through.Goals as goal
 use Rattle.minix_names.proofs.walk.+walk_through.Goals.{then-next, else-next}

@@ -205,7 +205,7 @@ module _ {D : Type 0} {disks : Ghosts D} (old new : Volume D disks) (directory s
     brought = λ told. on_ok result _ _ (resized told (may told)) (λ change. record {
       room = let R : ℕ → Type 0 = λ s. count ≤ places (kind_view old.layout.kind) s in subst R (sym (ap (λ (i : Inode). i.size) change.here)) low;
       keeps = keeps_size (super_view old.layout) (parts_now old) (model.parts_of (volume_view old) (now (past_of new))) directory size []
-          (opened (volume_view old) (now (past_of old)) (may told).lies.sound).parts change;
+          (opened (volume_view old) (now (past_of old)) (may told).lies.sound).parts (may told).lies.named change;
     });
     others = λ told d s off. turns.others d s off.inode;
     device = λ told. turns.device;

@@ -13,7 +13,7 @@ use Rattle.minix_change_laws.specs.Enter.{DirectoryMayStand}
 use Rattle.minix_change_laws.proofs.Dots.{new_directory_law}
 use Rattle.minix_fill.specs.Fill.{IsNewFit}
 use Rattle.minix_create.specs.Chosen.{HasDots}
-use Rattle.minix_create.specs.Dots.{dots_of}
+use Rattle.minix_create.specs.Dots.{dots_of, directory_bytes}
 
 -- the first two entries lie in the first block
 first-at : (kind : Kind) → (0 / entries_per_block kind ≡ 0) × (0 % entries_per_block kind ≡ 0)
@@ -132,3 +132,10 @@ dots_made kind number directory bytes rest is low low' = rw is (record {
   here = ap (entry_of kind) (first-part kind number directory rest) ∙ (entry_bytes_law kind number here_name low (fits-here kind)).1;
   above = ap (entry_of kind) (second-part kind number directory rest) ∙ (entry_bytes_law kind directory above_name low' (fits-above kind)).1;
 })
+
+-- and all after them are zeros
+pub all_bytes : (kind : Kind) (number directory : ℕ) (bytes : List ℕ) → bytes ≡ dots_of kind number directory → bytes ++ replicate 512 0 ≡ directory_bytes kind number directory
+all_bytes V1Short number directory bytes is = rw is refl
+all_bytes V1Long number directory bytes is = rw is refl
+all_bytes V2Short number directory bytes is = rw is refl
+all_bytes V2Long number directory bytes is = rw is refl

@@ -22,11 +22,11 @@ use Rattle.minix_change_laws.proofs.Written.{written_law}
 use Rattle.minix_change_laws.specs.Only.{zone_of_entry, ChangesOnlyEntry}
 use Rattle.minix_change_laws.proofs.Only.{directory-refers, named-node, named-above}
 use Rattle.minix_grow.specs.Others.{KeepsOthers}
-use Rattle.minix_grow.proofs.KeepLemmas.{keeps_bytes}
+use Rattle.minix_grow.proofs.KeepLemmas.{kept_join, keeps_bytes}
 use Rattle.minix_change_laws.specs.Changes.{ChangesZone}
 use Rattle.minix_layout.specs.View.{kind_view, super_view}
 use Rattle.minix_layout.specs.declared.superblock.Super.{Super}
-use Rattle.minix_change_laws.specs.Sees.{SeenAsIn, with_links}
+use Rattle.minix_change_laws.specs.Sees.{SeenAsIn, with_links, SameButLinks}
 use Rattle.minix_change_laws.specs.Tree.{HasTreeWith}
 use Rattle.minix_create.proofs.MadePlaces.{seen_places_law, entry_places_law, join_places_law}
 use Rattle.minix_change_laws.proofs.Inode.{thing-directory, points-old, points-new}
@@ -54,7 +54,7 @@ use Rattle.minix_create.specs.Entered.{MayBeNamed, raised_links, IsDirectoryNow,
 use Rattle.minix_create.specs.Linked.{IsRaisedBefore}
 use Rattle.minix_create.specs.declared.chosen.Chosen.{Chosen}
 use Rattle.minix_create.proofs.BroughtLemmas.{same_unseen, same_self}
-use Rattle.minix_create.proofs.NamedLemmas.{kept_join, thing_kept, named_kept, not_named, fit_named}
+use Rattle.minix_create.proofs.NamedLemmas.{thing_kept, named_kept, not_named, fit_named}
 use Rattle.minix_create.proofs.StandLemmas.{keeps_none, keeps_changed}
 
 -- ---- what is left at a moment
@@ -113,13 +113,17 @@ refused old new path found what fault fault' leads = record { any_moment = leads
 -- ---- where one entry changes
 
 module _ (super : layouts.Super) (old new : Parts) (directory place : ℕ) (sound : Sound super old) (only : ChangesOnlyEntry super old new directory place) where
+  -- no pointer goes
+  points_after : (number : ℕ) → Named super old number → (at : Pointer) (zone : ℕ) → PointsTo super old number at zone → PointsTo super new number at zone
+  points_after number named =
+      points-new super old new number (named-node super old new directory place sound only number named).numbers (named-above super old new directory place sound only number named)
+
   -- its place lies where it lay
   lies_still : zone_of_entry super old directory place ≢ 0 → zone_of_entry super new directory place ≢ 0
   unfolding zone_number
   lies_still some none =
       let refers = directory-refers super old directory place only.change.named only.change.is _ some refl in
-      let to = points-new super old new directory (named-node super old new directory place sound only directory only.change.named).numbers
-      (named-above super old new directory place sound only directory only.change.named) _ _ refers.to in
+      let to = points_after directory only.change.named _ _ refers.to in
       some (sym to.is ∙ none)
 
   -- no pointer comes
@@ -139,7 +143,7 @@ module _ {D : Type 0} {disks : Ghosts D} (old : Volume D disks) (chosen : Chosen
         any_moment = leaves_none (past_of old) (HasLinksOrAbove old chosen) (λ c left. let H : Image → Type 0 = λ image. HasLinksOrAbove old chosen image in subst H (sym (quiet c left)) (inl refl));
         links = λ told. sym (same ((parts_now old).node chosen.directory).links);
         keeps = λ told. keeps_none (super_view old.layout) (parts_now old) chosen.directory;
-        marks = λ told. record { inodes = λ number is'. refl; zones = λ z is'. refl };
+        tables = λ told. record { inodes = λ number is'. refl; zones = λ z is'. refl; nodes = λ number is' other. refl; own = refl };
         others = λ told d s above. not_written_none (past_of old) d s;
         device = λ told. tt;
       }
@@ -157,7 +161,12 @@ module _ {D : Type 0} {disks : Ghosts D} (old : Volume D disks) (chosen : Chosen
         keeps = λ told. on_ok result _ _ (raises.raised told) (λ change.
             keeps_changed (super_view old.layout) (parts_now old) (model.parts_of (volume_view old) (now (past_of mid))) chosen.directory (with_links ((parts_now old).node chosen.directory) more)
             (opened (volume_view old) (now (past_of old)) (is told).sound).parts (record { mode = refl; zones = refl }) (raises.unseen.held told).sees change);
-        marks = λ told. on_ok result _ _ (raises.raised told) (λ change. record { inodes = change.marks; zones = change.zone_marks });
+        tables = λ told. on_ok result _ _ (raises.raised told) (λ change. record {
+          inodes = change.marks;
+          zones = change.zone_marks;
+          nodes = change.others;
+          own = let S : Inode → Type 0 = SameButLinks ((parts_now old).node chosen.directory) in subst S (sym change.here) refl;
+        });
         others = λ told d s above. raises.others told d s (above dir);
         device = raises.device;
       }
@@ -189,7 +198,7 @@ module _ {D : Type 0} {disks : Ghosts D} (old : Volume D disks) (outer : List (L
     leads = unseen_refused old mid (chosen.name ∷ outer) (Some chosen.choice.inode) (Some (thing (super_view old.layout) (parts_now old) chosen.choice.inode)) fault ready.unseen;
     links = first-moment mid ready.unseen ready.any_moment;
     above = λ told. tt;
-    marks = λ told. tt;
+    tables = λ told. tt;
     stays = λ told. tt;
     directories = λ told. tt;
     others = λ told d s off. ready.others told d s off.above;
@@ -274,15 +283,19 @@ module _ {D : Type 0} {disks : Ghosts D} (old : Volume D disks) (outer : List (L
           subst T (sym view-mid)
           (thing_kept (super_view old.layout) (parts_now old) (model.parts_of (volume_view old) (now (past_of mid))) chosen.choice.inode (still told).kept))
 
-      -- the links of the directory above
-      links-mid : (image : Image) → IsTold (past_of mid) → HasEntryPart mid image zone index (entry_bytes (kind_view mid.layout.kind) chosen.choice.inode chosen.name)
-          → ((model.parts_of (volume_view old) image).node chosen.directory).links ≡ ((model.parts_of (volume_view old) (now (past_of mid))).node chosen.directory).links
-      links-mid image told has =
+      -- the inode of the directory above, and its links
+      node-mid : (image : Image) → IsTold (past_of mid) → HasEntryPart mid image zone index (entry_bytes (kind_view mid.layout.kind) chosen.choice.inode chosen.name)
+          → (model.parts_of (volume_view old) image).node chosen.directory ≡ (model.parts_of (volume_view old) (now (past_of mid))).node chosen.directory
+      node-mid image told has =
           let m = may_mid told in
           let range = (opened (volume_view mid) (now (past_of mid)) m.sound).parts.in_range chosen.directory m.place.placed.named in
           let change = (part_law (volume_view mid) (now (past_of mid)) image zone (entry_size (kind_view mid.layout.kind) * index) (entry_bytes (kind_view mid.layout.kind) chosen.choice.inode chosen.name) m.sound (from, below) has).change in
-          let L : model.Volume → Type 0 = λ view. ((model.parts_of view image).node chosen.directory).links ≡ ((model.parts_of view (now (past_of mid))).node chosen.directory).links in
-          subst L view-mid (ap (λ (i : Inode). i.links) (change.nodes chosen.directory range))
+          let L : model.Volume → Type 0 = λ view. (model.parts_of view image).node chosen.directory ≡ (model.parts_of view (now (past_of mid))).node chosen.directory in
+          subst L view-mid (change.nodes chosen.directory range)
+
+      links-mid : (image : Image) → IsTold (past_of mid) → HasEntryPart mid image zone index (entry_bytes (kind_view mid.layout.kind) chosen.choice.inode chosen.name)
+          → ((model.parts_of (volume_view old) image).node chosen.directory).links ≡ ((model.parts_of (volume_view old) (now (past_of mid))).node chosen.directory).links
+      links-mid image told has = ap (λ (i : Inode). i.links) (node-mid image told has)
 
       -- all other inodes, and the bitmap bits
       keeps-mid : IsTold (past_of mid) → HasEntryPart mid (now (past_of new)) zone index (entry_bytes (kind_view mid.layout.kind) chosen.choice.inode chosen.name)
@@ -327,6 +340,9 @@ module _ {D : Type 0} {disks : Ghosts D} (old : Volume D disks) (outer : List (L
             keeps = join_places_law super (parts_now old) Mid New chosen.directory chosen.choice.place seen.sees
                 (seen_places_law super (parts_now old) Mid chosen.directory chosen.choice.place seen.sees)
                 (entry_places_law super Mid New chosen.directory chosen.choice.place sound-mid only);
+            stays = λ at z to.
+                points_after super Mid New chosen.directory chosen.choice.place sound-mid only chosen.directory place.placed.named at z
+                (seen.sees.stays chosen.directory at z (record { named = (may told).place.placed.named; to = to }) (may told).place.placed.is);
             points = λ number at z named to.
                 (ready.keeps told).points number at z named
                 (points_before super Mid New chosen.directory chosen.choice.place sound-mid only number (named-new super (parts_now old) Mid seen.sees number named) at z to);
@@ -367,13 +383,16 @@ module _ {D : Type 0} {disks : Ghosts D} (old : Volume D disks) (outer : List (L
         above = λ told.
             let told-mid = ready.unseen.goes_on.told told in
             links-mid suits from below index slot new (Ok tt) turns any entry makes makes_directory (now (past_of new)) told-mid (entry told-mid) ∙ ready.links told;
-        marks = λ told.
+        tables = λ told.
             let told-mid = ready.unseen.goes_on.told told in
             let keeps = keeps-mid suits from below index slot new (Ok tt) turns any entry makes makes_directory told-mid (entry told-mid) in
-            let first = ready.marks told in
+            let first = ready.tables told in
+            let S : Inode → Type 0 = SameButLinks ((parts_now old).node chosen.directory) in
             record {
               inodes = λ number is. keeps.marks number is ∙ first.inodes number is;
               zones = λ z is. keeps.zone_marks z is (λ at low same. absurd (omega (arith, low))) ∙ first.zones z is;
+              nodes = λ number is other. keeps.nodes number is other ∙ first.nodes number is other;
+              own = subst S (sym (node-mid suits from below index slot new (Ok tt) turns any entry makes makes_directory (now (past_of new)) told-mid (entry told-mid))) first.own;
             };
         stays = λ told.
             let told-mid = ready.unseen.goes_on.told told in
@@ -398,7 +417,7 @@ module _ {D : Type 0} {disks : Ghosts D} (old : Volume D disks) (outer : List (L
             (leads suits from below index slot new (Err fault) turns any (λ told. tt) makes makes_directory);
         links = links suits from below index slot new (Err fault) turns any (λ told. tt) makes makes_directory;
         above = λ told. tt;
-        marks = λ told. tt;
+        tables = λ told. tt;
         stays = λ told. tt;
         directories = λ told. tt;
         others = others suits from below index slot new (Err fault) turns any (λ told. tt) makes makes_directory;

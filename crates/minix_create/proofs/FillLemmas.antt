@@ -189,9 +189,12 @@ module _ {D : Type 0} {disks : Ghosts D} (start old new : Volume D disks) (chose
         let Z : Super → Type 0 = λ layout. (zone : ℕ) → zone < layout.zones → (parts_now new).has_zone zone ≡ (parts_now old).has_zone zone in
         let inodes = subst I reserved.steps.kept.same_layout it.marks in
         let zones = subst Z reserved.steps.kept.same_layout it.zone_marks in
+        let N : Super → Type 0 = λ layout. (other : ℕ) → 1 ≤ other → other ≤ layout.inodes → other ≢ chosen.choice.inode → (parts_now new).node other ≡ (parts_now old).node other in
+        let nodes = subst N reserved.steps.kept.same_layout it.nodes in
         record {
           inodes = λ number low. inodes number low ∙ was.inodes number low;
           zones = λ zone range. zones zone range.1 ∙ was.zones zone range;
+          nodes = λ number range other. nodes number range.0 range.1 other ∙ was.nodes number range other;
         };
     filled = filled;
     others = λ d s off. not_written_join (past_of start) (past_of old) (past_of new) d s (reserved.others d s off) (fills.others d s (off_indirect d s off) (off_inode d s off));

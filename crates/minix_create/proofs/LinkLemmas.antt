@@ -29,9 +29,10 @@ use Rattle.minix_change_laws.specs.Comes.{IsFit}
 use Rattle.minix_change_laws.specs.Only.{zone_of_entry, KeepsInode}
 use Rattle.minix_change_laws.proofs.Only.{directory-refers}
 use Rattle.minix_change_laws.proofs.Blocks.{block-below}
-use Rattle.minix_grow.specs.Others.{IsOneOf, KeepsOthers}
+use Rattle.minix_grow.specs.Others.{IsOneOf, SameButZones, SameButLinksAndZones, KeepsNodes, KeepsOthers}
 use Rattle.minix_grow.specs.Places.{IsFreePlace}
-use Rattle.minix_grow.proofs.KeepLemmas.{fit_kept}
+use Rattle.minix_grow.proofs.KeepLemmas.{points_kept, fit_kept}
+use Rattle.minix_grow.proofs.KeepsNowLemmas.{on_both}
 use Rattle.minix_grow.proofs.OtherLemmas.{all_off_stay}
 use Rattle.minix_choice_laws.specs.Sources.{Source, zone_from}
 use Rattle.minix_laws.proofs.Inside.{is_pointer-block}
@@ -39,7 +40,7 @@ use Rattle.minix_create.specs.Made.{KeepsPlaces}
 use Rattle.minix_create.proofs.MadePlaces.{seen_places_law, join_places_law}
 use Rattle.minix_layout.specs.View.{kind_view, super_view}
 use Rattle.minix_layout.specs.declared.superblock.Super.{Super}
-use Rattle.minix_change_laws.specs.Sees.{Sees}
+use Rattle.minix_change_laws.specs.Sees.{SameButLinks, Sees}
 use Rattle.minix_change_laws.proofs.Inode.{same-node, keeps-above, points-old}
 use Rattle.minix_change_laws.proofs.Seen.{opened}
 use Rattle.minix_change_laws.proofs.Sees.{directory-same, named-new}
@@ -58,7 +59,7 @@ use Rattle.minix_zones.specs.declared.volume.Volume.{Volume}
 use Rattle.minix_create.specs.Brought.{IsInDirectory, GivesPlace}
 use Rattle.minix_create.specs.Chosen.{MayLinkNow, MayNest, IsNewInode, new_inode, thing_with}
 use Rattle.minix_create.specs.Created.{MarksOnly, IsFilled}
-use Rattle.minix_create.specs.Entered.{SameMarks, KeepsDirectories, MayBeNamed, links_above, MayEnterNow, IsOffEntered, Enters}
+use Rattle.minix_create.specs.Entered.{SameTables, KeepsDirectories, MayBeNamed, links_above, MayEnterNow, IsOffEntered, Enters}
 use Rattle.minix_create.specs.Grown.{MayGrowNow, LiesNow, IsOffGrowth, GrowsChosen}
 use Rattle.minix_create.specs.Linked.{IsOffName, IsRaisedBefore, MarksLinked, LiesAsChosen, HoldsGiven, Creates}
 use Rattle.minix_create.specs.declared.chosen.Chosen.{Chosen}
@@ -66,7 +67,7 @@ use Rattle.minix_create.specs.declared.place_at.PlaceAt.{PlaceAt}
 use Rattle.minix_create.proofs.BroughtLemmas.{off_later, device_of, same_unseen}
 use Rattle.minix_create.proofs.EnterLemmas.{leads_is, unseen_refused, unseen_before}
 use Rattle.minix_create.proofs.GrownLemmas.{same_at}
-use Rattle.minix_create.proofs.NamedLemmas.{points_kept, thing_kept, named_kept, not_named, fit_named}
+use Rattle.minix_create.proofs.NamedLemmas.{thing_kept, named_kept, not_named, fit_named}
 
 -- ---- the part of a zone with an entry
 
@@ -82,6 +83,28 @@ slot-low V1Long place = omega arith
 slot-low V2Short place = omega arith
 slot-low V2Long place = omega arith
 
+-- ---- an inode of which links, size and zones alone may be others
+
+but_zones : (old new : Inode) → SameButZones old new → SameButLinksAndZones old new
+but_zones old new same =
+    let size : ℕ = new.size in
+    let zones : List ℕ = new.zones in
+    same ∙ ap (λ links. record old { links = links; size = size; zones = zones }) (sym (ap (λ (i : Inode). i.links) same))
+
+but_links : (old new : Inode) → SameButLinks old new → SameButLinksAndZones old new
+but_links old new same =
+    let links : ℕ = new.links in
+    let size : ℕ = new.size in
+    same ∙ (ap (λ s. record old { links = links; size = s }) (sym (ap (λ (i : Inode). i.size) same))
+    ∙ ap (λ z. record old { links = links; size = size; zones = z }) (sym (ap (λ (i : Inode). i.zones) same)))
+
+but_join : (old mid new : Inode) → SameButLinksAndZones old mid → SameButLinksAndZones mid new → SameButLinksAndZones old new
+but_join old mid new one two =
+    let links : ℕ = new.links in
+    let size : ℕ = new.size in
+    let zones : List ℕ = new.zones in
+    two ∙ ap (λ (i : Inode). record i { links = links; size = size; zones = zones }) one
+
 -- ---- a volume on which the name may be made
 
 -- a file's place got below the size, in a zone; no name saw it, the file stays, and so do the directory's links
@@ -93,6 +116,7 @@ pub record IsLinkable {D : Type 0} {disks : Ghosts D} (start next : Volume D dis
   pub is : IsTold (past_of start) → thing (super_view next.layout) (parts_now next) chosen.choice.inode ≡ thing_with chosen given
   pub links : IsTold (past_of start) → ((model.parts_of (volume_view start) (now (past_of next))).node chosen.directory).links ≡ ((parts_now start).node chosen.directory).links
   pub marks : IsTold (past_of start) → MarksLinked (super_view start.layout) (parts_now start) (model.parts_of (volume_view start) (now (past_of next))) chosen
+  pub nodes : IsTold (past_of start) → KeepsNodes (super_view start.layout) (parts_now start) (model.parts_of (volume_view start) (now (past_of next))) chosen.directory chosen.choice.inode
   pub node : IsTold (past_of start) → IsNewInode chosen ((model.parts_of (volume_view start) (now (past_of next))).node chosen.choice.inode)
   pub blocks : IsTold (past_of start) → LiesAsChosen (super_view start.layout) (model.parts_of (volume_view start) (now (past_of next))) chosen
   pub holds : IsTold (past_of start) → HoldsGiven (super_view start.layout) (model.parts_of (volume_view start) (now (past_of next))) chosen given
@@ -222,6 +246,7 @@ module _ {D : Type 0} {disks : Ghosts D} (start old next : Volume D disks) (oute
     above = λ told. tt;
     marks = λ told. tt;
     made = λ told. tt;
+    nodes = λ told. tt;
     node = λ told. tt;
     lies = λ told. tt;
     holds = λ told. tt;
@@ -329,7 +354,7 @@ module _ {D : Type 0} {disks : Ghosts D} (start old next read : Volume D disks) 
       let v = from_old start old next outer chosen given filled (Ok tt) grows none V (
         ap (λ (i : Inode). i.mode) kept.node ∙ ap (λ (i : Inode). i.mode) (filled.filled told).node,
         named_kept (super_view old.layout) Old Next chosen.choice.inode kept (sees_old told)
-            (fit_kept (super_view old.layout) Old Next chosen.directory chosen.choice.growth (sees_old told) (keeps_old told) chosen.choice.inode (fit_old told) (apart_old told) (filled.filled told).clear)
+            (fit_kept (super_view old.layout) Old Next chosen.choice.growth (sees_old told) (keeps_old told).points chosen.choice.inode (fit_old told) (filled.filled told).clear kept)
             outer chosen.directory (may_be_named told),
         thing_kept (super_view old.layout) Old Next chosen.choice.inode kept ∙ (filled.filled told).is,
       ) in
@@ -406,7 +431,7 @@ module _ {D : Type 0} {disks : Ghosts D} (start old next read : Volume D disks) 
         let I : Option Past → Type 0 = λ past. ((model.parts_of (volume_view start) (now past)).node chosen.directory).links ≡ ((parts_now start).node chosen.directory).links in
         let kept' = kept_named start old next outer chosen given filled (Ok tt) grows none told in
         subst I (sym same.same_disks.same_past)
-        (at_start start old next outer chosen given filled (Ok tt) grows none V (keeps_old told).links ∙ ap (λ (i : Inode). i.links) (kept'.nodes chosen.directory (filled.free told).grows.named))
+        (at_start start old next outer chosen given filled (Ok tt) grows none V (ap (λ (i : Inode). i.links) (keeps_old told).own) ∙ ap (λ (i : Inode). i.links) (kept'.nodes chosen.directory (filled.free told).grows.named))
 
     -- the bits that were set
     marks_read : IsTold (past_of start) → MarksLinked (super_view start.layout) (parts_now start) (model.parts_of (volume_view start) (now (past_of read))) chosen
@@ -421,6 +446,23 @@ module _ {D : Type 0} {disks : Ghosts D} (start old next read : Volume D disks) 
           inodes = λ number is. keeps'.marks number is ∙ only.inodes number is.1;
           zones = λ z is apart. keeps'.zone_marks z is apart ∙ only.zones z is;
           stay_marked = λ z is set. keeps'.stay_marked z is (only.zones z is ∙ rw set refl);
+          used = λ z is set. ⊎_elim (λ was. inl (sym (only.zones z is) ∙ was)) (λ has. inr has) (keeps'.used z is set);
+        })
+
+    -- the other inodes
+    nodes_read : IsTold (past_of start) → KeepsNodes (super_view start.layout) (parts_now start) (model.parts_of (volume_view start) (now (past_of read))) chosen.directory chosen.choice.inode
+    nodes_read told =
+        let V : model.Volume → Type 0 = λ view. KeepsOthers view.layout (model.parts_of view (now (past_of old))) (model.parts_of view (now (past_of next))) chosen.directory chosen.choice.growth in
+        let O : model.Volume → Type 0 = λ view. MarksOnly start (parts_now start) (model.parts_of view (now (past_of old))) chosen in
+        let I : Option Past → Type 0 = λ past. KeepsNodes (super_view start.layout) (parts_now start) (model.parts_of (volume_view start) (now past)) chosen.directory chosen.choice.inode in
+        let keeps' : V (volume_view start) = at_start start old next outer chosen given filled (Ok tt) grows none V (keeps_old told) in
+        let only : O (volume_view start) = at_start start old next outer chosen given filled (Ok tt) grows none O (filled.marks told) in
+        let kept' = kept_named start old next outer chosen given filled (Ok tt) grows none told in
+        let S : Inode → Type 0 = λ i. SameButZones i ((model.parts_of (volume_view start) (now (past_of next))).node chosen.directory) in
+        subst I (sym same.same_disks.same_past)
+        (record {
+          others = λ other is apart new. keeps'.nodes other is apart ∙ only.nodes other is new;
+          own = but_zones ((parts_now start).node chosen.directory) ((model.parts_of (volume_view start) (now (past_of next))).node chosen.directory) (subst S (kept'.nodes chosen.directory (filled.free told).grows.named) keeps'.own);
         })
 
     node_read : IsTold (past_of start) → IsNewInode chosen ((model.parts_of (volume_view start) (now (past_of read))).node chosen.choice.inode)
@@ -501,6 +543,7 @@ module _ {D : Type 0} {disks : Ghosts D} (start old next read : Volume D disks) 
       is = λ told. (facts_read told).4;
       links = links_stay;
       marks = marks_read;
+      nodes = nodes_read;
       node = node_read;
       blocks = blocks_read;
       holds = holds_read;
@@ -510,11 +553,6 @@ module _ {D : Type 0} {disks : Ghosts D} (start old next read : Volume D disks) 
     }
 
 -- ---- the entry
-
--- what is so once a call is done
-both_ok : {E : Type 0} (result : Result (Unit {0}) E) (A B : Type 0) → OnOk result A → OnOk result B → OnOk result (A × B)
-both_ok (Ok value) A B one two = (one, two)
-both_ok (Err fault) A B one two = tt
 
 module _ {D : Type 0} {disks : Ghosts D} (start mid : Volume D disks) (outer : List (List ℕ)) (chosen : Chosen) (given : ℕ → List ℕ) (zone : ℕ) (ready : IsLinkable start mid outer chosen given zone) where
   told_mid : IsTold (past_of start) → IsTold (past_of mid)
@@ -566,14 +604,28 @@ module _ {D : Type 0} {disks : Ghosts D} (start mid : Volume D disks) (outer : L
         on_ok result _ _ (subst L (same_view start mid ready.unseen.kept) (enters.above (told_mid told)))
         (λ above. above ∙ ap (links_above (kind_view start.layout.kind) chosen) (ready.links told));
     marks = λ told.
-        let V : model.Volume → Type 0 = λ view. OnOk result (SameMarks view.layout (model.parts_of view (now (past_of mid))) (model.parts_of view (now (past_of new)))) in
-        on_ok result _ _ (subst V (same_view start mid ready.unseen.kept) (enters.marks (told_mid told)))
-        (λ stay.
+        let V : model.Volume → Type 0 = λ view. OnOk result (SameTables view.layout (model.parts_of view (now (past_of mid))) (model.parts_of view (now (past_of new))) chosen.directory) in
+        let D : model.Volume → Type 0 = λ view. OnOk result (KeepsDirectories view.layout (model.parts_of view (now (past_of mid))) (model.parts_of view (now (past_of new))) chosen) in
+        on_both result _ _ _ (subst V (same_view start mid ready.unseen.kept) (enters.tables (told_mid told))) (subst D (same_view start mid ready.unseen.kept) (enters.directories (told_mid told)))
+        (λ stay directories.
         let m = ready.marks told in
         record {
           inodes = λ number is. stay.inodes number is ∙ m.inodes number is;
           zones = λ z is apart. stay.zones z is ∙ m.zones z is apart;
           stay_marked = λ z is set. stay.zones z is ∙ m.stay_marked z is set;
+          used = λ z is set. ⊎_elim (λ was. inl was) (λ has. inr (has.0, directories.stays has.0 z has.1)) (m.used z is (sym (stay.zones z is) ∙ set));
+        });
+    nodes = λ told.
+        let V : model.Volume → Type 0 = λ view. OnOk result (SameTables view.layout (model.parts_of view (now (past_of mid))) (model.parts_of view (now (past_of new))) chosen.directory) in
+        on_ok result _ _ (subst V (same_view start mid ready.unseen.kept) (enters.tables (told_mid told)))
+        (λ stay.
+        let was = ready.nodes told in
+        let First : Inode = (parts_now start).node chosen.directory in
+        let Mid : Inode = (model.parts_of (volume_view start) (now (past_of mid))).node chosen.directory in
+        let New : Inode = (model.parts_of (volume_view start) (now (past_of new))).node chosen.directory in
+        record {
+          others = λ other is apart new'. stay.nodes other is apart ∙ was.others other is apart new';
+          own = but_join First Mid New was.own (but_links Mid New stay.own);
         });
     node = λ told.
         let N : Inode → Type 0 = IsNewInode chosen in
@@ -597,17 +649,17 @@ module _ {D : Type 0} {disks : Ghosts D} (start mid : Volume D disks) (outer : L
         let New : Parts = model.parts_of (volume_view start) (now (past_of new)) in
         let K : model.Volume → Type 0 = λ view. OnOk result (KeepsInode view.layout (model.parts_of view (now (past_of mid))) (model.parts_of view (now (past_of new))) chosen.choice.inode) in
         let D : model.Volume → Type 0 = λ view. OnOk result (KeepsDirectories view.layout (model.parts_of view (now (past_of mid))) (model.parts_of view (now (past_of new))) chosen) in
-        on_ok result _ _
-        (both_ok result _ _ (subst K (same_view start mid ready.unseen.kept) (enters.stays (told_mid told))) (subst D (same_view start mid ready.unseen.kept) (enters.directories (told_mid told))))
-        (λ both.
+        on_both result _ _ _
+        (subst K (same_view start mid ready.unseen.kept) (enters.stays (told_mid told))) (subst D (same_view start mid ready.unseen.kept) (enters.directories (told_mid told)))
+        (λ kept directories.
         let sees = (ready.unseen.held told).sees in
         record {
-          lies = both.1.lies;
-          keeps = join_places_law super (parts_now start) Mid New chosen.directory chosen.choice.place sees (ready.places told) both.1.keeps;
-          points = λ number at z named to. ready.points told number at z named (both.1.points number at z (named-new super (parts_now start) Mid sees number named) to);
+          lies = directories.lies;
+          keeps = join_places_law super (parts_now start) Mid New chosen.directory chosen.choice.place sees (ready.places told) directories.keeps;
+          points = λ number at z named to. ready.points told number at z named (directories.points number at z (named-new super (parts_now start) Mid sees number named) to);
           own = λ at z to. ready.own told at z
-              (points-old super Mid New chosen.choice.inode (same-node (Mid.node chosen.choice.inode) (New.node chosen.choice.inode) both.0.node).numbers
-              (keeps-above super Mid New chosen.choice.inode both.0.zones) at z to);
+              (points-old super Mid New chosen.choice.inode (same-node (Mid.node chosen.choice.inode) (New.node chosen.choice.inode) kept.node).numbers
+              (keeps-above super Mid New chosen.choice.inode kept.zones) at z to);
         });
     others = λ told d s off.
         not_written_join (past_of start) (past_of mid) (past_of new) d s (ready.others told d s off) (enters.others (told_mid told) d s (off_entered told d s off));

@@ -80,6 +80,7 @@ module _ {D : Type 0} {disks : Ghosts D} (old : Volume D disks) (chosen : Chosen
   marks_both = record {
     inodes = λ number low. two.inodes number low ∙ inode_by number low _ refl;
     zones = λ zone is. two.marks zone is ∙ ap (λ (b : Bool). b || has_number chosen.choice.zones zone) (one.zones zone is.0);
+    nodes = λ number is other. two.nodes number ∙ one.nodes number;
   }
 
 -- ---- the calls

@@ -2,13 +2,13 @@
 use Rattle.std.proofs.Common.{◌≡◌, ◌≢◌, ◌<◌, ℕ, true, List, length, sym, ◌∙◌, ap, subst, inl, inr, ⊎_elim}
 use Rattle.lilo_model.specs.MinixEntries.{entry_with, here_name, above_name}
 use Rattle.lilo_model.specs.MinixLayout.{Super, Inode}
-use Rattle.lilo_model.specs.MinixNames.{thing, Named, PointsTo}
-use Rattle.lilo_model.specs.MinixParts.{Parts, Pointer, is_directory}
+use Rattle.lilo_model.specs.MinixNames.{thing, Named}
+use Rattle.lilo_model.specs.MinixParts.{Parts, is_directory}
 use Rattle.minix_change_laws.specs.Comes.{IsFit}
 use Rattle.minix_change_laws.specs.Enter.{MayStand, DirectoryMayStand}
 use Rattle.minix_change_laws.specs.Only.{KeepsInode}
 use Rattle.minix_change_laws.specs.Sees.{Sees}
-use Rattle.minix_change_laws.proofs.Inode.{IsSameNode, same-node, directory-zones, keeps-above, points-new, has_entry-same, has_entry-kept, lookup-same, thing-same}
+use Rattle.minix_change_laws.proofs.Inode.{IsSameNode, same-node, directory-zones, has_entry-same, has_entry-kept, lookup-same, thing-same}
 use Rattle.minix_change_laws.proofs.Sees.{named-old, all_lead-old}
 use Rattle.minix_create.specs.Entered.{MayBeNamed}
 
@@ -18,9 +18,6 @@ module _ (super : Super) (old new : Parts) (number : ℕ) (kept : KeepsInode sup
 
   pub thing_kept : thing super new number ≡ thing super old number
   thing_kept = thing-same super old new number node kept.zones
-
-  pub points_kept : (at : Pointer) (zone : ℕ) → PointsTo super old number at zone → PointsTo super new number at zone
-  points_kept = points-new super old new number node.numbers (keeps-above super old new number kept.zones)
 
   module _ (sees : Sees super old new) (fit : IsFit super new number) where
     stands-kept : MayStand super old number → MayStand super new number
@@ -52,15 +49,6 @@ module _ (super : Super) (old new : Parts) (number : ℕ) (kept : KeepsInode sup
 
     pub named_kept : (outer : List (List ℕ)) (directory : ℕ) → MayBeNamed super old outer directory number → MayBeNamed super new outer directory number
     named_kept outer directory may = ⊎_elim (λ stands. inl (stands-kept stands)) (λ stands. inr (directory-kept outer directory stands)) may
-
--- what stays in two changes in a row stays
-pub kept_join : (super : Super) (old mid new : Parts) (number : ℕ) → KeepsInode super old mid number → KeepsInode super mid new number → KeepsInode super old new number
-kept_join super old mid new number one two = record {
-  node = two.node ∙ one.node;
-  mark = two.mark ∙ one.mark;
-  zones = λ at zone to. two.zones at zone (points_kept super old mid number one at zone to) ∙ one.zones at zone to;
-  zone_marks = λ at zone to. two.zone_marks at zone (points_kept super old mid number one at zone to) ∙ one.zone_marks at zone to;
-}
 
 -- it isn't a directory that has a name
 pub not_named : (super : Super) (parts : Parts) (outer : List (List ℕ)) (directory number : ℕ) → Named super parts directory → is_directory (parts.node directory) ≡ true

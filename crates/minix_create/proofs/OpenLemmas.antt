@@ -183,11 +183,14 @@ module _ {D : Type 0} {disks : Ghosts D} (old : Volume D disks) (chosen : Chosen
             let o = one (told_old told) in
             let I : Super → Type 0 = λ layout. (number : ℕ) → number ≤ layout.inodes → (parts_now new).has_inode number ≡ (parts_now old).has_inode number in
             let Z : Super → Type 0 = λ layout. (zone' : ℕ) → zone' < layout.zones → (parts_now new).has_zone zone' ≡ (parts_now old).has_zone zone' in
+            let N : Super → Type 0 = λ layout. (number : ℕ) → 1 ≤ number → number ≤ layout.inodes → (parts_now new).node number ≡ (parts_now old).node number in
             let inodes = subst I reserved.steps.kept.same_layout o.marks in
             let maps = subst Z reserved.steps.kept.same_layout o.zone_marks in
+            let table = subst N reserved.steps.kept.same_layout o.nodes in
             record {
               inodes = λ number low. inodes number low ∙ was.inodes number low;
               zones = λ zone' range. maps zone' range.1 ∙ was.zones zone' range;
+              nodes = λ number range other. table number range.0 range.1 ∙ was.nodes number range other;
             };
         blocks = written;
         others = λ d s off_file. not_written_join (past_of start) (past_of old) (past_of new) d s (reserved.others d s off_file) (others d s (off d s off_file));

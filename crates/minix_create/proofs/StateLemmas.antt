@@ -140,6 +140,7 @@ module _ {D : Type 0} {disks : Ghosts D} (start : Volume D disks) (chosen : Chos
     above = λ told. tt;
     marks = λ told. tt;
     made = λ told. tt;
+    nodes = λ told. tt;
     node = λ told. tt;
     lies = λ told. tt;
     holds = λ told. tt;

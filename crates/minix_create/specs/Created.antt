@@ -7,7 +7,7 @@ use Rattle.disk_trait.specs.Range.{IsOutside}
 use Rattle.lilo_model.specs.MinixLayout.{inode_place, reach, zone_sector}
 use Rattle.lilo_model.specs.MinixNames.{zone_number, thing, PointsTo}
 use Rattle.lilo_model.specs.MinixParts.{Parts, Pointer}
-use Rattle.minix_change_laws.specs.Beside.{IsDataZone}
+use Rattle.minix_change_laws.specs.Beside.{IsInode, IsDataZone}
 use Rattle.minix_steps.specs.Numbers.{has_number}
 use Rattle.minix_choice_laws.specs.Choice.{file_of}
 use Rattle.minix_fill.specs.Fill.{MayHoldFile, AreMarked}
@@ -40,10 +40,11 @@ pub record IsOffFile {D : Type 0} {disks : Ghosts D} (volume : Volume D disks) (
 
 -- ---- bits
 
--- the bits of what was chosen are set, and no other bit changed
+-- the bits of what was chosen are set, no other bit changed, and each inode but the file's is as it was
 pub record MarksOnly {D : Type 0} {disks : Ghosts D} (volume : Volume D disks) (old new : Parts) (chosen : Chosen) : Type 0 where
   pub inodes : (number : ℕ) → number ≤ volume.layout.inodes → new.has_inode number ≡ (old.has_inode number || (number == chosen.choice.inode))
   pub zones : (zone : ℕ) → IsDataZone (super_view volume.layout) zone → new.has_zone zone ≡ (old.has_zone zone || has_number chosen.choice.zones zone)
+  pub nodes : (number : ℕ) → IsInode (super_view volume.layout) number → number ≢ chosen.choice.inode → new.node number ≡ old.node number
 
 -- a call set them, wrote no sector but those of the bitmaps, and flushed
 pub record MarksChosen {D : Type 0} {disks : Ghosts D} (old new : Volume D disks) (chosen : Chosen) (result : Result (Unit {0}) ZoneFault) : Type 0 where

@@ -19,7 +19,7 @@ use Rattle.minix_grow.specs.Hook.{IsOffInode}
 use Rattle.minix_change_laws.specs.Changes.{ChangesNode}
 use Rattle.minix_layout.specs.View.{kind_view, super_view}
 use Rattle.minix_create.specs.Made.{KeepsPlaces}
-use Rattle.minix_change_laws.specs.Sees.{with_links}
+use Rattle.minix_change_laws.specs.Sees.{with_links, SameButLinks}
 use Rattle.minix_steps.specs.Written.{parts_now}
 use Rattle.minix_turns.specs.Joined.{Unseen, LeadsPath}
 use Rattle.minix_choice.specs.declared.write_fault.WriteFault.{WriteFault}
@@ -34,10 +34,12 @@ use Rattle.minix_create.specs.declared.chosen.Chosen.{Chosen}
 abbrev pub MayBeNamed : Super → Parts → List (List ℕ) → ℕ → ℕ → Type 0
 MayBeNamed super parts outer directory number = MayStand super parts number ⊎ DirectoryMayStand super parts outer directory number
 
--- no bitmap bit is another
-pub record SameMarks (super : Super) (old new : Parts) : Type 0 where
+-- no bitmap bit is another, and no inode but one, of which the links alone may be others
+pub record SameTables (super : Super) (old new : Parts) (directory : ℕ) : Type 0 where
   pub inodes : (number : ℕ) → IsInode super number → new.has_inode number ≡ old.has_inode number
   pub zones : (zone : ℕ) → IsDataZone super zone → new.has_zone zone ≡ old.has_zone zone
+  pub nodes : (number : ℕ) → IsInode super number → number ≢ directory → new.node number ≡ old.node number
+  pub own : SameButLinks (old.node directory) (new.node directory)
 
 -- ---- links
 
@@ -78,8 +80,8 @@ HasLinksOrAbove volume chosen c =
     ⊎ (((model.parts_of (volume_view volume) c).node chosen.directory).links
     ≡ links_above (kind_view volume.layout.kind) chosen ((parts_now volume).node chosen.directory).links)
 
--- A call made the links of the directory above those once the name is made, and what has no name yet is as before. No name
--- sees it at any moment.
+-- A call made the links of the directory above those once the name is made, and what has no name yet is as before, and each inode
+-- and bit. No name sees it at any moment.
 pub record Readies {D : Type 0} {disks : Ghosts D} (old new : Volume D disks) (chosen : Chosen) (result : Result (Unit {0}) WriteFault) : Type 0 where
   pub unseen : Unseen old new
   pub any_moment : LeavesOnly (past_of old) (past_of new) (HasLinksOrAbove old chosen)
@@ -87,7 +89,8 @@ pub record Readies {D : Type 0} {disks : Ghosts D} (old new : Volume D disks) (c
       ≡ links_above (kind_view old.layout.kind) chosen ((parts_now old).node chosen.directory).links)
   pub keeps : IsTold (past_of old) → OnOk result (KeepsFiles (super_view old.layout) (parts_now old)
       (model.parts_of (volume_view old) (now (past_of new))) chosen.directory)
-  pub marks : IsTold (past_of old) → OnOk result (SameMarks (super_view old.layout) (parts_now old) (model.parts_of (volume_view old) (now (past_of new))))
+  pub tables : IsTold (past_of old) → OnOk result (SameTables (super_view old.layout) (parts_now old)
+      (model.parts_of (volume_view old) (now (past_of new))) chosen.directory)
   pub others : IsTold (past_of old) → (d s : ℕ) → (is_directory (new_inode chosen) ≡ true → IsOffInode old chosen.directory d s)
       → NotWritten (past_of old) (past_of new) d s
   pub device : IsTold (past_of old) → IfErr result (λ fault. (fault ≡ Device) × Rose (faults_of old) (faults_of new))
@@ -117,16 +120,17 @@ IsRaisedFirst volume outer chosen c =
     ⊎ ((((model.parts_of (volume_view volume) c).node chosen.directory).links ≡ ((parts_now volume).node chosen.directory).links)
     × (reached (super_view volume.layout) (model.parts_of (volume_view volume) c) (chosen.name ∷ outer) ≡ None))
 
--- one entry of a directory changed, which lies in a zone; else directories have the places that they had, and nothing that has a
--- name has a pointer more
+-- one entry of a directory changed, which lies in a zone; else directories have the places that they had, that one has the zones
+-- that it had, and nothing that has a name has a pointer more
 pub record KeepsDirectories (super : Super) (old new : Parts) (chosen : Chosen) : Type 0 where
   pub lies : zone_of_entry super new chosen.directory chosen.choice.place ≢ 0
   pub keeps : KeepsPlaces super old new chosen.directory chosen.choice.place
+  pub stays : (at : Pointer) (zone : ℕ) → PointsTo super old chosen.directory at zone → PointsTo super new chosen.directory at zone
   pub points : (number : ℕ) (at : Pointer) (zone : ℕ) → Named super old number → PointsTo super new number at zone → PointsTo super old number at zone
 
 -- A call made the name whole or not at all, and raised the links of the directory above before that where it is that of a
--- directory. Once it is done what is named stays with its zones, and so do each bitmap bit and all other places of directories. No
--- other sector was written, and it was refused where the disk failed.
+-- directory. Once it is done what is named stays with its zones, and so do each bitmap bit, each inode but for those links, and all
+-- other places of directories. No other sector was written, and it was refused where the disk failed.
 pub record Enters {D : Type 0} {disks : Ghosts D} (old new : Volume D disks) (outer : List (List ℕ)) (chosen : Chosen) (zone : ℕ)
     (result : Result (Unit {0}) WriteFault) : Type 0 where
   pub leads : LeadsPath old new (chosen.name ∷ outer) (Some chosen.choice.inode)
@@ -134,7 +138,8 @@ pub record Enters {D : Type 0} {disks : Ghosts D} (old new : Volume D disks) (ou
   pub links : LeavesOnly (past_of old) (past_of new) (IsRaisedFirst old outer chosen)
   pub above : IsTold (past_of old) → OnOk result (((model.parts_of (volume_view old) (now (past_of new))).node chosen.directory).links
       ≡ links_above (kind_view old.layout.kind) chosen ((parts_now old).node chosen.directory).links)
-  pub marks : IsTold (past_of old) → OnOk result (SameMarks (super_view old.layout) (parts_now old) (model.parts_of (volume_view old) (now (past_of new))))
+  pub tables : IsTold (past_of old) → OnOk result (SameTables (super_view old.layout) (parts_now old)
+      (model.parts_of (volume_view old) (now (past_of new))) chosen.directory)
   pub stays : IsTold (past_of old) → OnOk result (KeepsInode (super_view old.layout) (parts_now old)
       (model.parts_of (volume_view old) (now (past_of new))) chosen.choice.inode)
   pub directories : IsTold (past_of old) → OnOk result (KeepsDirectories (super_view old.layout) (parts_now old)

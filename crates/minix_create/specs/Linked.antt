@@ -14,7 +14,7 @@ use Rattle.minix_change_laws.specs.Beside.{IsInode, IsDataZone}
 use Rattle.minix_steps.specs.Numbers.{has_number}
 use Rattle.minix_change_laws.specs.Only.{zone_of_entry}
 use Rattle.minix_grow.specs.Hook.{IsOffInode}
-use Rattle.minix_grow.specs.Others.{IsNoneOf}
+use Rattle.minix_grow.specs.Others.{IsNoneOf, IsZoneOf, KeepsNodes}
 use Rattle.minix_layout.specs.View.{kind_view, super_view}
 use Rattle.minix_create.specs.Made.{HasMade}
 use Rattle.minix_steps.specs.Written.{parts_now}
@@ -46,12 +46,15 @@ IsRaisedBefore volume outer chosen c =
     ⊎ (((model.parts_of (volume_view volume) c).node chosen.directory).links
     ≡ links_above (kind_view volume.layout.kind) chosen ((parts_now volume).node chosen.directory).links)
 
--- its bit is set and those of the zones that were chosen, and no other but for zones of growth, of which none is cleared
+-- Its bit is set and those of the zones that were chosen, and no other but for zones of growth: none of these is cleared, and one
+-- that was set is of a zone that the directory has now.
 pub record MarksLinked (super : Super) (old new : Parts) (chosen : Chosen) : Type 0 where
   pub inodes : (number : ℕ) → IsInode super number → new.has_inode number ≡ (old.has_inode number || (number == chosen.choice.inode))
   pub zones : (zone : ℕ) → IsDataZone super zone → IsNoneOf chosen.choice.growth zone
       → new.has_zone zone ≡ (old.has_zone zone || has_number chosen.choice.zones zone)
   pub stay_marked : (zone : ℕ) → IsDataZone super zone → old.has_zone zone ≡ true → new.has_zone zone ≡ true
+  pub used : (zone : ℕ) → IsDataZone super zone → new.has_zone zone ≡ true
+      → ((old.has_zone zone || has_number chosen.choice.zones zone) ≡ true) ⊎ IsZoneOf super new chosen.directory zone
 
 -- each of its blocks that isn't a hole lies in the zone that was chosen for it
 abbrev pub LiesAsChosen : Super → Parts → Chosen → Type 0
@@ -68,8 +71,9 @@ HoldsGiven super parts chosen given =
 -- Since a volume was as it is here, a file was reserved, filled and linked. Whatever a stop left, at any moment, is seen as
 -- before or has the name, which leads to the whole of the file; where the name is there, the directory above a new one has a
 -- link more, if it can have, and once it is done both are there, the inode has the new mode, owner, links, times and size, each block
--- lies whole where it was chosen, all other places of directories are kept, and no bitmap bit is set but those that were chosen. No
--- other sector was written, and it was refused where the disk failed alone.
+-- lies whole where it was chosen, all other places of directories are kept, each other inode is as before but for the links, the size
+-- and the zones of the directory, and no bitmap bit is set but those that were chosen and of zones that the directory got. No other
+-- sector was written, and it was refused where the disk failed alone.
 pub record Creates {D : Type 0} {disks : Ghosts D} (start volume : Volume D disks) (outer : List (List ℕ)) (chosen : Chosen) (given : ℕ → List ℕ)
     (result : Result (Unit {0}) WriteFault) : Type 0 where
   pub leads : LeadsPath start volume (chosen.name ∷ outer) (Some chosen.choice.inode) (Some (thing_with chosen given)) result
@@ -80,6 +84,8 @@ pub record Creates {D : Type 0} {disks : Ghosts D} (start volume : Volume D disk
       (model.parts_of (volume_view start) (now (past_of volume))) chosen)
   pub made : IsTold (past_of start) → OnOk result (HasMade (super_view start.layout) (parts_now start)
       (model.parts_of (volume_view start) (now (past_of volume))) chosen.directory chosen.choice)
+  pub nodes : IsTold (past_of start) → OnOk result (KeepsNodes (super_view start.layout) (parts_now start)
+      (model.parts_of (volume_view start) (now (past_of volume))) chosen.directory chosen.choice.inode)
   pub node : IsTold (past_of start) → OnOk result (IsNewInode chosen ((model.parts_of (volume_view start) (now (past_of volume))).node chosen.choice.inode))
   pub lies : IsTold (past_of start) → OnOk result (LiesAsChosen (super_view start.layout) (model.parts_of (volume_view start) (now (past_of volume))) chosen)
   pub holds : IsTold (past_of start) → OnOk result (HoldsGiven (super_view start.layout)

@@ -6,7 +6,7 @@ use Rattle.disk_trait.specs.Past.{Image}
 use Rattle.disk_trait.specs.Moments.{IsTold, now}
 use Rattle.disk_trait.proofs.MomentLemmas.{on_ok}
 use Rattle.lilo_model.specs.MinixLayout.{Inode, numbers_in_zone, number_size}
-use Rattle.lilo_model.specs.MinixNames.{Named, Refers, IsSound}
+use Rattle.lilo_model.specs.MinixNames.{Named, PointsTo, Refers, IsSound}
 use Rattle.lilo_model.specs.MinixParts as model
 use Rattle.lilo_model.specs.MinixParts.{Parts, Pointer, is_directory, number_below, number_in}
 use Rattle.minix_change_laws.specs.Beside.{IsDataZone}
@@ -27,10 +27,10 @@ use Rattle.minix_zones.specs.Volume.{volume_view, past_of}
 use Rattle.minix_zones.specs.declared.volume.Volume.{Volume}
 use Rattle.minix_zones.specs.declared.zone_fault.ZoneFault.{ZoneFault}
 use Rattle.minix_grow.specs.Below.{MayHookBelowNow, HasFreeBlock, HooksBelowUnseen, HooksFreeBlock}
-use Rattle.minix_grow.specs.Others.{KeepsOthers, HookKeepsOthers}
+use Rattle.minix_grow.specs.Others.{KeepsOthers, HookKeepsOthers, HookHasOnWay}
 use Rattle.minix_grow.specs.Way.{depth_of, pointer_above, index_above, number_above, zones_below, AreGrown}
 use Rattle.minix_grow.specs.Zones.{AreData, AreGrownNow}
-use Rattle.minix_grow.proofs.CompleteLemmas.{way_is_pointer, number_there, number_step, may_hook_high, some_zone, entry_free}
+use Rattle.minix_grow.proofs.CompleteLemmas.{way_is_pointer, number_there, number_step, may_hook_high, has_each, some_zone, entry_free}
 use Rattle.minix_grow.proofs.ExtendLemmas.{view_after}
 use Rattle.minix_grow.proofs.KeepLemmas.{keeps_number}
 use Rattle.minix_grow.proofs.WayLemmas.{pointer_below}
@@ -92,6 +92,12 @@ module _ (view : model.Volume) (old image : Image) (directory place-block high z
     some = some_zone view.layout Was directory place-block growth high (omega (arith, deep)) grown fit Is zones-stay top-is;
     free = entry_free view.layout Was directory place-block growth high (omega (arith, deep)) grown fit Is zones-stay top-is;
   }
+
+  -- the directory has each new zone
+  pub block_has : (level : ℕ) → level < suc high → PointsTo view.layout Is directory (pointer_above view.layout.kind place-block level) (slice_index growth level)
+  block_has =
+      has_each view.layout Was directory place-block growth high (omega (arith, deep)) grown fit Is zones-stay top-is
+      (directory-same view.layout Was Is seen.sees directory named ∙ is)
 
   -- each other inode stays
   pub block_keeps : high < length growth → MayHook view.layout Was directory (below (pointer_above view.layout.kind place-block (suc high)) Index) (slice_index growth high) (zones_below view.layout.kind place-block growth high)
@@ -163,3 +169,14 @@ module _ {D : Type 0} {disks : Ghosts D} (old new : Volume D disks) (place-block
       on_ok result _ _ (part told)
       (λ has. block_keeps (volume_view old) (now (past_of old)) (now (past_of new)) directory place-block high zone node growth deep near (grown-all told) fit-all
       m.lies.sound m.lies.is m.lies.named m.is (subst A last m.above) some (both.held told) has (omega (arith, last)) (may_hook_at directory node may told).hooks)
+
+  pub hook_has_each : At < numbers_in_zone (kind_view old.layout.kind) → zone ≢ 0 → (result : Result (Unit {0}) ZoneFault) → HooksUnseen old new zone At (slice_index growth high)
+      → (IsTold (past_of old) → OnOk result (HasNumberPart old (now (past_of new)) zone At (slice_index growth high)))
+      → HookHasOnWay old new place-block growth zone result
+  hook_has_each near some result unseen part directory node may told =
+      let m = may told in
+      let both = hooks_below_unseen unseen directory node may in
+      let A : ℕ → Type 0 = λ count. number_above (super_view old.layout) (parts_now old) directory place-block count ≡ zone in
+      on_ok result _ _ (part told)
+      (λ has level below. block_has (volume_view old) (now (past_of old)) (now (past_of new)) directory place-block high zone node growth deep near (grown-all told) fit-all
+      m.lies.sound m.lies.is m.lies.named m.is (subst A last m.above) some (both.held told) has level (omega (arith, below, last)))

@@ -1,17 +1,17 @@
 -- The way to a block that new zones complete, from a level down.
-use Rattle.std.proofs.Common.{◌≡◌, ◌≢◌, ◌≤◌, ◌<◌, ◌+◌, ◌/◌, ◌%◌, ◌^◌, ◌==◌, ℕ, zero, suc, Bool, true, false, List, replicate, refl, sym, ◌∙◌, ap, subst, arith}
+use Rattle.std.proofs.Common.{◌≡◌, ◌≢◌, ◌≤◌, ◌<◌, ◌+◌, ◌-◌, ◌/◌, ◌%◌, ◌^◌, ◌==◌, ℕ, zero, suc, Bool, true, false, List, replicate, refl, sym, ◌∙◌, ap, subst, arith}
 use Rattle.std.specs.Prelude.{slice_index}
 use Rattle.std.proofs.lemmas.Bool.{eqb-true}
 use Rattle.lilo_model.specs.MinixEntries.{entry_in, entries_per_block}
 use Rattle.lilo_model.specs.MinixLayout.{Kind, Super, Inode, number_size}
-use Rattle.lilo_model.specs.MinixNames.{pointer, zone_number, block, entry, Named}
+use Rattle.lilo_model.specs.MinixNames.{pointer, zone_number, block, entry, Named, PointsTo}
 use Rattle.lilo_model.specs.MinixParts.{Parts, Pointer, IsPointer, block_pointer, follow, number_below, number_in, zone_at_pointer, zone_bytes, is_directory}
 use Rattle.minix_change_laws.specs.Changes.{MayHook}
 use Rattle.minix_change_laws.specs.Grows.{down}
 use Rattle.minix_change_laws.proofs.Zeros.{entry-zeros}
 use Rattle.minix_laws.proofs.Inside.{some_numbers}
 use Rattle.minix_laws.proofs.Pointers.{pointer_law}
-use Rattle.minix_change_laws.proofs.Inode.{shorter}
+use Rattle.minix_change_laws.proofs.Inode.{shorter, directory-zones}
 use Rattle.minix_grow.specs.Way.{depth_of, pointer_above, index_above, number_on_way, number_above, zones_below, grown_bytes, AreGrown}
 use Rattle.minix_grow.proofs.ChainLemmas.{holds, chain}
 use Rattle.minix_grow.proofs.WayLemmas.{pointer_below, pointer_lowest, down_below}
@@ -81,6 +81,15 @@ module _ (super : Super) (parts : Parts) (directory place-block : ℕ) (growth :
         let P : ℕ → Type 0 = λ l. number_above super new directory place-block l ≡ slice_index growth l in
         subst P e top
     leads level (suc more) same = step level (omega (arith, same)) (leads (suc level) more (omega (arith, same)))
+
+    -- the directory has each of them
+    pub has_each : is_directory (new.node directory) ≡ true → (level : ℕ) → level < suc high → PointsTo super new directory (pointer_above super.kind place-block level) (slice_index growth level)
+    has_each is level low = record {
+      kind = directory-zones new directory is;
+      place = way_is_pointer super place-block level (omega (arith, low, deep));
+      is = leads level (high - level) (omega (arith, low));
+      some = grown.some level low;
+    }
 
     lowest : zone_number super new directory place-block ≡ slice_index growth 0
     unfolding zone_number

@@ -67,7 +67,7 @@ module _ {D E : Type 0} {disks : Ghosts D} (old new : Volume D disks) (directory
       → OnOk result (KeepsOthersNow old new directory [])
   size_keeps result turns told may =
       on_ok result _ _ (size_changes result turns told may)
-      (λ change. keeps_size (super_view old.layout) (parts_now old) (model.parts_of (volume_view old) (now (past_of new))) directory size [] (opened (volume_view old) (now (past_of old)) may.lies.sound).parts change)
+      (λ change. keeps_size (super_view old.layout) (parts_now old) (model.parts_of (volume_view old) (now (past_of new))) directory size [] (opened (volume_view old) (now (past_of old)) may.lies.sound).parts may.lies.named change)
 
 -- the two turns by which the next place gets below the size
 module _ {D : Type 0} {disks : Ghosts D} (old mid : Volume D disks) (directory place zone index size : ℕ) (node : Inode) (from : old.layout.first ≤ zone) (below : zone < old.layout.zones)

@@ -7,7 +7,7 @@ use Rattle.disk_trait.specs.Moments.{IsTold, now}
 use Rattle.disk_trait.proofs.MomentLemmas.{on_ok}
 use Rattle.lilo_model.specs.MinixEntries.{entries_per_block, places}
 use Rattle.lilo_model.specs.MinixLayout.{Super, Inode, FitsInode, inode_place, is_size, numbers_in_zone, number_size}
-use Rattle.lilo_model.specs.MinixNames.{pointer, zone_number, Named}
+use Rattle.lilo_model.specs.MinixNames.{pointer, zone_number, Named, PointsTo}
 use Rattle.lilo_model.specs.MinixParts as model
 use Rattle.lilo_model.specs.MinixParts.{Parts, Pointer, IsPointer, block_pointer, follow, number_below, number_in, zone_bytes, is_directory}
 use Rattle.lilo_model.specs.MinixWalk.{Branch, branch_of}
@@ -27,11 +27,11 @@ use Rattle.minix_zones.specs.declared.volume.Volume.{Volume}
 use Rattle.minix_zones.specs.declared.zone_fault.ZoneFault.{ZoneFault}
 use Rattle.minix_zones.specs.declared.zone_fault.ZoneFault.TheVariants.{Device}
 use Rattle.minix_grow.specs.Hook.{MayHookTopNow}
-use Rattle.minix_grow.specs.Others.{KeepsOthersNow}
+use Rattle.minix_grow.specs.Others.{HasOnWayNow, KeepsOthersNow}
 use Rattle.minix_grow.specs.Places.{IsFreePlace, IsFreePlaceNow}
-use Rattle.minix_grow.specs.Way.{depth_of, number_above, zones_below, AreGrown}
+use Rattle.minix_grow.specs.Way.{depth_of, pointer_above, number_above, zones_below, AreGrown}
 use Rattle.minix_grow.specs.Zones.{AreData, AreGrownNow}
-use Rattle.minix_grow.proofs.CompleteLemmas.{may_hook_high, some_zone, entry_free}
+use Rattle.minix_grow.proofs.CompleteLemmas.{may_hook_high, has_each, some_zone, entry_free}
 use Rattle.minix_grow.proofs.ExtendLemmas.{view_after}
 use Rattle.minix_grow.proofs.KeepLemmas.{keeps_top}
 use Rattle.minix_grow.proofs.WayLemmas.{pointer_highest}
@@ -106,6 +106,12 @@ module _ (view : model.Volume) (old image : Image) (directory place-block size :
         free = entry_free view.layout (model.parts_of view old) directory place-block growth (depth_of view.layout.kind place-block) (omega arith) grown fit Is zones-stay high-is place here;
       }
 
+  -- and the directory has each new zone
+  pub hooked_has : (level : ℕ) → level < suc (depth_of view.layout.kind place-block) → PointsTo view.layout Is directory (pointer_above view.layout.kind place-block level) (slice_index growth level)
+  hooked_has =
+      has_each view.layout (model.parts_of view old) directory place-block growth (depth_of view.layout.kind place-block) (omega arith) grown fit Is zones-stay high-is
+      (directory-same view.layout (model.parts_of view old) Is seen.sees directory named ∙ is)
+
 -- ---- on a volume, with the branch of the block as it was found
 
 module _ {D : Type 0} {disks : Ghosts D} (old new : Volume D disks) (directory place-block size top first depth : ℕ) (node : Inode) (growth : List ℕ)
@@ -136,35 +142,57 @@ module _ {D : Type 0} {disks : Ghosts D} (old new : Volume D disks) (directory p
         sized = (may told).sized;
       })
 
-  pub places_are_free : FitsInode (kind_view old.layout.kind) node → top < 10 → top < tops (kind_view old.layout.kind) → size < 2 ^ 32 → is_size (kind_view old.layout.kind) size ≡ true
-      → (result : Result (Unit {0}) ZoneFault) → TurnsInode old new directory (with_top node top (slice_index growth depth) size) Device result → Unseen old new
-      → (place : ℕ) → IsTold (past_of old) → place / entries_per_block (kind_view old.layout.kind) ≡ place-block → place < places (kind_view old.layout.kind) size
-      → OnOk result (IsFreePlaceNow new directory place)
-  places_are_free fits ten low small sized result turns unseen place told here below =
-      let fit : FitsTop (kind_view old.layout.kind) top (slice_index growth depth) = record {
-        low = low;
-        small = fit-all depth (omega (arith, depth-same));
-      } in
-      let C : ℕ → ℕ → Type 0 = λ t d. ChangesNode (super_view old.layout) (parts_now old) (model.parts_of (volume_view old) (now (past_of new))) directory (with_top node t (slice_index growth d) size) in
-      let F : model.Volume → Type 0 = λ view. IsFreePlace view (now (past_of new)) directory place in
-      let long : (branch_of (numbers_in_zone (kind_view old.layout.kind)) place-block).top < length node.zones = let n = fits.ten in omega (arith, ten, n, top-same) in
-      on_ok result _ _ (top_changes old new directory top (slice_index growth depth) size node Device fits fit small sized result turns told (may told).lies)
-      (λ change. view_after old new F unseen
-      (hooked_is_free (volume_view old) (now (past_of old)) (now (past_of new)) directory place-block size node growth (grown-all told) fit-all (may told).lies.named (may told).is (unseen.held told) long small sized
-      (subst₂ C (sym top-same) (sym depth-same) change) place here below))
+  module _ (fits : FitsInode (kind_view old.layout.kind) node) (ten : top < 10) (low : top < tops (kind_view old.layout.kind)) (small : size < 2 ^ 32) (sized : is_size (kind_view old.layout.kind) size ≡ true)
+      (result : Result (Unit {0}) ZoneFault) (turns : TurnsInode old new directory (with_top node top (slice_index growth depth) size) Device result) where
+    abbrev New : Parts
+    New = model.parts_of (volume_view old) (now (past_of new))
 
-  -- each other inode stays
-  pub hook_keeps : FitsInode (kind_view old.layout.kind) node → top < 10 → top < tops (kind_view old.layout.kind) → size < 2 ^ 32 → is_size (kind_view old.layout.kind) size ≡ true
-      → (result : Result (Unit {0}) ZoneFault) → TurnsInode old new directory (with_top node top (slice_index growth depth) size) Device result → IsTold (past_of old)
-      → OnOk result (KeepsOthersNow old new directory growth)
-  hook_keeps fits ten low small sized result turns told =
-      let m = may told in
-      let fit : FitsTop (kind_view old.layout.kind) top (slice_index growth depth) = record { low = low; small = fit-all depth (omega (arith, depth-same)) } in
-      let H : ℕ → Type 0 = λ d. MayHook (super_view old.layout) (parts_now old) directory (pointer_at top []) (slice_index growth depth) (zones_below (kind_view old.layout.kind) place-block growth d) in
-      let C : Inode → Type 0 = λ i. ChangesNode (super_view old.layout) (parts_now old) (model.parts_of (volume_view old) (now (past_of new))) directory (with_top i top (slice_index growth depth) size) in
-      let L : Inode → Type 0 = λ i. top < length i.zones in
-      let long : top < length node.zones = let n = fits.ten in omega (arith, ten, n) in
-      on_ok result _ _ (top_changes old new directory top (slice_index growth depth) size node Device fits fit small sized result turns told m.lies)
-      (λ change. keeps_top (super_view old.layout) (parts_now old) (model.parts_of (volume_view old) (now (past_of new))) directory top size depth place-block growth
-      (opened (volume_view old) (now (past_of old)) m.lies.sound).parts (omega (arith, all, depth-same))
-      (subst H depth-same (may_have_top told).hooks) m.sized (subst L (sym m.lies.is) long) (subst C (sym m.lies.is) change))
+    abbrev AtTop : ℕ
+    AtTop = (branch_of (numbers_in_zone (kind_view old.layout.kind)) place-block).top
+
+    fit-top : FitsTop (kind_view old.layout.kind) top (slice_index growth depth)
+    fit-top = record { low = low; small = fit-all depth (omega (arith, depth-same)) }
+
+    long : top < length node.zones
+    long = let n = fits.ten in omega (arith, ten, n)
+
+    long-top : AtTop < length node.zones
+    long-top = omega (arith, long, top-same)
+
+    changed : IsTold (past_of old) → OnOk result (ChangesNode (super_view old.layout) (parts_now old) New directory (with_top node top (slice_index growth depth) size))
+    changed told = top_changes old new directory top (slice_index growth depth) size node Device fits fit-top small sized result turns told (may told).lies
+
+    changed-top : ChangesNode (super_view old.layout) (parts_now old) New directory (with_top node top (slice_index growth depth) size)
+        → ChangesNode (super_view old.layout) (parts_now old) New directory (with_top node AtTop (slice_index growth (depth_of (kind_view old.layout.kind) place-block)) size)
+    changed-top change =
+        let C : ℕ → ℕ → Type 0 = λ t d. ChangesNode (super_view old.layout) (parts_now old) New directory (with_top node t (slice_index growth d) size) in
+        subst₂ C (sym top-same) (sym depth-same) change
+
+    pub places_are_free : Unseen old new → (place : ℕ) → IsTold (past_of old) → place / entries_per_block (kind_view old.layout.kind) ≡ place-block → place < places (kind_view old.layout.kind) size
+        → OnOk result (IsFreePlaceNow new directory place)
+    places_are_free unseen place told here below =
+        let F : model.Volume → Type 0 = λ view. IsFreePlace view (now (past_of new)) directory place in
+        on_ok result _ _ (changed told)
+        (λ change. view_after old new F unseen
+        (hooked_is_free (volume_view old) (now (past_of old)) (now (past_of new)) directory place-block size node growth (grown-all told) fit-all (may told).lies.named (may told).is (unseen.held told) long-top small sized
+        (changed-top change) place here below))
+
+    -- the directory has each new zone
+    pub hook_has : Unseen old new → IsTold (past_of old) → OnOk result (HasOnWayNow old new directory place-block growth)
+    hook_has unseen told =
+        on_ok result _ _ (changed told)
+        (λ change level below.
+        hooked_has (volume_view old) (now (past_of old)) (now (past_of new)) directory place-block size node growth (grown-all told) fit-all (may told).lies.named (may told).is (unseen.held told) long-top small sized
+        (changed-top change) level (omega (arith, below, all)))
+
+    -- each other inode stays
+    pub hook_keeps : IsTold (past_of old) → OnOk result (KeepsOthersNow old new directory growth)
+    hook_keeps told =
+        let m = may told in
+        let H : ℕ → Type 0 = λ d. MayHook (super_view old.layout) (parts_now old) directory (pointer_at top []) (slice_index growth depth) (zones_below (kind_view old.layout.kind) place-block growth d) in
+        let C : Inode → Type 0 = λ i. ChangesNode (super_view old.layout) (parts_now old) New directory (with_top i top (slice_index growth depth) size) in
+        let L : Inode → Type 0 = λ i. top < length i.zones in
+        on_ok result _ _ (changed told)
+        (λ change. keeps_top (super_view old.layout) (parts_now old) New directory top size depth place-block growth
+        (opened (volume_view old) (now (past_of old)) m.lies.sound).parts (omega (arith, all, depth-same))
+        (subst H depth-same (may_have_top told).hooks) m.sized (subst L (sym m.lies.is) long) (subst C (sym m.lies.is) change))

@@ -16,10 +16,10 @@ use Rattle.minix_change_laws.specs.Grows.{pointer_at, below, Deeper, IsApart, Is
 use Rattle.minix_change_laws.proofs.Changes.{top_law, number_law}
 use Rattle.minix_change_laws.proofs.Extends.{of-node}
 use Rattle.minix_change_laws.specs.Sees.{IsFresh, Sees}
-use Rattle.minix_change_laws.proofs.Inode.{HasSameNumbers, IsSameNode, same-node, keeps-above, points-old, points-new, directory-zones, entry-same}
+use Rattle.minix_change_laws.proofs.Inode.{HasSameNumbers, IsSameNode, KeepsAbove, same-node, keeps-above, points-old, points-new, directory-zones, entry-same}
 use Rattle.minix_change_laws.proofs.Kept.{kept_is_seen_law}
 use Rattle.minix_change_laws.proofs.Sees.{named-old, named-new, refers-old, sees_law}
-use Rattle.minix_grow.specs.Others.{IsOneOf, IsNoneOf, IsClearOf, ChangesZones, KeepsOthers}
+use Rattle.minix_grow.specs.Others.{IsOneOf, IsNoneOf, IsClearOf, IsZoneOf, SameButZones, ChangesZones, KeepsOthers}
 use Rattle.minix_grow.specs.Way.{zones_below}
 
 -- ---- one of some zones, or none
@@ -62,10 +62,13 @@ pub keeps_wider : (super : Super) (old new : Parts) (directory : ℕ) (few growt
 keeps_wider super old new directory few growth wide keeps = record {
   points = λ number at zone named to. ⊎_elim (λ was. inl was) (λ one. inr (wide zone one)) (keeps.points number at zone named to);
   others = λ number fit other clear. keeps.others number fit other (λ at zone to. fewer zone (clear at zone to));
-  links = keeps.links;
+  nodes = keeps.nodes;
+  own = keeps.own;
+  stays = keeps.stays;
   marks = keeps.marks;
   zone_marks = λ zone is none. keeps.zone_marks zone is (fewer zone none);
   stay_marked = keeps.stay_marked;
+  used = keeps.used;
 }
   where
     fewer : (zone : ℕ) → IsNoneOf growth zone → IsNoneOf few zone
@@ -75,25 +78,40 @@ pub keeps_none : (super : Super) (parts : Parts) (directory : ℕ) (growth : Lis
 keeps_none super parts directory growth = record {
   points = λ number at zone named to. inl to;
   others = λ number fit other clear. record { node = refl; mark = refl; zones = λ at zone to. refl; zone_marks = λ at zone to. refl };
-  links = refl;
+  nodes = λ number is other. refl;
+  own = refl;
+  stays = λ at zone to. to;
   marks = λ number is. refl;
   zone_marks = λ zone is none. refl;
   stay_marked = λ zone is set. set;
+  used = λ zone is set. inl set;
 }
 
-module _ (super : Super) (old new : Parts) (directory : ℕ) (growth : List ℕ) (sees : Sees super old new) (keeps : KeepsOthers super old new directory growth)
-    (number : ℕ) (fit : IsFit super old number) (other : number ≢ directory) (clear : IsClearOf super old number growth) where
-  kept : KeepsInode super old new number
-  kept = keeps.others number fit other clear
+-- an inode that stays points to what it pointed to
+pub points_kept : (super : Super) (old new : Parts) (number : ℕ) → KeepsInode super old new number → (at : Pointer) (zone : ℕ) → PointsTo super old number at zone → PointsTo super new number at zone
+points_kept super old new number kept = points-new super old new number (same-node (old.node number) (new.node number) kept.node).numbers (keeps-above super old new number kept.zones)
 
+-- and stays in two changes in a row
+pub kept_join : (super : Super) (old mid new : Parts) (number : ℕ) → KeepsInode super old mid number → KeepsInode super mid new number → KeepsInode super old new number
+kept_join super old mid new number one two = record {
+  node = two.node ∙ one.node;
+  mark = two.mark ∙ one.mark;
+  zones = λ at zone to. two.zones at zone (points_kept super old mid number one at zone to) ∙ one.zones at zone to;
+  zone_marks = λ at zone to. two.zone_marks at zone (points_kept super old mid number one at zone to) ∙ one.zone_marks at zone to;
+}
+
+-- the pointers of named inodes lead where they led, or to one of some zones
+abbrev pub PointsGrown : Super → Parts → Parts → List ℕ → Type 0
+PointsGrown super old new growth =
+    (number : ℕ) (at : Pointer) (zone : ℕ) → Named super old number → PointsTo super new number at zone → PointsTo super old number at zone ⊎ IsOneOf growth zone
+
+module _ (super : Super) (old new : Parts) (growth : List ℕ) (sees : Sees super old new) (points : PointsGrown super old new growth)
+    (number : ℕ) (fit : IsFit super old number) (clear : IsClearOf super old number growth) (kept : KeepsInode super old new number) where
   node : IsSameNode (old.node number) (new.node number)
   node = same-node (old.node number) (new.node number) kept.node
 
   pub points_were : (at : Pointer) (zone : ℕ) → PointsTo super new number at zone → PointsTo super old number at zone
   points_were = points-old super old new number node.numbers (keeps-above super old new number kept.zones)
-
-  pub points_are : (at : Pointer) (zone : ℕ) → PointsTo super old number at zone → PointsTo super new number at zone
-  points_are = points-new super old new number node.numbers (keeps-above super old new number kept.zones)
 
   -- it is fit for a name still, and clear of these zones
   pub fit_kept : IsFit super new number
@@ -111,11 +129,21 @@ module _ (super : Super) (old new : Parts) (directory : ℕ) (growth : List ℕ)
         ⊎_elim
         (λ old-to. fit.apart next at there zone was (record { named = named; to = old-to }))
         (λ (one : IsOneOf growth zone). absurd (clear at zone was one.at one.low one.is))
-        (keeps.points next there zone named refers.to);
+        (points next there zone named refers.to);
   }
 
   pub clear_kept : IsClearOf super new number growth
   clear_kept at zone to = clear at zone (points_were at zone to)
+
+-- what stays of an inode but for its size and zones
+pub same-but-zones : (old new : Inode) → new ≡ old → SameButZones old new
+same-but-zones old new same = subst (SameButZones old) (sym same) refl
+
+zones-join : (old mid new : Inode) → SameButZones old mid → SameButZones mid new → SameButZones old new
+zones-join old mid new one two =
+    let size : ℕ = new.size in
+    let zones : List ℕ = new.zones in
+    two ∙ ap (λ (i : Inode). record i { size = size; zones = zones }) one
 
 pub keeps_join : (super : Super) (old mid new : Parts) (directory : ℕ) (growth : List ℕ) → Sees super old mid → KeepsOthers super old mid directory growth → KeepsOthers super mid new directory growth → KeepsOthers super old new directory growth
 keeps_join super old mid new directory growth sees one two = record {
@@ -123,54 +151,72 @@ keeps_join super old mid new directory growth sees one two = record {
       ⊎_elim (λ was. one.points number at zone named was) (λ grown. inr grown) (two.points number at zone (named-new super old mid sees number named) to);
   others = λ number fit other clear.
       let first = one.others number fit other clear in
-      let next = two.others number (fit_kept super old mid directory growth sees one number fit other clear) other (clear_kept super old mid directory growth sees one number fit other clear) in
-      let are = points_are super old mid directory growth sees one number fit other clear in
-      record {
-        node = next.node ∙ first.node;
-        mark = next.mark ∙ first.mark;
-        zones = λ at zone to. next.zones at zone (are at zone to) ∙ first.zones at zone to;
-        zone_marks = λ at zone to. next.zone_marks at zone (are at zone to) ∙ first.zone_marks at zone to;
-      };
-  links = two.links ∙ one.links;
+      let next = two.others number (fit_kept super old mid growth sees one.points number fit clear first) other (clear_kept super old mid growth sees one.points number fit clear first) in
+      kept_join super old mid new number first next;
+  nodes = λ number is other. two.nodes number is other ∙ one.nodes number is other;
+  own = zones-join (old.node directory) (mid.node directory) (new.node directory) one.own two.own;
+  stays = λ at zone to. two.stays at zone (one.stays at zone to);
   marks = λ number is. two.marks number is ∙ one.marks number is;
   zone_marks = λ zone is none. two.zone_marks zone is none ∙ one.zone_marks zone is none;
   stay_marked = λ zone is set. two.stay_marked zone is (one.stay_marked zone is set);
+  used = λ zone is set. ⊎_elim
+      (λ was. ⊎_elim (λ first. inl first) (λ has. inr (has.0, two.stays has.0 zone has.1)) (one.used zone is was))
+      (λ has. inr has)
+      (two.used zone is set);
 }
 
--- ---- what one change keeps, by the pointers that named inodes have after it
+-- New zones that no named inode refers to, and then a change by which the directory gets each of them.
+module _ (super : Super) (old mid new : Parts) (directory : ℕ) (growth : List ℕ) (sound : Sound super old) (own : Named super old directory)
+    (unused : (zone : ℕ) → IsOneOf growth zone → (number : ℕ) (at : Pointer) → Refers super old number at zone → ⊥) (sees : Sees super old mid)
+    (change : ChangesZones super old mid growth) (keeps : KeepsOthers super mid new directory growth) (has : (zone : ℕ) → IsOneOf growth zone → IsZoneOf super new directory zone) where
+  numbers : (number : ℕ) → Named super old number → IsSameNode (old.node number) (mid.node number)
+  numbers number named = same-node (old.node number) (mid.node number) (change.nodes number (sound.in_range number named))
 
-abbrev pub PointsGrown : Super → Parts → Parts → List ℕ → Type 0
-PointsGrown super old new growth =
-    (number : ℕ) (at : Pointer) (zone : ℕ) → Named super old number → PointsTo super new number at zone → PointsTo super old number at zone ⊎ IsOneOf growth zone
+  zones : (number : ℕ) → Named super old number → (at : Pointer) (zone : ℕ) → PointsTo super old number at zone → mid.zone zone ≡ old.zone zone
+  zones number named at zone to =
+      let refers : Refers super old number at zone = record { named = named; to = to } in
+      change.bytes zone (sound.zone_range number at zone refers) (λ i low same. unused zone (record { at = i; low = low; is = same }) number at refers)
 
--- of zones that no named inode refers to
-pub keeps_zones : (super : Super) (old new : Parts) (directory : ℕ) (growth : List ℕ) → Sound super old → Named super old directory → ((zone : ℕ) → IsOneOf growth zone → (number : ℕ) (at : Pointer) → Refers super old number at zone → ⊥)
-    → ChangesZones super old new growth → KeepsOthers super old new directory growth
-keeps_zones super old new directory growth sound own unused change = record {
-  points = λ number at zone named to. inl (points-old super old new number (numbers number named).numbers (keeps-above super old new number (zones number named)) at zone to);
-  others = λ number fit other clear. record {
+  points-mid : PointsGrown super old mid growth
+  points-mid number at zone named to = inl (points-old super old mid number (numbers number named).numbers (keeps-above super old mid number (zones number named)) at zone to)
+
+  kept-mid : (number : ℕ) → IsFit super old number → IsClearOf super old number growth → KeepsInode super old mid number
+  kept-mid number fit clear = record {
     node = change.nodes number fit.range;
     mark = change.marks number fit.range;
     zones = λ at zone to. change.bytes zone (fit.zone_range at zone to) (clear at zone to);
     zone_marks = λ at zone to. change.zone_marks zone (fit.zone_range at zone to) (clear at zone to);
-  };
-  links = ap (λ (i : Inode). i.links) (change.nodes directory (sound.in_range directory own));
-  marks = change.marks;
-  zone_marks = change.zone_marks;
-  stay_marked = change.stay_marked;
-}
-  where
-    numbers : (number : ℕ) → Named super old number → IsSameNode (old.node number) (new.node number)
-    numbers number named = same-node (old.node number) (new.node number) (change.nodes number (sound.in_range number named))
+  }
 
-    zones : (number : ℕ) → Named super old number → (at : Pointer) (zone : ℕ) → PointsTo super old number at zone → new.zone zone ≡ old.zone zone
-    zones number named at zone to =
-        let refers : Refers super old number at zone = record { named = named; to = to } in
-        change.bytes zone (sound.zone_range number at zone refers) (λ i low same. unused zone (record { at = i; low = low; is = same }) number at refers)
+  pub grown_keeps : KeepsOthers super old new directory growth
+  grown_keeps = record {
+    points = λ number at zone named to.
+        ⊎_elim (λ was. points-mid number at zone named was) (λ grown. inr grown) (keeps.points number at zone (named-new super old mid sees number named) to);
+    others = λ number fit other clear.
+        let first = kept-mid number fit clear in
+        let next = keeps.others number (fit_kept super old mid growth sees points-mid number fit clear first) other (clear_kept super old mid growth sees points-mid number fit clear first) in
+        kept_join super old mid new number first next;
+    nodes = λ number is other. keeps.nodes number is other ∙ change.nodes number is;
+    own = zones-join (old.node directory) (mid.node directory) (new.node directory) (same-but-zones (old.node directory) (mid.node directory) (change.nodes directory (sound.in_range directory own))) keeps.own;
+    stays = λ at zone to. keeps.stays at zone (points-new super old mid directory (numbers directory own).numbers (keeps-above super old mid directory (zones directory own)) at zone to);
+    marks = λ number is. keeps.marks number is ∙ change.marks number is;
+    zone_marks = λ zone is none. keeps.zone_marks zone is none ∙ change.zone_marks zone is none;
+    stay_marked = λ zone is set. keeps.stay_marked zone is (change.stay_marked zone is set);
+    used = λ zone is set. ⊎_elim
+        (λ one. inr (has zone one))
+        (λ none. inl (sym (keeps.zone_marks zone is none ∙ change.zone_marks zone is none) ∙ set))
+        (one_or_none growth zone);
+  }
+
+-- ---- what one change keeps, by the pointers that named inodes have after it, and those of the directory
+
+abbrev pub StaysAt : Super → Parts → Parts → ℕ → Type 0
+StaysAt super old new directory = (at : Pointer) (zone : ℕ) → PointsTo super old directory at zone → PointsTo super new directory at zone
 
 -- of the directory's inode
-pub keeps_node : (super : Super) (old new : Parts) (directory : ℕ) (growth : List ℕ) (inode : Inode) → inode.links ≡ (old.node directory).links → PointsGrown super old new growth → ChangesNode super old new directory inode → KeepsOthers super old new directory growth
-keeps_node super old new directory growth inode same points change = record {
+pub keeps_node : (super : Super) (old new : Parts) (directory : ℕ) (growth : List ℕ) (inode : Inode) → SameButZones (old.node directory) inode → PointsGrown super old new growth → StaysAt super old new directory
+    → ChangesNode super old new directory inode → KeepsOthers super old new directory growth
+keeps_node super old new directory growth inode same points stays change = record {
   points = points;
   others = λ number fit other clear. record {
     node = change.others number fit.range other;
@@ -178,16 +224,19 @@ keeps_node super old new directory growth inode same points change = record {
     zones = λ at zone to. change.zones zone (fit.zone_range at zone to);
     zone_marks = λ at zone to. change.zone_marks zone (fit.zone_range at zone to);
   };
-  links = ap (λ (i : Inode). i.links) change.here ∙ same;
+  nodes = change.others;
+  own = subst (SameButZones (old.node directory)) (sym change.here) same;
+  stays = stays;
   marks = change.marks;
   zone_marks = λ zone is none. change.zone_marks zone is;
   stay_marked = λ zone is set. change.zone_marks zone is ∙ set;
+  used = λ zone is set. inl (sym (change.zone_marks zone is) ∙ set);
 }
 
 -- of a zone that the directory has
-pub keeps_zone : (super : Super) (old new : Parts) (directory : ℕ) (growth : List ℕ) (there : Pointer) (zone : ℕ) (bytes : List ℕ) → Sound super old → PointsGrown super old new growth → Refers super old directory there zone
+pub keeps_zone : (super : Super) (old new : Parts) (directory : ℕ) (growth : List ℕ) (there : Pointer) (zone : ℕ) (bytes : List ℕ) → Sound super old → PointsGrown super old new growth → StaysAt super old new directory → Refers super old directory there zone
     → ChangesZone super old new zone bytes → KeepsOthers super old new directory growth
-keeps_zone super old new directory growth there zone bytes sound points refers change = record {
+keeps_zone super old new directory growth there zone bytes sound points stays refers change = record {
   points = points;
   others = λ number fit other clear. record {
     node = change.nodes number fit.range;
@@ -195,14 +244,20 @@ keeps_zone super old new directory growth there zone bytes sound points refers c
     zones = λ at z to. change.others z (fit.zone_range at z to) (λ same. other (fit.apart directory at there z to (subst (Refers super old directory there) (sym same) refers)));
     zone_marks = λ at z to. change.zone_marks z (fit.zone_range at z to);
   };
-  links = ap (λ (i : Inode). i.links) (change.nodes directory (sound.in_range directory refers.named));
+  nodes = λ number is other. change.nodes number is;
+  own = same-but-zones (old.node directory) (new.node directory) (change.nodes directory (sound.in_range directory refers.named));
+  stays = stays;
   marks = change.marks;
   zone_marks = λ z is none. change.zone_marks z is;
   stay_marked = λ z is set. change.zone_marks z is ∙ set;
+  used = λ z is set. inl (sym (change.zone_marks z is) ∙ set);
 }
 
 -- its size
-module _ (super : Super) (old new : Parts) (directory size : ℕ) (growth : List ℕ) (sound : Sound super old) (change : ChangesNode super old new directory (with_size (old.node directory) size)) where
+module _ (super : Super) (old new : Parts) (directory size : ℕ) (growth : List ℕ) (sound : Sound super old) (own : Named super old directory) (change : ChangesNode super old new directory (with_size (old.node directory) size)) where
+  zones-sized : (number : ℕ) → Named super old number → (at : Pointer) (zone : ℕ) → PointsTo super old number at zone → new.zone zone ≡ old.zone zone
+  zones-sized number named at zone to = change.zones zone (sound.zone_range number at zone (record { named = named; to = to }))
+
   numbers-sized : (number : ℕ) → Named super old number → HasSameNumbers (old.node number) (new.node number)
   numbers-sized number named = of-node directory (λ n. HasSameNumbers (old.node n) (new.node n)) number
       (record { mode = ap (λ (i : Inode). i.mode) change.here; zones = ap (λ (i : Inode). i.zones) change.here })
@@ -211,22 +266,24 @@ module _ (super : Super) (old new : Parts) (directory size : ℕ) (growth : List
   pub keeps_size : KeepsOthers super old new directory growth
   keeps_size =
       keeps_node super old new directory growth _ refl
-      (λ number at zone named to.
-      inl
-      (points-old super old new number (numbers-sized number named)
-      (keeps-above super old new number (λ there z was. change.zones z (sound.zone_range number there z (record { named = named; to = was })))) at zone to))
+      (λ number at zone named to. inl (points-old super old new number (numbers-sized number named) (keeps-above super old new number (zones-sized number named)) at zone to))
+      (points-new super old new directory (numbers-sized directory own) (keeps-above super old new directory (zones-sized directory own)))
       change
 
 -- bytes of the zone with a place
 module _ (super : Super) (old new : Parts) (directory place : ℕ) (bytes growth : List ℕ) (sound : Sound super old) (named : Named super old directory) (is : is_directory (old.node directory) ≡ true)
     (some : zone_of_entry super old directory place ≢ 0) (change : ChangesZone super old new (zone_of_entry super old directory place) bytes) where
+  numbers-filled : (number : ℕ) → Named super old number → HasSameNumbers (old.node number) (new.node number)
+  numbers-filled number named' = (same-node (old.node number) (new.node number) (change.nodes number (sound.in_range number named'))).numbers
+
+  above-filled : (number : ℕ) → Named super old number → KeepsAbove super old new number
+  above-filled = above-kept super old directory place named is new sound (λ n there z refers apart. change.others z (sound.zone_range n there z refers) apart)
+
   pub keeps_bytes : KeepsOthers super old new directory growth
   keeps_bytes =
       keeps_zone super old new directory growth _ _ bytes sound
-      (λ number at zone named' to.
-      inl
-      (points-old super old new number (same-node (old.node number) (new.node number) (change.nodes number (sound.in_range number named'))).numbers
-      (above-kept super old directory place named is new sound (λ n there z refers apart. change.others z (sound.zone_range n there z refers) apart) number named') at zone to))
+      (λ number at zone named' to. inl (points-old super old new number (numbers-filled number named') (above-filled number named') at zone to))
+      (points-new super old new directory (numbers-filled directory named) (above-filled directory named))
       (directory-refers super old directory place named is _ some refl) change
 
 -- ---- which pointers come: no name sees a change of parts in which a zone that isn't of the growth isn't marked either
@@ -344,10 +401,14 @@ module _ (super : Super) (old new : Parts) (directory top size high place-block 
         zone_marks = λ zone is. ap (λ b. if zone == spare then false else b) (change.zone_marks zone is);
       })
 
+  top-sees : Sees super old new
+  top-sees = top_law super old new directory top (slice_index growth high) size (zones_below super.kind place-block growth high) sound may sized low change
+
   pub keeps_top : KeepsOthers super old new directory growth
   keeps_top =
       keeps_node super old new directory growth _ refl
-      (points_grown super old new growth sound (top_law super old new directory top (slice_index growth high) size (zones_below super.kind place-block growth high) sound may sized low change) top-less)
+      (points_grown super old new growth sound top-sees top-less)
+      (λ at zone to. top-sees.stays directory at zone (record { named = may.named; to = to }) may.is)
       change
 
 module _ (super : Super) (old new : Parts) (directory index high place-block : ℕ) (outer : Pointer) (growth bytes : List ℕ) (sound : Sound super old) (there : high < length growth)
@@ -367,8 +428,12 @@ module _ (super : Super) (old new : Parts) (directory index high place-block : �
         zone_marks = λ zone is. ap (λ b. if zone == spare then false else b) (change.zone_marks zone is);
       })
 
+  number-sees : Sees super old new
+  number-sees = number_law super old new directory outer index (slice_index growth high) (zones_below super.kind place-block growth high) bytes sound may refers.to.some has change
+
   pub keeps_number : KeepsOthers super old new directory growth
   keeps_number =
       keeps_zone super old new directory growth outer _ bytes sound
-      (points_grown super old new growth sound (number_law super old new directory outer index (slice_index growth high) (zones_below super.kind place-block growth high) bytes sound may refers.to.some has change) number-less)
+      (points_grown super old new growth sound number-sees number-less)
+      (λ at zone to. number-sees.stays directory at zone (record { named = may.named; to = to }) may.is)
       refers change

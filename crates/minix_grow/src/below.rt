@@ -12,7 +12,7 @@ ghost use Rattle.minix_grow.specs.Below.{
   WritesBelowAlone,
 };
 ghost use Rattle.minix_grow.specs.Hook.{WritesInodeAlone};
-ghost use Rattle.minix_grow.specs.Others.{HookKeepsOthers, KeepsOthersNow};
+ghost use Rattle.minix_grow.specs.Others.{HookHasOnWay, HookKeepsOthers, KeepsOthersNow};
 ghost use Rattle.minix_grow.specs.Places.{IsFreePlaceNow, size_to};
 ghost use Rattle.minix_grow.specs.Way.{depth_of, index_above};
 ghost use Rattle.minix_grow.specs.Zones.{AreData, AreUnused, AreGrownNow};
@@ -54,6 +54,7 @@ pub fn hook_in_zone<D: Disks>(
     ensures unseen { HooksBelowUnseen volume.old volume.new block growth.now zone }
     ensures block { HooksFreeBlock volume.old volume.new block growth.now zone result }
     ensures keeps { HookKeepsOthers volume.old volume.new block growth.now zone result }
+    ensures has { HookHasOnWay volume.old volume.new block growth.now zone result }
     ensures quiet { OnOk result (IsQuiet (past_of volume.new)) }
     ensures device { HasDeviceCause volume.old volume.new ZoneFault.Device result }
 {

@@ -5,7 +5,7 @@ ghost use Rattle.lilo_model.specs.MinixEntries.{entries_per_block, places};
 ghost use Rattle.lilo_model.specs.MinixLayout.{FitsInode, is_size, reach};
 ghost use Rattle.lilo_model.specs.MinixNames.{IsSound};
 ghost use Rattle.minix_grow.specs.Hook.{MayHookTopNow, WritesGrowthAlone, hooked};
-ghost use Rattle.minix_grow.specs.Others.{KeepsOthersNow};
+ghost use Rattle.minix_grow.specs.Others.{HasOnWayNow, KeepsOthersNow};
 ghost use Rattle.minix_grow.specs.Places.{IsFreePlaceNow};
 ghost use Rattle.minix_grow.specs.Way.{depth_of};
 ghost use Rattle.minix_grow.specs.Zones.{AreData, AreUnused, AreGrownNow};
@@ -56,6 +56,9 @@ pub fn hook_in_inode<D: Disks>(
     ensures keeps { (IsTold (past_of volume.old)
         → MayHookTopNow volume.old directory (inode_view node.now) block size) → IsTold (past_of volume.old)
         → OnOk result (KeepsOthersNow volume.old volume.new directory growth.now) }
+    ensures has { (IsTold (past_of volume.old)
+        → MayHookTopNow volume.old directory (inode_view node.now) block size) → IsTold (past_of volume.old)
+        → OnOk result (HasOnWayNow volume.old volume.new directory block growth.now) }
     ensures quiet { OnOk result (IsQuiet (past_of volume.new)) }
     ensures device { HasDeviceCause volume.old volume.new ZoneFault.Device result }
 {

@@ -14,7 +14,7 @@ use Rattle.minix_grow.specs.Below.{MayHookBelowNow, HasFreeBlock, IsOffNumber}
 use Rattle.minix_grow.specs.Way.{depth_of}
 use Rattle.minix_grow.proofs.AfterLemmas.{below_after}
 use Rattle.minix_grow.proofs.KeepLemmas.{one_of_none, keeps_wider}
-use Rattle.minix_grow.proofs.KeepsNowLemmas.{zones_keep, keeps_after}
+use Rattle.minix_grow.proofs.KeepsNowLemmas.{grown_keep, keeps_after}
 use Rattle.minix_grow.proofs.OtherLemmas.{other_stays, off_number_stays}
 use Rattle.minix_grow.proofs.WayLemmas.{depth_few}
 use Rattle.minix_grow.proofs.below.grow_in_zone.Goals as goal
@@ -139,8 +139,8 @@ returns-clause-keeps g c may told =
     let told_new = c.hook_in_zone.ensures.turns.goes_on.told told_mid in
     let made = steps_unseen old mid c.requires.quiet c.requires.sound c.make_zones.ensures.steps in
     let hooked = unseen_join old mid new made (c.hook_in_zone.ensures.unseen c.args.directory node may_mid) in
-    let first = zones_keep old mid c.args.directory growth c.requires.quiet told (c.requires.sound told) (may told).lies.named c.requires.unused (c.in_ok-make_zones.ensures.only told) in
-    let second = keeps_after old mid new c.args.directory growth made told first (c.in_ok-hook_in_zone.ensures.keeps c.args.directory node may_mid told_mid) in
+    let second = grown_keep old mid new c.args.directory c.block_of-block.result growth c.requires.quiet told (c.requires.sound told) (may told).lies.named c.requires.unused made (c.in_ok-make_zones.ensures.only told)
+    (c.in_ok-hook_in_zone.ensures.keeps c.args.directory node may_mid told_mid) (c.in_ok-hook_in_zone.ensures.has c.args.directory node may_mid told_mid) in
     on_ok c.raise_over.result _ _ (c.raise_over.ensures.keeps there told_new)
     (λ keeps. keeps_after old new last c.args.directory growth hooked told second
     (keeps_wider (super_view new.layout) (parts_now new) (parts_of (volume_view new) (now (past_of last))) c.args.directory [] growth (one_of_none growth) keeps))

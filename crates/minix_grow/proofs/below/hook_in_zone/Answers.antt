@@ -7,7 +7,7 @@ use Rattle.minix_turns.specs.Names.{HooksUnseen}
 use Rattle.minix_turns.specs.Part.{HasNumberPart}
 use Rattle.minix_zones.specs.Volume.{past_of}
 use Rattle.minix_grow.specs.Way.{depth_of, index_above}
-use Rattle.minix_grow.proofs.BelowLemmas.{hooks_below_unseen, hooks_free_block, hook_keeps_others}
+use Rattle.minix_grow.proofs.BelowLemmas.{hooks_below_unseen, hooks_free_block, hook_keeps_others, hook_has_each}
 use Rattle.minix_grow.proofs.WayLemmas.{depth_few}
 use Rattle.minix_grow.proofs.below.hook_in_zone.Goals as goal
 
@@ -69,4 +69,22 @@ returns-clause-keeps g c =
     let H : ℕ → Type 0 = λ i. IsTold (past_of old) → OnOk c.turn_number.result (HasNumberPart old (now (past_of new)) c.args.zone i (slice_index c.args.growth.now (length c.args.growth.now - 1))) in
     let there : c.args.zone ≢ 0 = λ none. let behind = zone_behind (super_view old.layout) old.span.count old.whole in omega (arith, behind, from, none) in
     hook_keeps_others old new c.args.block c.args.zone (length c.args.growth.now - 1) c.args.growth.now last deep c.requires.data c.requires.grown (subst N index low) there c.turn_number.result
+    (subst U index c.turn_number.ensures.unseen) (subst H index c.turn_number.ensures.number)
+
+pub returns-clause-has : goal.returns-clause-has
+returns-clause-has g c =
+    let old = c.args.volume.now in
+    let new = c.turn_number.new.volume in
+    let some = c.requires.some in
+    let few = c.requires.few in
+    let from = c.requires.from in
+    let index : c.index_above-index.result ≡ index_above (kind_view old.layout.kind) c.args.block (length c.args.growth.now - 1) = rw c.layout.ensures.value at c.index_above-index.ensures.is in
+    let low : c.index_above-index.result < numbers_in_zone (kind_view old.layout.kind) = rw c.layout.ensures.value at c.index_above-index.ensures.low in
+    let last : length c.args.growth.now ≡ suc (length c.args.growth.now - 1) = omega (arith, some) in
+    let deep : length c.args.growth.now - 1 < depth_of (kind_view old.layout.kind) c.args.block = omega (arith, some, few) in
+    let U : ℕ → Type 0 = λ i. HooksUnseen old new c.args.zone i (slice_index c.args.growth.now (length c.args.growth.now - 1)) in
+    let N : ℕ → Type 0 = λ i. i < numbers_in_zone (kind_view old.layout.kind) in
+    let H : ℕ → Type 0 = λ i. IsTold (past_of old) → OnOk c.turn_number.result (HasNumberPart old (now (past_of new)) c.args.zone i (slice_index c.args.growth.now (length c.args.growth.now - 1))) in
+    let there : c.args.zone ≢ 0 = λ none. let behind = zone_behind (super_view old.layout) old.span.count old.whole in omega (arith, behind, from, none) in
+    hook_has_each old new c.args.block c.args.zone (length c.args.growth.now - 1) c.args.growth.now last deep c.requires.data c.requires.grown (subst N index low) there c.turn_number.result
     (subst U index c.turn_number.ensures.unseen) (subst H index c.turn_number.ensures.number)

@@ -1,5 +1,4 @@
 use Rattle.std.proofs.Common.{◌≡◌, ◌≤◌, ◌<◌, ◌+◌, ◌/◌, true, length, sym, subst}
-use Rattle.disk_trait.proofs.MomentLemmas.{on_ok}
 use Rattle.disk_trait.proofs.NotWrittenLemmas.{not_written_join}
 use Rattle.lilo_model.specs.MinixEntries.{entries_per_block, places}
 use Rattle.lilo_model.specs.MinixLayout.{FitsInode, is_size, reach}
@@ -9,7 +8,7 @@ use Rattle.minix_steps.proofs.ReadyLemmas.{quiet_ready}
 use Rattle.minix_turns.proofs.JoinedLemmas.{steps_unseen, unseen_join}
 use Rattle.minix_grow.specs.Way.{depth_of}
 use Rattle.minix_grow.proofs.AfterLemmas.{hook_after}
-use Rattle.minix_grow.proofs.KeepsNowLemmas.{zones_keep, keeps_after}
+use Rattle.minix_grow.proofs.KeepsNowLemmas.{on_both, grown_keep}
 use Rattle.minix_grow.proofs.ZoneLemmas.{data_stay}
 use Rattle.minix_grow.proofs.OtherLemmas.{other_stays}
 use Rattle.minix_zones.specs.Volume.{past_of}
@@ -86,9 +85,8 @@ returns-clause-keeps g c may told =
     let mid = c.make_zones.new.volume in
     let growth = c.args.growth.now in
     let sound = c.requires.sound told in
-    on_ok c.hook_in_inode.result _ _
-    (c.hook_in_inode.ensures.keeps
-    (hook_after old mid c.args.directory c.args.block c.args.size (inode_view c.args.node.now) (quiet_ready old c.requires.quiet c.requires.sound) c.requires.quiet c.make_zones.ensures.steps may)
-    (c.make_zones.ensures.steps.goes_on.told told))
-    (λ keeps. keeps_after old mid c.hook_in_inode.new.volume c.args.directory growth (steps_unseen old mid c.requires.quiet c.requires.sound c.make_zones.ensures.steps) told
-    (zones_keep old mid c.args.directory growth c.requires.quiet told sound (may told).lies.named c.requires.unused (c.in_ok-make_zones.ensures.only told)) keeps)
+    let may_mid = hook_after old mid c.args.directory c.args.block c.args.size (inode_view c.args.node.now) (quiet_ready old c.requires.quiet c.requires.sound) c.requires.quiet c.make_zones.ensures.steps may in
+    let told_mid = c.make_zones.ensures.steps.goes_on.told told in
+    on_both c.hook_in_inode.result _ _ _ (c.hook_in_inode.ensures.keeps may_mid told_mid) (c.hook_in_inode.ensures.has may_mid told_mid)
+    (grown_keep old mid c.hook_in_inode.new.volume c.args.directory c.args.block growth c.requires.quiet told sound (may told).lies.named c.requires.unused
+    (steps_unseen old mid c.requires.quiet c.requires.sound c.make_zones.ensures.steps) (c.in_ok-make_zones.ensures.only told))

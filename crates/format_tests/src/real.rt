@@ -1,6 +1,6 @@
 // Streams over a real file, and a disk over one that is cut short behind its back.
 use crate::disks::{Answer, Call, FAILED, OUT_OF_RANGE, make};
-use disk_trait::{Disks, Geometry};
+use disk_trait::Geometry;
 use file_disks::{FileDisk, FileDisks};
 use std::fs::{File, OpenOptions};
 use std::{fs, io};

@@ -11,4 +11,4 @@ returns c =
     let one = subst (All IsRun) (sym c.in_ok-push.ensures.items) (All-push IsRun _ _ none (omega arith, omega (arith, c.ranges.start.fits, c.ranges.count.fits))) in
     let two = subst (All IsRun) (sym c.in_ok-push-2.ensures.items) (All-push IsRun _ _ one tt) in
     let three = subst (All IsRun) (sym c.in_ok-push-3.ensures.items) (All-push IsRun _ _ two (omega arith, omega (arith, c.ranges.next.fits, c.ranges.rest.fits))) in
-    subst (All IsRun) (sym c.new.ensures) three
+    record { runs = subst (All IsRun) (sym c.new.ensures) three }

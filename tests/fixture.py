@@ -75,6 +75,19 @@ def kernel_installation(main, backwards=False):
                    {95: descriptor(b'linux', (len(main), chain), None), 100: section(order, 100), **pieces})
 
 
+def scattered(files=120, **settings):
+    """A disk that boots, by default without a key. No two sectors that are looked at are neighbours, so each is read by a
+    call: the line is 94, the table 110, 112 and 114, the options, the section and the three sectors of the kernel are
+    `files` and 10, 20, 22 and 24 behind it."""
+    entry, main = bytearray(descriptor(b'linux', initrd=None)), kernel()
+    entry[28:44] = slot(files) + slot(files + 10)
+    settings = {'flags': 0, 'timeout': 0xFFFF, **settings}
+    return written(bytes(200 * SECTOR), {
+        0: boot_sector(tables=(110, 112, 114), **settings), 94: b'LINE', 110: bytes(entry),
+        files: b'\x0C\0\0\0\0\0\0\0 ro root=301', files + 10: b''.join(map(slot, (files + 20, files + 22, files + 24))),
+        files + 20: main[:512], files + 22: main[512:1024], files + 24: main[1024:]})
+
+
 if __name__ == '__main__':
     import sys
     sys.stdout.buffer.write(plain_installation() if sys.argv[1:] == ['plain'] else installation())

@@ -1,10 +1,16 @@
 """What the test scripts share: the built program, other tools, images in a folder of their own, and the count."""
 
+import fcntl
 import os
+import resource
 import shutil
+import signal
+import struct
 import subprocess
 import sys
 import tempfile
+import termios
+import time
 
 TOP = os.path.dirname(os.path.dirname(os.path.abspath(__file__)))
 
@@ -55,6 +61,35 @@ def reads(sectors, image):
             held = range(sector, min(sector + 8, size) if follows else sector + 1)
             taken.append(512 * len(held))
     return taken
+
+
+def no_write_from(place):
+    """What makes a program's writes fail from this place of a file on, for `preexec_fn`: a limit of the system's, which
+    other tools aren't needed for."""
+    def limit():
+        signal.signal(signal.SIGXFSZ, signal.SIG_IGN)
+        resource.setrlimit(resource.RLIMIT_FSIZE, (place, place))
+    return limit
+
+
+def waiting(pipe):
+    """How many bytes wait in a pipe."""
+    return struct.unpack('i', fcntl.ioctl(pipe, termios.FIONREAD, bytes(4)))[0]
+
+
+def cut_short(program, words, folder, image, size, begun=b'', rest=b'', shown=0):
+    """A run whose image is cut to so many bytes once the first bytes of its input were taken and so many bytes of text wait
+    to be read; then comes the rest of the input. Its status and its text."""
+    run = subprocess.Popen([program, *words], cwd=folder, stdin=subprocess.PIPE, stdout=subprocess.PIPE,
+                           stderr=subprocess.STDOUT)
+    run.stdin.write(begun)
+    run.stdin.flush()
+    late = time.monotonic() + 30
+    while (waiting(run.stdin) or waiting(run.stdout) < shown) and run.poll() is None and time.monotonic() < late:
+        time.sleep(0.005)
+    os.truncate(os.path.join(folder, image), size)
+    text, _ = run.communicate(rest, timeout=60)
+    return run.returncode, text
 
 
 class Harness:

@@ -12,6 +12,8 @@ mod numbers;
 #[cfg(test)]
 mod parts;
 #[cfg(test)]
+mod real;
+#[cfg(test)]
 mod stops;
 #[cfg(test)]
 mod streams;

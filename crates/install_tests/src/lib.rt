@@ -6,6 +6,8 @@ mod answers;
 #[cfg(test)]
 mod changes;
 #[cfg(test)]
+mod conf;
+#[cfg(test)]
 mod map;
 #[cfg(test)]
 mod pieces;

@@ -5,11 +5,13 @@ ghost use Rattle.slot_lists.specs.Runs.{IsRun, places_in};
 use conf_settings::Opt;
 use disk_trait::Geometry;
 use map_plan::{PlanFault, check_map_places, check_mapped_file};
-use map_section::{section_sectors, write_section};
+use map_section::{Ask, SectionFault, SectionReader, section_sectors, write_section};
 use run_sections::{Naming, count_slots, write_section_at};
-use sector_address::{AddressFault, Mode};
-use sector_parts::Sector;
-use slot_lists::{CompactFault, DiskSector, Run, RunList, check_places, compact, plain_slots};
+use sector_address::{Address, AddressFault, Mode, Slot};
+use sector_parts::{Sector, put_part};
+use slot_lists::{
+    CompactFault, DiskSector, Run, RunList, SlotCursor, check_places, compact, plain_slots,
+};
 use std::alloc::{AllocError, Global};
 use std::test::Fail;
 
@@ -299,5 +301,231 @@ fn hole(alloc: Global, count: u32) -> Result<RunList, AllocError>
 fn slots_take_section_sectors(rt: HostRuntime) {
     for (slots, sectors) in [(0, 0), (63, 1), (64, 2), (u32::MAX, 68_174_085)] {
         assert!(rt; section_sectors(slots) == sectors);
+    }
+}
+
+// Sectors from a number on, two in a hole, and others; how their slots are made, and those that a cursor answers when it is
+// asked for each, by their counts and numbers; then what it refuses once. The zero sector is 98.
+struct Asked {
+    starts: [u32; 2],
+    counts: [u32; 2],
+    is_linear: bool,
+    is_joined: bool,
+    slots: &'static [(u8, u32)],
+    refused: Option<AddressFault>,
+}
+
+const ASKED: &[Asked] = &[
+    Asked {
+        starts: [82, 99],
+        counts: [3, 2],
+        is_linear: false,
+        is_joined: false,
+        slots: &[
+            (1, 82),
+            (1, 83),
+            (1, 84),
+            (1, 98),
+            (1, 98),
+            (1, 99),
+            (1, 100),
+        ],
+        refused: None,
+    },
+    // Of the two in the hole the second is joined with its neighbours.
+    Asked {
+        starts: [82, 99],
+        counts: [3, 2],
+        is_linear: false,
+        is_joined: true,
+        slots: &[(3, 82), (1, 98), (3, 98)],
+        refused: None,
+    },
+    // The last sector of the last cylinder, and the next one.
+    Asked {
+        starts: [1_032_191, 99],
+        counts: [2, 5],
+        is_linear: true,
+        is_joined: true,
+        slots: &[(1, 1_032_191)],
+        refused: Some(AddressFault::Cylinder(1024)),
+    },
+    // No sectors but those of the hole.
+    Asked {
+        starts: [7, 7],
+        counts: [0, 0],
+        is_linear: false,
+        is_joined: false,
+        slots: &[(1, 98), (1, 98)],
+        refused: None,
+    },
+];
+
+fn slot_of(is_linear: bool, count: u8, sector: u32) -> Slot {
+    let address = if is_linear {
+        Address::Linear(sector)
+    } else {
+        Address::Lba32(sector)
+    };
+    Slot {
+        disk: 0,
+        count,
+        address,
+    }
+}
+
+fn three_runs(
+    alloc: Global,
+    start: u32,
+    count: u32,
+    next: u32,
+    rest: u32,
+) -> Result<RunList, AllocError>
+    ensures runs { IfOk result (λ runs. All IsRun runs) }
+{
+    let mut runs = Vec::new(alloc);
+    runs.push(Run::Stretch {
+        disk: 0,
+        start: u64::from(start),
+        count,
+    })?;
+    runs.push(Run::Hole { count: 2 })?;
+    runs.push(Run::Stretch {
+        disk: 0,
+        start: u64::from(next),
+        count: rest,
+    })?;
+    Ok(RunList::new(runs))
+}
+
+fn is_answered(alloc: Global, row: &Asked) -> bool {
+    let [start, next] = row.starts;
+    let [count, rest] = row.counts;
+    match three_runs(alloc, start, count, next, rest) {
+        Ok(runs) => is_gone_along(&runs, row),
+        Err(_) => false,
+    }
+}
+
+fn is_gone_along(runs: &RunList, row: &Asked) -> bool
+    requires { All IsRun runs.now }
+{
+    let mode = if row.is_linear {
+        Mode::Linear
+    } else {
+        Mode::Lba32
+    };
+    let mut cursor = SlotCursor::new(mode, GEOMETRY, row.is_joined);
+    for (count, sector) in row.slots {
+        if cursor.next(runs, 0, 98) != Ok(Some(slot_of(row.is_linear, *count, *sector))) {
+            return false;
+        }
+    }
+    let refuses = match row.refused {
+        Some(fault) => cursor.next(runs, 0, 98) == Err(fault),
+        None => true,
+    };
+    refuses && cursor.next(runs, 0, 98) == Ok(None) && cursor.next(runs, 0, 98) == Ok(None)
+}
+
+// A file of so many sectors, the most section sectors, and whether the first of them is asked for; its bytes, the slots that
+// a reader answers then, by their counts and numbers, and what it answers from then on.
+struct Read {
+    sectors: u32,
+    chain: u16,
+    is_fed: bool,
+    bytes: &'static [u8],
+    slots: &'static [(u8, u32)],
+    end: Result<Ask, SectionFault>,
+}
+
+const READ: &[Read] = &[
+    // The last slot has nine sectors, of which one is needed.
+    Read {
+        sectors: 130,
+        chain: 1,
+        is_fed: true,
+        bytes: b"\x03\x80\x7F\0\x5E\0\0\0\x03\x80\x02\0\x07\0\0\0\x03\x80\x09\0\x01\x01\0\0",
+        slots: &[(127, 94), (2, 7), (9, 257)],
+        end: Ok(Ask::Done),
+    },
+    Read {
+        sectors: 2,
+        chain: 1,
+        is_fed: true,
+        bytes: b"\x03\x80\x01\0\x05\0\0\0\x03\x80\x80\0\x06\0\0\0",
+        slots: &[(1, 5)],
+        end: Err(SectionFault::BadSlot(1)),
+    },
+    Read {
+        sectors: 1,
+        chain: 2,
+        is_fed: true,
+        bytes: b"",
+        slots: &[],
+        end: Err(SectionFault::ShortChain(0)),
+    },
+    // Nothing to read, and nowhere to read it.
+    Read {
+        sectors: 0,
+        chain: 0,
+        is_fed: false,
+        bytes: b"",
+        slots: &[],
+        end: Ok(Ask::Done),
+    },
+    Read {
+        sectors: 0,
+        chain: 3,
+        is_fed: false,
+        bytes: b"",
+        slots: &[],
+        end: Ok(Ask::Done),
+    },
+    Read {
+        sectors: 1,
+        chain: 0,
+        is_fed: false,
+        bytes: b"",
+        slots: &[],
+        end: Err(SectionFault::ChainTooLong(0)),
+    },
+];
+
+fn is_read(row: &Read) -> bool {
+    let mut sector = [0; 512];
+    if row.bytes.len() <= 512 {
+        put_part(&mut sector, 0, row.bytes);
+    }
+    let mut reader = SectionReader::new(row.sectors, row.chain);
+    if row.is_fed && !is_asked(&mut reader, &sector) {
+        return false;
+    }
+    for (count, sector) in row.slots {
+        if reader.next() != Ok(Ask::Slot(slot_of(false, *count, *sector))) {
+            return false;
+        }
+    }
+    reader.next() == row.end && reader.next() == row.end
+}
+
+// Feeds a reader that asks for the first section sector, and says whether it does.
+fn is_asked(reader: &mut SectionReader, sector: &Sector) -> bool {
+    match reader.next() {
+        Ok(Ask::First) => {
+            reader.feed(sector);
+            true
+        }
+        _ => false,
+    }
+}
+
+#[test]
+fn cursors_and_readers_answer_past_their_end(rt: HostRuntime) {
+    for row in ASKED {
+        assert!(rt; is_answered(rt.alloc(), row), "{:?}", row.starts);
+    }
+    for row in READ {
+        assert!(rt; is_read(row), "{} {}", row.sectors, row.chain);
     }
 }

@@ -13,36 +13,48 @@ use minix_zones::Volume;
 use std::alloc::Global;
 use test_disks::{Untold, has_no_zero};
 
-// A volume of 12 sectors is made: its refusal, and how many events there were.
-fn made(alloc: Global, call: u64) -> Option<(Option<FormatFault>, u32)> {
+// A volume of so many sectors and inodes is made: its refusal, and how many events there were.
+fn made(alloc: Global, sectors: u32, inodes: u16, call: u64) -> Option<(Option<FormatFault>, u32)> {
+    if sectors > 5000 {
+        return None;
+    }
     let span = Span {
         disk: 0,
         start: 8,
-        count: 12,
+        count: u64::from(sectors),
     };
-    let mut disks = disk_with(alloc, 20, &[], &[], call).ok()?;
-    if disks.size(0) < 20 {
+    let mut disks = disk_with(alloc, 8 + sectors, &[], &[], call).ok()?;
+    if disks.size(0) < 8 + span.count {
         return None;
     }
-    let refused = format(&mut disks, span, FsKind::V1Short, 1, 7).err();
+    let refused = format(&mut disks, span, FsKind::V1Short, inodes, 7).err();
     Some((refused, disks.disks.events()))
 }
+
+// Sectors and inodes that don't do, as a device and a command line never have them.
+const UNFIT: &[(u32, u16)] = &[(2048, 0), (0, 1), (0, 0)];
 
 // Each of ten sectors is written once, and then all are flushed.
 #[test]
 fn an_empty_volume_is_made(rt: HostRuntime) {
     for call in 0..11 {
-        let (refused, events) = made(rt.alloc(), u64::from(call)).unwrap_or((None, 0));
+        let (refused, events) = made(rt.alloc(), 12, 1, u64::from(call)).unwrap_or((None, 0));
         assert!(rt;
             refused == Some(FormatFault::Device) && events == call,
             "{call}"
         );
     }
-    assert!(rt; made(rt.alloc(), 11) == Some((None, 11)));
+    assert!(rt; made(rt.alloc(), 12, 1, 11) == Some((None, 11)));
+    for (sectors, inodes) in UNFIT {
+        assert!(rt;
+            made(rt.alloc(), *sectors, *inodes, NEVER) == Some((Some(FormatFault::NoSpace), 0)),
+            "{sectors} {inodes}"
+        );
+    }
 }
 
 // Version 2: 32 inodes in blocks 4 and 5, 40 zones, the first data zone 6. The root alone is on it.
-const SHORT: &[Piece] = &[
+pub(crate) const SHORT: &[Piece] = &[
     (
         2,
         0,

@@ -4,6 +4,8 @@
 #[cfg(test)]
 mod calls;
 #[cfg(test)]
+mod creation;
+#[cfg(test)]
 mod disk;
 #[cfg(test)]
 mod layout;

@@ -6,7 +6,9 @@ use Rattle.std.proofs.lemmas.Bool.{eq-eqb, ne_eqb, leb-false, ltb-false}
 use Rattle.disk_trait.specs.Range.{IsOutside}
 use Rattle.disk_trait.specs.declared.disks.Span as declared
 use Rattle.disk_trait.specs.Past.{Past, Told, now_of}
-use Rattle.disk_trait.specs.Moments.{IsTold, now, IsWholeImage}
+use Rattle.disk_trait.specs.Moments.{IsTold, now, IsWholeImage, LeavesOnly}
+use Rattle.disk_trait.proofs.MomentLemmas.{leaves_none}
+use Rattle.disk_trait.proofs.ToldLemmas.{told_map}
 use Rattle.disk_trait.specs.NotWritten.{NotWritten}
 use Rattle.lilo_model.specs.Devices as devices
 use Rattle.lilo_model.specs.Disks.{Image, Machine, Span}
@@ -21,6 +23,7 @@ use Rattle.mbr_table.specs.declared.table_fault.TableFault as tables
 use Rattle.mbr_table.specs.declared.table_fault.TableFault.TheVariants as faults
 use Rattle.minix_zones.specs.View.{span_view}
 use Rattle.minix_format.specs.Laws.{IsEmptyVolume}
+use Rattle.minix_format.specs.Left.{IsPartlyMade, LeftOrPartlyMade}
 use Rattle.ldisk_make.specs.Answer.{Answers, Finds, IsPlaceFault, IsFormatted, is_refusal, HasMakeCause, HasEmptyVolume}
 use Rattle.ldisk_make.specs.declared.fault.MakeFault.{MakeFault}
 use Rattle.ldisk_make.specs.declared.fault.MakeFault.TheVariants.{Misplaced, NoPlace, NoSpace, Device}
@@ -146,6 +149,17 @@ module _ (machine : Machine) (device : devices.Device) (kind : Kind) (inodes : �
           (made (subst IsTold (sym same) (is_told past))
           (subst (λ held. IsWholeImage size_mid held) (sym (ap now same ∙ held_now past)) (subst (λ size. IsWholeImage size (now_of past)) (sym sizes) whole)))
 
+  pub partly_told : (time : ℕ) (new : Option Past) → LeavesOnly mid new (LeftOrPartlyMade mid (format_at (span_view span) kind inodes time))
+      → Told old (λ held. LeavesOnly old new (LeftOrPartlyMade old (formatted_on (span_of held machine device) kind inodes time)))
+  partly_told time new leaves =
+      told_map old (λ held. Finds (Ok span) (place_check held machine device) (span_of held machine device))
+      (λ held. LeavesOnly old new (LeftOrPartlyMade old (formatted_on (span_of held machine device) kind inodes time)))
+      (λ held found.
+      let P : Option Past → Type 0 = λ past. LeavesOnly past new (LeftOrPartlyMade past (format_at (span_view span) kind inodes time)) in
+      let R : Result Span model.TableFault → Type 0 = λ place. LeavesOnly old new (LeftOrPartlyMade old (formatted_on place kind inodes time)) in
+      subst R (sym found.1) (subst P same leaves))
+      finds
+
   pub outside_told : (new : Option Past) → ((d s : ℕ) → IsOutside span.disk span.start span.count d s → NotWritten mid new d s)
       → Told old (λ held. (d s : ℕ) → is_in_found (span_of held machine device) d s ≡ false → NotWritten old new d s)
   outside_told new outside = by old same finds
@@ -155,6 +169,16 @@ module _ (machine : Machine) (device : devices.Device) (kind : Kind) (inodes : �
       by None same finds = tt
       by (Some past) same finds = λ d s out.
           subst (λ (p : Option Past). NotWritten p new d s) same (outside d s (outside_here (now_of past) machine device kind inodes span finds d s out))
+
+-- where there was no event, a stop leaves what it left
+pub partly_same : (old new : Option Past) (make : Image → Option Image) → new ≡ old → LeavesOnly old new (LeftOrPartlyMade old make)
+partly_same old new make same =
+    let P : Option Past → Type 0 = λ past. LeavesOnly old past (LeftOrPartlyMade old make) in
+    subst P (sym same) (leaves_none old (LeftOrPartlyMade old make) (λ c left. (c, left, as-it-was (make c) c)))
+  where
+    as-it-was : (made : Option Image) (c : Image) → IsPartlyMade made c c
+    as-it-was None c = refl
+    as-it-was (Some made) c = λ d s. inl refl
 
 pub refused_before : (old mid new : Option Past) (result : Result (Unit {0}) MakeFault) → mid ≡ old
     → IfErr result (λ fault. is_refusal fault ≡ true → new ≡ mid) → IfErr result (λ fault. is_refusal fault ≡ true → new ≡ old)

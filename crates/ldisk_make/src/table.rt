@@ -1,6 +1,6 @@
 // A partition table is written.
 ghost use Rattle.std.specs.Prelude.{◌≡◌, ◌↔◌, ◌≤◌, length, map, true, false, Err, OnOk, IfErr};
-ghost use Rattle.disk_trait.specs.Moments.{IsTold, now, IsQuiet};
+ghost use Rattle.disk_trait.specs.Moments.{IsTold, now, IsQuiet, LeftOrWritten, LeavesOnly};
 ghost use Rattle.disk_trait.specs.Calls.{GoesOn};
 ghost use Rattle.disk_trait.specs.NotWritten.{WritesNoOther};
 ghost use Rattle.disk_trait.specs.Past.{with_sector};
@@ -21,7 +21,8 @@ use sector_parts::{FieldMut, Sector, put_part, put_u16};
 ///
 /// # Errors
 ///
-/// `Misplaced` and `NoPlace`, in this order: then nothing is written. `Device`: the sector is written or as before.
+/// `Misplaced` and `NoPlace`, in this order: then nothing is written. `Device`: the sector is written or as before, as a
+/// stop at any moment leaves it.
 pub fn make<D: Disks>(disks: &mut D, sectors: u32, parts: &[PartWish]) -> Result<(), MakeFault>
     requires { length parts.now ≤ 4 }
     ensures status { Answers (make_check (machine_of D.Disks disks.old) sectors (map part_view parts.now)) result }
@@ -32,6 +33,8 @@ pub fn make<D: Disks>(disks: &mut D, sectors: u32, parts: &[PartWish]) -> Result
     ensures made { IsTold (D.past disks.old) → OnOk result (now (D.past disks.new)
         ≡ with_sector (now (D.past disks.old)) 0 0 (table_sector (map part_view parts.now))) }
     ensures quiet { OnOk result (IsQuiet (D.past disks.new)) }
+    ensures any_moment { LeavesOnly (D.past disks.old) (D.past disks.new)
+        (LeftOrWritten (D.past disks.old) 0 0 (table_sector (map part_view parts.now))) }
     ensures refused { IfErr result (λ fault. is_refusal fault ≡ true → D.past disks.new ≡ D.past disks.old) }
     ensures cause { IfErr result (HasMakeCause (D.faults disks.old) (D.faults disks.new)) }
     ensures others { WritesNoOther 0 0 (D.past disks.old) (D.past disks.new) }

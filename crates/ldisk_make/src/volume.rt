@@ -1,6 +1,6 @@
 // An empty volume is made on a device.
 ghost use Rattle.std.specs.Prelude.{◌≡◌, ◌≢◌, ℕ, ◌≤◌, ◌+◌, Some, true, false, Err, OnOk, IfOk, IfErr};
-ghost use Rattle.disk_trait.specs.Moments.{IsTold, now, IsQuiet, IsWholeImage};
+ghost use Rattle.disk_trait.specs.Moments.{IsTold, now, IsQuiet, IsWholeImage, LeavesOnly};
 ghost use Rattle.disk_trait.specs.Calls.{GoesOn, SameOf};
 ghost use Rattle.disk_trait.specs.NotWritten.{NotWritten};
 ghost use Rattle.sector_address.specs.Machine.{OnDisks};
@@ -20,6 +20,7 @@ ghost use Rattle.ldisk_make.specs.Answer.{
 ghost use Rattle.disk_trait.specs.Range.{IsOutside};
 ghost use Rattle.ldisk_model.specs.MinixFormat.{format_layout, format_at};
 ghost use Rattle.minix_format.specs.Laws.{IsEmptyVolume};
+ghost use Rattle.minix_format.specs.Left.{LeftOrPartlyMade};
 ghost use Rattle.minix_zones.specs.View.{span_view};
 
 use crate::fault::MakeFault;
@@ -28,8 +29,8 @@ use mbr_table::{Device, TableFault, place_of};
 use minix_format::{FormatFault, format};
 use minix_layout::FsKind;
 
-/// Makes an empty volume on a device, with so many inodes, at a time, and makes it durable. What a stop before that
-/// leaves isn't said.
+/// Makes an empty volume on a device, with so many inodes, at a time, and makes it durable. Each sector that a stop before
+/// that leaves is as before or as it is to be.
 ///
 /// # Errors
 ///
@@ -51,6 +52,9 @@ pub fn mkfs<D: Disks>(
     ensures empty { OnOk result (OnDisks D.Disks disks.old (λ old machine. IsWholeImage (D.size_of disks.old) old
         → HasEmptyVolume (span_of old machine (device_view device)) (kind_view kind) inodes (now (D.past disks.new)))) }
     ensures quiet { OnOk result (IsQuiet (D.past disks.new)) }
+    ensures any_moment { OnDisks D.Disks disks.old (λ old machine. LeavesOnly (D.past disks.old) (D.past disks.new)
+        (LeftOrPartlyMade (D.past disks.old) (formatted_on (span_of old machine (device_view device)) (kind_view kind)
+        inodes time))) }
     ensures refused { IfErr result (λ fault. is_refusal fault ≡ true → D.past disks.new ≡ D.past disks.old) }
     ensures cause { IfErr result (HasMakeCause (D.faults disks.old) (D.faults disks.new)) }
     ensures outside { OnDisks D.Disks disks.old (λ old machine. (d s : ℕ)
@@ -81,6 +85,8 @@ fn format_in<D: Disks>(
     ensures empty { IsTold (D.past disks.old) → IsWholeImage (D.size_of disks.old) (now (D.past disks.old))
         → OnOk result (IsEmptyVolume (span_view span) (kind_view kind) inodes (now (D.past disks.new))) }
     ensures quiet { OnOk result (IsQuiet (D.past disks.new)) }
+    ensures any_moment { LeavesOnly (D.past disks.old) (D.past disks.new)
+        (LeftOrPartlyMade (D.past disks.old) (format_at (span_view span) (kind_view kind) inodes time)) }
     ensures refused { IfErr result (λ fault. is_refusal fault ≡ true → D.past disks.new ≡ D.past disks.old) }
     ensures cause { IfErr result (HasMakeCause (D.faults disks.old) (D.faults disks.new)) }
     ensures outside { (d s : ℕ) → IsOutside span.disk span.start span.count d s

@@ -1,5 +1,5 @@
 -- An empty volume is sound, with the root alone.
-use Rattle.std.proofs.Common.{◌≡◌, ◌≢◌, ◌<◌, ◌≤◌, ℕ, zero, suc, ◌+◌, ◌-◌, ◌*◌, ◌/◌, ◌%◌, ◌^◌, ◌==◌, nat_le, nat_lt, Bool, true, false, ◌||◌, List, [], ◌∷◌, ◌++◌, length, replicate, Some, None, Ok, refl, sym, ◌∙◌, ap, arith, add-zero}
+use Rattle.std.proofs.Common.{◌≡◌, ◌<◌, ◌≤◌, ℕ, ◌+◌, ◌-◌, ◌*◌, ◌/◌, ◌%◌, ◌^◌, ◌==◌, nat_le, nat_lt, Bool, true, false, ◌||◌, List, [], ◌∷◌, ◌++◌, length, replicate, Some, None, Ok, refl, ◌∙◌, ap, arith, add-zero}
 use Rattle.std.proofs.Math.Seq.{take-append_seam}
 use Rattle.std.specs.Prelude.{slice_index}
 use Rattle.std.proofs.Math.Bool.{or-false}
@@ -10,8 +10,8 @@ use Rattle.lilo_model.specs.Bytes.{part_of, number16, filled_bytes}
 use Rattle.lilo_model.specs.Disks.{Image, Span}
 use Rattle.lilo_model.specs.MinixLayout.{Kind, V1Short, V1Long, V2Short, V2Long, Super, Inode, inode_size, entry_size, is_size, inode_of, inode_at, inode_bytes, inode_place, kept_inode, table_start, table_blocks, super_at, FitsInode, zone_sector}
 use Rattle.lilo_model.specs.MinixParts.{Volume, Parts, volume_with, volume_at, sector_of, parts_of, inode_part, bit, is_directory, zone_bytes, follow, pointer_by}
-use Rattle.lilo_model.specs.MinixEntries.{entry_of, entry_in, entry_with, entries_per_block, places, here_name, above_name, is_dots}
-use Rattle.lilo_model.specs.MinixNames.{Directory, zone_number, block, entry, lookup, reached, thing, names, names_in, IsSound}
+use Rattle.lilo_model.specs.MinixEntries.{entry_of, entry_in, entry_with, entries_per_block, places, here_name, above_name}
+use Rattle.lilo_model.specs.MinixNames.{Directory, zone_number, block, entry, reached, thing, names, names_in, IsSound}
 use Rattle.minix_laws.proofs.BareRoot.{BareRoot, bare-no_path, bare-sound}
 use Rattle.minix_laws.proofs.RootBytes.{read, bare_read, read_bare}
 use Rattle.minix_layout.proofs.Reading.{super_law, inode_law}

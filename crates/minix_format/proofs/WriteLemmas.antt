@@ -1,13 +1,14 @@
 -- The sectors of an empty volume, written one after the other.
-use Rattle.std.proofs.Common.{◌≡◌, inl, inr, ◌<◌, ◌≤◌, ℕ, ◌+◌, ◌-◌, ◌^◌, ◌==◌, nat_le, nat_lt, Bool, true, false, ◌&&◌, if◌then◌else◌, [], length, slice_index_or, Some, refl, sym, ◌∙◌, ap, subst, arith}
+use Rattle.std.proofs.Common.{◌≡◌, ◌⊎◌, ⊎_elim, inl, inr, ◌<◌, ◌≤◌, ℕ, ◌+◌, ◌-◌, ◌^◌, ◌==◌, nat_le, nat_lt, Bool, true, false, ◌&&◌, if◌then◌else◌, [], length, slice_index_or, None, Some, refl, sym, ◌∙◌, ap, subst, arith}
 use Rattle.std.proofs.lemmas.Bool.{eq-eqb, eqb-true, leb-true, ltb-true, leb-false, ltb-false}
 use Rattle.std.proofs.lemmas.List.FromFn.{get_or-map-range_with_len, length-map-range_with_len}
-use Rattle.disk_trait.specs.Range.{IsOutside, IsWritten}
+use Rattle.disk_trait.specs.Range.{IsOutside, IsWritten, IsPartWritten}
 use Rattle.lilo_model.specs.Disks.{Image, Span}
 use Rattle.lilo_model.specs.MinixLayout.{Kind, Super}
 use Rattle.lilo_model.specs.MinixParts.{volume_with}
 use Rattle.ldisk_model.specs.MinixFormat.{format_layout, formatted_sector, formatted_count, formatted_sectors, formatted, format_at}
 use Rattle.minix_format.specs.Laws.{HasRootAlone, HasWholeSpan, IsEmptyVolume}
+use Rattle.minix_format.specs.Left.{IsPartlyMade}
 use Rattle.minix_format.proofs.LayoutLemmas.{layout-laid, layout-within}
 use Rattle.minix_format.proofs.FormatLemmas.{format_law}
 
@@ -73,3 +74,42 @@ module _ (span : Span) (layout : Super) (time : ℕ) (old new : Image) (written 
       chosen = sym chosen;
       has = subst (HasRootAlone (volume_with span layout)) (sym made-is) (format_law span kind inodes time layout old fits (sym chosen) whole);
     }
+
+-- ---- an image that is made in part
+
+-- nothing where there is no room
+pub not_made : (span : Span) (kind : Kind) (inodes time : ℕ) (image : Image) → format_layout kind span.count inodes ≡ None → IsPartlyMade (format_at span kind inodes time image) image image
+unfolding format_at
+not_made span kind inodes time image none = rw none refl
+
+module _ (span : Span) (layout : Super) (time : ℕ) (old new : Image) (part : IsPartWritten span.disk (span.start + 2) (formatted_sectors layout time) old new) where
+  part-inside : (d s : ℕ) → span.disk ≡ d → span.start + 2 ≤ s → s < span.start + 2 + formatted_count layout → (new d s ≡ old d s) ⊎ (new d s ≡ formatted_sector layout time (s - span.start))
+  part-inside d s same from below =
+      let k : s - (span.start + 2) < formatted_count layout = omega (arith, from, below) in
+      let at : span.start + 2 + (s - (span.start + 2)) ≡ s = omega (arith, from) in
+      let number : 2 + (s - (span.start + 2)) ≡ s - span.start = omega (arith, from) in
+      let P : ℕ → ℕ → Type 0 = λ d s'. (new d s' ≡ old d s') ⊎ (new d s' ≡ formatted_sector layout time (s - span.start)) in
+      subst (λ d. P d s) same
+      (subst (P span.disk) at
+      (⊎_elim
+      (λ made. inr (made ∙ (sym (sectors-at layout time (s - (span.start + 2)) k) ∙ ap (formatted_sector layout time) number)))
+      (λ was. inl was)
+      (part.inside (s - (span.start + 2)) (omega (arith, k, sectors-count layout time)))))
+
+  part-outside : (d s : ℕ) → IsOutside span.disk (span.start + 2) (formatted_count layout) d s → new d s ≡ old d s
+  part-outside d s out = part.outside d s (subst (λ n. IsOutside span.disk (span.start + 2) n d s) (sym (sectors-count layout time)) out)
+
+  part-at : (d s : ℕ) (one two three : Bool) → (span.disk == d) ≡ one → nat_le (span.start + 2) s ≡ two → nat_lt s (span.start + 2 + formatted_count layout) ≡ three
+      → (new d s ≡ old d s) ⊎ (new d s ≡ (if one && two && three then formatted_sector layout time (s - span.start) else old d s))
+  part-at d s true true true a b c = part-inside d s (eqb-true span.disk d a) (leb-true (span.start + 2) s b) (ltb-true s (span.start + 2 + formatted_count layout) c)
+  part-at d s false two three a b c = inl (part-outside d s (inl (λ same. let t = eq-eqb span.disk d (sym same) in cc)))
+  part-at d s true false three a b c = inl (part-outside d s (inr (inl (leb-false (span.start + 2) s b))))
+  part-at d s true true false a b c = inl (part-outside d s (inr (inr (ltb-false s (span.start + 2 + formatted_count layout) c))))
+
+  partly-is : IsPartlyMade (Some (formatted span layout time old)) old new
+  unfolding formatted
+  partly-is d s = part-at d s (span.disk == d) (nat_le (span.start + 2) s) (nat_lt s (span.start + 2 + formatted_count layout)) refl refl refl
+
+  pub partly_made : (kind : Kind) (inodes : ℕ) → Some layout ≡ format_layout kind span.count inodes → IsPartlyMade (format_at span kind inodes time old) old new
+  unfolding format_at
+  partly_made kind inodes chosen = rw (← chosen) partly-is

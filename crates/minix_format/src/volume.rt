@@ -1,6 +1,6 @@
 // An empty volume is written.
 ghost use Rattle.std.specs.Prelude.{◌≡◌, ◌≤◌, ◌<◌, ◌+◌, ◌^◌, ◌↔◌, ℕ, Some, None, OnOk, IsErrOf};
-ghost use Rattle.disk_trait.specs.Moments.{IsTold, now, IsQuiet, IsWholeImage};
+ghost use Rattle.disk_trait.specs.Moments.{IsTold, now, IsQuiet, IsWholeImage, LeavesOnly};
 ghost use Rattle.disk_trait.specs.Calls.{HasFlushCauseOf, WritesRange, GoesOn};
 ghost use Rattle.disk_trait.specs.NotWritten.{NotWritten};
 ghost use Rattle.disk_trait.specs.Range.{IsOutside};
@@ -10,6 +10,7 @@ ghost use Rattle.minix_zones.specs.View.{span_view};
 ghost use Rattle.ldisk_model.specs.MinixFormat.{format_layout, formatted_count, formatted_sectors, format_at};
 ghost use Rattle.minix_format.specs.Laid.{IsLaid};
 ghost use Rattle.minix_format.specs.Laws.{IsEmptyVolume};
+ghost use Rattle.minix_format.specs.Left.{LeftOrPartlyMade};
 
 use crate::format_fault::FormatFault;
 use crate::layout::format_layout;
@@ -18,8 +19,8 @@ use disk_trait::{DiskFault, Disks, Span, flush, write};
 use minix_layout::{FsKind, Super, where_zone};
 
 /// Makes an empty volume in a span of a disk, with so many inodes, at a time: its sectors from the superblock's on are
-/// written in order, up to the root's zone, and then made durable. The boot block stays. What a stop before that leaves
-/// isn't said.
+/// written in order, up to the root's zone, and then made durable. The boot block stays. Each sector that a stop before
+/// that leaves is as before or as it is to be.
 ///
 /// # Errors
 ///
@@ -40,6 +41,8 @@ pub fn format<D: Disks>(
     ensures empty { IsTold (D.past disks.old) → IsWholeImage (D.size_of disks.old) (now (D.past disks.old))
         → OnOk result (IsEmptyVolume (span_view span) (kind_view kind) inodes (now (D.past disks.new))) }
     ensures quiet { OnOk result (IsQuiet (D.past disks.new)) }
+    ensures any_moment { LeavesOnly (D.past disks.old) (D.past disks.new)
+        (LeftOrPartlyMade (D.past disks.old) (format_at (span_view span) (kind_view kind) inodes time)) }
 
     // What was not.
     ensures no_space { IsErrOf result FormatFault.NoSpace ↔ (format_layout (kind_view kind) span.count inodes ≡ None) }

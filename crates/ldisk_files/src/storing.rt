@@ -169,7 +169,7 @@ fn ended_put<D: Disks>(ended: Ended<'_, D>) -> PutEnded<'_, D>
 /// # Errors
 ///
 /// `Source`, and in `File` `Refused`, then `BadLength` where there are more than 67,108,864 bytes, `NoSpace` and
-/// `Memory`: then nothing was done. `Device`: then the file is there or isn't.
+/// `Memory`: then nothing was done. `Device`: then the file is there or isn't, and where a check refuses nothing was done.
 pub fn put<D: Disks, I: Source>(
     alloc: Global,
     disks: &mut D,

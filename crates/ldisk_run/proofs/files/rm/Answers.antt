@@ -31,7 +31,7 @@ pub returns-in-Ok-clause-leaves : goal.returns-in-Ok-clause-leaves
 returns-in-Ok-clause-leaves g c =
     rw c.file_status.ensures
     (λ given time. file_leaves given (Rm (device_view c.args.device) c.args.path.now) (removal (device_view c.args.device) c.args.path.now) (gone_check c.args.path.now) (removes given (device_view c.args.device) c.args.path.now) g.D.Disks c.args.disks.now c.find_room.new.disks c.rm.new.disks c.in-Ok.ensures.same c.in-Ok.ensures.later
-    c.in-Ok.span c.rm.result c.in-Ok.ensures.room c.rm.ensures.leaves time (λ told. nothing_made c.rm.result))
+    c.in-Ok.span c.rm.result c.in-Ok.ensures.room c.rm.ensures.leaves c.rm.ensures.unwritten time (λ told. nothing_made c.rm.result))
 
 pub returns-in-Err-clause-answers : goal.returns-in-Err-clause-answers
 returns-in-Err-clause-answers g c =

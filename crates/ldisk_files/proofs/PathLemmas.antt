@@ -104,7 +104,7 @@ module _ {D : Type 0} {disks : Ghosts D} (old mid : Volume D disks) (same : Same
   forth-same P is = subst (λ (v : model.Volume). P v (now (past_of mid))) (sym (same_view old mid same))
       (subst (λ (past : Option Past). P V (now past)) (sym same.same_disks.same_past) is)
 
-  back-same : (P : model.Volume → Image → Type 0) → P (volume_view mid) (now (past_of mid)) → P V I
+  pub back-same : (P : model.Volume → Image → Type 0) → P (volume_view mid) (now (past_of mid)) → P V I
   back-same P is = subst (λ (past : Option Past). P V (now past)) same.same_disks.same_past
       (subst (λ (v : model.Volume). P v (now (past_of mid))) (same_view old mid same) is)
 
@@ -200,7 +200,7 @@ module _ {D : Type 0} {disks : Ghosts D} (old mid : Volume D disks) (same : Same
 
 module _ {D : Type 0} {disks : Ghosts D} (old mid : Volume D disks) (same : SameVolume old mid) (text : List ℕ) (place : NamePlace)
     (checked : Told (past_of old) (λ now. GivesChecked (volume_view old) now text (Ok place))) where
-  found : IsTold (past_of old) → GivesRemovable (volume_view old) (now (past_of old)) text place
+  pub found : IsTold (past_of old) → GivesRemovable (volume_view old) (now (past_of old)) text place
   found told = (told_now (past_of old) (λ now. GivesChecked (volume_view old) now text (Ok place)) checked told).0
 
   passed-by : IsTold (past_of old) → HasPassed (volume_view old) (now (past_of old)) text (gone_check text)
@@ -210,7 +210,7 @@ module _ {D : Type 0} {disks : Ghosts D} (old mid : Volume D disks) (same : Same
     passes = (told_now (past_of old) (λ now. GivesChecked (volume_view old) now text (Ok place)) checked told).1;
   }
 
-  removable-mid : (told : IsTold (past_of old)) → IsRemovable (volume_view mid) (now (past_of mid)) (found told).path place.directory.inode place.name.now
+  pub removable-mid : (told : IsTold (past_of old)) → IsRemovable (volume_view mid) (now (past_of mid)) (found told).path place.directory.inode place.name.now
   removable-mid told = forth-same old mid same (λ (v : model.Volume) (i : Image). IsRemovable v i (found told).path place.directory.inode place.name.now) (found told).removable
 
   pub unwritten-removed : (new : Option Past) → IsUnwritten (past_of old) new (volume_view old) (gone_check text)

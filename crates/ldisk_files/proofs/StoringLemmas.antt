@@ -24,7 +24,7 @@ use Rattle.minix_zones.specs.declared.zone_fault.ZoneFault.{ZoneFault}
 use Rattle.minix_zones.specs.declared.zone_fault.ZoneFault.TheVariants as zones
 use Rattle.ldisk_model.specs.FileVerdict.{Making, NewFile, checked_status, thing_made, sound_check, new_check, made_check}
 use Rattle.ldisk_files.specs.Answer.{HasFileCause, zone_fault}
-use Rattle.ldisk_files.specs.Inode.{MakesInodeBy}
+use Rattle.ldisk_files.specs.Inode.{ChangesInodeBy}
 use Rattle.ldisk_files.specs.Left.{ChangesName}
 use Rattle.ldisk_files.specs.Made.{MayMake, MayMakeSome, MayMakeAt}
 use Rattle.ldisk_files.specs.Stored.{padded_block, padded_blocks, IsGiven, OnGiven, HasDiskCause, GivesStored, IsStorable, IsUnread, IsUnreadAt, StoresOn, Stores, file_fault}
@@ -97,7 +97,7 @@ module _ {D : Type 0} {disks : Ghosts D} (old mid : Volume D disks) (same : Same
         (changes-held : (made : Making) (outer : List (List ℕ)) → (IsTold (past_of mid) → MayMake mid outer made stored.chosen (padded_blocks bytes))
         → ChangesName mid new (stored.chosen.name ∷ outer) (Some (thing_made made)) result)
         (makes-held : (made : Making) (outer : List (List ℕ)) → (IsTold (past_of mid) → MayMake mid outer made stored.chosen (padded_blocks bytes))
-        → MakesInodeBy mid new (stored.chosen.name ∷ outer) made stored.chosen.time result)
+        → ChangesInodeBy mid new (stored.chosen.name ∷ outer) (Some (made, stored.chosen.time)) result)
         (quiet : OnOk result (IsQuiet (past_of new))) (cause : IfErr result (HasFileCause (faults_of mid) (faults_of new))) where
       changes : (made : Making) (outer : List (List ℕ)) → (IsTold (past_of mid) → MayMake mid outer made stored.chosen (padded_blocks stored.bytes.items))
           → ChangesName mid new (stored.chosen.name ∷ outer) (Some (thing_made made)) result
@@ -105,9 +105,9 @@ module _ {D : Type 0} {disks : Ghosts D} (old mid : Volume D disks) (same : Same
           → ChangesName mid new (stored.chosen.name ∷ outer) (Some (thing_made made)) result) held changes-held
 
       makes : (made : Making) (outer : List (List ℕ)) → (IsTold (past_of mid) → MayMake mid outer made stored.chosen (padded_blocks stored.bytes.items))
-          → MakesInodeBy mid new (stored.chosen.name ∷ outer) made stored.chosen.time result
+          → ChangesInodeBy mid new (stored.chosen.name ∷ outer) (Some (made, stored.chosen.time)) result
       makes = subst (λ (b : List ℕ). (made : Making) (outer : List (List ℕ)) → (IsTold (past_of mid) → MayMake mid outer made stored.chosen (padded_blocks b))
-          → MakesInodeBy mid new (stored.chosen.name ∷ outer) made stored.chosen.time result) held makes-held
+          → ChangesInodeBy mid new (stored.chosen.name ∷ outer) (Some (made, stored.chosen.time)) result) held makes-held
 
       pub is-stored : OnGiven left (λ given. StoresOn old new text given time result)
       is-stored = on-given (λ given. StoresOn old new text given time result) left stored.bytes.items is
@@ -140,7 +140,7 @@ module _ {D : Type 0} (disks : Ghosts D) (old : D) (span : Span) (text : List �
         (λ given on. record {
           answers = answers-at disks old span text (Some (File given)) volume new same later place is result (made_check (NewFile given) text) on.answers;
           leaves = leaves-at disks old span text (Some (File given)) volume new same later place is result on.leaves;
-          inode = inode-in disks old span text (NewFile given) time volume new same is result on.inode;
+          inode = inode-in disks old span text (Some (NewFile given, time)) volume new same is result on.inode;
           unwritten = unwritten-at disks old span text (Some (File given)) volume new same later place is (made_check (NewFile given) text) on.unwritten;
         }) stores
 

@@ -16,7 +16,7 @@ ghost use Rattle.minix_names.specs.Component.{HasNoZero};
 ghost use Rattle.minix_zones.specs.View.{span_view};
 ghost use Rattle.minix_zones.specs.Volume.{volume_view, past_of, faults_of};
 ghost use Rattle.ldisk_files.specs.Answer.{Answers, IsLaid, IsUnwritten, IsUnwrittenAt, HasFileCause};
-ghost use Rattle.ldisk_files.specs.Inode.{MakesInode, MakesInodeAt, MakesInodeBy};
+ghost use Rattle.ldisk_files.specs.Inode.{ChangesInode, ChangesInodeAt, ChangesInodeBy};
 ghost use Rattle.ldisk_files.specs.Left.{ChangesName, LeavesOn, LeavesNames};
 ghost use Rattle.ldisk_files.specs.Made.{IsReady, MayMake, MayMakeSome, making_view};
 
@@ -38,7 +38,8 @@ fn make_ready<'d, D: Disks>(volume: Volume<'d, D>, ready: Ready) -> Ended<'d, D>
         → ChangesName volume.entry result.volume (ready.chosen.name ∷ outer) (Some (thing_made made)) result.result }
     ensures inode { (made : model.Making) (outer : List (List ℕ))
         → (IsTold (past_of volume.entry) → MayMake volume.entry outer made ready.chosen (ready.block ∷ []))
-        → MakesInodeBy volume.entry result.volume (ready.chosen.name ∷ outer) made ready.chosen.time result.result }
+        → ChangesInodeBy volume.entry result.volume (ready.chosen.name ∷ outer) (Some (made, ready.chosen.time))
+        result.result }
     ensures quiet { OnOk result.result (IsQuiet (past_of result.volume)) }
     ensures cause { IfErr result.result (HasFileCause (faults_of volume.entry) (faults_of result.volume)) }
     ensures same_reference { result.volume.disks.ghost_name ≡ volume.entry.disks.ghost_name }
@@ -77,7 +78,8 @@ fn make_path<'d, D: Disks>(
         (sound_check (made_check (making_view making.now) path.now) (volume_view volume.entry) now) result.result) }
     ensures leaves { LeavesOn volume.entry result.volume path.now
         (Some (thing_made (making_view making.now))) result.result }
-    ensures inode { MakesInodeAt volume.entry result.volume path.now (making_view making.now) time result.result }
+    ensures inode { ChangesInodeAt volume.entry result.volume path.now
+        (Some (making_view making.now, time)) result.result }
     ensures unwritten { IsUnwritten (past_of volume.entry) (past_of result.volume) (volume_view volume.entry)
         (made_check (making_view making.now) path.now) }
     ensures same_reference { result.volume.disks.ghost_name ≡ volume.entry.disks.ghost_name }
@@ -109,8 +111,8 @@ fn make<D: Disks>(
         Answers (volume_check (made_check (making_view making.now) path.now) now (span_view span)) result) }
     ensures leaves { LeavesNames D.Disks disks.old disks.new (span_view span) path.now
         (Some (thing_made (making_view making.now))) result }
-    ensures inode { MakesInode D.Disks disks.old disks.new (span_view span) path.now (making_view making.now) time
-        result }
+    ensures inode { ChangesInode D.Disks disks.old disks.new (span_view span) path.now
+        (Some (making_view making.now, time)) result }
     ensures unwritten { IsUnwrittenAt (D.past disks.old) (D.past disks.new) (span_view span)
         (made_check (making_view making.now) path.now) }
 {
@@ -144,7 +146,8 @@ pub fn mkdir<D: Disks>(
     ensures answers { Told (D.past disks.old) (λ now.
         Answers (volume_check (made_check NewDirectory path.now) now (span_view span)) result) }
     ensures leaves { LeavesNames D.Disks disks.old disks.new (span_view span) path.now (Some Directory) result }
-    ensures inode { MakesInode D.Disks disks.old disks.new (span_view span) path.now NewDirectory time result }
+    ensures inode { ChangesInode D.Disks disks.old disks.new (span_view span) path.now (Some (NewDirectory, time))
+        result }
     ensures unwritten { IsUnwrittenAt (D.past disks.old) (D.past disks.new) (span_view span)
         (made_check NewDirectory path.now) }
 {
@@ -172,7 +175,8 @@ pub fn ln<D: Disks>(
     ensures answers { Told (D.past disks.old) (λ now.
         Answers (volume_check (made_check (NewLink target.now) path.now) now (span_view span)) result) }
     ensures leaves { LeavesNames D.Disks disks.old disks.new (span_view span) path.now (Some (Link target.now)) result }
-    ensures inode { MakesInode D.Disks disks.old disks.new (span_view span) path.now (NewLink target.now) time result }
+    ensures inode { ChangesInode D.Disks disks.old disks.new (span_view span) path.now
+        (Some (NewLink target.now, time)) result }
     ensures unwritten { IsUnwrittenAt (D.past disks.old) (D.past disks.new) (span_view span)
         (made_check (NewLink target.now) path.now) }
 {

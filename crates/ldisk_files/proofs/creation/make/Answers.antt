@@ -3,7 +3,7 @@ use Rattle.std.proofs.Common.{Some, Err, refl, ap, rules}
 use Rattle.disk_trait.proofs.ToldLemmas.{told_map}
 use Rattle.ldisk_model.specs.FileVerdict.{made_check, thing_made}
 use Rattle.ldisk_files.specs.Answer.{IsUnwrittenAt, zone_fault}
-use Rattle.ldisk_files.specs.Inode.{MakesInode}
+use Rattle.ldisk_files.specs.Inode.{ChangesInode}
 use Rattle.ldisk_files.specs.Left.{LeavesNames}
 use Rattle.ldisk_files.specs.Made.{making_view}
 use Rattle.minix_zones.specs.View.{span_view}
@@ -32,8 +32,8 @@ returns-in-Ok-clause-leaves g c =
 pub returns-in-Ok-clause-inode : goal.returns-in-Ok-clause-inode
 returns-in-Ok-clause-inode g c =
     let made = making_view c.args.making.now in
-    held-of (λ last. MakesInode g.D.Disks c.args.disks.now last (span_view c.args.span) c.args.path.now made c.args.time c.make_path.result.result) c.make_path.result.volume.disks.now
-    (inode-in g.D.Disks c.args.disks.now (span_view c.args.span) c.args.path.now made c.args.time c.in-Ok.volume c.make_path.result.volume c.in-Ok.ensures.same c.in-Ok.ensures.volume
+    held-of (λ last. ChangesInode g.D.Disks c.args.disks.now last (span_view c.args.span) c.args.path.now (Some (made, c.args.time)) c.make_path.result.result) c.make_path.result.volume.disks.now
+    (inode-in g.D.Disks c.args.disks.now (span_view c.args.span) c.args.path.now (Some (made, c.args.time)) c.in-Ok.volume c.make_path.result.volume c.in-Ok.ensures.same c.in-Ok.ensures.volume
     c.make_path.result.result c.make_path.ensures.inode)
     (search rules)
 

@@ -3,8 +3,10 @@ use Rattle.std.proofs.Common.{None, Err, refl, ap, rules}
 use Rattle.disk_trait.proofs.ToldLemmas.{told_map}
 use Rattle.ldisk_model.specs.FileVerdict.{gone_check}
 use Rattle.ldisk_files.specs.Answer.{IsUnwrittenAt, zone_fault}
+use Rattle.ldisk_files.specs.Inode.{ChangesInode}
 use Rattle.ldisk_files.specs.Left.{LeavesNames}
 use Rattle.minix_zones.specs.View.{span_view}
+use Rattle.ldisk_files.proofs.InodeLemmas.{inode-in}
 use Rattle.ldisk_files.proofs.PathLemmas.{held-of, laid-told, answers-at, leaves-at, no-volume, refused-names, unwritten-at, unwritten-span}
 use Rattle.ldisk_files.proofs.removal.rm.Goals as goal
 
@@ -50,4 +52,11 @@ pub returns-in-Err-clause-unwritten : goal.returns-in-Err-clause-unwritten
 returns-in-Err-clause-unwritten g c =
     held-of (λ last. IsUnwrittenAt (g.D.Disks.past c.args.disks.now) (g.D.Disks.past last) (span_view c.args.span) (gone_check c.args.path.now)) c.in-Err.disks.now
     (unwritten-span (g.D.Disks.past c.args.disks.now) (g.D.Disks.past c.in-Err.disks.now) (gone_check c.args.path.now) (span_view c.args.span) c.in-Err.ensures.same.same_past)
+    (search rules)
+
+pub returns-in-Ok-clause-inode : goal.returns-in-Ok-clause-inode
+returns-in-Ok-clause-inode g c =
+    held-of (λ last. ChangesInode g.D.Disks c.args.disks.now last (span_view c.args.span) c.args.path.now None c.remove_path.result.result) c.remove_path.result.volume.disks.now
+    (inode-in g.D.Disks c.args.disks.now (span_view c.args.span) c.args.path.now None c.in-Ok.volume c.remove_path.result.volume c.in-Ok.ensures.same c.in-Ok.ensures.volume
+    c.remove_path.result.result c.remove_path.ensures.inode)
     (search rules)

@@ -210,14 +210,6 @@ module _ (given : List ℕ) (command : Command) (change : NameChange) (check : V
 -- ---- a name was changed
 
 module _ (result : Result (Unit {0}) FileFault) where
-  -- where a name goes, no inode is made
-  pub nothing_made : OnOk result (Unit {0})
-  nothing_made = by result
-    where
-      by : (r : Result (Unit {0}) FileFault) → OnOk r (Unit {0})
-      by (Ok done) = tt
-      by (Err fault) = tt
-
   zero-of : {P : Type 0} → OnOk result P → file_status result ≡ 0 → P
   zero-of {P} ok is = by result ok is
     where

@@ -16,7 +16,7 @@ use Rattle.sector_address.specs.Machine.{OnDisks}
 use Rattle.ldisk_model.specs.Arguments.{Command, Mkfs, Asked}
 use Rattle.ldisk_model.specs.FileVerdict.{NameChange, NewDirectory, NewLink, NewFile}
 use Rattle.ldisk_model.specs.Verdict.{command_verdict, image_after, may_write, name_change, only_reads}
-use Rattle.ldisk_files.specs.Inode.{HasInodeIn}
+use Rattle.ldisk_files.specs.Inode.{HasChangedIn}
 use Rattle.ldisk_files.specs.Left.{HasSoundVolume, IsNamed, IsEither}
 use Rattle.ldisk_make.specs.Answer.{HasEmptyVolume}
 use Rattle.ldisk_run.specs.Run.{IsFailure}
@@ -48,13 +48,13 @@ abbrev pub held_now : {D : Type 0} → Ghosts D → D → Image
 held_now disks new = now (disks.past new)
 
 -- in an image what was made at the path of a text at a time has its inode: mode, links, owner, times, and the holes of a
--- file
+-- file; or that of what was there is let go. No bitmap bit is set but what is in use, and each other inode is as before
 abbrev pub HasInodeOf : Span → Image → List ℕ → Option Thing → ℕ → Image → Type 0
-HasInodeOf span old text (Some (File bytes)) time image = HasInodeIn span old text (NewFile bytes) time image
-HasInodeOf span old text (Some (Link target)) time image = HasInodeIn span old text (NewLink target) time image
-HasInodeOf span old text (Some Directory) time image = HasInodeIn span old text NewDirectory time image
+HasInodeOf span old text (Some (File bytes)) time image = HasChangedIn span old text (Some (NewFile bytes, time)) image
+HasInodeOf span old text (Some (Link target)) time image = HasChangedIn span old text (Some (NewLink target, time)) image
+HasInodeOf span old text (Some Directory) time image = HasChangedIn span old text (Some (NewDirectory, time)) image
 HasInodeOf span old text (Some Other) time image = Unit {0}
-HasInodeOf span old text None time image = Unit {0}
+HasInodeOf span old text None time image = HasChangedIn span old text None image
 
 -- the volume of a device in an image has its Names in another one, but for the one that was changed, and the inode of
 -- what was made at a time

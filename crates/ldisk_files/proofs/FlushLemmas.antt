@@ -40,7 +40,7 @@ module _ {D : Type 0} {disks : Ghosts D} (old mid : Volume D disks) (first : Res
   pub forth : (P : model.Volume → Image → Type 0) → P (volume_view old) (now (past_of old)) → P (volume_view mid) (now (past_of mid))
   forth P is = subst (λ (v : model.Volume). P v (now (past_of mid))) (sym flushed-view) (subst (λ (i : Image). P (volume_view old) i) (sym syncs.flushes.same_now) is)
 
-  back : (P : model.Volume → Image → Type 0) → P (volume_view mid) (now (past_of mid)) → P (volume_view old) (now (past_of old))
+  pub back : (P : model.Volume → Image → Type 0) → P (volume_view mid) (now (past_of mid)) → P (volume_view old) (now (past_of old))
   back P is = subst (λ (i : Image). P (volume_view old) i) syncs.flushes.same_now (subst (λ (v : model.Volume). P v (now (past_of mid))) flushed-view is)
 
   module _ (path : List (List ℕ)) (what : Option Thing) (sound : IsTold (past_of old) → IsSound Old Held) where

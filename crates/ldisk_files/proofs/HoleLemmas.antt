@@ -59,6 +59,45 @@ pigeon (suc n) f below once = pigeon n g g-below g-once
         (cases_eq (f j) n))
         (cases_eq (f i) n)
 
+-- as many that are below so many, each another one: each number is one of them
+module _ (n : ℕ) (f : ℕ → ℕ) (below : (i : ℕ) → i < n → f i < n) (once : (i j : ℕ) → i < j → j < n → f i ≢ f j) (k : ℕ) (low : k < n) where
+  module _ (none : (i : ℕ) → i < n → f i ≢ k) where
+    abbrev g : ℕ → ℕ
+    g zero = k
+    g (suc i) = f i
+
+    g-low : (i : ℕ) → i < suc n → g i < n
+    g-low zero small = low
+    g-low (suc i) small = below i (omega (arith, small))
+
+    g-once : (i j : ℕ) → i < j → j < suc n → g i ≢ g j
+    g-once zero zero less small = absurd (omega (arith, less))
+    g-once zero (suc j) less small = λ same. none j (omega (arith, small)) (sym same)
+    g-once (suc i) zero less small = absurd (omega (arith, less))
+    g-once (suc i) (suc j) less small = once i j (omega (arith, less)) (omega (arith, small))
+
+    never : ⊥
+    never = pigeon n g g-low g-once
+
+  first-of : (count : ℕ) → count ≤ n → ((i : ℕ) × (i < n) × (f i ≡ k)) ⊎ ((i : ℕ) → i < count → f i ≢ k)
+  first-of zero few = inr (λ i small. absurd (omega (arith, small)))
+  first-of (suc count) few = ⊎_elim
+      (λ (one : (i : ℕ) × (i < n) × (f i ≡ k)). inl one)
+      (λ (none : (i : ℕ) → i < count → f i ≢ k). ⊎_elim
+      (λ (same : f count ≡ k). inl (count, omega (arith, few), same))
+      (λ (isnt : f count ≢ k). inr (λ i small. ⊎_elim
+      (λ (here : i ≡ count). λ same. isnt (ap f (sym here) ∙ same))
+      (λ (elsewhere : i ≢ count). none i (omega (arith, small, elsewhere)))
+      (cases_eq i count)))
+      (cases_eq (f count) k))
+      (first-of count (omega (arith, few)))
+
+  pub onto : (i : ℕ) × (i < n) × (f i ≡ k)
+  onto = ⊎_elim
+      (λ (one : (i : ℕ) × (i < n) × (f i ≡ k)). one)
+      (λ (none : (i : ℕ) → i < n → f i ≢ k). absurd (never none))
+      (first-of n (omega arith))
+
 -- ---- on the way to a block
 
 -- a pointer to the indirect zone at a place, on the way to a block that gets a zone
@@ -375,6 +414,25 @@ module _ (super : Super) (parts : Parts) (number : ℕ) (zones : FileZones) (mad
       let same : a.0.at ≡ b.0.at = once a.0.at b.0.at (slice_index zones.indirect there) a.1 b.1 in
       ap place-in (sym a.0.leads ∙ (ap (source_of (numbers_in_zone super.kind)) same ∙ b.0.leads))
 
+  -- each of them is led to
+  moved : (place : ℕ) → place < length zones.indirect → (from : ℕ) × Moves from place
+  moved place low =
+      let it = onto (length zones.indirect) (λ i. (moves i).0) (λ i small. moves-low i (moves i).0 small (moves i).1)
+      (λ i j less small same.
+      let one = moves-once i j (moves j).0 (subst (λ (n : ℕ). Moves i n) same (moves i).1) (moves j).1 in
+      omega (arith, one, less))
+      place low in
+      (it.0, subst (λ (n : ℕ). Moves it.0 n) it.2 (moves it.0).1)
+
+  led : (place : ℕ) → slice_index zones.indirect place ≢ 0 → (from : ℕ) → Moves from place → (at : Pointer) × PointsTo super parts number at (slice_index zones.indirect place)
+  led place some from (inl stays) = absurd (some (ap (slice_index zones.indirect) stays.1 ∙ stays.0))
+  led place some from (inr leads) = (leads.0.at, leads.1)
+
+  -- and so is each zone of the file
+  pub zone-there : (source : Source) → zone_from zones source ≢ 0 → (at : Pointer) × PointsTo super parts number at (zone_from zones source)
+  zone-there (Block index) some = (block_pointer super.kind index, lies index (let inside = in-list zones.blocks index some in omega (arith, inside, short)) some)
+  zone-there (Indirect place) some = let from = moved place (in-list zones.indirect place some) in led place some from.0 from.1
+
   -- a block's pointer leads to no indirect zone, since all of them are led to
   module _ (index : ℕ) (low : index < reach super.kind) (place : ℕ) (to : PointsTo super parts number (block_pointer super.kind index) (slice_index zones.indirect place)) where
     no-move : (from : ℕ) → Moves from place → ⊥
@@ -382,24 +440,8 @@ module _ (super : Super) (parts : Parts) (number : ℕ) (zones : FileZones) (mad
     no-move from (inr leads) =
         apart from index leads.0.at leads.0.leads low (once leads.0.at (block_pointer super.kind index) (slice_index zones.indirect place) leads.1 to)
 
-    abbrev g : ℕ → ℕ
-    g zero = place
-    g (suc i) = (moves i).0
-
-    g-low : (i : ℕ) → i < suc (length zones.indirect) → g i < length zones.indirect
-    g-low zero small = in-list zones.indirect place to.some
-    g-low (suc i) small = moves-low i (moves i).0 (omega (arith, small)) (moves i).1
-
-    g-once : (i j : ℕ) → i < j → j < suc (length zones.indirect) → g i ≢ g j
-    g-once zero zero less small = absurd (omega (arith, less))
-    g-once zero (suc j) less small = λ same. no-move j (subst (λ (n : ℕ). Moves j n) (sym same) (moves j).1)
-    g-once (suc i) zero less small = absurd (omega (arith, less))
-    g-once (suc i) (suc j) less small = λ same.
-        let one = moves-once i j (moves j).0 (subst (λ (n : ℕ). Moves i n) same (moves i).1) (moves j).1 in
-        omega (arith, one, less)
-
     none-left : ⊥
-    none-left = pigeon (length zones.indirect) g g-low g-once
+    none-left = let from = moved place (in-list zones.indirect place to.some) in no-move from.0 from.1
 
   -- so a hole has none
   pub hole-stays : (index : ℕ) → index < reach super.kind → slice_index zones.blocks index ≡ 0 → zone_number super parts number index ≡ 0

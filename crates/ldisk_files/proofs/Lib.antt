@@ -11,6 +11,8 @@ pub mod RoomLemmas
 pub mod MadeLemmas
 pub mod MakeLemmas
 pub mod NamedLemmas
+pub mod GrowthLemmas
+pub mod MarkLemmas
 pub mod HoleLemmas
 pub mod InodeLemmas
 pub mod ContentLemmas

@@ -29,7 +29,7 @@ use Rattle.minix_zones.specs.declared.volume.Volume.{Volume}
 use Rattle.write_model.specs.Places.{is_overlooked}
 use Rattle.ldisk_model.specs.FileVerdict as makings
 use Rattle.ldisk_model.specs.FileVerdict.{NewDirectory, NewLink, TooDeep, nothing_taken, checked_status, making_check, size_made, thing_made}
-use Rattle.ldisk_files.specs.Made.{IsNewPlace, IsShort, IsFirstBlock, KeepsHoles, MayMake, MayMakeSome, making_view, mode_made}
+use Rattle.ldisk_files.specs.Made.{IsNewPlace, IsShort, IsFirstBlock, KeepsHoles, LacksGrowth, MayMake, MayMakeSome, making_view, mode_made}
 use Rattle.ldisk_files.specs.declared.making.Making.{Making}
 use Rattle.ldisk_files.specs.declared.making.Making.TheVariants as declared
 use Rattle.ldisk_files.proofs.FlushLemmas.{flushed-view}
@@ -61,6 +61,8 @@ module _ {D : Type 0} {disks : Ghosts D} (old new : Volume D disks) (view : volu
       made = back (λ v i. MayBeMade v.layout.kind chosen (block_of given)) may.made;
       is = may.is;
       holes = may.holes;
+      each = may.each;
+      lacks = back (λ v i. LacksGrowth v i chosen) may.lacks;
     }
 
 -- the same once what was written before is durable

@@ -31,6 +31,7 @@ use Rattle.ldisk_files.specs.declared.fault.FileFault.{FileFault}
 use Rattle.ldisk_files.specs.declared.making.Making.{Making}
 use Rattle.ldisk_files.proofs.MadeLemmas.{promised-now, nests-by, no-holes-kept, one-block, made-by, thing-by}
 use Rattle.ldisk_files.proofs.MakeLemmas.{told-mid, sound-mid, place-mid, may-back}
+use Rattle.ldisk_files.proofs.MarkLemmas.{each-given, growth-lacked}
 use Rattle.ldisk_files.proofs.RoomLemmas.{no-holes, room-refused, room-passes, room-short}
 
 -- ---- it may be made
@@ -38,6 +39,7 @@ use Rattle.ldisk_files.proofs.RoomLemmas.{no-holes, room-refused, room-passes, r
 -- what is known of the choice on a volume once it was made
 pub record IsChosenFor {D : Type 0} {disks : Ghosts D} (last : Volume D disks) (place : NamePlace) (making : Making) (wish : Wish) (chosen : Chosen) (block : List ℕ) : Type 0 where
   pub made : IsMade wish chosen
+  pub choice : Told (past_of last) (λ now. GivesChoice (volume_view last) now wish (Ok chosen))
   pub whole : HasEachZone last wish chosen
   pub free : IsFreeWhereSound last nothing_taken chosen
   pub links : LinksWhereSound last nothing_taken chosen
@@ -80,6 +82,10 @@ module _ {D : Type 0} {disks : Ghosts D} (old last : Volume D disks) (same : Sam
         made = made-by (kind_view last.layout.kind) making chosen block some is.wish_is.short mode-is long-is first;
         is = thing-by (kind_view last.layout.kind) making chosen block some is.wish_is.short mode-is long-is first;
         holes = no-holes-kept making chosen;
+        each = each-given (volume_view last) (now (past_of last)) wish chosen
+            (told_now (past_of last) (λ now. GivesChoice (volume_view last) now wish (Ok chosen)) is.choice told-last);
+        lacks = growth-lacked (volume_view last) (now (past_of last)) wish chosen
+            (told_now (past_of last) (λ now. GivesChoice (volume_view last) now wish (Ok chosen)) is.choice told-last) is.made.directory;
       } in
       record {
         named = is.made.name ∙ is.wish_is.name;

@@ -1,5 +1,5 @@
 -- A path whose name is changed, and the volume in a span.
-use Rattle.std.proofs.Common.{◌≡◌, ◌≤◌, ◌+◌, ◌⊎◌, ℕ, true, List, [], length, Option, None, Result, Ok, Err, refl, sym, ◌∙◌, ap, subst, inl, inr, arith}
+use Rattle.std.proofs.Common.{◌≡◌, ◌≢◌, ◌≤◌, ◌+◌, ◌⊎◌, ℕ, true, List, [], length, Option, None, Result, Ok, Err, refl, sym, ◌∙◌, ap, subst, inl, inr, arith}
 use Rattle.std.specs.Prelude.{OnOk, IfErr}
 use Rattle.disk_trait.specs.declared.disks.Disks.{Ghosts}
 use Rattle.disk_trait.specs.Calls.{GoesOn, SameOf}
@@ -10,7 +10,7 @@ use Rattle.disk_trait.specs.Range.{IsOutside}
 use Rattle.disk_trait.proofs.CallLemmas.{goes_on_same, goes_on_join}
 use Rattle.disk_trait.proofs.MomentLemmas.{at_now, leaves_none, leaves_weaker, told_now, told_or_not}
 use Rattle.disk_trait.proofs.NotWrittenLemmas.{not_written_none}
-use Rattle.disk_trait.proofs.ToldLemmas.{told_both}
+use Rattle.disk_trait.proofs.ToldLemmas.{told_all, told_map, told_both}
 use Rattle.lilo_model.specs.Checks.{◌>>=◌, with_fault}
 use Rattle.lilo_model.specs.Disks.{Span}
 use Rattle.lilo_model.specs.Faults.{Rose}
@@ -30,7 +30,7 @@ use Rattle.minix_zones.specs.declared.zone_fault.ZoneFault.TheVariants as zones
 use Rattle.minix_layout.specs.View.{super_view}
 use Rattle.minix_names.specs.declared.place.NamePlace.{NamePlace}
 use Rattle.minix_change_laws.specs.Tree.{HasNamesWith}
-use Rattle.ldisk_files.specs.Answer.{Answers, HasFileCause, IsLaid, IsRemovable, IsSomeRemovable, GivesRemovable, GivesChecked, Refuses, is_refusal, zone_fault}
+use Rattle.ldisk_files.specs.Answer.{Answers, HasFileCause, IsLaid, IsRemovable, IsSomeRemovable, GivesRemovable, GivesChecked, IsUnwritten, IsUnwrittenAt, Refuses, is_refusal, zone_fault}
 use Rattle.ldisk_model.specs.FileVerdict.{FileRefusal, NoVolume, volume_check, sound_check, gone_check, checked_status}
 use Rattle.ldisk_files.specs.Left.{HasNamesOf, HasNamesBetween, HasNamed, HasEither, HasSoundVolume, IsNamed, IsEither, ChangesName, LeavesOn, LeavesNames}
 use Rattle.ldisk_files.specs.declared.fault.FileFault.{FileFault}
@@ -71,6 +71,20 @@ module _ {D : Type 0} {disks : Ghosts D} (old new : Volume D disks) (same : Same
     cause = cause;
   }
 
+-- ---- what a check refuses isn't written
+
+module _ {A : Type 0} (old new : Option Past) (check : model.Volume → Image → Result A FileRefusal) where
+  -- nothing is
+  pub unwritten-same : (volume : model.Volume) → new ≡ old → IsUnwritten old new volume check
+  unwritten-same volume same = told_all old _ (λ now some. same)
+
+  pub unwritten-span : (span : Span) → new ≡ old → IsUnwrittenAt old new span check
+  unwritten-span span same = told_all old _ (λ now some. same)
+
+  -- none refuses
+  pub unwritten-passed : (volume : model.Volume) → Told old (λ now. checked_status (sound_check check volume now) ≡ 0) → IsUnwritten old new volume check
+  unwritten-passed volume passes = told_map old _ _ (λ now is some. absurd (some is)) passes
+
 -- ---- the name at a path
 
 -- all checks of a text passed, and its path is this one
@@ -90,7 +104,7 @@ module _ {D : Type 0} {disks : Ghosts D} (old mid : Volume D disks) (same : Same
   forth-same P is = subst (λ (v : model.Volume). P v (now (past_of mid))) (sym (same_view old mid same))
       (subst (λ (past : Option Past). P V (now past)) (sym same.same_disks.same_past) is)
 
-  back-same : (P : model.Volume → Image → Type 0) → P (volume_view mid) (now (past_of mid)) → P V I
+  pub back-same : (P : model.Volume → Image → Type 0) → P (volume_view mid) (now (past_of mid)) → P V I
   back-same P is = subst (λ (past : Option Past). P V (now past)) same.same_disks.same_past
       (subst (λ (v : model.Volume). P v (now (past_of mid))) (same_view old mid same) is)
 
@@ -186,7 +200,7 @@ module _ {D : Type 0} {disks : Ghosts D} (old mid : Volume D disks) (same : Same
 
 module _ {D : Type 0} {disks : Ghosts D} (old mid : Volume D disks) (same : SameVolume old mid) (text : List ℕ) (place : NamePlace)
     (checked : Told (past_of old) (λ now. GivesChecked (volume_view old) now text (Ok place))) where
-  found : IsTold (past_of old) → GivesRemovable (volume_view old) (now (past_of old)) text place
+  pub found : IsTold (past_of old) → GivesRemovable (volume_view old) (now (past_of old)) text place
   found told = (told_now (past_of old) (λ now. GivesChecked (volume_view old) now text (Ok place)) checked told).0
 
   passed-by : IsTold (past_of old) → HasPassed (volume_view old) (now (past_of old)) text (gone_check text)
@@ -196,8 +210,11 @@ module _ {D : Type 0} {disks : Ghosts D} (old mid : Volume D disks) (same : Same
     passes = (told_now (past_of old) (λ now. GivesChecked (volume_view old) now text (Ok place)) checked told).1;
   }
 
-  removable-mid : (told : IsTold (past_of old)) → IsRemovable (volume_view mid) (now (past_of mid)) (found told).path place.directory.inode place.name.now
+  pub removable-mid : (told : IsTold (past_of old)) → IsRemovable (volume_view mid) (now (past_of mid)) (found told).path place.directory.inode place.name.now
   removable-mid told = forth-same old mid same (λ (v : model.Volume) (i : Image). IsRemovable v i (found told).path place.directory.inode place.name.now) (found told).removable
+
+  pub unwritten-removed : (new : Option Past) → IsUnwritten (past_of old) new (volume_view old) (gone_check text)
+  unwritten-removed new = unwritten-passed (past_of old) new (gone_check text) (volume_view old) (told_map (past_of old) _ _ (λ now is. is.1) checked)
 
   pub may-remove : IsTold (past_of mid) → IsSomeRemovable (volume_view mid) (now (past_of mid)) place.directory.inode place.name.now
   may-remove told =
@@ -295,6 +312,13 @@ module _ {D : Type 0} (disks : Ghosts D) (old : D) (span : Span) (text : List �
         (told-from (disks.past old) (IsLaid (volume_view volume)) (λ told.
         laid-at (disks.size_of old) (now (disks.past old)) span (volume_view volume) (told_now (disks.past old) (λ now. volume_at now span ≡ Ok (volume_view volume)) is told)
         (whole (now (disks.past old)) (at_now (disks.past old) told)) on_disk super))
+
+    pub unwritten-at : {A : Type 0} (check : model.Volume → Image → Result A FileRefusal) → IsUnwritten (past_of volume) (past_of new) (volume_view volume) check
+        → IsUnwrittenAt (disks.past old) (past_of new) span check
+    unwritten-at check unwritten = told_both (disks.past old) (λ now. volume_at now span ≡ Ok (volume_view volume))
+        (λ now. checked_status (sound_check check (volume_view volume) now) ≢ 0 → past_of new ≡ past_of volume) _
+        (λ now at stays some. stays (λ none. some (ap checked_status (check-is check now span (volume_view volume) at) ∙ none)) ∙ same.same_past)
+        is (subst (λ (past : Option Past). Told past (λ now. checked_status (sound_check check (volume_view volume) now) ≢ 0 → past_of new ≡ past_of volume)) same.same_past unwritten)
 
     module _ (result : Result (Unit {0}) FileFault) where
       pub answers-at : (check : model.Volume → Image → Result (List (List ℕ)) FileRefusal) → Told (past_of volume) (λ now. Answers (sound_check check (volume_view volume) now) result)

@@ -11,7 +11,7 @@ use Rattle.lilo_model.specs.MinixLayout.{IsSuper, inode_place, zone_sector}
 use Rattle.lilo_model.specs.MinixNames.{reached, Named, IsSound}
 use Rattle.lilo_model.specs.MinixParts as model
 use Rattle.lilo_model.specs.MinixParts.{Pointer, parts_of}
-use Rattle.minix_remove.specs.Removed.{Removes, AnswersRight, IsOffRemoved}
+use Rattle.minix_remove.specs.Removed.{Removes, RemovesFile, AnswersRight, IsOffRemoved}
 use Rattle.minix_remove.specs.Target.{refusal_of, IsDirectoryNow}
 use Rattle.minix_remove_laws.specs.Held.{held_name}
 use Rattle.minix_change_laws.specs.Tree.{HasNamesWith, HasTreeWith}
@@ -27,10 +27,12 @@ use Rattle.minix_zones.specs.declared.volume.Volume.{Volume}
 use Rattle.minix_zones.specs.declared.zone_fault.ZoneFault.{ZoneFault}
 use Rattle.minix_zones.specs.declared.zone_fault.ZoneFault.TheVariants as zones
 use Rattle.ldisk_files.specs.Answer.{IsRemovable, IsSomeRemovable, write_fault}
+use Rattle.ldisk_files.specs.Inode.{ChangesInodeBy}
 use Rattle.ldisk_files.specs.Left.{HasNamesBetween, ChangesName}
 use Rattle.ldisk_files.specs.declared.fault.FileFault.{FileFault}
 use Rattle.ldisk_files.specs.declared.fault.FileFault.TheVariants.{Device}
 use Rattle.ldisk_files.proofs.FlushLemmas.{forth}
+use Rattle.ldisk_files.proofs.MarkLemmas.{removed-clear}
 use Rattle.ldisk_files.proofs.OutsideLemmas.{off-range, off-one}
 use Rattle.ldisk_files.proofs.UntoldLemmas.{leaves-untold, untouched-untold}
 use Rattle.ldisk_files.proofs.NameLemmas.{held-is, held-by, IsHeld}
@@ -152,6 +154,27 @@ module _ {D : Type 0} {disks : Ghosts D} (start new : Volume D disks) (directory
   pub not-removed : (fault : WriteFault) → Removes start new directory name (Err fault) → ChangesName start new path None (Err (write_fault fault))
   not-removed fault removes = changed start new directory name path (Err fault) removes laid may (Err (write_fault fault)) (λ told. tt)
       (λ told. ap write_fault (device-alone start new directory name path (Err fault) removes laid may told))
+
+-- what becomes of its inode
+pub inode-removed : {D : Type 0} {disks : Ghosts D} (start new : Volume D disks) (directory : ℕ) (name : List ℕ) (path : List (List ℕ))
+    → (IsTold (past_of start) → IsRemovable (volume_view start) (now (past_of start)) path directory name) → Removes start new directory name (Ok tt) → ChangesInodeBy start new path None (Ok tt)
+inode-removed start new directory name path may removes told =
+    let old = volume_view start in
+    let image = now (past_of new) in
+    let is = may told in
+    let it = held start new directory name path (Ok tt) removes is in
+    let same : volume_view new ≡ volume_view start = rw (removes.kept.same_span, removes.kept.same_layout) refl in
+    let file : RemovesFile old.layout (parts_of old (now (past_of start))) (parts_of old image) directory it.number =
+    subst (λ (v : model.Volume). RemovesFile old.layout (parts_of old (now (past_of start))) (parts_of v image) directory it.number) same
+    (removes.file told it.number (name-held start new directory name path (Ok tt) removes is)) in
+    record {
+      number = it.number;
+      led = it.leads;
+      lowered = file.lowered;
+      freed = file.freed;
+      marks = removed-clear old (now (past_of start)) image directory it.number file;
+      others = file.others;
+    }
 
 -- what may be removed is in a directory of the volume once the flush is made
 pub may-forth : {D : Type 0} {disks : Ghosts D} (old mid : Volume D disks) (first : Result (Unit {0}) ZoneFault) → Syncs old mid zones.Device first → (directory : ℕ) (name : List ℕ)

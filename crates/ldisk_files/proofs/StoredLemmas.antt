@@ -44,6 +44,7 @@ use Rattle.ldisk_files.specs.declared.put_fault.PutFault.TheVariants.{Source, Fi
 use Rattle.ldisk_files.specs.declared.stored.Stored.{Stored}
 use Rattle.ldisk_files.proofs.ContentLemmas.{whole-file, block-there, hole-zeros, kept-made, hole-made}
 use Rattle.ldisk_files.proofs.MadeLemmas.{promised-now}
+use Rattle.ldisk_files.proofs.MarkLemmas.{each-given, growth-lacked}
 use Rattle.ldisk_files.proofs.MakeLemmas.{told-mid, sound-mid, place-mid, may-back, may-at, new-place, new-answers}
 use Rattle.ldisk_files.proofs.NameLemmas.{after-survey, answers-surveyed}
 use Rattle.ldisk_files.proofs.PlaceLemmas.{pass-new}
@@ -197,6 +198,8 @@ module _ {D : Type 0} {disks : Ghosts D} (old last : Volume D disks) (same : Sam
         is = file-is (kind_view last.layout.kind) chosen bytes mode (is.made.size ∙ is.wish_is.long)
             (holes-zero (volume_view last) (now (past_of last)) place bytes wish is.wish_is chosen first choice);
         holes = holes-kept (volume_view last) (now (past_of last)) place bytes wish is.wish_is chosen first choice;
+        each = each-given (volume_view last) (now (past_of last)) wish chosen choice;
+        lacks = growth-lacked (volume_view last) (now (past_of last)) wish chosen choice is.made.directory;
       } in
       record {
         named = is.made.name ∙ is.wish_is.name;

@@ -24,7 +24,7 @@ use Rattle.minix_zones.specs.declared.zone_fault.ZoneFault.{ZoneFault}
 use Rattle.minix_zones.specs.declared.zone_fault.ZoneFault.TheVariants as zones
 use Rattle.ldisk_model.specs.FileVerdict.{Making, NewFile, checked_status, thing_made, sound_check, new_check, made_check}
 use Rattle.ldisk_files.specs.Answer.{HasFileCause, zone_fault}
-use Rattle.ldisk_files.specs.Inode.{MakesInodeBy}
+use Rattle.ldisk_files.specs.Inode.{ChangesInodeBy}
 use Rattle.ldisk_files.specs.Left.{ChangesName}
 use Rattle.ldisk_files.specs.Made.{MayMake, MayMakeSome, MayMakeAt}
 use Rattle.ldisk_files.specs.Stored.{padded_block, padded_blocks, IsGiven, OnGiven, HasDiskCause, GivesStored, IsStorable, IsUnread, IsUnreadAt, StoresOn, Stores, file_fault}
@@ -34,7 +34,7 @@ use Rattle.ldisk_files.specs.declared.stored.Stored.{Stored}
 use Rattle.ldisk_files.proofs.ContentLemmas.{block-there}
 use Rattle.ldisk_files.proofs.InodeLemmas.{inode-at, inode-in}
 use Rattle.ldisk_files.proofs.MakeLemmas.{may-some, made-on, made-answer}
-use Rattle.ldisk_files.proofs.PathLemmas.{refused-on, answers-at, leaves-at, no-volume, refused-names, check-is}
+use Rattle.ldisk_files.proofs.PathLemmas.{refused-on, answers-at, leaves-at, no-volume, refused-names, check-is, unwritten-same, unwritten-span, unwritten-passed, unwritten-at}
 use Rattle.ldisk_files.proofs.StoredLemmas.{on-given, given-all, given-map, answers-as}
 
 -- ---- the next block
@@ -75,6 +75,7 @@ module _ {D : Type 0} {disks : Ghosts D} (old mid : Volume D disks) (same : Same
         answers = told_map (past_of old) _ _ (λ now is. answers-as Stored (Unit {0}) (sound_check (made_check (NewFile given) text) (volume_view old) now) (file_fault fault) is) gives;
         leaves = refused-on old mid same later text (Some (File given)) (file_fault fault) cause;
         inode = λ told. tt;
+        unwritten = unwritten-same (past_of old) (past_of mid) (made_check (NewFile given) text) (volume_view old) same.same_disks.same_past;
       }) takes
 
   -- it was stored, or the disk failed
@@ -96,7 +97,7 @@ module _ {D : Type 0} {disks : Ghosts D} (old mid : Volume D disks) (same : Same
         (changes-held : (made : Making) (outer : List (List ℕ)) → (IsTold (past_of mid) → MayMake mid outer made stored.chosen (padded_blocks bytes))
         → ChangesName mid new (stored.chosen.name ∷ outer) (Some (thing_made made)) result)
         (makes-held : (made : Making) (outer : List (List ℕ)) → (IsTold (past_of mid) → MayMake mid outer made stored.chosen (padded_blocks bytes))
-        → MakesInodeBy mid new (stored.chosen.name ∷ outer) made stored.chosen.time result)
+        → ChangesInodeBy mid new (stored.chosen.name ∷ outer) (Some (made, stored.chosen.time)) result)
         (quiet : OnOk result (IsQuiet (past_of new))) (cause : IfErr result (HasFileCause (faults_of mid) (faults_of new))) where
       changes : (made : Making) (outer : List (List ℕ)) → (IsTold (past_of mid) → MayMake mid outer made stored.chosen (padded_blocks stored.bytes.items))
           → ChangesName mid new (stored.chosen.name ∷ outer) (Some (thing_made made)) result
@@ -104,9 +105,9 @@ module _ {D : Type 0} {disks : Ghosts D} (old mid : Volume D disks) (same : Same
           → ChangesName mid new (stored.chosen.name ∷ outer) (Some (thing_made made)) result) held changes-held
 
       makes : (made : Making) (outer : List (List ℕ)) → (IsTold (past_of mid) → MayMake mid outer made stored.chosen (padded_blocks stored.bytes.items))
-          → MakesInodeBy mid new (stored.chosen.name ∷ outer) made stored.chosen.time result
+          → ChangesInodeBy mid new (stored.chosen.name ∷ outer) (Some (made, stored.chosen.time)) result
       makes = subst (λ (b : List ℕ). (made : Making) (outer : List (List ℕ)) → (IsTold (past_of mid) → MayMake mid outer made stored.chosen (padded_blocks b))
-          → MakesInodeBy mid new (stored.chosen.name ∷ outer) made stored.chosen.time result) held makes-held
+          → ChangesInodeBy mid new (stored.chosen.name ∷ outer) (Some (made, stored.chosen.time)) result) held makes-held
 
       pub is-stored : OnGiven left (λ given. StoresOn old new text given time result)
       is-stored = on-given (λ given. StoresOn old new text given time result) left stored.bytes.items is
@@ -114,6 +115,7 @@ module _ {D : Type 0} {disks : Ghosts D} (old mid : Volume D disks) (same : Same
             answers = made-answer old mid same text (NewFile stored.bytes.items) stored.chosen (padded_blocks stored.bytes.items) stored may takes later new result changes quiet cause;
             leaves = made-on old mid same text (NewFile stored.bytes.items) stored.chosen (padded_blocks stored.bytes.items) stored may takes later new result changes quiet cause;
             inode = inode-at old mid same text (NewFile stored.bytes.items) stored.chosen (padded_blocks stored.bytes.items) may time wished new result makes;
+            unwritten = unwritten-passed (past_of old) (past_of new) (made_check (NewFile stored.bytes.items) text) (volume_view old) takes;
           })
 
 -- ---- on the volume in a span
@@ -127,6 +129,7 @@ module _ {D : Type 0} (disks : Ghosts D) (old : D) (span : Span) (text : List �
     answers = told_map (disks.past old) _ _ (λ now is. no-volume (made_check (NewFile given) text) now span fault is) refuses;
     leaves = refused-names disks old span text (Some (File given)) new same later fault rose;
     inode = λ told. tt;
+    unwritten = unwritten-span (disks.past old) (disks.past new) (made_check (NewFile given) text) span same.same_past;
   })
 
   module _ (volume new : Volume D disks) (same : SameOf disks old volume.disks.now) (later : disks.faults old ≤ faults_of volume) (place : span_view volume.span ≡ span)
@@ -137,7 +140,8 @@ module _ {D : Type 0} (disks : Ghosts D) (old : D) (span : Span) (text : List �
         (λ given on. record {
           answers = answers-at disks old span text (Some (File given)) volume new same later place is result (made_check (NewFile given) text) on.answers;
           leaves = leaves-at disks old span text (Some (File given)) volume new same later place is result on.leaves;
-          inode = inode-in disks old span text (NewFile given) time volume new same is result on.inode;
+          inode = inode-in disks old span text (Some (NewFile given, time)) volume new same is result on.inode;
+          unwritten = unwritten-at disks old span text (Some (File given)) volume new same later place is (made_check (NewFile given) text) on.unwritten;
         }) stores
 
     pub unread-at : {I : Type 0} (before after : I) → IsUnread (past_of volume) (volume_view volume) text before after → IsUnreadAt (disks.past old) span text before after

@@ -1,7 +1,8 @@
 -- How what was done compares with what the definitions give.
-use Rattle.std.specs.Prelude.{◌≡◌, ◌<◌, ◌*◌, ℕ, Bool, true, false, List, length, IsErr, Option, Some, None, Result, Ok, Err}
+use Rattle.std.specs.Prelude.{◌≡◌, ◌≢◌, ◌<◌, ◌*◌, ℕ, Bool, true, false, List, length, IsErr, Option, Some, None, Result, Ok, Err}
 use Rattle.disk_trait.specs.Moments.{now}
-use Rattle.lilo_model.specs.Disks.{Image}
+use Rattle.disk_trait.specs.Past.{Past, Told}
+use Rattle.lilo_model.specs.Disks.{Image, Span}
 use Rattle.lilo_model.specs.Faults.{Rose}
 use Rattle.lilo_model.specs.MinixLayout.{super_at, super_sector}
 use Rattle.lilo_model.specs.MinixNames.{names_in, IsSound}
@@ -22,7 +23,7 @@ use Rattle.minix_choice.specs.declared.write_fault.WriteFault.{WriteFault}
 use Rattle.minix_choice.specs.declared.write_fault.WriteFault.TheVariants as writes
 use Rattle.minix_zones.specs.declared.zone_fault.ZoneFault.{ZoneFault}
 use Rattle.minix_zones.specs.declared.zone_fault.ZoneFault.TheVariants as zones
-use Rattle.ldisk_model.specs.FileVerdict.{FileRefusal, checked_status, sound_check, gone_check, is_removable_thing}
+use Rattle.ldisk_model.specs.FileVerdict.{FileRefusal, checked_status, sound_check, volume_check, gone_check, is_removable_thing}
 use Rattle.ldisk_files.specs.declared.fault.FileFault.{FileFault}
 use Rattle.ldisk_files.specs.declared.fault.FileFault.TheVariants.{Refused, BadLength, NoSpace, Device, Memory}
 
@@ -52,6 +53,16 @@ HasFileCause before now fault = Unit {0}
 abbrev pub is_refusal : FileFault → Bool
 is_refusal Device = false
 is_refusal fault = true
+
+-- ---- before anything is written
+
+-- where a check of a volume refuses there was no event, whatever is answered
+abbrev pub IsUnwritten : {A : Type 0} → Option Past → Option Past → Volume → (Volume → Image → Result A FileRefusal) → Type 0
+IsUnwritten old new volume check = Told old (λ now. checked_status (sound_check check volume now) ≢ 0 → new ≡ old)
+
+-- the same of the volume in a span
+abbrev pub IsUnwrittenAt : {A : Type 0} → Option Past → Option Past → Span → (Volume → Image → Result A FileRefusal) → Type 0
+IsUnwrittenAt old new span check = Told old (λ now. checked_status (volume_check check now span) ≢ 0 → new ≡ old)
 
 -- ---- faults of the calls below
 

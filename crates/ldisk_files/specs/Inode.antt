@@ -1,6 +1,6 @@
--- The inode of what is made at a path: its mode, how many links it has, its owner, its times, and the holes of a file.
--- A path is a list of components, the last one first.
-use Rattle.std.specs.Prelude.{◌≡◌, ◌<◌, ℕ, true, List, length, replicate, Some, Result, Ok, OnOk}
+-- What becomes of inodes and bitmap bits where a name changes. The inode of what is made at a path has its mode, how many
+-- links it has, its owner, its times, and the holes of a file. A path is a list of components, the last one first.
+use Rattle.std.specs.Prelude.{◌≡◌, ◌<◌, ℕ, true, List, length, replicate, Option, Some, None, Result, Ok, OnOk}
 use Rattle.disk_trait.specs.declared.disks.Disks.{Ghosts}
 use Rattle.disk_trait.specs.Moments.{IsTold, now}
 use Rattle.lilo_model.specs.Disks.{Image, Span}
@@ -11,6 +11,7 @@ use Rattle.ldisk_model.specs.FileVerdict.{Making, NewDirectory, NewLink, NewFile
 use Rattle.minix_zones.specs.Volume.{volume_view, past_of}
 use Rattle.minix_zones.specs.declared.volume.Volume as held
 use Rattle.ldisk_files.specs.Made.{mode_made}
+use Rattle.ldisk_files.specs.Marks.{MarksNamed, HasGone}
 use Rattle.ldisk_files.specs.declared.fault.FileFault.{FileFault}
 
 -- a directory has its own `.` beside its name
@@ -28,8 +29,8 @@ HasHoles volume image number (NewFile bytes) =
     → zone_number volume.layout (parts_of volume image) number index ≡ 0
 
 -- in an image a path leads to an inode with the mode, the links and the holes of what is made at a time, owned by user 0
--- and group 0, with that time as each of its three
-pub record HasInode (volume : Volume) (image : Image) (path : List (List ℕ)) (making : Making) (time : ℕ) : Type 0 where
+-- and group 0, with that time as each of its three; and no bitmap bit is set without a use that wasn't in another image
+pub record HasInode (volume : Volume) (old : Image) (path : List (List ℕ)) (making : Making) (time : ℕ) (image : Image) : Type 0 where
   pub number : ℕ
   pub leads : reached volume.layout (parts_of volume image) path ≡ Some number
   pub mode : ((parts_of volume image).node number).mode ≡ mode_made making
@@ -38,37 +39,41 @@ pub record HasInode (volume : Volume) (image : Image) (path : List (List ℕ)) (
   pub group : ((parts_of volume image).node number).gid ≡ 0
   pub times : ((parts_of volume image).node number).times ≡ replicate 3 time
   pub holes : HasHoles volume image number making
+  pub marks : MarksNamed volume old image
 
--- so does the path that a text had in another image
-pub record HasInodeAt (volume : Volume) (old : Image) (text : List ℕ) (making : Making) (time : ℕ)
-    (image : Image) : Type 0 where
+-- ---- a name that comes or goes
+
+-- something was made at a path at a time, or what was there has gone
+abbrev pub HasChanged : Volume → Image → List (List ℕ) → Option (Making × ℕ) → Image → Type 0
+HasChanged volume old path (Some made) image = HasInode volume old path made.0 made.1 image
+HasChanged volume old path None image = HasGone volume old path image
+
+-- so it is at the path that a text had in another image
+pub record HasChangedAt (volume : Volume) (old : Image) (text : List ℕ) (made : Option (Making × ℕ)) (image : Image) : Type 0 where
   pub path : List (List ℕ)
   pub at : name_path (names_in volume old) text ≡ Ok path
-  pub has : HasInode volume image path making time
+  pub has : HasChanged volume old path made image
 
 -- on the volume that was in a span
-pub record HasInodeIn (span : Span) (old : Image) (text : List ℕ) (making : Making) (time : ℕ)
-    (image : Image) : Type 0 where
+pub record HasChangedIn (span : Span) (old : Image) (text : List ℕ) (made : Option (Making × ℕ)) (image : Image) : Type 0 where
   pub volume : Volume
   pub is : volume_at old span ≡ Ok volume
-  pub has : HasInodeAt volume old text making time image
+  pub has : HasChangedAt volume old text made image
 
--- once a call made something at a text's path at a time it is there with its inode
-abbrev pub MakesInode : {D : Type 0} → Ghosts D → D → D → Span → List ℕ → Making → ℕ → Result (Unit {0}) FileFault
+-- so it is once a call changed the name at a text's path
+abbrev pub ChangesInode : {D : Type 0} → Ghosts D → D → D → Span → List ℕ → Option (Making × ℕ) → Result (Unit {0}) FileFault
     → Type 0
-MakesInode disks old new span text making time result =
-    IsTold (disks.past old)
-    → OnOk result (HasInodeIn span (now (disks.past old)) text making time (now (disks.past new)))
+ChangesInode disks old new span text made result =
+    IsTold (disks.past old) → OnOk result (HasChangedIn span (now (disks.past old)) text made (now (disks.past new)))
 
 -- the same of a volume that is held
-abbrev pub MakesInodeAt : {D : Type 0} {disks : Ghosts D} → held.Volume D disks → held.Volume D disks → List ℕ → Making → ℕ
-    → Result (Unit {0}) FileFault → Type 0
-MakesInodeAt old new text making time result =
-    IsTold (past_of old)
-    → OnOk result (HasInodeAt (volume_view old) (now (past_of old)) text making time (now (past_of new)))
+abbrev pub ChangesInodeAt : {D : Type 0} {disks : Ghosts D} → held.Volume D disks → held.Volume D disks → List ℕ
+    → Option (Making × ℕ) → Result (Unit {0}) FileFault → Type 0
+ChangesInodeAt old new text made result =
+    IsTold (past_of old) → OnOk result (HasChangedAt (volume_view old) (now (past_of old)) text made (now (past_of new)))
 
 -- and by its path
-abbrev pub MakesInodeBy : {D : Type 0} {disks : Ghosts D} → held.Volume D disks → held.Volume D disks → List (List ℕ)
-    → Making → ℕ → Result (Unit {0}) FileFault → Type 0
-MakesInodeBy old new path making time result =
-    IsTold (past_of old) → OnOk result (HasInode (volume_view old) (now (past_of new)) path making time)
+abbrev pub ChangesInodeBy : {D : Type 0} {disks : Ghosts D} → held.Volume D disks → held.Volume D disks → List (List ℕ)
+    → Option (Making × ℕ) → Result (Unit {0}) FileFault → Type 0
+ChangesInodeBy old new path made result =
+    IsTold (past_of old) → OnOk result (HasChanged (volume_view old) (now (past_of old)) path made (now (past_of new)))

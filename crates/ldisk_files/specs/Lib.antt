@@ -1,5 +1,6 @@
 pub mod Answer
 pub mod Left
 pub mod Made
+pub mod Marks
 pub mod Inode
 pub mod Stored

@@ -1,11 +1,12 @@
 -- What is checked and chosen for something new (a rule of this project's own). A path is a list of components, the last
 -- one first.
-use Rattle.std.specs.Prelude.{◌≡◌, ◌≤◌, ◌<◌, ◌-◌, ℕ, Bool, true, nat_le, List, [], ◌∷◌, ◌++◌, length, replicate, slice_index, None, Result, Ok, Err}
+use Rattle.std.specs.Prelude.{◌≡◌, ◌≤◌, ◌<◌, ◌-◌, ◌/◌, ◌⊎◌, ℕ, Bool, true, nat_le, List, [], ◌∷◌, ◌++◌, length, replicate, slice_index, None, Result, Ok, Err}
 use Rattle.disk_trait.specs.declared.disks.Disks.{Ghosts}
 use Rattle.disk_trait.specs.declared.disks.Span.{Span}
 use Rattle.disk_trait.specs.Moments.{now}
 use Rattle.lilo_model.specs.Checks.{with_fault}
 use Rattle.lilo_model.specs.Disks.{Image}
+use Rattle.lilo_model.specs.MinixEntries.{entries_per_block}
 use Rattle.lilo_model.specs.MinixLayout.{Kind}
 use Rattle.lilo_model.specs.MinixNames.{reached, names_in, IsSound}
 use Rattle.lilo_model.specs.MinixParts as model
@@ -14,8 +15,11 @@ use Rattle.lilo_model.specs.NamePlaces.{name_path, plain_path}
 use Rattle.ldisk_model.specs.FileVerdict as makings
 use Rattle.ldisk_model.specs.FileVerdict.{NewDirectory, NewLink, NewFile, NoSpace, new_check, making_check, checked_status, size_made, nothing_taken}
 use Rattle.ldisk_model.specs.FileVerdict.{thing_made, is_zero_block, stored_block}
+use Rattle.minix_choice_laws.specs.Choice.{file_of}
+use Rattle.minix_choice_laws.specs.Sources.{Source, zone_from}
 use Rattle.minix_create.specs.Chosen.{Suits, HasDots, IsFreeNow, MayLinkNow, MayNest, MayBeMade, block_of, thing_with}
 use Rattle.minix_create.specs.declared.chosen.Chosen.{Chosen}
+use Rattle.minix_grow.specs.Way.{depth_of, number_above}
 use Rattle.minix_layout.specs.View.{kind_view}
 use Rattle.minix_layout.specs.declared.superblock.Super as layouts
 use Rattle.minix_names.specs.Places.{LeadsToDirectory, IsPlace}
@@ -23,7 +27,7 @@ use Rattle.minix_names.specs.declared.place.NamePlace.{NamePlace}
 use Rattle.minix_choice.specs.declared.wish.Wish.{Wish}
 use Rattle.minix_zones.specs.Volume.{volume_view, past_of}
 use Rattle.minix_zones.specs.declared.volume.Volume.{Volume}
-use Rattle.write_model.specs.Choice.{choose_blocks}
+use Rattle.write_model.specs.Choice.{Choice, choose_blocks}
 use Rattle.write_model.specs.FileZones.{data_blocks}
 use Rattle.ldisk_files.specs.Answer.{Answers}
 use Rattle.ldisk_files.specs.declared.fault.FileFault.{FileFault}
@@ -132,6 +136,20 @@ KeepsHoles (NewFile bytes) chosen =
     (index : ℕ) → index < blocks_for (length bytes) → is_zero_block (stored_block bytes index) ≡ true
     → (index < length chosen.choice.blocks) × (slice_index chosen.choice.blocks index ≡ 0)
 
+-- each zone that was chosen is that of a block or an indirect zone, or one by which the directory grows
+abbrev pub GivesEach : Choice → Type 0
+GivesEach choice =
+    (i : ℕ) → i < length choice.zones
+    → ((source : Source) × (zone_from (file_of choice) source ≡ slice_index choice.zones i))
+    ⊎ ((level : ℕ) × (level < length choice.growth) × (slice_index choice.growth level ≡ slice_index choice.zones i))
+
+-- each zone by which the directory grows is missing on the way to the place of the name
+abbrev pub LacksGrowth : model.Volume → Image → Chosen → Type 0
+LacksGrowth volume image chosen =
+    (level : ℕ) → level < length chosen.choice.growth
+    → (level ≤ depth_of volume.layout.kind (chosen.choice.place / entries_per_block volume.layout.kind))
+    × (number_above volume.layout (parts_of volume image) chosen.directory (chosen.choice.place / entries_per_block volume.layout.kind) level ≡ 0)
+
 -- on a volume it may be made now of these blocks, in the directory that a path leads to
 pub record MayMake {D : Type 0} {disks : Ghosts D} (volume : Volume D disks) (outer : List (List ℕ)) (making : makings.Making) (chosen : Chosen)
     (blocks : List (List ℕ)) : Type 0 where
@@ -142,6 +160,8 @@ pub record MayMake {D : Type 0} {disks : Ghosts D} (volume : Volume D disks) (ou
   pub made : MayBeMade (kind_view volume.layout.kind) chosen (block_of blocks)
   pub is : thing_with chosen (block_of blocks) ≡ thing_made making
   pub holes : KeepsHoles making chosen
+  pub each : GivesEach chosen.choice
+  pub lacks : LacksGrowth (volume_view volume) (now (past_of volume)) chosen
 
 -- something may be made somewhere
 pub record MayMakeSome {D : Type 0} {disks : Ghosts D} (volume : Volume D disks) (chosen : Chosen) (blocks : List (List ℕ)) : Type 0 where

@@ -19,8 +19,8 @@ use Rattle.minix_zones.specs.Volume.{volume_view, past_of}
 use Rattle.minix_zones.specs.declared.volume.Volume.{Volume}
 use Rattle.ldisk_model.specs.FileVerdict.{NewFile, stored_block, most_stored, zero_blocks, checked_status, volume_check, sound_check, new_check, room_check}
 use Rattle.ldisk_model.specs.FileVerdict.{made_check}
-use Rattle.ldisk_files.specs.Answer.{Answers, HasFileCause, IsSurveyed, fault_status}
-use Rattle.ldisk_files.specs.Inode.{MakesInode, MakesInodeAt}
+use Rattle.ldisk_files.specs.Answer.{Answers, HasFileCause, IsSurveyed, IsUnwritten, IsUnwrittenAt, fault_status}
+use Rattle.ldisk_files.specs.Inode.{ChangesInode, ChangesInodeAt}
 use Rattle.ldisk_files.specs.Left.{LeavesOn, LeavesNames}
 use Rattle.ldisk_files.specs.Made.{IsNewAt, IsNewPlace}
 use Rattle.ldisk_files.specs.declared.fault.FileFault.{FileFault}
@@ -148,11 +148,13 @@ pub record StoresOn {D : Type 0} {disks : Ghosts D} (old new : Volume D disks) (
     (result : Result (Unit {0}) FileFault) : Type 0 where
   pub answers : GivesStored (past_of old) (volume_view old) text given result
   pub leaves : LeavesOn old new text (Some (File given)) result
-  pub inode : MakesInodeAt old new text (NewFile given) time result
+  pub inode : ChangesInodeAt old new text (Some (NewFile given, time)) result
+  pub unwritten : IsUnwritten (past_of old) (past_of new) (volume_view old) (made_check (NewFile given) text)
 
 -- the same of the volume in a span
 pub record Stores {D : Type 0} (disks : Ghosts D) (old new : D) (span : images.Span) (text given : List ℕ) (time : ℕ)
     (result : Result (Unit {0}) FileFault) : Type 0 where
   pub answers : Told (disks.past old) (λ now. Answers (volume_check (made_check (NewFile given) text) now span) result)
   pub leaves : LeavesNames disks old new span text (Some (File given)) result
-  pub inode : MakesInode disks old new span text (NewFile given) time result
+  pub inode : ChangesInode disks old new span text (Some (NewFile given, time)) result
+  pub unwritten : IsUnwrittenAt (disks.past old) (disks.past new) span (made_check (NewFile given) text)

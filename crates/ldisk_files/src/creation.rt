@@ -15,8 +15,8 @@ ghost use Rattle.ldisk_model.specs.FileVerdict.{
 ghost use Rattle.minix_names.specs.Component.{HasNoZero};
 ghost use Rattle.minix_zones.specs.View.{span_view};
 ghost use Rattle.minix_zones.specs.Volume.{volume_view, past_of, faults_of};
-ghost use Rattle.ldisk_files.specs.Answer.{Answers, IsLaid, HasFileCause};
-ghost use Rattle.ldisk_files.specs.Inode.{MakesInode, MakesInodeAt, MakesInodeBy};
+ghost use Rattle.ldisk_files.specs.Answer.{Answers, IsLaid, IsUnwritten, IsUnwrittenAt, HasFileCause};
+ghost use Rattle.ldisk_files.specs.Inode.{ChangesInode, ChangesInodeAt, ChangesInodeBy};
 ghost use Rattle.ldisk_files.specs.Left.{ChangesName, LeavesOn, LeavesNames};
 ghost use Rattle.ldisk_files.specs.Made.{IsReady, MayMake, MayMakeSome, making_view};
 
@@ -38,7 +38,8 @@ fn make_ready<'d, D: Disks>(volume: Volume<'d, D>, ready: Ready) -> Ended<'d, D>
         → ChangesName volume.entry result.volume (ready.chosen.name ∷ outer) (Some (thing_made made)) result.result }
     ensures inode { (made : model.Making) (outer : List (List ℕ))
         → (IsTold (past_of volume.entry) → MayMake volume.entry outer made ready.chosen (ready.block ∷ []))
-        → MakesInodeBy volume.entry result.volume (ready.chosen.name ∷ outer) made ready.chosen.time result.result }
+        → ChangesInodeBy volume.entry result.volume (ready.chosen.name ∷ outer) (Some (made, ready.chosen.time))
+        result.result }
     ensures quiet { OnOk result.result (IsQuiet (past_of result.volume)) }
     ensures cause { IfErr result.result (HasFileCause (faults_of volume.entry) (faults_of result.volume)) }
     ensures same_reference { result.volume.disks.ghost_name ≡ volume.entry.disks.ghost_name }
@@ -77,7 +78,10 @@ fn make_path<'d, D: Disks>(
         (sound_check (made_check (making_view making.now) path.now) (volume_view volume.entry) now) result.result) }
     ensures leaves { LeavesOn volume.entry result.volume path.now
         (Some (thing_made (making_view making.now))) result.result }
-    ensures inode { MakesInodeAt volume.entry result.volume path.now (making_view making.now) time result.result }
+    ensures inode { ChangesInodeAt volume.entry result.volume path.now
+        (Some (making_view making.now, time)) result.result }
+    ensures unwritten { IsUnwritten (past_of volume.entry) (past_of result.volume) (volume_view volume.entry)
+        (made_check (making_view making.now) path.now) }
     ensures same_reference { result.volume.disks.ghost_name ≡ volume.entry.disks.ghost_name }
 {
     let mut volume = volume;
@@ -107,8 +111,10 @@ fn make<D: Disks>(
         Answers (volume_check (made_check (making_view making.now) path.now) now (span_view span)) result) }
     ensures leaves { LeavesNames D.Disks disks.old disks.new (span_view span) path.now
         (Some (thing_made (making_view making.now))) result }
-    ensures inode { MakesInode D.Disks disks.old disks.new (span_view span) path.now (making_view making.now) time
-        result }
+    ensures inode { ChangesInode D.Disks disks.old disks.new (span_view span) path.now
+        (Some (making_view making.now, time)) result }
+    ensures unwritten { IsUnwrittenAt (D.past disks.old) (D.past disks.new) (span_view span)
+        (made_check (making_view making.now) path.now) }
 {
     match Volume::attach(disks, span) {
         Ok(volume) => make_path(alloc, volume, path, making, time).result,
@@ -124,7 +130,8 @@ fn make<D: Disks>(
 ///
 /// # Errors
 ///
-/// `Refused`, `NoSpace` and `Memory`: then nothing was done. `Device`: then the directory is there or isn't.
+/// `Refused`, `NoSpace` and `Memory`: then nothing was done. `Device`: then the directory is there or isn't, and where a
+/// check refuses nothing was done.
 pub fn mkdir<D: Disks>(
     alloc: Global,
     disks: &mut D,
@@ -139,7 +146,10 @@ pub fn mkdir<D: Disks>(
     ensures answers { Told (D.past disks.old) (λ now.
         Answers (volume_check (made_check NewDirectory path.now) now (span_view span)) result) }
     ensures leaves { LeavesNames D.Disks disks.old disks.new (span_view span) path.now (Some Directory) result }
-    ensures inode { MakesInode D.Disks disks.old disks.new (span_view span) path.now NewDirectory time result }
+    ensures inode { ChangesInode D.Disks disks.old disks.new (span_view span) path.now (Some (NewDirectory, time))
+        result }
+    ensures unwritten { IsUnwrittenAt (D.past disks.old) (D.past disks.new) (span_view span)
+        (made_check NewDirectory path.now) }
 {
     make(alloc, disks, span, path, &Making::Directory, time)
 }
@@ -165,7 +175,10 @@ pub fn ln<D: Disks>(
     ensures answers { Told (D.past disks.old) (λ now.
         Answers (volume_check (made_check (NewLink target.now) path.now) now (span_view span)) result) }
     ensures leaves { LeavesNames D.Disks disks.old disks.new (span_view span) path.now (Some (Link target.now)) result }
-    ensures inode { MakesInode D.Disks disks.old disks.new (span_view span) path.now (NewLink target.now) time result }
+    ensures inode { ChangesInode D.Disks disks.old disks.new (span_view span) path.now
+        (Some (NewLink target.now, time)) result }
+    ensures unwritten { IsUnwrittenAt (D.past disks.old) (D.past disks.new) (span_view span)
+        (made_check (NewLink target.now) path.now) }
 {
     make(alloc, disks, span, path, &Making::Link(target), time)
 }

@@ -5,8 +5,17 @@ ghost use Rattle.disk_trait.specs.Moments.{IsTold, now, IsQuiet, IsWhole};
 ghost use Rattle.minix_tree.specs.View.{IsStat};
 ghost use Rattle.minix_zones.specs.View.{span_view};
 ghost use Rattle.minix_zones.specs.Volume.{volume_view, past_of, faults_of};
-ghost use Rattle.ldisk_files.specs.Answer.{Answers, IsLaid, IsRemovable, IsSomeRemovable, HasFileCause};
+ghost use Rattle.ldisk_files.specs.Answer.{
+  Answers,
+  HasFileCause,
+  IsLaid,
+  IsRemovable,
+  IsSomeRemovable,
+  IsUnwritten,
+  IsUnwrittenAt,
+};
 ghost use Rattle.ldisk_model.specs.FileVerdict.{volume_check, sound_check, gone_check};
+ghost use Rattle.ldisk_files.specs.Inode.{ChangesInode, ChangesInodeAt, ChangesInodeBy};
 ghost use Rattle.ldisk_files.specs.Left.{ChangesName, LeavesOn, LeavesNames};
 
 use crate::check::find_checked;
@@ -27,6 +36,10 @@ fn remove_name<'d, D: Disks>(volume: Volume<'d, D>, place: &NamePlace<'_>) -> En
         → IsRemovable (volume_view volume.entry)
         (now (past_of volume.entry)) path place.now.directory.inode place.now.name.now)
         → ChangesName volume.entry result.volume path None result.result }
+    ensures inode { (path : List (List ℕ)) → (IsTold (past_of volume.entry)
+        → IsRemovable (volume_view volume.entry)
+        (now (past_of volume.entry)) path place.now.directory.inode place.now.name.now)
+        → ChangesInodeBy volume.entry result.volume path None result.result }
     ensures quiet { OnOk result.result (IsQuiet (past_of result.volume)) }
     ensures cause { IfErr result.result (HasFileCause (faults_of volume.entry) (faults_of result.volume)) }
     ensures same_reference { result.volume.disks.ghost_name ≡ volume.entry.disks.ghost_name }
@@ -56,6 +69,9 @@ fn remove_path<'d, D: Disks>(alloc: Global, volume: Volume<'d, D>, path: &[u8]) 
     ensures answers { Told (past_of volume.entry)
         (λ now. Answers (sound_check (gone_check path.now) (volume_view volume.entry) now) result.result) }
     ensures leaves { LeavesOn volume.entry result.volume path.now None result.result }
+    ensures inode { ChangesInodeAt volume.entry result.volume path.now None result.result }
+    ensures unwritten { IsUnwritten (past_of volume.entry) (past_of result.volume) (volume_view volume.entry)
+        (gone_check path.now) }
     ensures same_reference { result.volume.disks.ghost_name ≡ volume.entry.disks.ghost_name }
 {
     let mut volume = volume;
@@ -74,7 +90,8 @@ fn remove_path<'d, D: Disks>(alloc: Global, volume: Volume<'d, D>, path: &[u8]) 
 ///
 /// # Errors
 ///
-/// `Refused` and `Memory`: then nothing was done. `Device`: then the name is there or gone.
+/// `Refused` and `Memory`: then nothing was done. `Device`: then the name is there or gone, and where a check refuses
+/// nothing was done.
 pub fn rm<D: Disks>(alloc: Global, disks: &mut D, span: Span, path: &[u8]) -> Result<(), FileFault>
     requires on_disk { span.start + span.count ≤ D.size_of disks.old span.disk }
     requires room { 4 ≤ span.count }
@@ -82,6 +99,8 @@ pub fn rm<D: Disks>(alloc: Global, disks: &mut D, span: Span, path: &[u8]) -> Re
     ensures answers { Told (D.past disks.old) (λ now.
         Answers (volume_check (gone_check path.now) now (span_view span)) result) }
     ensures leaves { LeavesNames D.Disks disks.old disks.new (span_view span) path.now None result }
+    ensures inode { ChangesInode D.Disks disks.old disks.new (span_view span) path.now None result }
+    ensures unwritten { IsUnwrittenAt (D.past disks.old) (D.past disks.new) (span_view span) (gone_check path.now) }
 {
     match Volume::attach(disks, span) {
         Ok(volume) => remove_path(alloc, volume, path).result,

@@ -13,7 +13,7 @@ ghost use Rattle.minix_choice.specs.View.{HasWriteCause};
 ghost use Rattle.minix_zones.specs.View.{span_view};
 ghost use Rattle.minix_zones.specs.Volume.{volume_view, past_of, faults_of};
 ghost use Rattle.ldisk_files.specs.Answer.{IsLaid, HasFileCause};
-ghost use Rattle.ldisk_files.specs.Inode.{MakesInodeBy};
+ghost use Rattle.ldisk_files.specs.Inode.{ChangesInodeBy};
 ghost use Rattle.ldisk_files.specs.Left.{ChangesName};
 ghost use Rattle.ldisk_files.specs.Made.{MayMake, MayMakeSome};
 ghost use Rattle.ldisk_files.specs.Stored.{
@@ -87,7 +87,7 @@ fn store_bytes<'d, D: Disks>(volume: Volume<'d, D>, chosen: Chosen, bytes: &[u8]
         → ChangesName volume.entry result.volume (chosen.name ∷ outer) (Some (thing_made made)) result.result }
     ensures inode { (made : model.Making) (outer : List (List ℕ))
         → (IsTold (past_of volume.entry) → MayMake volume.entry outer made chosen (padded_blocks bytes.now))
-        → MakesInodeBy volume.entry result.volume (chosen.name ∷ outer) made chosen.time result.result }
+        → ChangesInodeBy volume.entry result.volume (chosen.name ∷ outer) (Some (made, chosen.time)) result.result }
     ensures quiet { OnOk result.result (IsQuiet (past_of result.volume)) }
     ensures cause { IfErr result.result (HasFileCause (faults_of volume.entry) (faults_of result.volume)) }
     ensures same_reference { result.volume.disks.ghost_name ≡ volume.entry.disks.ghost_name }
@@ -169,7 +169,7 @@ fn ended_put<D: Disks>(ended: Ended<'_, D>) -> PutEnded<'_, D>
 /// # Errors
 ///
 /// `Source`, and in `File` `Refused`, then `BadLength` where there are more than 67,108,864 bytes, `NoSpace` and
-/// `Memory`: then nothing was done. `Device`: then the file is there or isn't.
+/// `Memory`: then nothing was done. `Device`: then the file is there or isn't, and where a check refuses nothing was done.
 pub fn put<D: Disks, I: Source>(
     alloc: Global,
     disks: &mut D,

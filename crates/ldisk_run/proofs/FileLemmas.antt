@@ -11,7 +11,7 @@ use Rattle.disk_trait.specs.Range.{IsOutside}
 use Rattle.disk_trait.proofs.CallLemmas.{goes_on_same, goes_on_join}
 use Rattle.disk_trait.proofs.MomentLemmas.{leaves_none, leaves_weaker, told_now}
 use Rattle.disk_trait.proofs.NotWrittenLemmas.{not_written_flushed}
-use Rattle.disk_trait.proofs.ToldLemmas.{told_all}
+use Rattle.disk_trait.proofs.ToldLemmas.{told_all, told_both}
 use Rattle.lilo_model.specs.Checks.{◌>>=◌, with_fault}
 use Rattle.lilo_model.specs.Devices as devices
 use Rattle.lilo_model.specs.Disks.{Machine, Span}
@@ -19,13 +19,14 @@ use Rattle.lilo_model.specs.Faults.{Rose}
 use Rattle.lilo_model.specs.LdiskVerdict.{Refusal, room_of, silent}
 use Rattle.lilo_model.specs.Partitions.{TableFault, span_of}
 use Rattle.mbr_table.specs.View.{span_view}
-use Rattle.sector_address.specs.Machine.{machine_of}
+use Rattle.mbr_table.proofs.ToldLemmas.{told_before}
+use Rattle.sector_address.specs.Machine.{OnDisks, machine_of}
 use Rattle.ldisk_model.specs.Arguments.{Command, Put, Rm, Mkdir, Ln}
 use Rattle.ldisk_model.specs.FileVerdict.{FileRefusal, NoRoom, NameChange, NewDirectory, NewLink, NewFile, volume_check, device_check, gone_check, made_check, removal, addition, checked_status}
 use Rattle.ldisk_model.specs.Verdict.{command_verdict, image_after, is_in, is_in_found, may_write, name_change, only_reads}
 use Rattle.lilo_model.specs.MinixParts.{Volume}
 use Rattle.lilo_model.specs.Verdict.{Verdict}
-use Rattle.ldisk_files.specs.Answer.{Answers, HasFileCause, is_refusal as is_file_refusal}
+use Rattle.ldisk_files.specs.Answer.{Answers, HasFileCause, IsUnwrittenAt, is_refusal as is_file_refusal}
 use Rattle.ldisk_files.specs.Left.{HasSoundVolume, IsNamed, IsEither, LeavesNames}
 use Rattle.ldisk_files.specs.declared.fault.FileFault.{FileFault}
 use Rattle.ldisk_files.specs.declared.fault.FileFault.TheVariants as faults
@@ -179,8 +180,8 @@ module _ (given : List ℕ) (command : Command) (change : NameChange) (check : V
     after-as image left machine time changed = subst (λ (c : Option NameChange). IsAfterChange image machine time c (image_after image machine time command) left) (sym is-one.names) changed
 
   module _ {D : Type 0} (disks : Ghosts D) (old new : D) (same : SameOf disks old new) (later : disks.faults old ≤ disks.faults new) (status : ℕ) (some : status ≢ 0) where
-    nothing_done : (time : ℕ) → (status ≡ 8 → Rose (disks.faults old) (disks.faults new)) → LeavesBy disks old new time given command status
-    nothing_done time rose = record {
+    nothing_done : (time sectors : ℕ) → (status ≡ 8 → Rose (disks.faults old) (disks.faults new)) → LeavesBy disks old new time given sectors command status
+    nothing_done time sectors rose = record {
       done = told_all (disks.past old) _ (λ image is. absurd (some is));
       empty = told_all (disks.past old) _ (λ image is whole. absurd (some is));
       any_moment = λ quiet. told_from (disks.past old) _ (λ told. changes-as disks old new (now (disks.past old)) (machine_of disks old) (λ sound.
@@ -194,6 +195,7 @@ module _ (given : List ℕ) (command : Command) (change : NameChange) (check : V
           })))));
       quiet = λ is writes. absurd (some is);
       refused = λ is. same.same_past;
+      unwritten = λ none. told_all (disks.past old) _ (λ image some. same.same_past);
       outside = told_all (disks.past old) _ (λ image d s out. not_written_flushed (disks.past old) (disks.past new) (inr same.same_past) d s);
       same = λ reads. absurd (let no : true ≡ false = sym reads ∙ is-one.writes in cc);
       goes_on = goes_on_same disks old new same.same_past record { later = later; size = same.same_size; count = same.same_count; geometry = same.same_geometry };
@@ -201,21 +203,13 @@ module _ (given : List ℕ) (command : Command) (change : NameChange) (check : V
     }
 
   pub halted_leaves : {D : Type 0} (disks : Ghosts D) (old new : D) → SameOf disks old new → disks.faults old ≤ disks.faults new
-      → (halt : Halt) → HasCause (disks.faults old) (disks.faults new) halt → (time : ℕ) → LeavesBy disks old new time given command (status_of (Err halt))
-  halted_leaves disks old new same later Refused cause time = nothing_done disks old new same later 3 (omega arith) time (λ is. absurd cc)
-  halted_leaves disks old new same later Device cause time = nothing_done disks old new same later 8 (omega arith) time (λ is. cause)
+      → (halt : Halt) → HasCause (disks.faults old) (disks.faults new) halt → (time sectors : ℕ) → LeavesBy disks old new time given sectors command (status_of (Err halt))
+  halted_leaves disks old new same later Refused cause time sectors = nothing_done disks old new same later 3 (omega arith) time sectors (λ is. absurd cc)
+  halted_leaves disks old new same later Device cause time sectors = nothing_done disks old new same later 8 (omega arith) time sectors (λ is. cause)
 
 -- ---- a name was changed
 
 module _ (result : Result (Unit {0}) FileFault) where
-  -- where a name goes, no inode is made
-  pub nothing_made : OnOk result (Unit {0})
-  nothing_made = by result
-    where
-      by : (r : Result (Unit {0}) FileFault) → OnOk r (Unit {0})
-      by (Ok done) = tt
-      by (Err fault) = tt
-
   zero-of : {P : Type 0} → OnOk result P → file_status result ≡ 0 → P
   zero-of {P} ok is = by result ok is
     where
@@ -254,6 +248,7 @@ module _ (given : List ℕ) (command : Command) (change : NameChange) (check : V
     (span : declared.Span) (result : Result (Unit {0}) FileFault)
     (room : Told (disks.past old) (λ now. room_of now (machine_of disks old) change.device ≡ Ok (span_view span)))
     (leaves : LeavesNames disks mid new (span_view span) change.path change.what result)
+    (stays : IsUnwrittenAt (disks.past mid) (disks.past new) (span_view span) check)
     (time : ℕ) (makes : IsTold (disks.past mid) → OnOk result (HasInodeOf (span_view span) (now (disks.past mid)) change.path change.what time (now (disks.past new)))) where
   abbrev I : Image
   I = now (disks.past old)
@@ -298,13 +293,23 @@ module _ (given : List ℕ) (command : Command) (change : NameChange) (check : V
   goes-on-mid : GoesOn disks old mid
   goes-on-mid = goes_on_same disks old mid same.same_past record { later = later; size = same.same_size; count = same.same_count; geometry = same.same_geometry }
 
-  pub file_leaves : LeavesBy disks old new time given command (file_status result)
-  file_leaves = record {
+  unwritten : (sectors : ℕ) → OnDisks disks old (λ image machine. (command_verdict image machine given sectors command).status ≢ 0 → disks.past new ≡ disks.past old)
+  unwritten sectors = told_both (disks.past old) (λ now. room_of now M change.device ≡ Ok (span_view span))
+      (λ now. checked_status (volume_check check now (span_view span)) ≢ 0 → disks.past new ≡ disks.past mid) _
+      (λ now is stay some.
+      stay (λ none. some (ap (λ (v : Verdict). v.status) (is-one.verdict now M sectors) ∙ (ap checked_status (by-room now M change.device (span_view span) is check) ∙ none)))
+      ∙ same.same_past)
+      room
+      (told_before (disks.past old) (disks.past mid) (λ now. checked_status (volume_check check now (span_view span)) ≢ 0 → disks.past new ≡ disks.past mid) same.same_past stays)
+
+  pub file_leaves : (sectors : ℕ) → LeavesBy disks old new time given sectors command (file_status result)
+  file_leaves sectors = record {
     done = told_from (disks.past old) _ (λ told is. after-as given command change check is-one disks old new I (now (disks.past new)) M time (named told is));
     empty = told_all (disks.past old) _ (λ image is whole. is-one.no_volume image (now (disks.past new)) M);
     any_moment = λ quiet. told_from (disks.past old) _ (λ told. changes-as given command change check is-one disks old new I M (moment told quiet));
     quiet = λ is writes. zero-of result leaves.quiet is;
     refused = λ is. refused-of result leaves.refused is ∙ same.same_past;
+    unwritten = λ none. unwritten sectors;
     outside = told_from (disks.past old) _ (λ told d s out. apart d s (outside-span I M d s (span-is I M change.device (span_view span) (room-now told)) (sym (is-one.may I M d s) ∙ out)));
     same = λ reads. absurd (let no : true ≡ false = sym reads ∙ is-one.writes in cc);
     goes_on = goes_on_join disks old mid new goes-on-mid leaves.goes_on;

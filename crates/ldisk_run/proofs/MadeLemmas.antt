@@ -1,6 +1,7 @@
 -- `make` and `mkfs`: their statuses, and what they leave.
 use Rattle.std.proofs.Common.{◌≡◌, ◌≢◌, ◌||◌, ◌⊎◌, ◌↔◌, ◌==◌, ◌∙◌, inl, inr, ℕ, Bool, true, false, List, [], Option, None, Some, Result, Ok, Err, refl, sym, ap, subst, arith}
 use Rattle.std.specs.Prelude.{◌&&◌, ◌≤◌, IsTrue, OnOk, IfErr}
+use Rattle.std.proofs.lemmas.Bool.{eqb-true}
 use Rattle.disk_trait.specs.declared.disks.Disks.{Ghosts}
 use Rattle.disk_trait.specs.Calls.{SameOf, GoesOn}
 use Rattle.disk_trait.specs.Past.{Past, Image, Told, now_of}
@@ -18,8 +19,8 @@ use Rattle.lilo_model.specs.Partitions.{span_of}
 use Rattle.lilo_model.specs.Faults.{Rose}
 use Rattle.sector_address.specs.Machine.{OnDisks, machine_of}
 use Rattle.ldisk_model.specs.Arguments.{PartWish, Command, Make, Mkfs, Put, Get, Ls, Rm, Mkdir, Ln, Asked}
-use Rattle.ldisk_model.specs.DiskTable.{table_sector}
-use Rattle.ldisk_model.specs.Verdict.{Refusal, name_change, asked_change, status_of, formatted_on, is_in_found, image_after, may_write, asked_may_write, only_reads, asked_only_read}
+use Rattle.ldisk_model.specs.DiskTable.{table_sector, are_placed}
+use Rattle.ldisk_model.specs.Verdict.{Refusal, make_check, command_verdict, asked_verdict, name_change, asked_change, status_of, formatted_on, is_in_found, image_after, may_write, asked_may_write, only_reads, asked_only_read}
 use Rattle.lilo_model.specs.LdiskVerdict.{silent}
 use Rattle.ldisk_make.specs.Answer.{Answers, HasEmptyVolume, HasMakeCause, is_refusal as is_make_refusal}
 use Rattle.ldisk_make.specs.declared.fault.MakeFault.{MakeFault}
@@ -27,7 +28,7 @@ use Rattle.ldisk_make.specs.declared.fault.MakeFault.TheVariants as faults
 use Rattle.lilo_model.specs.Verdict.{Verdict}
 use Rattle.stream_trait.specs.Shows.{answer_of}
 use Rattle.stream_trait.proofs.ShowsLemmas.{answered as answered_sink}
-use Rattle.ldisk_run.specs.Left.{IsAfter, LeavesChanging, IsDone, is_refusal, AnswersAs, HasVolumeOf, LeavesBy, LeavesAsked, IsAskedDone, HasAskedVolume, held_now}
+use Rattle.ldisk_run.specs.Left.{IsAfter, LeavesChanging, IsDone, is_refusal, AnswersAs, HasVolumeOf, LeavesBy, LeavesAsked, IsAskedDone, HasAskedVolume, asked_makes_volume, held_now}
 use Rattle.ldisk_run.specs.Pieces.{Held}
 use Rattle.ldisk_run.specs.Run.{DoesAs, is_command_status, is_any_status, is_status}
 use Rattle.ldisk_run.proofs.AddsLemmas.{adds_nothing, adds_same}
@@ -97,6 +98,18 @@ by_status : {S : Type 0} (past : Option Past) (P : Image → Type 0) → (S → 
 by_status None P f = tt
 by_status (Some past) P f = f
 
+-- partitions that may not lie so, or no disk: a refusal
+pub make_unwritten : {P : Type 0} (machine : Machine) (sectors : ℕ) (parts : List PartWish) (result : Result (Unit {0}) MakeFault)
+    → (result ≡ Err faults.Misplaced) ↔ (are_placed sectors parts ≡ false) → (machine.size_of 0 ≡ 0 → are_placed sectors parts ≡ true → result ≡ Err faults.NoPlace)
+    → IfErr result (λ fault. is_make_refusal fault ≡ true → P) → status_of (make_check machine sectors parts) ≢ 0 → P
+unfolding make_check
+make_unwritten {P} machine sectors parts result misplaced no_disk refused some = by (are_placed sectors parts) (machine.size_of 0 == 0) refl refl
+  where
+    by : (placed none : Bool) → are_placed sectors parts ≡ placed → (machine.size_of 0 == 0) ≡ none → P
+    by false none p n = subst (λ (r : Result (Unit {0}) MakeFault). IfErr r (λ fault. is_make_refusal fault ≡ true → P)) (misplaced.1 p) refused refl
+    by true true p n = subst (λ (r : Result (Unit {0}) MakeFault). IfErr r (λ fault. is_make_refusal fault ≡ true → P)) (no_disk (eqb-true (machine.size_of 0) 0 n) p) refused refl
+    by true false p n = absurd (some (rw (p, n) refl))
+
 elsewhere_by : (d s : ℕ) (one other : Bool) → (d == 0) ≡ one → (s == 0) ≡ other → (one && other) ≡ false → written.IsOther 0 0 d s
 elsewhere_by d s false other is zs out = inl (λ same. let e = rw same at is in cc)
 elsewhere_by d s true false is zs out = inr (λ same. let e = rw same at zs in cc)
@@ -107,36 +120,39 @@ module _ {D : Type 0} (disks : Ghosts D) (old new : D) (result : Result (Unit {0
     (quiet : OnOk result (IsQuiet (disks.past new)))
     (cause : IfErr result (HasMakeCause (disks.faults old) (disks.faults new)))
     (goes_on : GoesOn disks old new) where
-  pub make_leaves : (time : ℕ) (given : List ℕ) (parts : List PartWish)
+  pub make_leaves : (time : ℕ) (given : List ℕ) (sectors : ℕ) (parts : List PartWish)
       → (IsTold (disks.past old) → OnOk result (now (disks.past new) ≡ past.with_sector (now (disks.past old)) 0 0 (table_sector parts)))
       → WritesNoOther 0 0 (disks.past old) (disks.past new)
-      → LeavesBy disks old new time given (Make parts) (made_status result)
-  unfolding image_after may_write only_reads
-  make_leaves time given parts made others = record {
+      → (status_of (make_check (machine_of disks old) sectors parts) ≢ 0 → disks.past new ≡ disks.past old)
+      → LeavesBy disks old new time given sectors (Make parts) (made_status result)
+  unfolding command_verdict image_after may_write only_reads
+  make_leaves time given sectors parts made others stays = record {
     done = told_from (disks.past old) _ (λ told is. ap Some (sym (done_by result (made told) is)));
     empty = told_all (disks.past old) _ (λ image is whole. tt);
     any_moment = λ quiet. told_all (disks.past old) _ (λ image. tt);
     quiet = λ is writes. done_by result quiet is;
     refused = refused_by result refused;
+    unwritten = λ none. told_all (disks.past old) _ (λ image some. stays some);
     outside = told_all (disks.past old) _ (λ image d s out. others d s (elsewhere_by d s (d == 0) (s == 0) refl refl out));
     same = λ is. absurd cc;
     goes_on = goes_on;
     device = device_by (disks.faults old) (disks.faults new) result cause;
   }
 
-  pub mkfs_leaves : (time : ℕ) (given : List ℕ) (device : devices.Device) (kind : Kind) (inodes : ℕ)
+  pub mkfs_leaves : (time : ℕ) (given : List ℕ) (sectors : ℕ) (device : devices.Device) (kind : Kind) (inodes : ℕ)
       → OnOk result (OnDisks disks old (λ image machine. formatted_on (span_of image machine device) kind inodes time image ≡ Some (now (disks.past new))))
       → OnOk result (OnDisks disks old (λ image machine. IsWholeImage (disks.size_of old) image
       → HasEmptyVolume (span_of image machine device) kind inodes (now (disks.past new))))
       → OnDisks disks old (λ image machine. (d s : ℕ) → is_in_found (span_of image machine device) d s ≡ false → NotWritten (disks.past old) (disks.past new) d s)
-      → LeavesBy disks old new time given (Mkfs device kind inodes) (made_status result)
-  unfolding image_after may_write only_reads
-  mkfs_leaves time given device kind inodes made empty outside = record {
+      → LeavesBy disks old new time given sectors (Mkfs device kind inodes) (made_status result)
+  unfolding command_verdict image_after may_write only_reads
+  mkfs_leaves time given sectors device kind inodes made empty outside = record {
     done = by_status (disks.past old) _ (λ is. done_by result made is);
     empty = by_status (disks.past old) _ (λ is. done_by result empty is);
     any_moment = λ quiet. told_all (disks.past old) _ (λ image. tt);
     quiet = λ is writes. done_by result quiet is;
     refused = refused_by result refused;
+    unwritten = λ none. absurd cc;
     outside = outside;
     same = λ is. absurd cc;
     goes_on = goes_on;
@@ -187,14 +203,15 @@ module _ {D : Type 0} (disks : Ghosts D) (old new : D) (same : SameOf disks old 
   no_change image machine given (Mkdir device path) is = absurd cc
   no_change image machine given (Ln device path target) is = absurd cc
 
-  pub reading_leaves : (time : ℕ) (given : List ℕ) (command : Command) (status : ℕ) → only_reads command ≡ true
-      → (status ≡ 8 → Rose (disks.faults old) (disks.faults new)) → LeavesBy disks old new time given command status
-  reading_leaves time given command status reads rose = record {
+  pub reading_leaves : (time : ℕ) (given : List ℕ) (sectors : ℕ) (command : Command) (status : ℕ) → only_reads command ≡ true
+      → (status ≡ 8 → Rose (disks.faults old) (disks.faults new)) → LeavesBy disks old new time given sectors command status
+  reading_leaves time given sectors command status reads rose = record {
     done = told_from (disks.past old) _ (λ told is. kept (now (disks.past old)) (now (disks.past new)) (machine_of disks old) time given command reads now_same);
     any_moment = λ quiet. told_all (disks.past old) _ (λ image. no_change image (machine_of disks old) given command reads);
     empty = told_all (disks.past old) _ (λ image is whole. no_volume image (now (disks.past new)) (machine_of disks old) command reads);
     quiet = λ is writes. absurd (let no = rw reads at writes in cc);
     refused = λ is. same.same_past;
+    unwritten = λ none. told_all (disks.past old) _ (λ image some. same.same_past);
     outside = told_all (disks.past old) _ (λ image d s out. not_written_flushed (disks.past old) (disks.past new) (inr same.same_past) d s);
     same = λ is. same;
     goes_on = goes_on;
@@ -281,6 +298,11 @@ module _ {D : Type 0} (disks : Ghosts D) (old new : D) (time : ℕ) (given : Lis
       → is_refusal (answer_of status failed) ≡ true → disks.past new ≡ disks.past old
   asked_refused None left refused = left.0.same_past
   asked_refused (Some asked) left refused = left.refused (refusal_status status failed refused)
+
+  pub asked_unwritten : (asked : Option Asked) → LeavesAsked disks old new time given asked status
+      → asked_makes_volume asked ≡ false → OnDisks disks old (λ image machine. (asked_verdict image machine given asked).status ≢ 0 → disks.past new ≡ disks.past old)
+  asked_unwritten None left none = told_all (disks.past old) _ (λ image some. left.0.same_past)
+  asked_unwritten (Some asked) left none = left.unwritten none
 
   pub asked_outside : (asked : Option Asked) → LeavesAsked disks old new time given asked status
       → OnDisks disks old (λ image machine. (d s : ℕ) → asked_may_write image machine asked d s ≡ false → NotWritten (disks.past old) (disks.past new) d s)

@@ -99,8 +99,8 @@ halt_source halts.Refused is = absurd cc
 
 -- ---- what is left
 
-module _ {D : Type 0} (disks : Ghosts D) (old new : D) (time : ℕ) (given : List ℕ) (command : Command) where
-  left_as : (result : Result (Unit {0}) PutFault) → LeavesBy disks old new time given command (file_status (file_answer result)) → LeavesBy disks old new time given command (put_status result)
+module _ {D : Type 0} (disks : Ghosts D) (old new : D) (time : ℕ) (given : List ℕ) (sectors : ℕ) (command : Command) where
+  left_as : (result : Result (Unit {0}) PutFault) → LeavesBy disks old new time given sectors command (file_status (file_answer result)) → LeavesBy disks old new time given sectors command (put_status result)
   left_as (Ok done) is = is
   left_as (Err Source) is = record {
     done = told_all (disks.past old) _ (λ image none. absurd cc);
@@ -108,6 +108,7 @@ module _ {D : Type 0} (disks : Ghosts D) (old new : D) (time : ℕ) (given : Lis
     any_moment = is.any_moment;
     quiet = λ none writes. absurd cc;
     refused = λ why. is.refused refl;
+    unwritten = is.unwritten;
     outside = is.outside;
     same = is.same;
     goes_on = is.goes_on;
@@ -124,10 +125,10 @@ module _ {D : Type 0} (disks : Ghosts D) (old : D) (device : Device) (path : Lis
         (λ now halts. given-all (λ given. AnswersAs (command_verdict now (machine_of disks old) given sectors (Put device path)) (status_of (Err halt))) left
         (λ given. halted_answer given (Put device path) (addition device path (NewFile given)) (made_check (NewFile given) path) (makes_file given device path) now (machine_of disks old) sectors halt halts)) told
 
-    pub put_halted_leaves : SameOf disks old new → disks.faults old ≤ disks.faults new → HasCause (disks.faults old) (disks.faults new) halt → (time : ℕ)
-        → OnGiven left (λ given. LeavesBy disks old new time given (Put device path) (status_of (Err halt)))
-    put_halted_leaves same later cause time = given-all (λ given. LeavesBy disks old new time given (Put device path) (status_of (Err halt))) left
-        (λ given. halted_leaves given (Put device path) (addition device path (NewFile given)) (made_check (NewFile given) path) (makes_file given device path) disks old new same later halt cause time)
+    pub put_halted_leaves : SameOf disks old new → disks.faults old ≤ disks.faults new → HasCause (disks.faults old) (disks.faults new) halt → (time sectors : ℕ)
+        → OnGiven left (λ given. LeavesBy disks old new time given sectors (Put device path) (status_of (Err halt)))
+    put_halted_leaves same later cause time sectors = given-all (λ given. LeavesBy disks old new time given sectors (Put device path) (status_of (Err halt))) left
+        (λ given. halted_leaves given (Put device path) (addition device path (NewFile given)) (made_check (NewFile given) path) (makes_file given device path) disks old new same later halt cause time sectors)
 
   pub put_unasked : {I : Type 0} (source : I) → OnDisks disks old (λ now machine. asks_source now machine (Put device path) ≡ false → source ≡ source)
   put_unasked source = told_all (disks.past old) _ (λ now none. refl)
@@ -158,10 +159,10 @@ module _ {D : Type 0} (disks : Ghosts D) (old : D) (device : Device) (path : Lis
           (told_before (disks.past old) (disks.past mid) (λ now. Answers (volume_check (made_check (NewFile given) path) now (span_view span)) (file_answer result)) same.same_past it.answers))
           stores)
 
-      pub put_leaves : OnGiven left (λ given. LeavesBy disks old new time given (Put device path) (put_status result))
-      put_leaves = given-map (λ given. Stores disks mid new (span_view span) path given time (file_answer result)) (λ given. LeavesBy disks old new time given (Put device path) (put_status result)) left
+      pub put_leaves : (sectors : ℕ) → OnGiven left (λ given. LeavesBy disks old new time given sectors (Put device path) (put_status result))
+      put_leaves sectors = given-map (λ given. Stores disks mid new (span_view span) path given time (file_answer result)) (λ given. LeavesBy disks old new time given sectors (Put device path) (put_status result)) left
           (λ given it.
-          left_as disks old new time given (Put device path) result
-          (file_leaves given (Put device path) (addition device path (NewFile given)) (made_check (NewFile given) path) (makes_file given device path) disks old mid new same later span (file_answer result) room it.leaves time
-          it.inode))
+          left_as disks old new time given sectors (Put device path) result
+          (file_leaves given (Put device path) (addition device path (NewFile given)) (made_check (NewFile given) path) (makes_file given device path) disks old mid new same later span (file_answer result) room it.leaves it.unwritten time
+          it.inode sectors))
           stores

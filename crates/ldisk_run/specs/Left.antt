@@ -1,5 +1,5 @@
 -- What a command leaves on the disks, by the status that it answers.
-use Rattle.std.specs.Prelude.{◌≡◌, ◌⊎◌, ◌==◌, ℕ, Bool, true, false, List, [], ◌∷◌, Option, Some, None, Ok}
+use Rattle.std.specs.Prelude.{◌≡◌, ◌≢◌, ◌⊎◌, ◌==◌, ℕ, Bool, true, false, List, [], ◌∷◌, Option, Some, None, Ok}
 use Rattle.std.specs.List.{list_any}
 use Rattle.disk_trait.specs.declared.disks.Disks.{Ghosts}
 use Rattle.disk_trait.specs.Calls.{SameOf, GoesOn}
@@ -15,8 +15,8 @@ use Rattle.lilo_model.specs.Verdict.{Verdict}
 use Rattle.sector_address.specs.Machine.{OnDisks}
 use Rattle.ldisk_model.specs.Arguments.{Command, Mkfs, Asked}
 use Rattle.ldisk_model.specs.FileVerdict.{NameChange, NewDirectory, NewLink, NewFile}
-use Rattle.ldisk_model.specs.Verdict.{image_after, may_write, name_change, only_reads}
-use Rattle.ldisk_files.specs.Inode.{HasInodeIn}
+use Rattle.ldisk_model.specs.Verdict.{command_verdict, image_after, may_write, name_change, only_reads}
+use Rattle.ldisk_files.specs.Inode.{HasChangedIn}
 use Rattle.ldisk_files.specs.Left.{HasSoundVolume, IsNamed, IsEither}
 use Rattle.ldisk_make.specs.Answer.{HasEmptyVolume}
 use Rattle.ldisk_run.specs.Run.{IsFailure}
@@ -48,13 +48,13 @@ abbrev pub held_now : {D : Type 0} → Ghosts D → D → Image
 held_now disks new = now (disks.past new)
 
 -- in an image what was made at the path of a text at a time has its inode: mode, links, owner, times, and the holes of a
--- file
+-- file; or that of what was there is let go. No bitmap bit is set but what is in use, and each other inode is as before
 abbrev pub HasInodeOf : Span → Image → List ℕ → Option Thing → ℕ → Image → Type 0
-HasInodeOf span old text (Some (File bytes)) time image = HasInodeIn span old text (NewFile bytes) time image
-HasInodeOf span old text (Some (Link target)) time image = HasInodeIn span old text (NewLink target) time image
-HasInodeOf span old text (Some Directory) time image = HasInodeIn span old text NewDirectory time image
+HasInodeOf span old text (Some (File bytes)) time image = HasChangedIn span old text (Some (NewFile bytes, time)) image
+HasInodeOf span old text (Some (Link target)) time image = HasChangedIn span old text (Some (NewLink target, time)) image
+HasInodeOf span old text (Some Directory) time image = HasChangedIn span old text (Some (NewDirectory, time)) image
 HasInodeOf span old text (Some Other) time image = Unit {0}
-HasInodeOf span old text None time image = Unit {0}
+HasInodeOf span old text None time image = HasChangedIn span old text None image
 
 -- the volume of a device in an image has its Names in another one, but for the one that was changed, and the inode of
 -- what was made at a time
@@ -97,14 +97,29 @@ LeavesChanging disks old new image machine (Some change) =
     HasSoundOn image machine change.device → LeavesOnly (disks.past old) (disks.past new) (IsChanging image machine change)
 LeavesChanging disks old new image machine None = Unit {0}
 
--- What the disks hold after a command at a time, where a source gives these bytes.
-pub record LeavesBy {D : Type 0} (disks : Ghosts D) (old new : D) (time : ℕ) (given : List ℕ) (command : Command) (status : ℕ) : Type 0 where
+-- whether a command makes a volume
+abbrev pub makes_volume : Command → Bool
+makes_volume (Mkfs device kind inodes) = true
+makes_volume command = false
+
+-- the same of arguments
+abbrev pub asked_makes_volume : Option Asked → Bool
+asked_makes_volume (Some asked) = makes_volume asked.command
+asked_makes_volume None = false
+
+-- What the disks hold after a command at a time, on an image with so many sectors where it is new, where a source gives
+-- these bytes.
+pub record LeavesBy {D : Type 0} (disks : Ghosts D) (old new : D) (time : ℕ) (given : List ℕ) (sectors : ℕ) (command : Command)
+    (status : ℕ) : Type 0 where
   pub done : OnDisks disks old (λ image machine. status ≡ 0 → IsAfter image machine time given command (now (disks.past new)))
   pub empty : OnDisks disks old (λ image machine. status ≡ 0 → IsWholeImage (disks.size_of old) image
       → HasVolumeOf image machine command (now (disks.past new)))
   pub any_moment : IsQuiet (disks.past old) → OnDisks disks old (λ image machine. LeavesChanging disks old new image machine (name_change given command))
   pub quiet : status ≡ 0 → only_reads command ≡ false → IsQuiet (disks.past new)
   pub refused : is_refusal status ≡ true → disks.past new ≡ disks.past old
+  -- where a check refuses there was no event, whatever is answered
+  pub unwritten : makes_volume command ≡ false → OnDisks disks old (λ image machine.
+      (command_verdict image machine given sectors command).status ≢ 0 → disks.past new ≡ disks.past old)
   pub outside : OnDisks disks old (λ image machine. (d s : ℕ) → may_write image machine command d s ≡ false → NotWritten (disks.past old) (disks.past new) d s)
   pub same : only_reads command ≡ true → SameOf disks old new
   pub goes_on : GoesOn disks old new
@@ -113,5 +128,5 @@ pub record LeavesBy {D : Type 0} (disks : Ghosts D) (old new : D) (time : ℕ) (
 
 -- The same after arguments; those that ask for nothing leave all as it was.
 abbrev pub LeavesAsked : {D : Type 0} → Ghosts D → D → D → ℕ → List ℕ → Option Asked → ℕ → Type 0
-LeavesAsked disks old new time given (Some asked) status = LeavesBy disks old new time given asked.command status
+LeavesAsked disks old new time given (Some asked) status = LeavesBy disks old new time given asked.sectors asked.command status
 LeavesAsked disks old new time given None status = SameOf disks old new × (GoesOn disks old new × (status ≡ 1))

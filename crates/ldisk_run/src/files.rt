@@ -26,8 +26,8 @@ pub(crate) fn rm<D: Disks>(alloc: Global, disks: &mut D, device: Device, path: &
     ensures known { IsTrue (is_command_status result) }
     ensures usage { result ≢ 1 }
     ensures no_disk { D.size_of disks.old 0 ≡ 0 → result ≡ 3 }
-    ensures leaves { (given : List ℕ) (time : ℕ)
-        → LeavesBy D.Disks disks.old disks.new time given (Rm (device_view device) path.now) result }
+    ensures leaves { (given : List ℕ) (time sectors : ℕ)
+        → LeavesBy D.Disks disks.old disks.new time given sectors (Rm (device_view device) path.now) result }
 {
     match find_room(disks, device) {
         Ok(span) => file_status(ldisk_files::rm(alloc, disks, span, path)),
@@ -50,8 +50,8 @@ pub(crate) fn mkdir<D: Disks>(
     ensures known { IsTrue (is_command_status result) }
     ensures usage { result ≢ 1 }
     ensures no_disk { D.size_of disks.old 0 ≡ 0 → result ≡ 3 }
-    ensures leaves { (given : List ℕ)
-        → LeavesBy D.Disks disks.old disks.new time given (Mkdir (device_view device) path.now) result }
+    ensures leaves { (given : List ℕ) (sectors : ℕ)
+        → LeavesBy D.Disks disks.old disks.new time given sectors (Mkdir (device_view device) path.now) result }
 {
     match find_room(disks, device) {
         Ok(span) => file_status(ldisk_files::mkdir(alloc, disks, span, path, time)),
@@ -75,8 +75,8 @@ pub(crate) fn ln<D: Disks>(
     ensures known { IsTrue (is_command_status result) }
     ensures usage { result ≢ 1 }
     ensures no_disk { D.size_of disks.old 0 ≡ 0 → result ≡ 3 }
-    ensures leaves { (given : List ℕ)
-        → LeavesBy D.Disks disks.old disks.new time given (Ln (device_view device) path.now target.now) result }
+    ensures leaves { (given : List ℕ) (sectors : ℕ)
+        → LeavesBy D.Disks disks.old disks.new time given sectors (Ln (device_view device) path.now target.now) result }
 {
     match find_room(disks, device) {
         Ok(span) => file_status(ldisk_files::ln(alloc, disks, span, path, target, time)),

@@ -28,7 +28,7 @@ pub(crate) fn make<D: Disks>(disks: &mut D, sectors: u32, parts: &[PartWish]) ->
     ensures usage { (result ≡ 1) ↔ (are_placed sectors (map part_view parts.now) ≡ false) }
     ensures no_disk { D.size_of disks.old 0 ≡ 0 → are_placed sectors (map part_view parts.now) ≡ true → result ≡ 3 }
     ensures leaves { (time : ℕ) (given : List ℕ)
-        → LeavesBy D.Disks disks.old disks.new time given (Make (map part_view parts.now)) result }
+        → LeavesBy D.Disks disks.old disks.new time given sectors (Make (map part_view parts.now)) result }
 {
     status_of(ldisk_make::make(disks, sectors, parts))
 }
@@ -48,8 +48,8 @@ pub(crate) fn mkfs<D: Disks>(
     ensures memory { result ≢ 13 }
     ensures usage { result ≢ 1 }
     ensures no_disk { D.size_of disks.old 0 ≡ 0 → result ≡ 3 }
-    ensures leaves { (given : List ℕ)
-        → LeavesBy D.Disks disks.old disks.new time given (Mkfs (device_view device) (kind_view kind) inodes) result }
+    ensures leaves { (given : List ℕ) (sectors : ℕ) → LeavesBy D.Disks disks.old disks.new time given sectors
+        (Mkfs (device_view device) (kind_view kind) inodes) result }
 {
     status_of(ldisk_make::mkfs(disks, device, kind, inodes, time))
 }

@@ -36,8 +36,8 @@ pub(crate) fn put<D: Disks, I: Source>(
     ensures known { IsTrue (is_any_status result) }
     ensures usage { result ≢ 1 }
     ensures no_disk { D.size_of disks.old 0 ≡ 0 → result ≡ 3 }
-    ensures leaves { OnGiven (I.left source.old) (λ given.
-        LeavesBy D.Disks disks.old disks.new time given (Put (device_view device) path.now) result) }
+    ensures leaves { (sectors : ℕ) → OnGiven (I.left source.old) (λ given.
+        LeavesBy D.Disks disks.old disks.new time given sectors (Put (device_view device) path.now) result) }
     ensures unread { OnDisks D.Disks disks.old (λ now machine.
         asks_source now machine (Put (device_view device) path.now) ≡ false → source.new ≡ source.old) }
     ensures source { result ≡ 11 → Rose (I.faults source.old) (I.faults source.new) }

@@ -32,6 +32,7 @@ ghost use Rattle.ldisk_run.specs.Left.{
   LeavesChanging,
   IsAskedDone,
   HasAskedVolume,
+  asked_makes_volume,
   held_now,
 };
 ghost use Rattle.ldisk_run.specs.Pieces.{sink_of, held_by};
@@ -134,7 +135,10 @@ pub fn ldisk<D: Disks, I: Source, O: Sink>(
         OnGiven (I.left source.old) (λ given.
         LeavesChanging D.Disks disks.old disks.new now machine (asked_change given (asked_at words.now)))) }
 
-    // What isn't written.
+    // What isn't written: where a check refuses there was no event, whatever is answered, but by `mkfs`.
+    ensures unwritten { asked_makes_volume (asked_at words.now) ≡ false
+        → OnDisks D.Disks disks.old (λ now machine. OnGiven (I.left source.old) (λ given.
+        (ldisk_verdict now machine given words.now).status ≢ 0 → D.past disks.new ≡ D.past disks.old)) }
     ensures refused { is_refusal result ≡ true → D.past disks.new ≡ D.past disks.old }
     ensures outside { OnDisks D.Disks disks.old (λ now machine. (d s : ℕ)
         → asked_may_write now machine (asked_at words.now) d s ≡ false
@@ -215,7 +219,7 @@ fn run_command<D: Disks, I: Source, O: Sink>(
         → result ≡ 3 }
     ensures memory { result ≡ 13 → takes_memory (command_view command.entry) ≡ true }
     ensures leaves { OnGiven (I.left source.old) (λ given.
-        LeavesBy D.Disks disks.old disks.new time given (command_view command.entry) result) }
+        LeavesBy D.Disks disks.old disks.new time given sectors (command_view command.entry) result) }
     ensures left_alone { stores (command_view command.entry) ≡ false → source.new ≡ source.old }
     ensures unread { OnDisks D.Disks disks.old (λ now machine.
         asks_source now machine (command_view command.entry) ≡ false → source.new ≡ source.old) }

@@ -1,10 +1,11 @@
 -- The checks and the choice, then the creation.
 use Rattle.std.proofs.Common.{◌∷◌, [], Some}
-use Rattle.ldisk_model.specs.FileVerdict.{thing_made}
+use Rattle.ldisk_model.specs.FileVerdict.{made_check, thing_made}
+use Rattle.minix_zones.specs.Volume.{volume_view, past_of}
 use Rattle.ldisk_files.specs.Made.{making_view}
 use Rattle.ldisk_files.proofs.InodeLemmas.{inode-at}
 use Rattle.ldisk_files.proofs.MakeLemmas.{may-some, made-on, made-answer}
-use Rattle.ldisk_files.proofs.PathLemmas.{refused-on}
+use Rattle.ldisk_files.proofs.PathLemmas.{refused-on, unwritten-passed, unwritten-same}
 use Rattle.ldisk_files.proofs.creation.make_path.Goals as goal
 
 pub make_ready-requires-clause-suits : goal.make_ready-requires-clause-suits
@@ -33,3 +34,11 @@ returns-in-Ok-clause-inode g c =
 pub returns-in-Err-clause-leaves : goal.returns-in-Err-clause-leaves
 returns-in-Err-clause-leaves g c =
     refused-on c.args.volume c.choose_at.new.volume c.in-Err.ensures.same c.in-Err.ensures.later c.args.path.now (Some (thing_made (making_view c.args.making.now))) c.in-Err.fault c.in-Err.ensures.cause
+
+pub returns-in-Ok-clause-unwritten : goal.returns-in-Ok-clause-unwritten
+returns-in-Ok-clause-unwritten g c =
+    unwritten-passed (past_of c.args.volume) (past_of c.make_ready.result.volume) (made_check (making_view c.args.making.now) c.args.path.now) (volume_view c.args.volume) c.in-Ok.ensures.answers
+
+pub returns-in-Err-clause-unwritten : goal.returns-in-Err-clause-unwritten
+returns-in-Err-clause-unwritten g c =
+    unwritten-same (past_of c.args.volume) (past_of c.choose_at.new.volume) (made_check (making_view c.args.making.now) c.args.path.now) (volume_view c.args.volume) c.in-Err.ensures.same.same_disks.same_past

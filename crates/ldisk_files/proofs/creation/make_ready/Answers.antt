@@ -45,7 +45,7 @@ pub returns-in-Ok-clause-inode : goal.returns-in-Ok-clause-inode
 returns-in-Ok-clause-inode g c = λ making outer may.
     let syncs = c.sync.ensures.syncs in
     let suits : Suits c.sync.new.self.layout c.sync.new.self.span c.args.ready.chosen = rw (syncs.kept.same_layout, syncs.kept.same_span) c.requires.suits.suits in
-    inode-flushed c.args.volume c.sync.new.self c.sync.result syncs c.in-Ok.volume (c.args.ready.chosen.name ∷ outer) making c.args.ready.chosen.time (Ok tt)
+    inode-flushed c.args.volume c.sync.new.self c.sync.result syncs c.in-Ok.volume (c.args.ready.chosen.name ∷ outer) (Some (making, c.args.ready.chosen.time)) (Ok tt)
     (inode-created c.sync.new.self c.in-Ok.volume outer making c.args.ready.chosen (c.args.ready.block ∷ []) suits
     (λ told. may-as c.sync.new.self c.args.volume (sym (flushed-view c.args.volume c.sync.new.self c.sync.result syncs)) (sym syncs.flushes.same_now) c.args.ready.chosen outer making (c.args.ready.block ∷ [])
     (may (syncs.flushes.goes_on.told_before told)))

@@ -6,7 +6,8 @@ use Rattle.disk_trait.specs.Past.{Image}
 use Rattle.minix_zones.specs.Volume.{past_of}
 use Rattle.ldisk_files.specs.Answer.{IsRemovable, write_fault}
 use Rattle.ldisk_files.proofs.FlushLemmas.{forth, not-flushed, then-changed, when-ok}
-use Rattle.ldisk_files.proofs.RemoveLemmas.{removed, not-removed}
+use Rattle.ldisk_files.proofs.InodeLemmas.{inode-flushed}
+use Rattle.ldisk_files.proofs.RemoveLemmas.{removed, not-removed, inode-removed}
 use Rattle.ldisk_files.proofs.removal.remove_name.Goals as goal
 
 pub returns-then-is_err-clause-changes : goal.returns-then-is_err-clause-changes
@@ -31,3 +32,11 @@ returns-in-Err-clause-changes g c = λ path may.
     (λ told. forth c.args.volume c.sync.new.self c.sync.result c.sync.ensures.syncs
     (λ (v : model.Volume) (i : Image). IsRemovable v i path c.args.place.now.directory.inode c.args.place.now.name.now) (may (c.sync.ensures.syncs.flushes.goes_on.told_before told)))
     c.in-Err.halt.fault c.in-Err.ensures.halted))
+
+pub returns-in-Ok-clause-inode : goal.returns-in-Ok-clause-inode
+returns-in-Ok-clause-inode g c = λ path may.
+    inode-flushed c.args.volume c.sync.new.self c.sync.result c.sync.ensures.syncs c.in-Ok.volume path None (Ok tt)
+    (inode-removed c.sync.new.self c.in-Ok.volume c.args.place.now.directory.inode c.args.place.now.name.now path
+    (λ told. forth c.args.volume c.sync.new.self c.sync.result c.sync.ensures.syncs
+    (λ (v : model.Volume) (i : Image). IsRemovable v i path c.args.place.now.directory.inode c.args.place.now.name.now) (may (c.sync.ensures.syncs.flushes.goes_on.told_before told)))
+    c.in-Ok.ensures.removed)

@@ -2,10 +2,12 @@
 use Rattle.std.proofs.Common.{None, Err, refl, ap, rules}
 use Rattle.disk_trait.proofs.ToldLemmas.{told_map}
 use Rattle.ldisk_model.specs.FileVerdict.{gone_check}
-use Rattle.ldisk_files.specs.Answer.{zone_fault}
+use Rattle.ldisk_files.specs.Answer.{IsUnwrittenAt, zone_fault}
+use Rattle.ldisk_files.specs.Inode.{ChangesInode}
 use Rattle.ldisk_files.specs.Left.{LeavesNames}
 use Rattle.minix_zones.specs.View.{span_view}
-use Rattle.ldisk_files.proofs.PathLemmas.{held-of, laid-told, answers-at, leaves-at, no-volume, refused-names}
+use Rattle.ldisk_files.proofs.InodeLemmas.{inode-in}
+use Rattle.ldisk_files.proofs.PathLemmas.{held-of, laid-told, answers-at, leaves-at, no-volume, refused-names, unwritten-at, unwritten-span}
 use Rattle.ldisk_files.proofs.removal.rm.Goals as goal
 
 pub remove_path-requires : goal.remove_path-requires
@@ -38,3 +40,23 @@ returns-in-Err-clause-leaves g c =
     (refused-names g.D.Disks c.args.disks.now (span_view c.args.span) c.args.path.now None c.in-Err.disks.now c.in-Err.ensures.same c.in-Err.ensures.later c.in-Err.fault
     (λ is. c.in-Err.ensures.device (rw is refl)))
     (search rules))
+
+pub returns-in-Ok-clause-unwritten : goal.returns-in-Ok-clause-unwritten
+returns-in-Ok-clause-unwritten g c =
+    held-of (λ last. IsUnwrittenAt (g.D.Disks.past c.args.disks.now) (g.D.Disks.past last) (span_view c.args.span) (gone_check c.args.path.now)) c.remove_path.result.volume.disks.now
+    (unwritten-at g.D.Disks c.args.disks.now (span_view c.args.span) c.args.path.now None c.in-Ok.volume c.remove_path.result.volume c.in-Ok.ensures.same c.in-Ok.ensures.later
+    (ap span_view c.in-Ok.ensures.span) c.in-Ok.ensures.volume (gone_check c.args.path.now) c.remove_path.ensures.unwritten)
+    (search rules)
+
+pub returns-in-Err-clause-unwritten : goal.returns-in-Err-clause-unwritten
+returns-in-Err-clause-unwritten g c =
+    held-of (λ last. IsUnwrittenAt (g.D.Disks.past c.args.disks.now) (g.D.Disks.past last) (span_view c.args.span) (gone_check c.args.path.now)) c.in-Err.disks.now
+    (unwritten-span (g.D.Disks.past c.args.disks.now) (g.D.Disks.past c.in-Err.disks.now) (gone_check c.args.path.now) (span_view c.args.span) c.in-Err.ensures.same.same_past)
+    (search rules)
+
+pub returns-in-Ok-clause-inode : goal.returns-in-Ok-clause-inode
+returns-in-Ok-clause-inode g c =
+    held-of (λ last. ChangesInode g.D.Disks c.args.disks.now last (span_view c.args.span) c.args.path.now None c.remove_path.result.result) c.remove_path.result.volume.disks.now
+    (inode-in g.D.Disks c.args.disks.now (span_view c.args.span) c.args.path.now None c.in-Ok.volume c.remove_path.result.volume c.in-Ok.ensures.same c.in-Ok.ensures.volume
+    c.remove_path.result.result c.remove_path.ensures.inode)
+    (search rules)

@@ -1,12 +1,15 @@
 -- The choice, and the block.
-use Rattle.std.proofs.Common.{◌≡◌, ◌<◌, ℕ, All, Err, sym, ◌∙◌, subst, ap, rules}
+use Rattle.std.proofs.Common.{◌≡◌, ◌<◌, ℕ, All, Ok, Err, sym, ◌∙◌, subst, ap, rules}
 use Rattle.std.proofs.lemmas.List.Elements.{All-nil}
 use Rattle.lilo_model.specs.MinixLayout.{is_size}
+use Rattle.disk_trait.specs.Past.{Image}
+use Rattle.lilo_model.specs.MinixParts as model
 use Rattle.lilo_model.specs.MinixParts.{blocks_for}
 use Rattle.minix_layout.specs.View.{kind_view}
 use Rattle.minix_names.specs.Component.{HasNoZero}
 use Rattle.minix_zones.specs.Volume.{volume_view, past_of}
-use Rattle.ldisk_files.specs.Made.{IsWishFor, making_view}
+use Rattle.minix_zones.proofs.SameLemmas.{told_forth}
+use Rattle.ldisk_files.specs.Made.{GivesChoice, IsWishFor, making_view}
 use Rattle.ldisk_files.specs.declared.room.Ready.{Ready}
 use Rattle.ldisk_files.proofs.MadeLemmas.{size-fits, one-block, few-blocks}
 use Rattle.ldisk_files.proofs.NamedLemmas.{named-made, told-passes, told-short}
@@ -45,6 +48,7 @@ returns-clause-may g c = λ told sound outer new fits.
     named-made old last same place c.args.making.now c.args.wish.now c.in_ok-chosen.chosen c.first_block-block.result c.requires.fits c.requires.node
     record {
       made = c.in_ok-chosen.ensures.made;
+      choice = told_forth old last (λ (volume : model.Volume) (now : Image). GivesChoice volume now c.args.wish.now (Ok c.in_ok-chosen.chosen)) same c.in_ok-chosen.ensures.choice;
       whole = c.in_ok-chosen.ensures.whole;
       free = c.in_ok-chosen.ensures.free;
       links = c.in_ok-chosen.ensures.name;

@@ -31,7 +31,7 @@ pub returns-in-Ok-clause-leaves : goal.returns-in-Ok-clause-leaves
 returns-in-Ok-clause-leaves g c =
     rw c.file_status.ensures
     (λ given. file_leaves given (Ln (device_view c.args.device) c.args.path.now c.args.target.now) (addition (device_view c.args.device) c.args.path.now (NewLink c.args.target.now)) (made_check (NewLink c.args.target.now) c.args.path.now) (makes_link given (device_view c.args.device) c.args.path.now c.args.target.now) g.D.Disks c.args.disks.now c.find_room.new.disks c.ln.new.disks c.in-Ok.ensures.same c.in-Ok.ensures.later
-    c.in-Ok.span c.ln.result c.in-Ok.ensures.room c.ln.ensures.leaves c.args.time c.ln.ensures.inode)
+    c.in-Ok.span c.ln.result c.in-Ok.ensures.room c.ln.ensures.leaves c.ln.ensures.unwritten c.args.time c.ln.ensures.inode)
 
 pub returns-in-Err-clause-answers : goal.returns-in-Err-clause-answers
 returns-in-Err-clause-answers g c =

@@ -31,7 +31,7 @@ pub returns-in-Ok-clause-leaves : goal.returns-in-Ok-clause-leaves
 returns-in-Ok-clause-leaves g c =
     rw c.file_status.ensures
     (λ given. file_leaves given (Mkdir (device_view c.args.device) c.args.path.now) (addition (device_view c.args.device) c.args.path.now NewDirectory) (made_check NewDirectory c.args.path.now) (makes_directory given (device_view c.args.device) c.args.path.now) g.D.Disks c.args.disks.now c.find_room.new.disks c.mkdir.new.disks c.in-Ok.ensures.same c.in-Ok.ensures.later
-    c.in-Ok.span c.mkdir.result c.in-Ok.ensures.room c.mkdir.ensures.leaves c.args.time c.mkdir.ensures.inode)
+    c.in-Ok.span c.mkdir.result c.in-Ok.ensures.room c.mkdir.ensures.leaves c.mkdir.ensures.unwritten c.args.time c.mkdir.ensures.inode)
 
 pub returns-in-Err-clause-answers : goal.returns-in-Err-clause-answers
 returns-in-Err-clause-answers g c =

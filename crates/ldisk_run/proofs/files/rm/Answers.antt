@@ -11,7 +11,7 @@ use Rattle.ldisk_model.specs.FileVerdict.{volume_check, gone_check, removal}
 use Rattle.ldisk_model.specs.Verdict.{command_verdict}
 use Rattle.ldisk_run.specs.Left.{AnswersAs}
 use Rattle.ldisk_run.specs.Made.{file_status}
-use Rattle.ldisk_run.proofs.FileLemmas.{removes, halted_answer, halted_leaves, file_answer, file_leaves, nothing_made}
+use Rattle.ldisk_run.proofs.FileLemmas.{removes, halted_answer, halted_leaves, file_answer, file_leaves}
 use Rattle.ldisk_run.proofs.files.rm.Goals as goal
 
 pub returns-in-Ok-clause-answers : goal.returns-in-Ok-clause-answers
@@ -31,7 +31,7 @@ pub returns-in-Ok-clause-leaves : goal.returns-in-Ok-clause-leaves
 returns-in-Ok-clause-leaves g c =
     rw c.file_status.ensures
     (λ given time. file_leaves given (Rm (device_view c.args.device) c.args.path.now) (removal (device_view c.args.device) c.args.path.now) (gone_check c.args.path.now) (removes given (device_view c.args.device) c.args.path.now) g.D.Disks c.args.disks.now c.find_room.new.disks c.rm.new.disks c.in-Ok.ensures.same c.in-Ok.ensures.later
-    c.in-Ok.span c.rm.result c.in-Ok.ensures.room c.rm.ensures.leaves time (λ told. nothing_made c.rm.result))
+    c.in-Ok.span c.rm.result c.in-Ok.ensures.room c.rm.ensures.leaves c.rm.ensures.unwritten time c.rm.ensures.inode)
 
 pub returns-in-Err-clause-answers : goal.returns-in-Err-clause-answers
 returns-in-Err-clause-answers g c =

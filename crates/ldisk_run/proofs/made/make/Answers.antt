@@ -8,7 +8,7 @@ use Rattle.ldisk_model.specs.Verdict.{make_check, command_verdict}
 use Rattle.ldisk_words.specs.View.{part_view}
 use Rattle.ldisk_run.specs.Left.{AnswersAs}
 use Rattle.ldisk_run.specs.Made.{made_status}
-use Rattle.ldisk_run.proofs.MadeLemmas.{answered, is_known, misplaced_as, make_leaves}
+use Rattle.ldisk_run.proofs.MadeLemmas.{answered, is_known, misplaced_as, make_unwritten, make_leaves}
 use Rattle.ldisk_run.proofs.made.make.Goals as goal
 
 pub returns-clause-answers : goal.returns-clause-answers
@@ -32,4 +32,5 @@ pub returns-clause-leaves : goal.returns-clause-leaves
 returns-clause-leaves g c =
     rw c.status_of.ensures
     (λ time given. make_leaves g.D.Disks c.args.disks.now c.make.new.disks c.make.result c.make.ensures.refused c.make.ensures.quiet
-    c.make.ensures.cause c.make.ensures.goes_on time given (map part_view c.args.parts.now) c.make.ensures.made c.make.ensures.others)
+    c.make.ensures.cause c.make.ensures.goes_on time given c.args.sectors (map part_view c.args.parts.now) c.make.ensures.made c.make.ensures.others
+    (make_unwritten (machine_of g.D.Disks c.args.disks.now) c.args.sectors (map part_view c.args.parts.now) c.make.result c.make.ensures.misplaced c.make.ensures.no_disk c.make.ensures.refused))

@@ -31,6 +31,6 @@ returns-clause-usage g c = rw c.status_of.ensures (λ one. c.mkfs.ensures.never 
 pub returns-clause-leaves : goal.returns-clause-leaves
 returns-clause-leaves g c =
     rw c.status_of.ensures
-    (λ given. mkfs_leaves g.D.Disks c.args.disks.now c.mkfs.new.disks c.mkfs.result c.mkfs.ensures.refused c.mkfs.ensures.quiet
-    c.mkfs.ensures.cause c.mkfs.ensures.goes_on c.args.time given (device_view c.args.device) (kind_view c.args.kind) c.args.inodes
+    (λ given sectors. mkfs_leaves g.D.Disks c.args.disks.now c.mkfs.new.disks c.mkfs.result c.mkfs.ensures.refused c.mkfs.ensures.quiet
+    c.mkfs.ensures.cause c.mkfs.ensures.goes_on c.args.time given sectors (device_view c.args.device) (kind_view c.args.kind) c.args.inodes
     c.mkfs.ensures.made c.mkfs.ensures.empty c.mkfs.ensures.outside)

@@ -1,9 +1,9 @@
 -- The sink hadn't failed before, and nothing was held. What is left is left by the status of the command.
-use Rattle.std.proofs.Common.{◌≡◌, false, sym, ◌∙◌, rules}
+use Rattle.std.proofs.Common.{◌≡◌, ◌≢◌, false, sym, ◌∙◌, rules}
 use Rattle.disk_trait.specs.Past.{Told}
 use Rattle.stream_trait.specs.Shows.{answer_of}
 use Rattle.ldisk_model.specs.Arguments.{asked_at}
-use Rattle.ldisk_model.specs.Verdict.{ldisk_verdict, asked_change}
+use Rattle.ldisk_model.specs.Verdict.{ldisk_verdict, asked_verdict, asked_change}
 use Rattle.ldisk_files.proofs.StoredLemmas.{given-map}
 use Rattle.ldisk_files.specs.Stored.{OnGiven}
 use Rattle.ldisk_run.specs.Left.{IsAskedDone, IsDone, LeavesAsked, LeavesChanging, held_now}
@@ -11,7 +11,7 @@ use Rattle.ldisk_run.specs.Pieces.{sink_of, held_by}
 use Rattle.ldisk_run.specs.Run.{DoesAs, Answers, Tells}
 use Rattle.stream_trait.specs.Sink.{Takes}
 use Rattle.ldisk_run.proofs.CommandLemmas.{held_of, answers, tells, takes_whole}
-use Rattle.ldisk_run.proofs.MadeLemmas.{asked_moment, asked_done, asked_volume, asked_quiet, asked_refused, asked_outside, asked_same, asked_goes_on, asked_device, source_status, known_status}
+use Rattle.ldisk_run.proofs.MadeLemmas.{asked_moment, asked_done, asked_volume, asked_quiet, asked_refused, asked_unwritten, asked_outside, asked_same, asked_goes_on, asked_device, source_status, known_status}
 use Rattle.disk_trait.proofs.ToldLemmas.{told_map}
 use Rattle.ldisk_run.proofs.PutLemmas.{told_given, given_out}
 use Rattle.sector_address.specs.Machine.{machine_of}
@@ -195,3 +195,16 @@ returns-clause-goes_on g c =
     (given-map (λ given. LeavesAsked g.D.Disks disks new c.args.time given asked c.run_words-status.result) (λ given. _) left
     (λ given leaves. asked_goes_on g.D.Disks disks new c.args.time given c.run_words-status.result c.failed-sink_failed.result c.run_words-status.ensures.known asked leaves)
     c.run_words-status.ensures.leaves))
+
+pub returns-clause-unwritten : goal.returns-clause-unwritten
+unfolding ldisk_verdict
+returns-clause-unwritten g c = λ none.
+    let disks = c.args.disks.now in
+    let left = g.I.Source.left c.args.source.now in
+    let asked = asked_at c.args.words.now in
+    let new = c.run_words-status.new.disks in
+    told_given (g.D.Disks.past disks) left (λ now given. (asked_verdict now (machine_of g.D.Disks disks) given asked).status ≢ 0 → g.D.Disks.past new ≡ g.D.Disks.past disks)
+    (given-map (λ given. LeavesAsked g.D.Disks disks new c.args.time given asked c.run_words-status.result)
+    (λ given. Told (g.D.Disks.past disks) (λ now. (asked_verdict now (machine_of g.D.Disks disks) given asked).status ≢ 0 → g.D.Disks.past new ≡ g.D.Disks.past disks)) left
+    (λ given leaves. asked_unwritten g.D.Disks disks new c.args.time given c.run_words-status.result c.failed-sink_failed.result c.run_words-status.ensures.known asked leaves none)
+    c.run_words-status.ensures.leaves)

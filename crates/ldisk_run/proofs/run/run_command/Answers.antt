@@ -49,8 +49,8 @@ pub returns-in-Make-clause-leaves : goal.returns-in-Make-clause-leaves
 returns-in-Make-clause-leaves g c =
     let same : c.as_slice.result.now ≡ c.in-Make.parts.items = search rules in
     rw c.in-Make.is
-    (given-all (λ given. LeavesBy g.D.Disks c.args.disks.now c.make.new.disks c.args.time given (model.Make (map part_view c.in-Make.parts.items)) c.make.result) (g.I.Source.left c.args.source.now) (λ given.
-    subst (λ parts. LeavesBy g.D.Disks c.args.disks.now c.make.new.disks c.args.time given (model.Make (map part_view parts)) c.make.result)
+    (given-all (λ given. LeavesBy g.D.Disks c.args.disks.now c.make.new.disks c.args.time given c.args.sectors (model.Make (map part_view c.in-Make.parts.items)) c.make.result) (g.I.Source.left c.args.source.now) (λ given.
+    subst (λ parts. LeavesBy g.D.Disks c.args.disks.now c.make.new.disks c.args.time given c.args.sectors (model.Make (map part_view parts)) c.make.result)
     same (c.make.ensures.leaves c.args.time given)))
 
 -- ---- mkfs
@@ -68,8 +68,8 @@ returns-in-Mkfs-clause-does g c =
 pub returns-in-Mkfs-clause-leaves : goal.returns-in-Mkfs-clause-leaves
 returns-in-Mkfs-clause-leaves g c =
     rw c.in-Mkfs.is
-    (given-all (λ given. LeavesBy g.D.Disks c.args.disks.now c.mkfs.new.disks c.args.time given (model.Mkfs (device_view c.in-Mkfs.device) (kind_view c.in-Mkfs.kind) c.in-Mkfs.inodes) c.mkfs.result)
-    (g.I.Source.left c.args.source.now) c.mkfs.ensures.leaves)
+    (given-all (λ given. LeavesBy g.D.Disks c.args.disks.now c.mkfs.new.disks c.args.time given c.args.sectors (model.Mkfs (device_view c.in-Mkfs.device) (kind_view c.in-Mkfs.kind) c.in-Mkfs.inodes) c.mkfs.result)
+    (g.I.Source.left c.args.source.now) (λ given. c.mkfs.ensures.leaves given c.args.sectors))
 
 pub returns-in-Mkfs-clause-usage : goal.returns-in-Mkfs-clause-usage
 unfolding is_carried_out
@@ -90,8 +90,8 @@ pub returns-in-Get-clause-leaves : goal.returns-in-Get-clause-leaves
 unfolding only_reads
 returns-in-Get-clause-leaves g c =
     rw c.in-Get.is
-    (given-all (λ given. LeavesBy g.D.Disks c.args.disks.now c.read.new.disks c.args.time given (model.Get (device_view c.in-Get.device) c.in-Get.path.now) c.read.result) (g.I.Source.left c.args.source.now) (λ given.
-    reading_leaves g.D.Disks c.args.disks.now c.read.new.disks c.read.ensures.same c.read.ensures.later c.args.time given
+    (given-all (λ given. LeavesBy g.D.Disks c.args.disks.now c.read.new.disks c.args.time given c.args.sectors (model.Get (device_view c.in-Get.device) c.in-Get.path.now) c.read.result) (g.I.Source.left c.args.source.now) (λ given.
+    reading_leaves g.D.Disks c.args.disks.now c.read.new.disks c.read.ensures.same c.read.ensures.later c.args.time given c.args.sectors
     (model.Get (device_view c.in-Get.device) c.in-Get.path.now) c.read.result refl c.read.ensures.device))
 
 pub returns-in-Ls-clause-does : goal.returns-in-Ls-clause-does
@@ -107,8 +107,8 @@ pub returns-in-Ls-clause-leaves : goal.returns-in-Ls-clause-leaves
 unfolding only_reads
 returns-in-Ls-clause-leaves g c =
     rw c.in-Ls.is
-    (given-all (λ given. LeavesBy g.D.Disks c.args.disks.now c.read-in-Ls.new.disks c.args.time given (model.Ls (device_view c.in-Ls.device) c.in-Ls.path.now) c.read-in-Ls.result) (g.I.Source.left c.args.source.now) (λ given.
-    reading_leaves g.D.Disks c.args.disks.now c.read-in-Ls.new.disks c.read-in-Ls.ensures.same c.read-in-Ls.ensures.later c.args.time given
+    (given-all (λ given. LeavesBy g.D.Disks c.args.disks.now c.read-in-Ls.new.disks c.args.time given c.args.sectors (model.Ls (device_view c.in-Ls.device) c.in-Ls.path.now) c.read-in-Ls.result) (g.I.Source.left c.args.source.now) (λ given.
+    reading_leaves g.D.Disks c.args.disks.now c.read-in-Ls.new.disks c.read-in-Ls.ensures.same c.read-in-Ls.ensures.later c.args.time given c.args.sectors
     (model.Ls (device_view c.in-Ls.device) c.in-Ls.path.now) c.read-in-Ls.result refl c.read-in-Ls.ensures.device))
 
 -- ---- rm
@@ -130,8 +130,8 @@ returns-in-Rm-clause-usage g c = rw c.in-Rm.is (λ one. absurd (c.rm.ensures.usa
 pub returns-in-Rm-clause-leaves : goal.returns-in-Rm-clause-leaves
 returns-in-Rm-clause-leaves g c =
     rw c.in-Rm.is
-    (given-all (λ given. LeavesBy g.D.Disks c.args.disks.now c.rm.new.disks c.args.time given (model.Rm (device_view c.in-Rm.device) c.in-Rm.path.now) c.rm.result)
-    (g.I.Source.left c.args.source.now) (λ given. c.rm.ensures.leaves given c.args.time))
+    (given-all (λ given. LeavesBy g.D.Disks c.args.disks.now c.rm.new.disks c.args.time given c.args.sectors (model.Rm (device_view c.in-Rm.device) c.in-Rm.path.now) c.rm.result)
+    (g.I.Source.left c.args.source.now) (λ given. c.rm.ensures.leaves given c.args.time c.args.sectors))
 
 -- ---- mkdir
 
@@ -155,8 +155,8 @@ returns-in-Mkdir-clause-usage g c = rw c.in-Mkdir.is (λ one. absurd (c.mkdir.en
 pub returns-in-Mkdir-clause-leaves : goal.returns-in-Mkdir-clause-leaves
 returns-in-Mkdir-clause-leaves g c =
     rw c.in-Mkdir.is
-    (given-all (λ given. LeavesBy g.D.Disks c.args.disks.now c.mkdir.new.disks c.args.time given (model.Mkdir (device_view c.in-Mkdir.device) c.in-Mkdir.path.now) c.mkdir.result)
-    (g.I.Source.left c.args.source.now) c.mkdir.ensures.leaves)
+    (given-all (λ given. LeavesBy g.D.Disks c.args.disks.now c.mkdir.new.disks c.args.time given c.args.sectors (model.Mkdir (device_view c.in-Mkdir.device) c.in-Mkdir.path.now) c.mkdir.result)
+    (g.I.Source.left c.args.source.now) (λ given. c.mkdir.ensures.leaves given c.args.sectors))
 
 -- ---- ln
 
@@ -180,8 +180,8 @@ returns-in-Ln-clause-usage g c = rw c.in-Ln.is (λ one. absurd (c.ln.ensures.usa
 pub returns-in-Ln-clause-leaves : goal.returns-in-Ln-clause-leaves
 returns-in-Ln-clause-leaves g c =
     rw c.in-Ln.is
-    (given-all (λ given. LeavesBy g.D.Disks c.args.disks.now c.ln.new.disks c.args.time given (model.Ln (device_view c.in-Ln.device) c.in-Ln.path.now c.in-Ln.target.now) c.ln.result)
-    (g.I.Source.left c.args.source.now) c.ln.ensures.leaves)
+    (given-all (λ given. LeavesBy g.D.Disks c.args.disks.now c.ln.new.disks c.args.time given c.args.sectors (model.Ln (device_view c.in-Ln.device) c.in-Ln.path.now c.in-Ln.target.now) c.ln.result)
+    (g.I.Source.left c.args.source.now) (λ given. c.ln.ensures.leaves given c.args.sectors))
 
 -- ---- put
 
@@ -207,7 +207,7 @@ unfolding is_carried_out
 returns-in-Put-clause-usage g c = rw c.in-Put.is (λ one. absurd (c.put.ensures.usage one), λ no. absurd cc)
 
 pub returns-in-Put-clause-leaves : goal.returns-in-Put-clause-leaves
-returns-in-Put-clause-leaves g c = rw c.in-Put.is c.put.ensures.leaves
+returns-in-Put-clause-leaves g c = rw c.in-Put.is (c.put.ensures.leaves c.args.sectors)
 
 pub returns-in-Put-clause-left_alone : goal.returns-in-Put-clause-left_alone
 returns-in-Put-clause-left_alone g c = rw c.in-Put.is (λ no. absurd cc)

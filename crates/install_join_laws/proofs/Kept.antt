@@ -34,8 +34,8 @@ use Rattle.install_order.proofs.BeginLemmas.{backup-apart}
 use Rattle.install_order.proofs.ReadyLemmas.{stageable}
 use Rattle.install_settle.specs.Settles.{HasNames, IsBeside, stale_of}
 use Rattle.install_stage.specs.Stages.{AreStagingBackup, IsStagingRoom, StagesRoom, with_room}
-use Rattle.install_join_laws.specs.Kept.{IsAsBefore, IsAsSettled, IsFile, IsOther, Keeps, KeepsUnstaged}
-use Rattle.install_join_laws.specs.KeptLaws.{BeginningKeepsLaw, KeepsSince, PlanKeepsLaw, StagingKeepsLaw, map_of}
+use Rattle.install_join_laws.specs.Kept.{HasOldMap, IsAsBefore, IsAsSettled, IsFile, IsOther, Keeps, KeepsUnstaged}
+use Rattle.install_join_laws.specs.KeptLaws.{BeginningKeepsLaw, KeepsSince, PlanKeepsLaw, StagingKeepsLaw, StagingMapLaw, map_of}
 use Rattle.install_join_laws.specs.Steps.{HasPlanned, IsBegunWith, begun_from, machine_on}
 use Rattle.install_join_laws.proofs.Begun.{begun, boot-apart, examined, leaves, may-stage, plan-view-same, told-after}
 use Rattle.install_join_laws.proofs.Flushed.{flushed-now, flushed-view, joined}
@@ -162,6 +162,14 @@ module _ {D : Type 0} {disks : Ghosts D} (entry : Volume D disks) (config : conf
       leaves_weaker (past_of entry) (past_of surveyed.volume) _ _ ((leaves entry config boot time surveyed is).any_moment is.quiet)
       (λ c b. kept-unstaged Was M From names own there c b)
 
+  -- ---- the old map
+
+  pub old-map : (c : Image) → IsAsBefore View Is c names.map → HasOldMap Was M From names c
+  old-map c same = inr (record { after = names_in View Is; settled = settled-is; is = same })
+
+  beginning-map : LeavesOnly (past_of entry) (past_of surveyed.volume) (HasOldMap Was M From names)
+  beginning-map = leaves_weaker (past_of entry) (past_of surveyed.volume) _ _ unplanned-run (λ c kept. kept.own names.map)
+
   -- ---- what is staged
 
   module _ (planned : Planned D disks) (has : HasPlanned surveyed planned) where
@@ -274,6 +282,14 @@ module _ {D : Type 0} {disks : Ghosts D} (entry : Volume D disks) (config : conf
         by (inl on) = way-kept c staging.sound on held
         by (inr named) = room-kept c staging.sound named held
 
+    -- the old map stays at its name
+    pub staging-map : (c : Image) → IsStagingRoom View Is Forced Made Present names.map Bytes c → IsAsBefore View Is c names.map
+    staging-map c staging = by staging.names
+      where
+        by : AreStagingBackup View Is Forced Made Present c ⊎ HasNames View c (with_room Forced Made Present names.map Bytes (names_in View Is)) → IsAsBefore View Is c names.map
+        by (inl on) = way-at c staging.sound on names.map map-no-backup
+        by (inr named) = room-at c staging.sound named names.map own-differs map-no-backup
+
     -- ---- a run
 
     module _ (new : Volume D disks) (result : Result (Unit {0}) WriteFault) (from : StagesFrom planned.volume new (is_forced planned) planned.present planned.plan planned.room result) where
@@ -311,6 +327,14 @@ module _ {D : Type 0} {disks : Ghosts D} (entry : Volume D disks) (config : conf
           (subst (λ (p : Option Past). Keeps Was M From names Bytes (now p)) (sym past-same) (kept-mid Bytes))
           (leaves_weaker (past_of from.flushed) (past_of new) _ _ staging-run staging-kept)))
 
+      pub staged-map : LeavesOnly (past_of entry) (past_of new) (HasOldMap Was M From names)
+      staged-map =
+          leaves_join (past_of entry) (past_of surveyed.volume) (past_of new) _ beginning-map
+          (subst (λ (p : Option Past). LeavesOnly p (past_of new) (HasOldMap Was M From names)) past-same
+          (joined planned.volume new (is_forced planned) planned.present planned.plan planned.room result from told-plan quiet-plan (HasOldMap Was M From names)
+          (subst (λ (p : Option Past). HasOldMap Was M From names (now p)) (sym past-same) (old-map Is refl))
+          (leaves_weaker (past_of from.flushed) (past_of new) _ _ staging-run (λ c staging. old-map c (staging-map c staging)))))
+
 pub plan_keeps_law : {D : Type 0} (disks : Ghosts D) → PlanKeepsLaw disks
 plan_keeps_law disks entry config boot time surveyed halt names is there own same =
     subst (λ (p : Option Past). LeavesOnly (past_of entry) p (KeepsUnstaged (now (past_of entry)) (machine_on entry) (begun_from entry surveyed) names)) (sym same.same_disks.same_past)
@@ -325,3 +349,7 @@ staging_keeps_law disks entry config boot time surveyed planned halt names is ha
         subst (λ (p : Option Past). LeavesOnly (past_of entry) p (KeepsSince entry surveyed planned names)) (sym (failed.0.flushes.failed ∙ has.same.same_disks.same_past))
         (beginning-run entry config boot time surveyed is there names own (map_of entry planned))
     by (inr from) = staged-run entry config boot time surveyed is there names own planned has halt.volume (Err halts.fault) from
+
+pub staging_map_law : {D : Type 0} (disks : Ghosts D) → StagingMapLaw disks
+staging_map_law disks entry new config boot time surveyed planned names result is has there own from =
+    staged-map entry config boot time surveyed is there names own planned has new result from

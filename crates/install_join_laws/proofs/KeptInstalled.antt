@@ -60,8 +60,8 @@ use Rattle.install_stage_laws.proofs.Committed.{staged_lays_law}
 use Rattle.install_settle.specs.Tidied.{IsTidiedMap}
 use Rattle.install_settle.specs.Tidies.{AreTidying, IsTidied, IsTidying, MayTidy, Tidies}
 use Rattle.install_settle.proofs.TidiedLemmas.{tidied_map_law}
-use Rattle.install_join_laws.specs.Kept.{HasBackup, IsAbsent, IsAsBefore, IsFile, IsInstalled, Keeps, backup_then}
-use Rattle.install_join_laws.specs.KeptLaws.{CommitKeepsLaw, CommittedBackupLaw, InstallationKeepsLaw, InstalledLaw, map_of}
+use Rattle.install_join_laws.specs.Kept.{HasBackup, HasOldMap, IsAbsent, IsAsBefore, IsFile, IsInstalled, Keeps, backup_then}
+use Rattle.install_join_laws.specs.KeptLaws.{CommitKeepsLaw, CommitMapLaw, CommittedBackupLaw, InstallationKeepsLaw, InstalledLaw, map_of}
 use Rattle.install_join_laws.specs.Steps.{HasPlanned, HasStaged, IsBegunWith, LiesOnDisks, begun_from, machine_on}
 use Rattle.install_join_laws.proofs.Begun.{boot-apart, plan-machine-same, plan-view-same}
 use Rattle.install_join_laws.proofs.Kept as keeping
@@ -207,6 +207,15 @@ module _ {D : Type 0} {disks : Ghosts D} (entry : Volume D disks) (config : conf
         (keeping.staged-run entry config boot time surveyed is lies.there own-names own planned has staged.volume (Ok tt) from)
         (leaves_weaker (past_of staged.volume) (past_of ended) _ _ (leaves_both (past_of staged.volume) (past_of ended) _ _ either-run sound-run)
         (λ c both. commit-kept c both.0 both.1))
+
+    -- the old map stays at its name
+    commit-map : LeavesOnly (past_of entry) (past_of ended) (HasOldMap Was M From own-names)
+    commit-map =
+        leaves_join (past_of entry) (past_of staged.volume) (past_of ended) _
+        (keeping.staged-map entry config boot time surveyed is lies.there own-names own planned has staged.volume (Ok tt) from)
+        (leaves_weaker (past_of staged.volume) (past_of ended) _ _ sound-run
+        (λ c same-as. keeping.old-map entry config boot time surveyed is lies.there own-names own c
+        (same-as.same Map ∙ keeping.staging-map entry config boot time surveyed is lies.there own-names own planned has There staged-left)))
 
   -- ---- the backup
 
@@ -450,6 +459,10 @@ module _ {D : Type 0} {disks : Ghosts D} (entry : Volume D disks) (config : conf
 pub commit_keeps_law : {D : Type 0} (disks : Ghosts D) → CommitKeepsLaw disks
 commit_keeps_law disks entry config boot time surveyed planned staged halt names is has lies own did halts =
     commit-run entry config boot time surveyed planned staged is has lies did names own halt.volume (Err Failed) halts.commits
+
+pub commit_map_law : {D : Type 0} (disks : Ghosts D) → CommitMapLaw disks
+commit_map_law disks entry ended config boot time surveyed planned staged names result is has lies own did commits =
+    commit-map entry config boot time surveyed planned staged is has lies did names own ended result commits
 
 pub installation_keeps_law : {D : Type 0} (disks : Ghosts D) → InstallationKeepsLaw disks
 installation_keeps_law disks entry new config boot time surveyed planned staged committed names result is has lies own did commits tidies =

@@ -44,6 +44,10 @@ pub record KeepsUnstaged (image : Image) (machine : Machine) (begun : Begun) (na
   pub backup : IfSome names.backup (IsAsBefore begun.volume image c)
   pub held : Held image machine begun.volume begun.span names.map → Held c machine begun.volume begun.span names.map
 
+-- the map is as before, or as in Settled: so it is until it is tidied
+abbrev pub HasOldMap : Image → Machine → Begun → model.OwnNames → Image → Type 0
+HasOldMap image machine begun names c = IsAsBefore begun.volume image c names.map ⊎ IsAsSettled image machine begun names c names.map
+
 -- ---- at every moment
 
 -- a name is none that an installation changes: neither of the map's, nor the backup's, nor, where it is forced, that with `~`

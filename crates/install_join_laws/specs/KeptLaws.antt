@@ -1,6 +1,7 @@
 -- What an installation keeps of names, of what its steps ensured (rules of this project's own).
 use Rattle.std.specs.Prelude.{ℕ, List, Result, Ok}
 use Rattle.disk_trait.specs.declared.disks.Disks.{Ghosts}
+use Rattle.disk_trait.specs.declared.disks.DiskFault.{DiskFault}
 use Rattle.disk_trait.specs.declared.disks.Span.{Span}
 use Rattle.disk_trait.specs.Moments.{now, IsQuiet, MayLeave, LeavesOnly}
 use Rattle.disk_trait.specs.Past.{Image}
@@ -12,7 +13,8 @@ use Rattle.minix_zones.specs.Volume.{past_of, SameVolume}
 use Rattle.minix_zones.specs.declared.volume.Volume.{Volume}
 use Rattle.install_order.specs.Answers.{Leaves}
 use Rattle.install_order.specs.Begins.{AreOwn, LiesThere}
-use Rattle.install_order.specs.States.{HaltsCommit, HaltsStaging, IsCommitted, TidiesFrom}
+use Rattle.install_order.specs.Commits.{Commits}
+use Rattle.install_order.specs.States.{HaltsCommit, HaltsStaging, IsCommitted, StagesFrom, TidiesFrom, is_forced}
 use Rattle.install_order.specs.View.{begun_of}
 use Rattle.install_order.specs.declared.committed.Committed.{Committed}
 use Rattle.install_order.specs.declared.halt.Halt.{Halt}
@@ -20,7 +22,7 @@ use Rattle.install_order.specs.declared.planned.Planned.{Planned}
 use Rattle.install_order.specs.declared.staged.Staged.{Staged}
 use Rattle.install_order.specs.declared.surveyed.Surveyed.{Surveyed}
 use Rattle.install_stage.specs.MapFile.{map_bytes}
-use Rattle.install_join_laws.specs.Kept.{HasBackup, IsInstalled, Keeps, KeepsUnstaged}
+use Rattle.install_join_laws.specs.Kept.{HasBackup, HasOldMap, IsInstalled, Keeps, KeepsUnstaged}
 use Rattle.install_join_laws.specs.Steps.{begun_from, machine_on, HasPlanned, HasStaged, IsBegunWith, LiesOnDisks}
 
 -- ---- the definitions
@@ -90,6 +92,27 @@ InstallationKeepsLaw {D} disks =
     → IsBegunWith entry config boot time surveyed → HasPlanned surveyed planned → LiesOnDisks entry surveyed
     → AreNamesOf entry surveyed names → HasStaged planned staged → IsCommitted staged committed → TidiesFrom committed new result
     → LeavesOnly (past_of entry) (past_of new) (KeepsSince entry surveyed planned names)
+
+-- ---- until the commit is done
+
+-- whatever a stop leaves of a staging, also of one that was refused, has the old map at its name
+abbrev pub StagingMapLaw : {D : Type 0} → Ghosts D → Type 0
+StagingMapLaw {D} disks =
+    (entry new : Volume D disks) (config : Config) (boot : Span) (time : ℕ) (surveyed : Surveyed D disks) (planned : Planned D disks)
+    (names : model.OwnNames) (result : Result (Unit {0}) WriteFault)
+    → IsBegunWith entry config boot time surveyed → HasPlanned surveyed planned
+    → LiesThere (now (past_of entry)) (machine_on entry) (begun_from entry surveyed) → AreNamesOf entry surveyed names
+    → StagesFrom planned.volume new (is_forced planned) planned.present planned.plan planned.room result
+    → LeavesOnly (past_of entry) (past_of new) (HasOldMap (now (past_of entry)) (machine_on entry) (begun_from entry surveyed) names)
+
+-- and so has that of a commit
+abbrev pub CommitMapLaw : {D : Type 0} → Ghosts D → Type 0
+CommitMapLaw {D} disks =
+    (entry ended : Volume D disks) (config : Config) (boot : Span) (time : ℕ) (surveyed : Surveyed D disks) (planned : Planned D disks)
+    (staged : Staged D disks) (names : model.OwnNames) (result : Result (Unit {0}) DiskFault)
+    → IsBegunWith entry config boot time surveyed → HasPlanned surveyed planned → LiesOnDisks entry surveyed
+    → AreNamesOf entry surveyed names → HasStaged planned staged → Commits staged.volume ended staged.boot staged.sector result
+    → LeavesOnly (past_of entry) (past_of ended) (HasOldMap (now (past_of entry)) (machine_on entry) (begun_from entry surveyed) names)
 
 -- ---- from the commit on
 

@@ -10,11 +10,13 @@ ghost use Rattle.install_join_laws.specs.JoinLaws.{
 ghost use Rattle.install_join_laws.specs.KeptLaws.{
   BeginningKeepsLaw,
   CommitKeepsLaw,
+  CommitMapLaw,
   CommittedBackupLaw,
   InstallationKeepsLaw,
   InstalledLaw,
   PlanKeepsLaw,
   StagingKeepsLaw,
+  StagingMapLaw,
 };
 ghost use Rattle.install_join_laws.specs.LaidLaws.{CommittedLaysLaw, InstalledLaysLaw};
 
@@ -78,6 +80,16 @@ pub fn stopped_commit_keeps_names<D: Disks>()
 /// So does one that is committed, whether or not its tidying was refused.
 pub fn installation_keeps_names<D: Disks>()
     ensures { InstallationKeepsLaw D.Disks }
+{}
+
+/// Until its commit an installation leaves at `map`, at every moment, what was there, or what is in Settled.
+pub fn staging_keeps_the_old_map<D: Disks>()
+    ensures { StagingMapLaw D.Disks }
+{}
+
+/// So it does in the commit.
+pub fn commit_keeps_the_old_map<D: Disks>()
+    ensures { CommitMapLaw D.Disks }
 {}
 
 /// From the commit on the backup is the whole old boot sector, where one was to be made, and else as before.

@@ -12,10 +12,11 @@ pub use apart_laws::{
     settled_configuration_plans_the_same, surveyed_configuration_is_apart,
 };
 pub use join_laws::{
-    beginning_keeps_names, commit_ends_an_installation, committed_installation_has_its_backup,
-    committed_map_lies_as_planned, done_installation_has_its_map, done_map_lies_as_planned,
-    installation_is_the_headline, installation_keeps_names,
-    staged_installation_means_its_configuration, staging_prepares,
+    beginning_keeps_names, commit_ends_an_installation, commit_keeps_the_old_map,
+    committed_installation_has_its_backup, committed_map_lies_as_planned,
+    done_installation_has_its_map, done_map_lies_as_planned, installation_is_the_headline,
+    installation_keeps_names, staged_installation_means_its_configuration,
+    staging_keeps_the_old_map, staging_prepares,
     stopped_beginning_leaves_what_boots_as_before, stopped_commit_keeps_names,
     stopped_plan_keeps_names, stopped_staging_keeps_names,
     stopped_staging_leaves_what_boots_as_before,

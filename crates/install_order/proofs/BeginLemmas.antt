@@ -1,7 +1,7 @@
 -- What a beginning leaves, from what settling does.
 use Rattle.std.proofs.Common.{◌≡◌, ◌&&◌, ◌||◌, ◌↔◌, ℕ, Bool, true, false, not, List, Option, None, Some, Result, Ok, Err, OnOk, refl, sym, ◌∙◌, ap, subst, inr}
-use Rattle.std.proofs.lemmas.Bool.{and_parts}
-use Rattle.std.specs.Prelude.{IfSome, is_some}
+use Rattle.std.proofs.lemmas.Bool.{and_parts, false≢true}
+use Rattle.std.specs.Prelude.{IfSome, IsErr, is_some}
 use Rattle.disk_trait.specs.declared.disks.Disks.{Ghosts}
 use Rattle.disk_trait.specs.Moments.{IsTold, now, IsQuiet, LeavesOnly}
 use Rattle.disk_trait.specs.NotWritten.{NotWritten}
@@ -28,7 +28,7 @@ use Rattle.minix_choice.specs.declared.write_fault.WriteFault.{WriteFault}
 use Rattle.minix_zones.specs.Volume.{volume_view, past_of}
 use Rattle.minix_zones.specs.declared.volume.Volume.{Volume}
 use Rattle.install_laws.specs.Boots.{HasBootOf}
-use Rattle.install_laws.specs.InstallVerdict.{Begun, holds_table, is_clear, is_holder, is_to_finish, inode_of, is_of_places}
+use Rattle.install_laws.specs.InstallVerdict.{Begun, InstallRefusal, holds_table, is_clear, is_holder, is_to_finish, inode_of, is_of_places}
 use Rattle.install_laws.specs.Writes.{IsWritable, IsApartSector}
 use Rattle.install_laws.proofs.ClearTest.{clear_test_law}
 use Rattle.install_laws.proofs.Writes.{writes_only_law}
@@ -44,7 +44,7 @@ use Rattle.install_settle.specs.declared.settling.LeftMap.{LeftMap}
 use Rattle.install_settle.specs.declared.settling.LeftMap.TheVariants.{Absent}
 use Rattle.install_settle.proofs.FoundLemmas.{none-holds}
 use Rattle.install_order.specs.Begins.{AreApartNames, HasNothingLeft, LiesThere, IsBeginning, IsBegun, AnswersClear}
-use Rattle.install_order.specs.Checks.{IsExamined}
+use Rattle.install_order.specs.Checks.{IsExamined, begin_checks}
 use Rattle.install_order.specs.declared.examination.Examined.{Examined}
 
 abbrev said : {A F : Type 0} → A → Result A F
@@ -103,6 +103,15 @@ module _ (image : Image) (machine : Machine) (begun : Begun) (found : Examined) 
       by : (f : Bool) → foreign ≡ f → found.settling.copy ≡ true → foreign ≡ true
       by true same copy = same
       by false same copy = let none = no-copy same in cc
+
+  -- ---- the checks up to settling pass
+
+  pub checks_pass : begin_checks image machine begun.volume begun.config begun.boot begun.span ≡ Ok is.names
+  unfolding begin_checks
+  checks_pass = rw (is.surveyed, is.apart, is.are, is.may) refl
+
+  pub none_refused : IsErr (begin_checks image machine begun.volume begun.config begun.boot begun.span) → ⊥
+  none_refused refused = false≢true (subst (λ (r : Result model.OwnNames InstallRefusal). IsErr r) checks_pass refused)
 
   -- ---- where nothing is left
 

@@ -59,6 +59,7 @@ module _ {D : Type 0} {disks : Ghosts D} (old new : Volume D disks) (boot : Span
     made = writes.made;
     quiet = flushed.quiet;
     durable = flushed.durable;
+    unflushed = flushed.failed;
     others = writes.others;
     sound = λ quiet sound apart. leaves_weaker (past_of old) (past_of new) _ _ (any quiet) (sound-either sound apart);
     failed = failed;

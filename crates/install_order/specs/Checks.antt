@@ -1,5 +1,6 @@
 -- What an installation finds before it begins, by the first of the model's checks.
-use Rattle.std.specs.Prelude.{◌≡◌, ◌<◌, ◌*◌, ℕ, Bool, true, List, length, is_some, Result, Ok, Err}
+use Rattle.std.specs.Prelude.{◌≡◌, ◌<◌, ◌*◌, ℕ, Bool, true, List, length, is_some, Option, Result, Ok, Err, IsErr}
+use Rattle.disk_trait.specs.Past.{Past}
 use Rattle.lilo_model.specs.Apart.{apart_checks}
 use Rattle.lilo_model.specs.Checks.{◌>>=◌, require, with_fault}
 use Rattle.lilo_model.specs.Conf.{Config}
@@ -12,7 +13,7 @@ use Rattle.lilo_model.specs.MinixSurvey.{Met, survey}
 use Rattle.lilo_model.specs.MinixWalk.{visits}
 use Rattle.lilo_model.specs.Settled as model
 use Rattle.lilo_model.specs.Settled.{is_foreign, own_names}
-use Rattle.install_laws.specs.InstallVerdict.{InstallRefusal, NotSound, NotApart, BadName, NoLink, may_settle, is_clear}
+use Rattle.install_laws.specs.InstallVerdict.{Begun, InstallRefusal, NotSound, NotApart, BadName, NoLink, may_settle, is_clear}
 use Rattle.minix_survey.specs.declared.findings.Findings.{Findings}
 use Rattle.present_map.specs.Clear.{IsFound, clear_answer}
 use Rattle.present_map.specs.Old.{IsOldMap}
@@ -35,6 +36,11 @@ begin_checks image machine volume config boot span = do
   names ← with_fault BadName (own_names (names_in volume image) config boot (is_foreign (image span.disk span.start)))
   b ← require (may_settle image machine volume (visits volume.layout (parts_of volume image)) span names.map) NoLink
   Ok names
+
+-- Where one of them refuses, nothing is written, whatever is answered.
+abbrev pub StaysRefused : Image → Machine → Begun → Option Past → Option Past → Type 0
+StaysRefused image machine begun entry ended =
+    IsErr (begin_checks image machine begun.volume begun.config begun.boot begun.span) → ended ≡ entry
 
 -- ---- on the way there
 

@@ -1,6 +1,6 @@
 -- What a commit leaves: it writes one sector of a disk and flushes, from a quiet moment to a quiet one (a rule of this
 -- project's own).
-use Rattle.std.specs.Prelude.{◌≡◌, ◌⊎◌, ℕ, List, Result, OnOk, IfErr}
+use Rattle.std.specs.Prelude.{◌≡◌, ◌⊎◌, ℕ, List, Result, OnOk, OnErr, IfErr}
 use Rattle.disk_trait.specs.declared.disks.Disks.{Ghosts}
 use Rattle.disk_trait.specs.declared.disks.Span.{Span}
 use Rattle.disk_trait.specs.declared.disks.DiskFault.{DiskFault}
@@ -30,6 +30,7 @@ pub record Commits {D : Type 0} {disks : Ghosts D} (old new : Volume D disks) (b
   -- and what a stop leaves then
   pub quiet : OnOk result (IsQuiet (past_of new))
   pub durable : OnOk result (begun (past_of new) ≡ now (past_of new))
+  pub unflushed : OnErr result (begun (past_of new) ≡ begun (past_of old))
   -- it wrote no other sector
   pub others : WritesNoOther boot.disk boot.start (past_of old) (past_of new)
   -- the volume stays sound in whatever is left, with the same Names, where the sector is none of its own past block 0

@@ -33,7 +33,7 @@ ghost use Rattle.install_order.specs.Answers.{
   Settled,
 };
 ghost use Rattle.install_order.specs.Begins.{HasNothingLeft};
-ghost use Rattle.install_order.specs.Checks.{IsLaid, GivesExamined};
+ghost use Rattle.install_order.specs.Checks.{IsLaid, GivesExamined, StaysRefused};
 ghost use Rattle.install_order.specs.Faults.{HasInstallCause};
 ghost use Rattle.install_order.specs.Plans.{Surveys};
 ghost use Rattle.install_order.specs.View.{begun_of};
@@ -204,6 +204,9 @@ impl<'d, D: Disks> Surveyed<'d, D> {
             (span_view boot) (found_in result))) }
         ensures refused { IfErr result (λ halt. halt.fault ≢ InstallFault.Device
             → past_of halt.volume ≡ past_of volume.entry) }
+        ensures unbegun { IfSome config.boot (λ device. OnDisks D.Disks volume.entry.disks.now (λ image machine.
+            StaysRefused image machine (begun_of volume.entry config device boot) (past_of volume.entry)
+            (past_of (volume_in result)))) }
         ensures cause { IfErr result (λ halt.
             HasInstallCause (faults_of volume.entry) (faults_of halt.volume) halt.fault) }
         ensures phase { IfErr result (λ halt. halt.phase ≡ Phase.Before) }

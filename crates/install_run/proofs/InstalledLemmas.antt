@@ -1,17 +1,19 @@
 -- What an installation answers and leaves, from how far it came.
 use Rattle.std.proofs.Common.{◌≡◌, ◌⊎◌, ◌++◌, ◌∙◌, ℕ, ◌==◌, List, [], ◌∷◌, Bool, true, not, Option, Some, None, Result, Ok, Err, codes, refl, sym, ap, subst, inl, inr, arith, append-nil}
 use Rattle.std.proofs.lemmas.Bool.{false≢true}
-use Rattle.std.specs.Prelude.{◌≢◌, IfSome, IsTrue, is_some}
+use Rattle.std.specs.Prelude.{◌≢◌, IfSome, IsErr, IsTrue, is_some}
 use Rattle.std.specs.List.{concat, list_any}
 use Rattle.disk_trait.specs.declared.disks.Disks.{Ghosts}
+use Rattle.disk_trait.specs.declared.disks.DiskFault.{DiskFault}
+use Rattle.disk_trait.specs.declared.disks.DiskFault.TheVariants.{Failed}
 use Rattle.disk_trait.specs.declared.disks.Phase.{Phase}
 use Rattle.disk_trait.specs.declared.disks.Phase.TheVariants.{Before, Commit, After}
 use Rattle.disk_trait.specs.declared.disks.Span as spans
 use Rattle.disk_trait.specs.Calls.{GoesOn}
 use Rattle.disk_trait.specs.Moments.{IsTold, now, IsQuiet, IsWhole, LeavesOnly, MayLeave}
 use Rattle.disk_trait.proofs.LawLemmas.{end_of_run_law}
-use Rattle.disk_trait.specs.Past.{Past}
-use Rattle.disk_trait.proofs.MomentLemmas.{told_now}
+use Rattle.disk_trait.specs.Past.{Past, with_sector}
+use Rattle.disk_trait.proofs.MomentLemmas.{leaves_weaker, told_now}
 use Rattle.lilo_model.specs.Disks.{Image, Machine, DiskSector}
 use Rattle.lilo_model.specs.Lays.{Lays}
 use Rattle.lilo_model.specs.Mapped.{mapped_sectors}
@@ -29,7 +31,7 @@ use Rattle.lilo_model.specs.MinixParts.{volume_at}
 use Rattle.minix_zones.specs.View as volumes
 use Rattle.minix_zones.specs.declared.zone_fault.ZoneFault.{ZoneFault}
 use Rattle.minix_zones.specs.declared.zone_fault.ZoneFault.TheVariants as zones
-use Rattle.minix_zones.specs.Volume.{volume_view, past_of, sizes_of, faults_of}
+use Rattle.minix_zones.specs.Volume.{volume_view, past_of, sizes_of, faults_of, Syncs}
 use Rattle.minix_zones.specs.declared.volume.Volume.{Volume}
 use Rattle.sector_address.specs.Machine.{machine_of, OnDisks}
 use Rattle.stream_trait.specs.Shows.{SinkState, Shows}
@@ -40,10 +42,14 @@ use Rattle.install_run.proofs.LawLemmas.{status_law, text_law}
 use Rattle.install_run.proofs.StatusLemmas.{of_status}
 use Rattle.install_laws.specs.Headline.{Means}
 use Rattle.install_laws.specs.InstallVerdict.{Answer, Begun, InstallRefusal, answer_text, verdict_by}
-use Rattle.install_laws.specs.Stopped.{BootsAsEither, StaysAsBefore}
+use Rattle.install_laws.specs.Stopped.{BootsAsEither, Prepares, StaysAsBefore}
+use Rattle.install_laws.proofs.Stopped.{prepares_law}
 use Rattle.install_order.specs.Begins.{AreOwn, HasNothingLeft, LiesThere}
+use Rattle.install_order.specs.Checks.{StaysRefused}
 use Rattle.install_order.specs.Faults.{HasInstallCause, IsStopped, Refuses}
-use Rattle.install_order.specs.States.{HaltsCommit, IsCommitted, TidiesFrom}
+use Rattle.install_order.specs.Answers as orders
+use Rattle.install_order.specs.Commits.{Commits}
+use Rattle.install_order.specs.States.{HaltsCommit, HaltsStaging, IsCommitted, MayBeTidied, StagesFrom, StopsStaging, TidiesFrom, is_forced}
 use Rattle.install_order.specs.View.{begun_of}
 use Rattle.install_order.specs.declared.committed.Committed.{Committed}
 use Rattle.install_order.specs.declared.fault.InstallFault.{InstallFault}
@@ -66,24 +72,31 @@ use Rattle.install_join_laws.specs.Steps.{HasStaged, IsBegunWith, LiesOnDisks, b
 use Rattle.install_join_laws.proofs.Begun as beginnings
 use Rattle.install_join_laws.proofs.Begun.{examined, leaves, may-stage, plan-view-same}
 use Rattle.install_join_laws.proofs.Installed.{installation_commit_ends_law, installation_law}
-use Rattle.install_join_laws.proofs.Kept.{staging_keeps_law}
-use Rattle.install_join_laws.proofs.KeptInstalled.{commit_keeps_law, committed_backup_law, installation_keeps_law, installed_law}
+use Rattle.install_join_laws.proofs.Kept.{beginning_keeps_law, staging_keeps_law, staging_map_law}
+use Rattle.install_join_laws.proofs.KeptInstalled.{commit_keeps_law, commit_map_law, committed_backup_law, installation_keeps_law, installed_law}
 use Rattle.install_join_laws.proofs.LaidInstalled.{committed_lays_law}
-use Rattle.install_join_laws.proofs.Prepared.{staging_stops_law}
-use Rattle.install_run.specs.Answers.{AnswersInstall, Answered, GivesInstall, LostEarly, LostLater, Starved, StaysUnbegun, IsDiskFault, IsSettledFrom, is_install_status, settled_answer}
+use Rattle.install_join_laws.proofs.Prepared.{staging_prepares_law, staging_stops_law}
+use Rattle.install_join_laws.proofs.Staged.{installation_means_law}
+use Rattle.install_run.specs.Answers.{AnswersInstall, Answered, GivesInstall, LostEarly, LostLater, Starved, IsDiskFault, IsSettledFrom, is_install_status, settled_answer}
 use Rattle.install_room.specs.Room.{places_view}
 use Rattle.map_sectors.specs.Map.{plan_view}
-use Rattle.install_run.specs.Keeps.{HasInstalled, IsBefore, IsDone, KeepsMost, KeepsWith, new_map}
-use Rattle.install_run.specs.Installs.{IsInstalled, Installs, InstallsBegun, LaysAsPlanned, Leaves, NoVolume, Passes, VolumeLost, meant_by}
+use Rattle.install_run.specs.Keeps.{HasInstalled, IsBefore, IsDone, KeepsMost, KeepsOldMap, KeepsWith, WritesInside, WritesNoApart, new_map}
+use Rattle.install_run.specs.Installs.{HoldsSettled, IsInstalled, Installs, StaysUnstaged, InstallsBegun, LaysAsPlanned, Leaves, NoVolume, Passes, VolumeLost, meant_by}
+use Rattle.install_run.specs.Staged.{EndsCommitted, EndsInCommit, IsFlushed, IsStaged, IsUnflushed, SparesClear}
 use Rattle.install_run.proofs.AnswerLemmas.{passes_begun}
-use Rattle.install_run.specs.Steps.{Finishes, FinishedEarly, FinishedWhole, HaltedCommit, HaltedStaging, HaltedTidying, IsHalted, IsPrepared, StaysBegun}
+use Rattle.install_run.specs.Steps.{Finishes, FinishedEarly, FinishedWhole, HaltedCommit, HaltedStaging, HaltedTidying, IsHalted, IsPrepared, IsReadyToStage, StaysBegun}
 use Rattle.install_run.proofs.CarriedLemmas.{tidies_some}
+use Rattle.install_run.proofs.OutsideLemmas.{apart_join, finished_inside, was_apart}
+use Rattle.install_run.proofs.SpareLemmas.{spares_since}
 
 -- ---- a value that there is
 
 pub some_is : {A : Type 0} → (option : Option A) → is_some option ≡ true → (value : A) × (option ≡ Some value)
 some_is None is = cc
 some_is (Some value) is = (value, refl)
+
+pub not_refused : {A F : Type 0} (r : Result A F) (a : A) → r ≡ Ok a → IsErr r → ⊥
+not_refused {A} {F} r a is refused = false≢true (subst (λ (x : Result A F). IsErr x) is refused)
 
 -- ---- a refusal before anything was planned
 
@@ -137,12 +150,16 @@ pub refused_leaves : (machine : Machine) (begun : Begun) (settled : Image) (time
     → ((names : settles.OwnNames) → AreOwn (now entry) begun names
     → KeepsMost machine begun names entry ended ⊎ KeepsWith machine begun names (new_map machine begun settled time places) entry ended)
     → ((names : settles.OwnNames) → AreOwn (now entry) begun names → status ≢ 8 → KeepsMost machine begun names entry ended)
+    → SparesClear machine begun entry ended → ((names : settles.OwnNames) → AreOwn (now entry) begun names → KeepsOldMap machine begun names entry ended)
+    → (status ≢ 8 → HoldsSettled settled ended)
+    → StaysUnstaged machine begun entry ended ⊎ (IsSettledFrom (now entry) machine begun settled × Passes (now entry) machine settled begun time)
     → Leaves machine begun settled time entry ended status
-refused_leaves machine begun settled time places entry ended status early stays keeps unstaged = record {
+refused_leaves machine begun settled time places entry ended status early stays keeps unstaged spares map holds stages = record {
   keeps = λ names own. record {
     places = places;
     before = λ is. keeps names own;
     unstaged = λ is. unstaged names own;
+    map = λ is. map names own;
     later = λ at. absurd (none at);
     backup = λ done. absurd (early.not_done done);
     installed = λ zero. absurd (early.not_done (inl zero));
@@ -154,11 +171,22 @@ refused_leaves machine begun settled time places entry ended status early stays 
   done = λ done. absurd (early.not_done done);
   lays = λ done. absurd (early.not_done done);
   quiet = λ zero. absurd (early.not_done (inl zero));
+  spares = λ is. spares;
+  in_commit = λ nine. absurd (early.not_committing nine);
+  committed = λ done. absurd (early.not_done done);
+  holds = λ is. holds;
+  stages = λ is. stages;
 }
   where
     none : (status ≡ 9) ⊎ IsDone status → ⊥
     none (inl nine) = early.not_committing nine
     none (inr done) = early.not_done done
+
+-- the old map isn't spoken of once it is done
+not-map : (status : ℕ) → IsDone status → IsBefore status ⊎ (status ≡ 9) → ⊥
+not-map status done (inl early) = early.not_done done
+not-map status (inl zero) (inr nine) = omega (arith, zero, nine)
+not-map status (inr ten) (inr nine) = omega (arith, ten, nine)
 
 -- ---- what is planned and carried out
 
@@ -198,7 +226,7 @@ not_early status planned ended old new (FinishedEarly halt halted same device st
 
 -- what is left of it
 module _ {D : Type 0} {disks : Ghosts D} (entry : Volume D disks) (config : configs.Config) (boot : spans.Span) (time : ℕ) (planned : Planned D disks)
-    (prepared : IsPrepared entry config boot time planned) (told : IsTold (past_of entry)) (quiet : IsQuiet (past_of entry)) (whole : IsWhole (sizes_of entry) (past_of entry)) where
+    (prepared : IsPrepared entry config boot time planned) (ready : IsReadyToStage planned) (told : IsTold (past_of entry)) (quiet : IsQuiet (past_of entry)) (whole : IsWhole (sizes_of entry) (past_of entry)) where
   abbrev S : Surveyed D disks
   S = prepared.surveyed
 
@@ -247,6 +275,52 @@ module _ {D : Type 0} {disks : Ghosts D} (entry : Volume D disks) (config : conf
     lies : LiesOnDisks entry S
     lies = record { whole = whole; there = there }
 
+    -- ---- until the commit
+
+    before-is : orders.Leaves entry S.volume From
+    before-is = leaves entry config boot time S is
+
+    begin-spares : SparesClear (machine_on entry) From (past_of entry) (past_of S.volume)
+    begin-spares clear = leaves_weaker (past_of entry) (past_of S.volume) _ _ (before-is.any_moment quiet) (λ c b. b.spared there clear)
+
+    begin-map : (names : settles.OwnNames) → AreOwn (now (past_of entry)) From names → KeepsOldMap (machine_on entry) From names (past_of entry) (past_of S.volume)
+    begin-map names own =
+        leaves_weaker (past_of entry) (past_of S.volume) _ _ (beginning_keeps_law disks entry S.volume S.config S.device S.boot names quiet there own before-is)
+        (λ c kept. kept.own names.map)
+
+    prepares : (new : Volume D disks) (result : Result (Unit {0}) WriteFault) → StagesFrom planned.volume new (is_forced planned) planned.present planned.plan planned.room result
+        → Prepares (machine_on entry) From.volume From.span (past_of entry) (past_of S.volume) (past_of new)
+    prepares new result from = staging_prepares_law disks entry new config boot time S planned result is prepared.has there from
+
+    staging-spares : (new : Volume D disks) (result : Result (Unit {0}) WriteFault) → StagesFrom planned.volume new (is_forced planned) planned.present planned.plan planned.room result
+        → SparesClear (machine_on entry) From (past_of entry) (past_of new)
+    staging-spares new result from = spares_since (machine_on entry) From.volume From.span (past_of entry) (past_of S.volume) (past_of new) (prepares new result from)
+
+    staging-map : (new : Volume D disks) (result : Result (Unit {0}) WriteFault) → StagesFrom planned.volume new (is_forced planned) planned.present planned.plan planned.room result
+        → (names : settles.OwnNames) → AreOwn (now (past_of entry)) From names → KeepsOldMap (machine_on entry) From names (past_of entry) (past_of new)
+    staging-map new result from names own = staging_map_law disks entry new config boot time S planned names result is prepared.has there own from
+
+    -- where the flush before it failed nothing was done
+    still : (halt : Halt D disks) → (fault : WriteFault) → Syncs planned.volume halt.volume zones.Device (Err zones.Device) → past_of halt.volume ≡ past_of S.volume
+    still halt fault syncs = syncs.flushes.failed ∙ prepared.has.same.same_disks.same_past
+
+    halted-spares : (halt : Halt D disks) → HaltsStaging planned halt → SparesClear (machine_on entry) From (past_of entry) (past_of halt.volume)
+    halted-spares halt halts = by halts.stops
+      where
+        by : StopsStaging planned.volume (is_forced planned) planned.present planned.plan planned.room (record { volume = halt.volume; fault = halts.fault })
+            → SparesClear (machine_on entry) From (past_of entry) (past_of halt.volume)
+        by (inl stopped) = subst (λ (p : Option Past). SparesClear (machine_on entry) From (past_of entry) p) (sym (still halt halts.fault stopped.0)) begin-spares
+        by (inr from) = staging-spares halt.volume (Err halts.fault) from
+
+    halted-map : (halt : Halt D disks) → HaltsStaging planned halt → (names : settles.OwnNames) → AreOwn (now (past_of entry)) From names
+        → KeepsOldMap (machine_on entry) From names (past_of entry) (past_of halt.volume)
+    halted-map halt halts names own = by halts.stops
+      where
+        by : StopsStaging planned.volume (is_forced planned) planned.present planned.plan planned.room (record { volume = halt.volume; fault = halts.fault })
+            → KeepsOldMap (machine_on entry) From names (past_of entry) (past_of halt.volume)
+        by (inl stopped) = subst (λ (p : Option Past). KeepsOldMap (machine_on entry) From names (past_of entry) p) (sym (still halt halts.fault stopped.0)) (begin-map names own)
+        by (inr from) = staging-map halt.volume (Err halts.fault) from names own
+
     abbrev Kept : settles.OwnNames → Option Past → Type 0
     Kept names ended = KeepsWith (machine_on entry) From names Map (past_of entry) ended
 
@@ -255,6 +329,78 @@ module _ {D : Type 0} {disks : Ghosts D} (entry : Volume D disks) (config : conf
     kept-by names ended = subst (λ (bytes : List ℕ). KeepsWith (machine_on entry) From names bytes (past_of entry) ended) map-is
 
     module _ (staged : Staged D disks) (stages : HasStaged planned staged) where
+      -- ---- all is staged
+
+      staged-boot : staged.boot ≡ S.boot
+      staged-boot = stages.stages.boot_is ∙ prepared.has.held.boot_is
+
+      staged-view : volume_view staged.volume ≡ From.volume
+      staged-view =
+          let from = stages.stages.stages in
+          let one : volume_view staged.volume ≡ volume_view planned.volume = rw (from.kept.same_span, from.kept.same_layout) refl in
+          one ∙ plan-view-same entry config boot time S is planned prepared.has
+
+      staged-outside : WritesNoApart From.volume (past_of entry) (past_of staged.volume)
+      staged-outside =
+          apart_join From.volume (past_of entry) (past_of planned.volume) (past_of staged.volume)
+          (subst (λ (p : Option Past). WritesNoApart From.volume (past_of entry) p) (sym prepared.has.same.same_disks.same_past) (before-is.outside told))
+          (subst (λ (v : parts.Volume). WritesNoApart v (past_of planned.volume) (past_of staged.volume)) (plan-view-same entry config boot time S is planned prepared.has)
+          (was_apart planned ready told-planned staged stages))
+
+      pub staged_is : IsStaged (machine_on entry) From Settled-image (past_of entry) (past_of staged.volume) staged.sector
+      staged_is =
+          let from = stages.stages.stages in
+          let first = installation_means_law disks entry config boot time S planned staged is prepared.has lies stages.stages in
+          record {
+            stays = prepares_law (machine_on entry) From.volume From.span (past_of entry) (past_of S.volume) (past_of staged.volume) (prepares staged.volume (Ok tt) from);
+            spares = staging-spares staged.volume (Ok tt) from;
+            map = λ names own. staging-map staged.volume (Ok tt) from names own;
+            outside = staged-outside;
+            quiet = stages.quiet;
+            place = first.place;
+            means = subst (λ m. Means (machine_on entry) From.span first.place m (with_sector (now (past_of staged.volume)) From.span.disk From.span.start staged.sector)) meant-same first.is;
+          }
+
+      -- what comes then
+      module _ (new : Volume D disks) (fault : DiskFault) (commits : Commits staged.volume new staged.boot staged.sector (Err fault)) where
+        pub unflushed : IsUnflushed From.span (past_of staged.volume) (past_of new) staged.sector
+        unflushed =
+            subst (λ (b : spans.Span). IsUnflushed (volumes.span_view b) (past_of staged.volume) (past_of new) staged.sector) staged-boot
+            (record { either = commits.any_moment stages.quiet; others = commits.others; unflushed = commits.unflushed })
+
+      module _ (new : Volume D disks) (commits : Commits staged.volume new staged.boot staged.sector (Ok tt)) where
+        pub flushed : IsFlushed From.span (past_of staged.volume) (past_of new) staged.sector
+        flushed =
+            subst (λ (b : spans.Span). IsFlushed (volumes.span_view b) (past_of staged.volume) (past_of new) staged.sector) staged-boot
+            (record {
+              either = commits.any_moment stages.quiet;
+              others = commits.others;
+              written = commits.written (stages.stages.stages.goes_on.told told-planned);
+              quiet = commits.quiet;
+            })
+
+      ends-committed : (new : Volume D disks) (committed : Committed D disks) (result : Result (Unit {0}) WriteFault) → IsCommitted staged committed → MayBeTidied committed
+          → TidiesFrom committed new result → EndsCommitted (machine_on entry) From Settled-image (past_of entry) (past_of new)
+      ends-committed new committed result commits may tidies =
+          let commit = commits.commits in
+          let view : volume_view committed.volume ≡ volume_view staged.volume = rw (commit.kept.same_span, commit.kept.same_layout) refl in
+          record {
+            staged = past_of staged.volume;
+            bytes = staged.sector;
+            is = staged_is;
+            committed = past_of committed.volume;
+            commits = flushed committed.volume commit;
+            tidies = subst (λ (v : parts.Volume). WritesNoApart v (past_of committed.volume) (past_of new)) (view ∙ staged-view)
+                ((tidies_some committed may new result tidies).1.apart (commit.goes_on.told (stages.stages.stages.goes_on.told told-planned)));
+          }
+
+      commit-keeps-map : (new : Volume D disks) (result : Result (Unit {0}) DiskFault) → Commits staged.volume new staged.boot staged.sector result
+          → (names : settles.OwnNames) → AreOwn (now (past_of entry)) From names → KeepsOldMap (machine_on entry) From names (past_of entry) (past_of new)
+      commit-keeps-map new result commits names own =
+          commit_map_law disks entry new config boot time S planned staged names result is prepared.has lies own stages commits
+
+      -- ---- what is left of it
+
       committing : (halt : Halt D disks) → HaltsCommit staged halt
           → (place : DiskSector) × BootsAsEither (machine_on entry) From.volume From.span place (meant_by (machine_on entry) From Settled-image) (past_of entry) (past_of halt.volume)
       committing halt halts =
@@ -317,7 +463,7 @@ module _ {D : Type 0} {disks : Ghosts D} (entry : Volume D disks) (config : conf
           (subst IsBefore (sym eight) (before_by 8 refl))
           (staging_stops_law disks entry config boot time S planned halt is prepared.has there halts)
           (λ names own. inr (kept-by names (past_of halt.volume) (staging_keeps_law disks entry config boot time S planned halt names is prepared.has there own halts)))
-          (λ names own other. absurd (other eight))
+          (λ names own other. absurd (other eight)) (halted-spares halt halts) (λ names own. halted-map halt halts names own) (λ other. absurd (other eight)) (inr (tie, passed))
       halted-leaves status halt (HaltedCommit phase staged stages halts) status-is lost =
           let nine : status ≡ 9 = status-is ∙ (ap (λ fault. fault_status fault halt.phase) lost ∙ ap device_status phase) in
           record {
@@ -325,6 +471,7 @@ module _ {D : Type 0} {disks : Ghosts D} (entry : Volume D disks) (config : conf
               places = places_view planned.room;
               before = λ early. absurd (early.not_committing nine);
               unstaged = λ early. absurd (early.not_committing nine);
+              map = λ is. commit-keeps-map staged stages halt.volume (Err Failed) halts.commits names own;
               later = λ at. committing-keeps staged stages halt halts names own;
               backup = λ done. absurd (none nine done);
               installed = λ zero. absurd (none nine (inl zero));
@@ -336,6 +483,11 @@ module _ {D : Type 0} {disks : Ghosts D} (entry : Volume D disks) (config : conf
             done = λ done. absurd (none nine done);
             lays = λ done. absurd (none nine done);
             quiet = λ zero. absurd (none nine (inl zero));
+            spares = λ early. absurd (early.not_committing nine);
+            in_commit = λ at. record { staged = past_of staged.volume; bytes = staged.sector; is = staged_is staged stages; commits = unflushed staged stages halt.volume Failed halts.commits };
+            committed = λ done. absurd (none nine done);
+            holds = λ early. absurd (early.not_committing nine);
+            stages = λ early. absurd (early.not_committing nine);
           }
         where
           none : status ≡ 9 → IsDone status → ⊥
@@ -348,6 +500,7 @@ module _ {D : Type 0} {disks : Ghosts D} (entry : Volume D disks) (config : conf
               places = places_view planned.room;
               before = λ early. absurd (early.not_done (inr ten));
               unstaged = λ early. absurd (early.not_done (inr ten));
+              map = λ is. absurd (not-map status (inr ten) is);
               later = λ at. installing-keeps staged stages halt.volume committed (Err halts.fault) commits halts.tidies names own;
               backup = λ done. installing-backup staged stages halt.volume committed (Err halts.fault) commits halts.tidies names own;
               installed = λ zero. absurd (omega (arith, ten, zero));
@@ -359,6 +512,11 @@ module _ {D : Type 0} {disks : Ghosts D} (entry : Volume D disks) (config : conf
             done = λ done. installing staged stages halt.volume committed (Err halts.fault) commits (tidies_some committed may halt.volume (Err halts.fault) halts.tidies);
             lays = λ done names own. installing-lays staged stages halt.volume committed (Err halts.fault) commits halts.tidies names own;
             quiet = λ zero. absurd (omega (arith, ten, zero));
+            spares = λ early. absurd (early.not_done (inr ten));
+            in_commit = λ nine. absurd (omega (arith, ten, nine));
+            committed = λ done. ends-committed staged stages halt.volume committed (Err halts.fault) commits may halts.tidies;
+            holds = λ early. absurd (early.not_done (inr ten));
+            stages = λ early. absurd (early.not_done (inr ten));
           }
 
       finished-leaves : (status : ℕ) (ended : D) (old new : SinkState) → Finishes planned status ended old new
@@ -370,6 +528,7 @@ module _ {D : Type 0} {disks : Ghosts D} (entry : Volume D disks) (config : conf
               places = places_view planned.room;
               before = λ early. absurd (early.not_done (inl zero));
               unstaged = λ early. absurd (early.not_done (inl zero));
+              map = λ is. absurd (not-map status (inl zero) is);
               later = λ at. installing-keeps carried.staged carried.stages tidied.volume carried.committed (Ok tt) carried.commits carried.tidies names own;
               backup = λ done. installing-backup carried.staged carried.stages tidied.volume carried.committed (Ok tt) carried.commits carried.tidies names own;
               installed = λ at. has-installed carried.staged carried.stages tidied.volume carried.committed carried.commits carried.tidies carried.quiet names own;
@@ -382,6 +541,11 @@ module _ {D : Type 0} {disks : Ghosts D} (entry : Volume D disks) (config : conf
                 (tidies_some carried.committed carried.may tidied.volume (Ok tt) carried.tidies);
             lays = λ done names own. installing-lays carried.staged carried.stages tidied.volume carried.committed (Ok tt) carried.commits carried.tidies names own;
             quiet = λ done. carried.quiet;
+            spares = λ early. absurd (early.not_done (inl zero));
+            in_commit = λ nine. absurd (omega (arith, zero, nine));
+            committed = λ done. ends-committed carried.staged carried.stages tidied.volume carried.committed (Ok tt) carried.commits carried.may carried.tidies;
+            holds = λ early. absurd (early.not_done (inl zero));
+            stages = λ early. absurd (early.not_done (inl zero));
           })
       finished-leaves status ended old new (FinishedEarly halt halted same device status-is said) =
           subst (λ (d : D). Leaves (machine_on entry) From Settled-image time (past_of entry) (disks.past d) status) same
@@ -410,7 +574,7 @@ module _ {D : Type 0} {disks : Ghosts D} (entry : Volume D disks) (config : conf
 
 -- ---- the whole, for the boot device that there is
 
-for_device : {A : Type 0} → (option : Option A) (value : A) (P : A → Type 0) → option ≡ Some value → P value → IfSome option P
+pub for_device : {A : Type 0} → (option : Option A) (value : A) (P : A → Type 0) → option ≡ Some value → P value → IfSome option P
 for_device option value P is holds = subst (λ o. IfSome o P) (sym is) holds
 
 module _ {D : Type 0} {disks : Ghosts D} (entry : Volume D disks) (config : configs.Config) (boot : spans.Span) (time : ℕ) (named : is_some config.boot ≡ true)
@@ -430,9 +594,10 @@ module _ {D : Type 0} {disks : Ghosts D} (entry : Volume D disks) (config : conf
 
   pub planned_installs : (planned : Planned D disks) (clear : Option Bool) → IsPrepared entry config boot time planned → IsWhole (sizes_of entry) (past_of entry)
       → IfSome config.boot (λ device. OnDisks disks entry.disks.now (λ image machine. GivesInstall image machine (begun_of entry config device boot) time (Ok (planned, clear))))
-      → WroteNothing (past_of planned.volume) → GoesOn disks entry.disks.now planned.volume.disks.now → (mid : SinkState) → Shows old (answer_text (answer_to planned clear)) mid
+      → WroteNothing (past_of planned.volume) → IfSome config.boot (λ device. StaysBegun entry (begun_of entry config device boot) planned.volume) → IsReadyToStage planned
+      → GoesOn disks entry.disks.now planned.volume.disks.now → (mid : SinkState) → Shows old (answer_text (answer_to planned clear)) mid
       → Finishes planned status ended mid new → IfSome config.boot Whole
-  planned_installs planned clear prepared whole gives unsettled goes_on mid shown finishes =
+  planned_installs planned clear prepared whole gives unsettled stays ready goes_on mid shown finishes =
       let some = some_is config.boot named in
       let device = some.0 in
       let begun = begun_of entry config device boot in
@@ -446,30 +611,36 @@ module _ {D : Type 0} {disks : Ghosts D} (entry : Volume D disks) (config : conf
         settled = now (past_of planned.volume);
         answers = finished_answers (now (past_of entry)) machine (now (past_of planned.volume)) begun time planned (answer_to planned clear) status ended old mid new given.0 given.1
             (goes_on.told told) shown finishes;
-        refused = λ other checks. absurd (passes_begun (now (past_of entry)) machine (now (past_of planned.volume)) begun time (answer_to planned clear) given.1 checks);
+        refused = λ checks. absurd (passes_begun (now (past_of entry)) machine (now (past_of planned.volume)) begun time (answer_to planned clear) given.1 checks);
         unsettled =
             λ none.
             let same = ap now (wrote-nothing (past_of planned.volume) device some.1 unsettled told none) in
             record {
               same = same;
               refused = λ early other. absurd (not_early status planned ended mid new finishes (goes_on.told told) early other);
+              unplanned = λ checks. absurd (not_refused (settled_answer (now (past_of entry)) machine (now (past_of planned.volume)) begun time) (answer_to planned clear) given.1 checks);
             };
-        leaves = λ quiet there. finished_leaves entry config boot time planned prepared told quiet whole device some.1 given.0 (answer_to planned clear, given.1) there
+        outside =
+            finished_inside entry config boot time planned prepared ready (goes_on.told told)
+            ((of_some config.boot device (λ d. StaysBegun entry (begun_of entry config d boot) planned.volume) some.1 stays).outside told) status ended mid new finishes;
+        leaves = λ quiet there. finished_leaves entry config boot time planned prepared ready told quiet whole device some.1 given.0 (answer_to planned clear, given.1) there
             status ended mid new finishes;
       }))
 
   pub refused_installs : (halt : Halt D disks) → ended ≡ halt.volume.disks.now → HasInstallCause (faults_of entry) (faults_of halt.volume) halt.fault
       → IfSome config.boot (λ device. OnDisks disks entry.disks.now (λ image machine. GivesInstall image machine (begun_of entry config device boot) time (Err halt)))
-      → IfSome config.boot (λ device. OnDisks disks entry.disks.now (λ image machine. StaysUnbegun image machine (begun_of entry config device boot) (past_of entry) (Err halt)))
+      → IfSome config.boot (λ device. OnDisks disks entry.disks.now (λ image machine. StaysRefused image machine (begun_of entry config device boot) (past_of entry) (past_of halt.volume)))
       → WroteNothing (past_of halt.volume) → IfSome config.boot (λ device. StaysBegun entry (begun_of entry config device boot) halt.volume)
+      → (IsQuiet (past_of entry) → halt.fault ≢ faults.Device → IsQuiet (past_of halt.volume))
       → status ≡ fault_status halt.fault Before → Shows old (codes "lilo: " ++ fault_text halt.fault Before) new → IfSome config.boot Whole
-  refused_installs halt end cause gives unbegun unsettled stays status-is shown =
+  refused_installs halt end cause gives unbegun unsettled stays still status-is shown =
       let same : disks.past ended ≡ past_of halt.volume = ap disks.past end in
       let some = some_is config.boot named in
       let device = some.0 in
       let begun = begun_of entry config device boot in
       let machine = machine_of disks entry.disks.now in
       let early = refusal_before halt.fault status status-is in
+      let left = of_some config.boot device (λ d. StaysBegun entry (begun_of entry config d boot) halt.volume) some.1 stays in
       for_device config.boot device Whole some.1
       (told_from (past_of entry) (λ image. Installs image machine begun time (past_of entry) (disks.past ended) status old new)
       (λ told.
@@ -478,24 +649,26 @@ module _ {D : Type 0} {disks : Ghosts D} (entry : Volume D disks) (config : conf
       record {
         settled = now (past_of halt.volume);
         answers = refused_answers (now (past_of entry)) machine (now (past_of halt.volume)) begun time halt.fault (faults_of entry) (faults_of halt.volume) cause status old new status-is shown given;
-        refused = λ other checks.
+        refused = λ checks.
             same
-            ∙ told_now (past_of entry) (λ image. StaysUnbegun image machine begun (past_of entry) (Err halt))
-            (of_some config.boot device (λ d. OnDisks disks entry.disks.now (λ image m. StaysUnbegun image m (begun_of entry config d boot) (past_of entry) (Err halt))) some.1 unbegun) told
-            (λ lost. other (status-is ∙ ap (λ fault. fault_status fault Before) lost)) checks;
+            ∙ told_now (past_of entry) (λ image. StaysRefused image machine begun (past_of entry) (past_of halt.volume))
+            (of_some config.boot device (λ d. OnDisks disks entry.disks.now (λ image m. StaysRefused image m (begun_of entry config d boot) (past_of entry) (past_of halt.volume))) some.1 unbegun) told
+            checks;
         unsettled =
             λ none.
             let stays = wrote-nothing (past_of halt.volume) device some.1 unsettled told none in
             record {
               same = ap now stays;
               refused = λ early other. same ∙ stays;
+              unplanned = λ checks. same ∙ stays;
             };
+        outside = subst (λ (p : Option Past). WritesInside begun.volume begun.span (past_of entry) p status) (sym same) (record { before = λ is. left.outside told; others = λ d s apart other. left.outside told d s apart });
         leaves = λ quiet there.
             subst (λ (p : Option Past). Leaves machine begun (now (past_of halt.volume)) time (past_of entry) p status) (sym same)
             (refused_leaves machine begun (now (past_of halt.volume)) time [] (past_of entry) (past_of halt.volume) status early
-            ((of_some config.boot device (λ d. StaysBegun entry (begun_of entry config d boot) halt.volume) some.1 stays).boots quiet there)
-            (λ names own. inl ((of_some config.boot device (λ d. StaysBegun entry (begun_of entry config d boot) halt.volume) some.1 stays).keeps quiet there names own))
-            (λ names own other. (of_some config.boot device (λ d. StaysBegun entry (begun_of entry config d boot) halt.volume) some.1 stays).keeps quiet there names own));
+            (left.boots quiet there) (λ names own. inl (left.keeps quiet there names own)) (λ names own other. left.keeps quiet there names own) (left.spares quiet there)
+            (λ names own. leaves_weaker (past_of entry) (past_of halt.volume) _ _ (left.keeps quiet there names own) (λ c kept. kept.own names.map))
+            (λ other. record { now_is = refl; quiet = still quiet (λ lost. other (status-is ∙ ap (λ fault. fault_status fault Before) lost)) }) (inl (left.keeps quiet there)));
       }))
 
 -- ---- where no volume lies

@@ -10,5 +10,7 @@ pub mod AnswerLemmas
 pub mod EntryLemmas
 pub mod PreparedLemmas
 pub mod CarriedLemmas
+pub mod OutsideLemmas
+pub mod SpareLemmas
 pub mod InstalledLemmas
 pub mod PhaseLemmas

@@ -1,14 +1,13 @@
 -- What is begun and planned, as values.
 use Rattle.std.proofs.Common.{◌≡◌, ◌≤◌, ◌⊎◌, ℕ, Bool, true, not, List, Option, Some, None, Result, Ok, Err, refl, sym, ◌∙◌, ap, subst, subst₂, inl, inr, arith}
-use Rattle.std.proofs.lemmas.Bool.{false≢true}
-use Rattle.std.specs.Prelude.{IfSome, IsErr, is_some}
+use Rattle.std.specs.Prelude.{IfSome, is_some}
 use Rattle.disk_trait.specs.declared.disks.Disks.{Ghosts}
 use Rattle.disk_trait.specs.declared.disks.Span as spans
 use Rattle.disk_trait.specs.Calls.{GoesOn}
 use Rattle.disk_trait.specs.Moments.{IsTold, now}
 use Rattle.disk_trait.specs.Past.{Past, Told}
 use Rattle.disk_trait.proofs.CallLemmas.{goes_on_join}
-use Rattle.disk_trait.proofs.MomentLemmas.{told_now}
+use Rattle.disk_trait.proofs.MomentLemmas.{leaves_weaker, told_now}
 use Rattle.lilo_model.specs.Disks.{Image, Machine, DiskSector}
 use Rattle.lilo_model.specs.Mapped.{mapped_sectors}
 use Rattle.lilo_model.specs.MinixParts as model
@@ -22,10 +21,10 @@ use Rattle.map_sectors.specs.Map.{plan_view}
 use Rattle.mbr_table.specs.View.{device_view}
 use Rattle.mbr_table.specs.declared.device.Device as devices
 use Rattle.minix_zones.specs.View.{span_view}
-use Rattle.minix_zones.specs.Volume.{volume_view, past_of, faults_of, SameVolume}
+use Rattle.minix_zones.specs.Volume.{volume_view, past_of, faults_of, KeepsVolume, SameVolume}
 use Rattle.minix_zones.specs.declared.volume.Volume.{Volume}
 use Rattle.minix_zones.proofs.SameLemmas.{same_view}
-use Rattle.minix_zones.proofs.WriteLemmas.{goes_on_unchanged}
+use Rattle.minix_zones.proofs.WriteLemmas.{goes_on_unchanged, keeps_join, keeps_same}
 use Rattle.sector_address.specs.Machine.{machine_of, OnDisks}
 use Rattle.install_stage_laws.proofs.Apart.{apart_boot_law}
 use Rattle.install_laws.specs.InstallVerdict.{Begun}
@@ -50,8 +49,9 @@ use Rattle.install_run.specs.Previews.{answer_to}
 use Rattle.install_run.proofs.PreviewStateLemmas.{told_from}
 use Rattle.install_run.proofs.TrialLemmas.{of_some}
 use Rattle.install_room.specs.Room.{room_for, places_view}
-use Rattle.install_run.specs.Answers.{GivesInstall, IsSettledFrom, StaysUnbegun, settled_answer}
-use Rattle.install_run.specs.Keeps.{KeepsMost}
+use Rattle.install_run.specs.Answers.{GivesInstall, IsSettledFrom, settled_answer}
+use Rattle.install_run.specs.Keeps.{KeepsMost, WritesNoApart}
+use Rattle.install_run.specs.Staged.{SparesClear}
 use Rattle.install_run.specs.Steps.{IsReadyToStage, StaysBegun}
 use Rattle.install_run.proofs.AnswerLemmas.{begin_refused, plan_refused, plan_passes, report_is}
 
@@ -95,6 +95,8 @@ pub begin_stays : {D : Type 0} {disks : Ghosts D} → (entry ended : Volume D di
 begin_stays {D} {disks} entry ended config device boot leaves = record {
   boots = λ quiet there. beginning_stops_law disks entry ended config device boot quiet there leaves;
   keeps = λ quiet there names own. beginning_keeps_law disks entry ended config device boot names quiet there own leaves;
+  spares = λ quiet there clear. leaves_weaker (past_of entry) (past_of ended) _ _ (leaves.any_moment quiet) (λ c b. b.spared there clear);
+  outside = leaves.outside;
 }
 
 -- ---- what was begun
@@ -158,14 +160,6 @@ module _ {D : Type 0} {disks : Ghosts D} (entry : Volume D disks) (config : conf
     pub tie : IsSettledFrom Was M Beg Is
     tie names passes = (s.found, at (λ device. Settled entry (begun_of entry config device boot) s) begins.settled told)
 
-    -- the checks up to settling passed
-    begun-is : begin_checks Was M Beg.volume Beg.config Beg.boot Beg.span ≡ Ok ex.names
-    unfolding begin_checks
-    begun-is = rw (ex.surveyed, ex.apart, ex.are, ex.may) refl
-
-    pub none_refused : IsErr (begin_checks Was M Beg.volume Beg.config Beg.boot Beg.span) → ⊥
-    none_refused refused = false≢true (subst (λ (r : Result settles.OwnNames Rattle.install_laws.specs.InstallVerdict.InstallRefusal). IsErr r) begun-is refused)
-
     pub told_after : IsTold (past_of s.volume)
     told_after = begun_leaves.goes_on.told told
 
@@ -199,12 +193,6 @@ module _ {D : Type 0} {disks : Ghosts D} (entry : Volume D disks) (config : conf
   gives_back result gives =
       back (λ device. OnDisks disks entry.disks.now (λ image machine. GivesInstall image machine (begun_of entry config device boot) time result))
       (told_from (past_of entry) (λ image. GivesInstall image M Beg time result) gives)
-
-  pub unbegun_back : (result : Result (Planned D disks × Option Bool) (Halt D disks)) → (IsTold (past_of entry) → StaysUnbegun Was M Beg (past_of entry) result)
-      → IfSome config.boot (λ device. OnDisks disks entry.disks.now (λ image machine. StaysUnbegun image machine (begun_of entry config device boot) (past_of entry) result))
-  unbegun_back result stays =
-      back (λ device. OnDisks disks entry.disks.now (λ image machine. StaysUnbegun image machine (begun_of entry config device boot) (past_of entry) result))
-      (told_from (past_of entry) (λ image. StaysUnbegun image M Beg (past_of entry) result) stays)
 
   pub gives_refused : (halt : Halt D disks) → SameVolume s.volume halt.volume
       → ((told : IsTold (past_of entry)) → Refuses halt.fault (checks_of Is (machine_of disks s.volume.disks.now) s (ex told).names (Places told)))
@@ -252,10 +240,15 @@ module _ {D : Type 0} {disks : Ghosts D} (entry : Volume D disks) (config : conf
             subst (λ (p : Option Past). StaysAsBefore (machine_on entry) (volume_view entry) (span_view boot) (past_of entry) p) (sym same.same_disks.same_past) (stays.boots quiet there);
         keeps = λ quiet there names own.
             subst (λ (p : Option Past). KeepsMost (machine_on entry) Beg names (past_of entry) p) (sym same.same_disks.same_past) (stays.keeps quiet there names own);
+        spares = λ quiet there. subst (λ (p : Option Past). SparesClear (machine_on entry) Beg (past_of entry) p) (sym same.same_disks.same_past) (stays.spares quiet there);
+        outside = λ told. subst (λ (p : Option Past). WritesNoApart (volume_view entry) (past_of entry) p) (sym same.same_disks.same_past) (stays.outside told);
       })
 
   pub planned_reference : (ended : Volume D disks) → SameVolume s.volume ended → ended.disks.ghost_name ≡ entry.disks.ghost_name
   planned_reference ended same = same.same_reference ∙ begun_leaves.kept.same_reference
+
+  pub planned_kept : (planned : Volume D disks) → SameVolume s.volume planned → KeepsVolume entry planned
+  planned_kept planned same = keeps_join entry s.volume planned begun_leaves.kept (keeps_same s.volume planned same)
 
   pub planned_goes_on : (ended : Volume D disks) → SameVolume s.volume ended → faults_of s.volume ≤ faults_of ended → GoesOn disks entry.disks.now ended.disks.now
   planned_goes_on ended same later =

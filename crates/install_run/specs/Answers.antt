@@ -1,11 +1,10 @@
 -- What an installation answers and prints (this project's own).
-use Rattle.std.specs.Prelude.{◌≡◌, ◌≢◌, ◌⊎◌, IsErr, ◌==◌, ◌++◌, ℕ, Bool, [], ◌∷◌, List, codes, flat_map, if◌then◌else◌, Option, None, Some, Result, Ok, Err}
+use Rattle.std.specs.Prelude.{◌≡◌, ◌⊎◌, ◌==◌, ◌++◌, ℕ, Bool, [], ◌∷◌, List, codes, flat_map, if◌then◌else◌, Option, None, Some, Result, Ok, Err}
 use Rattle.std.specs.List.{list_any}
 use Rattle.disk_trait.specs.declared.disks.Disks.{Ghosts}
 use Rattle.disk_trait.specs.declared.disks.Phase.{Phase}
 use Rattle.disk_trait.specs.declared.disks.Phase.TheVariants.{Before}
 use Rattle.disk_trait.specs.Moments.{now}
-use Rattle.disk_trait.specs.Past.{Past}
 use Rattle.lilo_model.specs.Apart.{apart_checks}
 use Rattle.lilo_model.specs.Checks.{◌>>=◌, require, with_fault}
 use Rattle.lilo_model.specs.Disks.{Image, Machine}
@@ -32,7 +31,6 @@ use Rattle.install_order.specs.Begins.{IsBegun}
 use Rattle.install_order.specs.Checks.{begin_checks}
 use Rattle.install_order.specs.Faults.{Refuses, IsStopped}
 use Rattle.install_order.specs.declared.examination.Examined.{Examined}
-use Rattle.install_order.specs.declared.fault.InstallFault.TheVariants.{Device}
 use Rattle.install_order.specs.declared.halt.Halt.{Halt}
 use Rattle.install_order.specs.declared.planned.Planned.{Planned}
 use Rattle.install_run.specs.Previews.{AnswersVerdict, answer_to}
@@ -91,13 +89,6 @@ GivesInstall image machine begun time (Err halt) =
     IsStopped halt.fault
     ⊎ (IsSettledFrom image machine begun (now (past_of halt.volume))
     × Refuses halt.fault (settled_answer image machine (now (past_of halt.volume)) begun time))
-
--- Where a check up to settling refuses, nothing was written, unless a disk failed.
-abbrev pub StaysUnbegun : {D : Type 0} {disks : Ghosts D} → Image → Machine → Begun → Option Past
-    → Result (Planned D disks × Option Bool) (Halt D disks) → Type 0
-StaysUnbegun image machine begun entry (Ok made) = Unit {0}
-StaysUnbegun image machine begun entry (Err halt) =
-    halt.fault ≢ Device → IsErr (begin_checks image machine begun.volume begun.config begun.boot begun.span) → past_of halt.volume ≡ entry
 
 -- ---- what is answered
 

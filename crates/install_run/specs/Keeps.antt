@@ -3,7 +3,9 @@ use Rattle.std.specs.Prelude.{◌≡◌, ◌⊎◌, ◌≢◌, ℕ, List, Option
 use Rattle.std.specs.List.{concat}
 use Rattle.disk_trait.specs.Past.{Past}
 use Rattle.disk_trait.specs.Moments.{now, MayLeave, LeavesOnly}
-use Rattle.lilo_model.specs.Disks.{Image, Machine, DiskSector}
+use Rattle.disk_trait.specs.NotWritten.{IsOther, NotWritten}
+use Rattle.lilo_model.specs.Disks.{Image, Machine, DiskSector, Span}
+use Rattle.lilo_model.specs.MinixParts.{Volume}
 use Rattle.lilo_model.specs.MinixNames.{names_in}
 use Rattle.lilo_model.specs.Plan.{plan_sectors}
 use Rattle.lilo_model.specs.Planned.{planned}
@@ -13,7 +15,7 @@ use Rattle.install_join_laws.specs.Plans.{AllPassBy}
 use Rattle.install_laws.specs.InstallVerdict.{Begun}
 use Rattle.install_laws.specs.Writes.{IsApartSector}
 use Rattle.install_order.specs.Begins.{AreOwn}
-use Rattle.install_join_laws.specs.Kept.{HasBackup, IsInstalled, Keeps, KeepsUnstaged}
+use Rattle.install_join_laws.specs.Kept.{HasBackup, HasOldMap, IsInstalled, Keeps, KeepsUnstaged}
 
 -- ---- what the verdict by the entry rests on
 
@@ -44,6 +46,17 @@ pub record IsBefore (status : ℕ) : Type 0 where
   pub not_done : IsDone status → ⊥
   pub not_committing : status ≢ 9
 
+-- ---- what lies outside of the volume
+
+-- no sector outside of a volume is written, nor one of its block 0
+abbrev pub WritesNoApart : Volume → Option Past → Option Past → Type 0
+WritesNoApart volume entry ended = (d s : ℕ) → IsApartSector volume d s → NotWritten entry ended d s
+
+-- Of those only the first sector of the boot device is, by the commit; and before it none is.
+pub record WritesInside (volume : Volume) (span : Span) (entry ended : Option Past) (status : ℕ) : Type 0 where
+  pub before : IsBefore status → WritesNoApart volume entry ended
+  pub others : (d s : ℕ) → IsApartSector volume d s → IsOther span.disk span.start d s → NotWritten entry ended d s
+
 -- ---- what is kept
 
 -- at any moment a stop leaves what keeps all names but those that settling changes, and these as before or as in Settled
@@ -53,6 +66,10 @@ KeepsMost machine begun names entry ended = LeavesOnly entry ended (KeepsUnstage
 -- or the others, and the map and the backup as they were or whole, the map with these bytes
 abbrev pub KeepsWith : Machine → Begun → model.OwnNames → List ℕ → Option Past → Option Past → Type 0
 KeepsWith machine begun names map entry ended = LeavesOnly entry ended (Keeps (now entry) machine begun names map)
+
+-- or it has the old map at its name
+abbrev pub KeepsOldMap : Machine → Begun → model.OwnNames → Option Past → Option Past → Type 0
+KeepsOldMap machine begun names entry ended = LeavesOnly entry ended (HasOldMap (now entry) machine begun names)
 
 -- the new map is there alone, with these bytes, and the backup, in each image that a stop leaves at the end
 abbrev pub HasInstalled : Begun → model.OwnNames → List ℕ → Option Past → Option Past → Type 0
@@ -70,6 +87,7 @@ pub record KeepsNames
   pub before : IsBefore status
       → KeepsMost machine begun names entry ended ⊎ KeepsWith machine begun names (new_map machine begun settled time places) entry ended
   pub unstaged : IsBefore status → status ≢ 8 → KeepsMost machine begun names entry ended
+  pub map : IsBefore status ⊎ (status ≡ 9) → KeepsOldMap machine begun names entry ended
   pub later : (status ≡ 9) ⊎ IsDone status → KeepsWith machine begun names (new_map machine begun settled time places) entry ended
   pub backup : IsDone status → (c : Image) → MayLeave ended c → HasBackup (now entry) begun names c
   pub installed : status ≡ 0 → HasInstalled begun names (new_map machine begun settled time places) entry ended

@@ -6,5 +6,6 @@ pub mod Answers
 pub mod Steps
 pub mod Keeps
 pub mod Entry
+pub mod Staged
 pub mod Installs
 pub mod Phases

@@ -5,7 +5,7 @@ use Rattle.disk_trait.specs.declared.disks.Phase.TheVariants.{Before, Commit, Af
 use Rattle.disk_trait.specs.declared.disks.Span.{Span}
 use Rattle.disk_trait.specs.Moments.{IsTold, now, IsQuiet}
 use Rattle.lilo_conf.specs.declared.config.Config.{Config}
-use Rattle.minix_zones.specs.Volume.{volume_view, past_of}
+use Rattle.minix_zones.specs.Volume.{volume_view, past_of, KeepsVolume}
 use Rattle.minix_zones.specs.declared.volume.Volume.{Volume}
 use Rattle.lilo_model.specs.Settled as settles
 use Rattle.stream_trait.specs.Shows.{SinkState, Shows}
@@ -24,7 +24,8 @@ use Rattle.install_order.specs.declared.staged.Staged.{Staged}
 use Rattle.install_order.specs.declared.surveyed.Surveyed.{Surveyed}
 use Rattle.install_order.specs.declared.tidied.Tidied.{Tidied}
 use Rattle.install_join_laws.specs.Steps.{HasPlanned, HasStaged, IsBegunWith, machine_on}
-use Rattle.install_run.specs.Keeps.{KeepsMost}
+use Rattle.install_run.specs.Keeps.{KeepsMost, WritesNoApart}
+use Rattle.install_run.specs.Staged.{SparesClear}
 
 -- ---- before the plan is carried out
 
@@ -34,6 +35,8 @@ pub record IsPrepared {D : Type 0} {disks : Ghosts D} (entry : Volume D disks) (
   pub surveyed : Surveyed D disks
   pub begun : IsTold (past_of entry) → IsQuiet (past_of entry) → IsBegunWith entry config boot time surveyed
   pub has : HasPlanned surveyed planned
+  pub boot_is : planned.boot ≡ boot
+  pub kept : KeepsVolume entry planned.volume
 
 -- what may be staged, and committed then
 pub record IsReadyToStage {D : Type 0} {disks : Ghosts D} (planned : Planned D disks) : Type 0 where
@@ -41,12 +44,16 @@ pub record IsReadyToStage {D : Type 0} {disks : Ghosts D} (planned : Planned D d
   pub settled : planned.settled ≡ true
   pub apart : IsTold (past_of planned.volume) → IsApartSector (volume_view planned.volume) planned.boot.disk planned.boot.start
 
--- whatever was done of it up to here leaves at any moment what boots as before, and keeps all names but those that settling changes
+-- Whatever was done of it up to here leaves at any moment what boots as before, with the sectors of a Clear map, and keeps all names but those
+-- that settling changes; and it wrote nothing outside of the volume.
 pub record StaysBegun {D : Type 0} {disks : Ghosts D} (entry : Volume D disks) (begun : Begun) (ended : Volume D disks) : Type 0 where
   pub boots : IsQuiet (past_of entry) → LiesThere (now (past_of entry)) (machine_on entry) begun
       → StaysAsBefore (machine_on entry) begun.volume begun.span (past_of entry) (past_of ended)
+  pub spares : IsQuiet (past_of entry) → LiesThere (now (past_of entry)) (machine_on entry) begun
+      → SparesClear (machine_on entry) begun (past_of entry) (past_of ended)
   pub keeps : IsQuiet (past_of entry) → LiesThere (now (past_of entry)) (machine_on entry) begun → (names : settles.OwnNames)
       → AreOwn (now (past_of entry)) begun names → KeepsMost (machine_on entry) begun names (past_of entry) (past_of ended)
+  pub outside : IsTold (past_of entry) → WritesNoApart begun.volume (past_of entry) (past_of ended)
 
 -- ---- carrying it out
 

@@ -1,7 +1,7 @@
 // An installation, from what was read to its end.
 ghost use Rattle.std.specs.Prelude.{◌≡◌, ◌<◌, true, is_some, IfSome, IsTrue, Some, Ok};
 ghost use Rattle.disk_trait.specs.Calls.{GoesOn};
-ghost use Rattle.disk_trait.specs.Moments.{IsQuiet, IsTold, IsWhole};
+ghost use Rattle.disk_trait.specs.Moments.{IsQuiet, IsWhole};
 ghost use Rattle.disk_trait.specs.Past.{Told};
 ghost use Rattle.lilo_model.specs.Faults.{Rose};
 ghost use Rattle.lilo_model.specs.ConfLawful.{IsLawful};
@@ -19,6 +19,7 @@ ghost use Rattle.install_order.specs.View.{begun_of};
 ghost use Rattle.install_run.specs.Answers.{is_install_status, IsDiskFault};
 ghost use Rattle.install_run.specs.Installs.{Installs, InstallsBegun};
 ghost use Rattle.install_run.specs.Phases.{FailsBy};
+ghost use Rattle.install_run.specs.Staged.{IsStagedFrom, IsStagedOn};
 ghost use Rattle.install_run.specs.Steps.{Finishes, IsReadyToStage};
 
 use crate::carry::carry_out;
@@ -70,8 +71,10 @@ fn install<'d, D: Disks, O: Sink>(
     ensures installs { IfSome config.boot (λ device. OnDisks D.Disks volume.entry.disks.now (λ image machine.
         Installs image machine (begun_of volume.entry config device boot) now (past_of volume.entry)
         (D.past result.1.now) result.0 (sink_of O.Sink out.old) (sink_of O.Sink out.new))) }
-    ensures phase { IsTold (past_of volume.entry) → IsQuiet (past_of volume.entry)
-        → FailsBy D.Disks result.0 (span_view boot) volume.entry.disks.now result.1.now }
+    ensures phase { IfSome config.boot (λ device. OnDisks D.Disks volume.entry.disks.now (λ image machine.
+        IsQuiet (past_of volume.entry) → FailsBy D.Disks result.0
+        (IsStagedFrom machine (begun_of volume.entry config device boot) (past_of volume.entry)) (span_view boot)
+        volume.entry.disks.now result.1.now)) }
     ensures cause { IsDiskFault result.0 → Rose (faults_of volume.entry) (D.faults result.1.now) }
     ensures statuses { IsTrue (is_install_status result.0) }
     ensures goes_on { GoesOn D.Disks volume.entry.disks.now result.1.now }
@@ -119,8 +122,8 @@ pub fn install_begun<D: Disks, O: Sink>(
     ensures statuses { IsTrue (is_install_status result) }
     ensures cause { IsDiskFault result → Rose (D.faults disks.old) (D.faults disks.new) }
     // The phase in which a disk failed, by the status.
-    ensures phase { IsTold (D.past disks.old) → IsQuiet (D.past disks.old)
-        → FailsBy D.Disks result (span_view begun.boot) disks.old disks.new }
+    ensures phase { OnDisks D.Disks disks.old (λ now machine. IsQuiet (D.past disks.old) → FailsBy D.Disks result
+        (IsStagedOn now machine (begun_view begun) (D.past disks.old)) (span_view begun.boot) disks.old disks.new) }
 
     // What stays.
     ensures goes_on { GoesOn D.Disks disks.old disks.new }

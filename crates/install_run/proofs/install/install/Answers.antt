@@ -1,10 +1,8 @@
 -- It answers by what is planned, and leaves by how far it came.
-use Rattle.std.proofs.Common.{arith, sym, subst}
+use Rattle.std.proofs.Common.{arith}
 use Rattle.disk_trait.proofs.CallLemmas.{goes_on_join}
-use Rattle.minix_zones.specs.View.{span_view}
 use Rattle.minix_zones.specs.Volume.{faults_of}
 use Rattle.install_run.proofs.CarriedLemmas.{rose_in, status_in}
-use Rattle.install_run.specs.Phases.{FailsBy}
 use Rattle.install_run.proofs.InstalledLemmas.{planned_installs, refused_installs}
 use Rattle.install_run.proofs.PhaseLemmas.{planned_fails, refused_fails}
 use Rattle.install_run.proofs.install.install.Goals as goal
@@ -14,7 +12,7 @@ use Rattle.install_run.proofs.install.install.Goals as goal
 pub returns-in-Ok-clause-installs : goal.returns-in-Ok-clause-installs
 returns-in-Ok-clause-installs g c =
     planned_installs c.args.volume c.args.config c.args.boot c.args.now c.requires.device c.finish.result.0 c.finish.result.1.now _ _ c.in-Ok.planned c.in-Ok.clear
-    c.in-Ok.ensures.prepared c.requires.whole c.in-Ok.ensures.gives c.in-Ok.ensures.nothing c.in-Ok.ensures.goes_on _
+    c.in-Ok.ensures.prepared c.requires.whole c.in-Ok.ensures.gives c.in-Ok.ensures.nothing c.in-Ok.ensures.stays c.in-Ok.ensures.ready c.in-Ok.ensures.goes_on _
     (rw (c.skipped.ensures, c.names.ensures, c.default_entry.ensures) at c.show.ensures.shown) c.finish.ensures.finishes
 
 pub returns-in-Ok-clause-cause : goal.returns-in-Ok-clause-cause
@@ -25,23 +23,22 @@ pub returns-in-Ok-clause-goes_on : goal.returns-in-Ok-clause-goes_on
 returns-in-Ok-clause-goes_on g c = goes_on_join g.D.Disks _ _ _ c.in-Ok.ensures.goes_on c.finish.ensures.goes_on
 
 pub returns-in-Ok-clause-phase : goal.returns-in-Ok-clause-phase
-returns-in-Ok-clause-phase g c told quiet =
-    planned_fails c.args.volume c.args.config c.args.boot c.args.now c.in-Ok.planned c.in-Ok.ensures.prepared told quiet c.requires.whole c.requires.device c.requires.there
-    c.finish.result.0 c.finish.result.1.now _ _ c.finish.ensures.finishes c.in-Ok.ensures.goes_on c.finish.ensures.cause
+returns-in-Ok-clause-phase g c =
+    planned_fails c.args.volume c.args.config c.args.boot c.requires.device c.finish.result.0 c.finish.result.1.now c.args.now c.in-Ok.planned c.in-Ok.clear
+    c.in-Ok.ensures.prepared c.in-Ok.ensures.ready c.requires.whole c.requires.there c.in-Ok.ensures.gives _ _ c.finish.ensures.finishes c.in-Ok.ensures.goes_on c.finish.ensures.cause
 
 -- ---- it was refused
 
 pub returns-in-Err-clause-installs : goal.returns-in-Err-clause-installs
 returns-in-Err-clause-installs g c =
     refused_installs c.args.volume c.args.config c.args.boot c.args.now c.requires.device c.say_halt.result.0 c.say_halt.result.1.now _ _ c.in-Err.halt
-    c.say_halt.ensures.disks c.in-Err.ensures.cause c.in-Err.ensures.gives c.in-Err.ensures.unbegun c.in-Err.ensures.nothing c.in-Err.ensures.stays
+    c.say_halt.ensures.disks c.in-Err.ensures.cause c.in-Err.ensures.gives c.in-Err.ensures.unbegun c.in-Err.ensures.nothing c.in-Err.ensures.stays c.in-Err.ensures.quiet
     (rw c.in-Err.ensures.phase at c.say_halt.ensures.status) (rw c.in-Err.ensures.phase at c.say_halt.ensures.shown)
 
 pub returns-in-Err-clause-phase : goal.returns-in-Err-clause-phase
-returns-in-Err-clause-phase g c told quiet =
-    subst (λ disks. FailsBy g.D.Disks c.say_halt.result.0 (span_view c.args.boot) c.args.volume.disks.now disks) (sym c.say_halt.ensures.disks)
-    (refused_fails c.args.volume c.args.config c.args.boot c.requires.device told quiet c.requires.there c.in-Err.halt c.in-Err.ensures.stays c.say_halt.result.0
-    (rw c.in-Err.ensures.phase at c.say_halt.ensures.status) c.in-Err.ensures.cause)
+returns-in-Err-clause-phase g c =
+    refused_fails c.args.volume c.args.config c.args.boot c.requires.device c.say_halt.result.0 c.say_halt.result.1.now c.requires.there c.in-Err.halt c.say_halt.ensures.disks
+    c.in-Err.ensures.stays (rw c.in-Err.ensures.phase at c.say_halt.ensures.status) c.in-Err.ensures.cause
 
 pub returns-in-Err-clause-cause : goal.returns-in-Err-clause-cause
 returns-in-Err-clause-cause g c lost =

@@ -1,7 +1,7 @@
 -- The volume is as it was found.
 use Rattle.std.proofs.Common.{◌≡◌, ◌∙◌, refl, sym, ap, subst, rules}
 use Rattle.disk_trait.specs.Calls.{GoesOn}
-use Rattle.disk_trait.specs.Moments.{IsTold, IsQuiet}
+use Rattle.disk_trait.specs.Moments.{now, IsQuiet}
 use Rattle.disk_trait.specs.Past.{Told}
 use Rattle.disk_trait.proofs.CallLemmas.{goes_on_same}
 use Rattle.lilo_model.specs.Faults.{Rose}
@@ -15,7 +15,9 @@ use Rattle.install_run.proofs.TrialLemmas.{laid_told, of_some}
 use Rattle.install_run.specs.Installs.{InstallsBegun, OnVolume}
 use Rattle.install_run.specs.Phases.{FailsBy, FailsIn}
 use Rattle.install_run.proofs.InstalledLemmas.{no_volume, zone_known, zone_lost}
-use Rattle.install_run.proofs.PhaseLemmas.{disk_fault_at, fails_since, fails_still}
+use Rattle.install_run.specs.Staged.{IsStagedOn}
+use Rattle.install_run.proofs.PhaseLemmas.{attached_fails, disk_fault_at, fails_still}
+use Rattle.install_run.proofs.PreviewStateLemmas.{told_from}
 use Rattle.install_run.proofs.install.install_begun.Goals as goal
 
 pub install-requires-clause-whole : goal.install-requires-clause-whole
@@ -78,23 +80,25 @@ returns-in-Err-clause-goes_on g c =
 -- ---- in which phase a disk failed
 
 pub returns-in-Ok-clause-phase : goal.returns-in-Ok-clause-phase
-returns-in-Ok-clause-phase g c told quiet =
-    let same = c.in-Ok.ensures.same in
+returns-in-Ok-clause-phase g c =
+    let machine = machine_of g.D.Disks c.args.disks.now in
     let end : c.install.result.1.now ≡ c.disks-1.given.0 = search rules in
-    let fails =
-    c.install.ensures.phase (subst IsTold (sym same.same_past) told) (subst IsQuiet (sym same.same_past) quiet) in
-    subst (λ disks. FailsBy g.D.Disks c.install.result.0 (span_view c.args.begun.boot) c.args.disks.now disks) end
-    (fails_since g.D.Disks c.install.result.0 (span_view c.args.begun.boot) c.args.disks.now c.in-Ok.volume.disks.now c.install.result.1.now same.same_past
-    (goes_on_same g.D.Disks c.args.disks.now c.in-Ok.volume.disks.now same.same_past
-    record { later = c.in-Ok.ensures.later; size = same.same_size; count = same.same_count; geometry = same.same_geometry })
-    fails)
+    subst
+    (λ disks. Told (g.D.Disks.past c.args.disks.now) (λ now. IsQuiet (g.D.Disks.past c.args.disks.now)
+    → FailsBy g.D.Disks c.install.result.0 (IsStagedOn now machine (begun_view c.args.begun) (g.D.Disks.past c.args.disks.now)) (span_view c.args.begun.boot) c.args.disks.now disks)) end
+    (attached_fails g.D.Disks c.args.disks.now c.in-Ok.volume.disks.now c.install.result.1.now c.in-Ok.ensures.same c.in-Ok.ensures.later c.install.result.0 (begun_view c.args.begun)
+    (volume_view c.in-Ok.volume) c.in-Ok.ensures.volume (of_some c.args.begun.config.boot c.args.begun.device _ c.requires.device c.install.ensures.phase))
 
 pub returns-in-Err-clause-phase : goal.returns-in-Err-clause-phase
-returns-in-Err-clause-phase g c told quiet phase is =
+returns-in-Err-clause-phase g c =
+    let machine = machine_of g.D.Disks c.args.disks.now in
+    let past = g.D.Disks.past c.args.disks.now in
+    told_from past _
+    (λ told quiet phase is.
     let lost = disk_fault_at c.say_zone.result phase is in
     let device = zone_lost c.in-Err.fault c.say_zone.result c.say_zone.ensures.answers.status_is lost in
     let end : c.disks-in-Err-4-1.given.0 ≡ c.in-Err.disks.now = search rules in
     let eight : c.say_zone.result ≡ 8 = rw device at c.say_zone.ensures.answers.status_is in
-    subst (λ disks. FailsIn g.D.Disks phase (span_view c.args.begun.boot) c.args.disks.now disks) (sym end)
-    (fails_still g.D.Disks (span_view c.args.begun.boot) c.args.disks.now c.in-Err.disks.now c.in-Err.ensures.same.same_past quiet (c.in-Err.ensures.device (rw device refl)) phase
-    (sym eight ∙ is))
+    subst (λ disks. FailsIn g.D.Disks phase (IsStagedOn (now past) machine (begun_view c.args.begun) past) (span_view c.args.begun.boot) c.args.disks.now disks) (sym end)
+    (fails_still g.D.Disks (IsStagedOn (now past) machine (begun_view c.args.begun) past) (span_view c.args.begun.boot) c.args.disks.now c.in-Err.disks.now c.in-Err.ensures.same.same_past quiet (c.in-Err.ensures.device (rw device refl)) phase
+    (sym eight ∙ is)))

@@ -1,13 +1,15 @@
 -- What is begun and planned is answered so.
-use Rattle.std.proofs.Common.{◌≡◌, ◌∙◌, Ok, Err, rules}
+use Rattle.std.proofs.Common.{◌≡◌, ◌∙◌, Option, Ok, Err, rules, subst, sym}
 use Rattle.std.proofs.lemmas.Option.{IfSome_then}
+use Rattle.disk_trait.specs.Moments.{IsQuiet}
+use Rattle.disk_trait.specs.Past.{Past}
 use Rattle.disk_trait.proofs.MomentLemmas.{told_now}
 use Rattle.disk_trait.proofs.ToldLemmas.{told_map}
 use Rattle.minix_zones.specs.Volume.{past_of, faults_of}
 use Rattle.sector_address.specs.Machine.{machine_of}
 use Rattle.install_order.specs.Answers.{Leaves}
 use Rattle.install_order.specs.View.{begun_of}
-use Rattle.install_run.proofs.PreparedLemmas.{Begins, are, begin_stays, begun_leaves, cause_from, gives_back, gives_planned, gives_refused, none_refused, planned_goes_on, planned_reference, planned_stays, ready_to_stage, refused_begin, some_of, told_after, unbegun_back}
+use Rattle.install_run.proofs.PreparedLemmas.{Begins, are, begin_stays, begun_leaves, cause_from, gives_back, gives_planned, gives_refused, planned_goes_on, planned_kept, planned_reference, planned_stays, ready_to_stage, refused_begin, some_of, told_after}
 use Rattle.install_run.proofs.prepare.prepare.Goals as goal
 
 is-surveyed : (g : Rattle.install_run.proofs.prepare.prepare.Given.Over) (c : goal.After-from_residual g) → c.from_residual.result ≡ Err c.in_err-surveyed.field-0.0
@@ -30,29 +32,20 @@ returns-in_err-surveyed-clause-gives g c =
 pub returns-in_err-surveyed-clause-unbegun : goal.returns-in_err-surveyed-clause-unbegun
 returns-in_err-surveyed-clause-unbegun g c =
     let halt = c.in_err-surveyed.field-0.0 in
-    rw (is-surveyed g c)
-    (IfSome_then c.args.config.boot c.in_err-surveyed.ensures.found
-    (λ device found. told_map (past_of c.args.volume) _ _ (λ now refuses other checks. c.in_err-surveyed.ensures.refused other) found))
+    rw (is-surveyed g c) c.in_err-surveyed.ensures.unbegun
 
 pub returns-in_err-planned-clause-unbegun : goal.returns-in_err-planned-clause-unbegun
 returns-in_err-planned-clause-unbegun g c =
     let halt = c.in_err-planned.field-0.0 in
     let is : c.from_residual-in_err-planned.result ≡ Err halt = is-planned g c in
-    let s = c.in_ok-surveyed.surveyed in
-    let did = c.in_ok-surveyed.ensures in
-    let begins : Begins c.args.volume c.args.config c.args.boot c.args.now s =
-    record { found = did.found; held = did.held; leaves = did.leaves; settled = did.settled; surveys = did.surveyed } in
     rw is
-    (unbegun_back c.args.volume c.args.config c.args.boot c.args.now s begins (Err halt)
-    (λ told other checks. absurd (none_refused c.args.volume c.args.config c.args.boot c.args.now s begins told checks)))
+    (IfSome_then c.args.config.boot c.in_ok-surveyed.ensures.unbegun
+    (λ device stays. told_map (past_of c.args.volume) _ _ (λ image same refused. c.in_err-planned.ensures.same.same_disks.same_past ∙ same refused) stays))
 
 pub returns-clause-unbegun : goal.returns-clause-unbegun
 returns-clause-unbegun g c =
-    let s = c.in_ok-surveyed.surveyed in
-    let did = c.in_ok-surveyed.ensures in
-    let begins : Begins c.args.volume c.args.config c.args.boot c.args.now s =
-    record { found = did.found; held = did.held; leaves = did.leaves; settled = did.settled; surveys = did.surveyed } in
-    unbegun_back c.args.volume c.args.config c.args.boot c.args.now s begins (Ok (c.in_ok-planned.planned, c.clear-clear.result)) (λ told. tt)
+    IfSome_then c.args.config.boot c.in_ok-surveyed.ensures.unbegun
+    (λ device stays. told_map (past_of c.args.volume) _ _ (λ image same refused. c.in_ok-planned.ensures.same.same_disks.same_past ∙ same refused) stays)
 
 pub returns-in_err-surveyed-clause-nothing : goal.returns-in_err-surveyed-clause-nothing
 returns-in_err-surveyed-clause-nothing g c =
@@ -71,6 +64,18 @@ pub returns-clause-nothing : goal.returns-clause-nothing
 returns-clause-nothing g c =
     IfSome_then c.args.config.boot c.in_ok-surveyed.ensures.nothing
     (λ device stays. told_map (past_of c.args.volume) _ _ (λ image same none. c.in_ok-planned.ensures.same.same_disks.same_past ∙ same none) stays)
+
+-- ---- a refusal that no failed disk caused is quiet
+
+pub returns-in_err-surveyed-clause-quiet : goal.returns-in_err-surveyed-clause-quiet
+returns-in_err-surveyed-clause-quiet g c quiet =
+    rw (is-surveyed g c) (λ other. subst (λ (p : Option Past). IsQuiet p) (sym (c.in_err-surveyed.ensures.refused other)) quiet)
+
+pub returns-in_err-planned-clause-quiet : goal.returns-in_err-planned-clause-quiet
+returns-in_err-planned-clause-quiet g c quiet =
+    let halt = c.in_err-planned.field-0.0 in
+    let is : c.from_residual-in_err-planned.result ≡ Err halt = is-planned g c in
+    rw is (λ other. subst (λ (p : Option Past). IsQuiet p) (sym c.in_err-planned.ensures.same.same_disks.same_past) (c.in_ok-surveyed.ensures.quiet quiet))
 
 -- ---- what is left, and the disks
 
@@ -152,6 +157,8 @@ returns-clause-prepared g c =
     let s = c.in_ok-surveyed.surveyed in
     let did = c.in_ok-surveyed.ensures in
     let has = c.in_ok-planned.ensures in
+    let begins : Begins c.args.volume c.args.config c.args.boot c.args.now s =
+    record { found = did.found; held = did.held; leaves = did.leaves; settled = did.settled; surveys = did.surveyed } in
     record {
       surveyed = s;
       begun = λ told quiet. record {
@@ -167,6 +174,8 @@ returns-clause-prepared g c =
         quiet_after = did.quiet quiet;
       };
       has = record { held = has.held; may = has.may; ready = has.ready; same = has.same };
+      boot_is = has.held.boot_is ∙ did.held.boot_is;
+      kept = planned_kept c.args.volume c.args.config c.args.boot c.args.now s begins c.in_ok-planned.planned.volume has.same;
     }
 
 pub returns-clause-ready : goal.returns-clause-ready

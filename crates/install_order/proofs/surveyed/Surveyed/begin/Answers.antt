@@ -9,7 +9,7 @@ use Rattle.sector_address.specs.Machine.{machine_of}
 use Rattle.install_order.specs.Answers.{volume_in}
 use Rattle.install_order.specs.View.{begun_of}
 use Rattle.install_order.proofs.AnswerLemmas.{leaves_nothing, quiet_forth, leaves_back, settled_back, clear_back, found_back, refused_back, cause_back, promises_of}
-use Rattle.install_order.proofs.BeginLemmas.{nothing_to_settle}
+use Rattle.install_order.proofs.BeginLemmas.{none_refused, nothing_to_settle}
 use Rattle.install_order.proofs.NamedLemmas.{surveys_of}
 use Rattle.install_order.proofs.surveyed.Surveyed.begin.Goals as goal
 
@@ -29,6 +29,19 @@ returns-in_err-looked-clause-nothing g c =
     let given : c.from_residual.result ≡ Err c.in_err-looked.field-0.0 = search rules in
     rw given
     (some-all c.args.config.boot _ (λ device. told_all (past_of c.args.volume) _ (λ image none. c.in_err-looked.ensures.same.same_disks.same_past)))
+
+pub returns-in_err-looked-clause-unbegun : goal.returns-in_err-looked-clause-unbegun
+returns-in_err-looked-clause-unbegun g c =
+    let given : c.from_residual.result ≡ Err c.in_err-looked.field-0.0 = search rules in
+    rw given
+    (some-all c.args.config.boot _ (λ device. told_all (past_of c.args.volume) _ (λ image refused. c.in_err-looked.ensures.same.same_disks.same_past)))
+
+pub returns-clause-unbegun : goal.returns-clause-unbegun
+returns-clause-unbegun g c =
+    IfSome_then c.args.config.boot c.in_ok-looked.ensures.found
+    (λ device found. told_map (past_of c.args.volume) _ _
+    (λ image examined refused.
+    absurd (none_refused image (machine_of g.D.Disks c.args.volume.disks.now) (begun_of c.args.volume c.args.config device c.args.boot) c.in_ok-looked.looked.found examined refused)) found)
 
 pub returns-clause-nothing : goal.returns-clause-nothing
 returns-clause-nothing g c =

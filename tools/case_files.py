@@ -142,10 +142,10 @@ def opened(unfolded, variants, words):
 
 
 def cases_text(title, uses, named_cases, pairs, unfolding):
-    """The text of a file of cases: what it takes, and the theorem of each case."""
+    """The text of a file of cases: what it takes, and the theorem of each case, which has one pair of sides or several."""
     lines = ['-- ' + title] + uses
-    for (name, case), pair in zip(named_cases, pairs):
-        lines += theorem(name, case['shows'], [pair], unfolding)
+    for (name, case), some in zip(named_cases, pairs):
+        lines += theorem(name, case['shows'], some if isinstance(some, list) else [some], unfolding)
     return '\n'.join(lines) + '\n'
 
 

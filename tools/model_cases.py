@@ -19,6 +19,7 @@ DATA = TOP / 'tools' / 'model_cases'
 CRATE = TOP / 'crates' / 'model_cases'
 PROOFS = CRATE / 'proofs'
 SPECS = TOP / 'crates' / 'lilo_model' / 'specs'
+HOMES = {'State': 'session_model'}      # the files of definitions that aren't lilo_model's
 A_FILE = 40             # cases a file
 WRITERS = {'field_bytes', 'merged_sector', 'descriptor_bytes', 'options_bytes', 'extra_bytes', 'section_bytes'}
 
@@ -30,6 +31,7 @@ KERNELS = ['Bytes', 'Header', 'Place']
 MAPS = FILES + ['BootSector', 'Table']
 BOOTS = MAPS + ['Options', 'LineSector', 'Header', 'Place', 'Boot', 'Choice', 'LineWords']
 VERDICTS = BOOTS + ['Reason', 'Refusal', 'Verdict']
+STATES = MAPS + ['Mapped', 'LineSector', 'Boot', 'State']
 
 
 # Terms.
@@ -223,6 +225,20 @@ def mapped_sectors(case):
     return 'mapped_sectors %s' % booted(case), sectors(case['gives'])[1:-1]
 
 
+def held(items):
+    return listed(['held %d %d %s' % (disk, sector, content([512, parts])) for disk, sector, parts in items])
+
+
+def state(case):
+    there = '%s %s' % (image_site(case), image(case['image']))
+    return [('line_place ' + there, option(case['place'], lambda item: '(record { disk = %d; sector = %d })' % tuple(item))),
+            ('line_in ' + there, option(case['line'], line)), ('body_in ' + there, held(case['body'])[1:-1])]
+
+
+def image_site(case):
+    return '(site_on %s %s)' % (machine(case['machine']), span(case['span']))
+
+
 def boot_fields(item):
     return ('(record { version = %d; time = %d; prompt = %s; delay = %d; timeout = %s; names = %d; '
             'default_entry = %d; message_length = %d; message_chain = %d; line = %s; zero_sector = %s; '
@@ -296,7 +312,7 @@ KINDS = {
     'sectors_of': (sectors_of, SLOTS), 'could_be_one': (could_be_one, SLOTS), 'slot_make': (slot_make, SLOTS),
     'slot_at': (slot_at, SLOTS), 'slot_bytes': (slot_bytes, SLOTS), 'section': (section, FILES),
     'place': (place, KERNELS), 'layout': (layout_for, KERNELS), 'boot': (whole_boot, BOOTS),
-    'mapped': (mapped_sectors, MAPS + ['Mapped']), 'query': (query, VERDICTS), 'boot_verdict': (boot_verdict, VERDICTS),
+    'mapped': (mapped_sectors, MAPS + ['Mapped']), 'state': (state, STATES), 'query': (query, VERDICTS), 'boot_verdict': (boot_verdict, VERDICTS),
 }
 
 
@@ -306,7 +322,7 @@ def unfolded(kind, files):
     """The definitions of these files that a proof of this kind has to unfold."""
     found = {}
     for name in files:
-        names = unfoldable(SPECS / (name + '.antt'))
+        names = unfoldable(TOP / 'crates' / HOMES.get(name, 'lilo_model') / 'specs' / (name + '.antt'))
         found[name] = [each for each in names if kind == 'writers' or each not in WRITERS]
     return found
 
@@ -338,7 +354,7 @@ FAULTS = {
 SETUP = ['TooShort', 'NoBootFlag', 'SetupTooLarge', 'LowTooLarge', 'NoInitrd', 'NoRoom', 'LineTooLong']
 PLAIN = ['true', 'false', 'None', 'Some', 'Ok', 'Err', 'codes', 'replicate']
 SPARSE = ['hex', 'piece', 'patch_at', 'file', 'disks_of', 'disk_with', 'machine_of', 'on', 'layout_for', 'typed',
-          'waited']
+          'waited', 'held', 'site_on']
 
 
 def imports(kind, files, terms, fixtures):
@@ -358,7 +374,7 @@ def imports(kind, files, terms, fixtures):
         lines.append('use Rattle.std.specs.Fmt.{%s}' % ', '.join(text_words(files)))
     for name in sorted(taken):
         if taken[name]:
-            lines.append('use Rattle.lilo_model.specs.%s.{%s}' % (name, ', '.join(taken[name])))
+            lines.append('use Rattle.%s.specs.%s.{%s}' % (HOMES.get(name, 'lilo_model'), name, ', '.join(taken[name])))
     used = [name for name in SPARSE if name in words]
     if used:
         lines.append('use Rattle.model_cases.specs.Sparse.{%s}' % ', '.join(used))
@@ -370,10 +386,11 @@ def imports(kind, files, terms, fixtures):
 
 def text_of(title, kind, named_cases, fixtures):
     term, files = KINDS[kind]
-    pairs = [term(case) for _, case in named_cases]
+    found = [term(case) for _, case in named_cases]
+    pairs = [pair if isinstance(pair, list) else [pair] for pair in found]
     unfolding = ' '.join([name for names in unfolded(kind, files).values() for name in names] + text_words(files))
     return cases_text('Cases of the model, written by tools/model_cases.py: %s.' % title,
-                      imports(kind, files, [side for pair in pairs for side in pair], fixtures), named_cases, pairs, unfolding)
+                      imports(kind, files, [side for some in pairs for pair in some for side in pair], fixtures), named_cases, pairs, unfolding)
 
 
 def fixtures_text(data):

@@ -118,6 +118,7 @@ mod SectorsOfCases3
 mod SlotAtCases1
 mod SlotBytesCases1
 mod SlotMakeCases1
+mod StateCases1
 mod SurveyCases1
 mod SurveyCases2
 mod SurveyCases3

@@ -63,3 +63,19 @@ fixture_menu =
     patch_at 1 0 446 (hex 40 0x0102030405060708090a0b0c0d0e0f101112131415161718191a1b1c1d1e1f202122232425262728
     ++ hex 26 0x292a2b2c2d2e2f303132333435363738393a3b3c3d3e3f4055aa) ∷
     patch_at 1 17 3 (codes "WIN") ∷ patch_at 1 63 3 (codes "DOS") ∷ patch_at 1 63 510 (hex 2 0x55aa) ∷ []
+
+-- what a boot of an installed disk looks at: one kernel and its initrd, a prompt and a timeout of five seconds
+abbrev pub fixture_installed : List Patch
+fixture_installed =
+    patch_at 0 0 0 (hex 7 0xeb7e4c494c4f01) ∷ patch_at 0 0 12 (hex 7 0x01000000320001) ∷
+    patch_at 0 0 24 (hex 13 0x038001005e0000000380010062) ∷
+    patch_at 0 0 48 (hex 21 0x038001005f00000003800100600000000380010061) ∷ patch_at 0 0 128 (replicate 312 144) ∷
+    patch_at 0 0 450 (hex 10 0x8100000040000000c00f) ∷ patch_at 0 0 510 (hex 2 0x55aa) ∷
+    patch_at 0 82 497 (hex 1 0x01) ∷ patch_at 0 82 510 (hex 2 0x55aa) ∷ patch_at 0 83 2 (hex 6 0x486472530602) ∷
+    patch_at 0 83 17 (hex 1 0x01) ∷ patch_at 0 83 44 (hex 4 0xffffff37) ∷ patch_at 0 83 56 (hex 1 0xff) ∷
+    patch_at 0 84 0 (codes "HELLO") ∷ patch_at 0 86 0 (replicate 512 165) ∷ patch_at 0 87 0 (replicate 188 165) ∷
+    patch_at 0 94 0 (codes "LINE") ∷ patch_at 0 95 0 (codes "linux") ∷
+    patch_at 0 95 16 (hex 39 0x4000000005040000bc020000038001006300000003800100640000000380010065000000010001) ∷
+    patch_at 0 99 0 (hex 1 0x0c) ∷ patch_at 0 99 8 (codes " ro root=301") ∷
+    patch_at 0 100 0 (hex 21 0x038001005200000003800100530000000380010054) ∷
+    patch_at 0 101 0 (hex 13 0x03800100560000000380010057) ∷ []

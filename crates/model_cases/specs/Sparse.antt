@@ -3,9 +3,12 @@
 use Rattle.std.specs.Prelude.{ℕ, zero, suc, ◌/◌, ◌%◌, ◌^◌, ◌==◌, ◌&&◌, if◌then◌else◌, List, [], ◌∷◌, map, replicate, slice_index_or, Option, Result}
 use Rattle.lilo_model.specs.Bytes.{with_part}
 use Rattle.lilo_model.specs.Checks.{◌>>=◌}
-use Rattle.lilo_model.specs.Disks.{Image, Geometry, Machine, DiskSector}
+use Rattle.lilo_model.specs.Disks.{Image, Geometry, Machine, Span, DiskSector}
+use Rattle.lilo_model.specs.MinixLayout.{V1Long}
 use Rattle.lilo_model.specs.Prompt.{Key, Byte, Tick}
 use Rattle.lilo_model.specs.Header.{Layout, SetupFault, header_at, plan_memory}
+use Rattle.session_model.specs.Site.{Site}
+use Rattle.session_model.specs.State.{Sector}
 
 -- the last count bytes of a number, the highest first
 abbrev pub hex : ℕ → ℕ → List ℕ
@@ -90,3 +93,20 @@ typed bytes = map Byte bytes
 -- some tenths of a second without a byte
 abbrev pub waited : ℕ → List Key
 waited tenths = replicate tenths Tick
+
+-- ---- states
+
+-- a sector of a disk with its bytes
+abbrev pub held : ℕ → ℕ → List ℕ → Sector
+held disk sector bytes = record { place = record { disk = disk; sector = sector }; bytes = bytes }
+
+-- a boot device of a machine, with a volume without a zone: body and line say nothing of it
+abbrev pub site_on : Machine → Span → Site
+site_on machine boot = record {
+  machine = machine;
+  boot = boot;
+  volume = record {
+    span = boot;
+    layout = record { kind = V1Long; inodes = 0; zones = 0; imap = 0; zmap = 0; first = 0; max_size = 0; state = 0 };
+  };
+}

@@ -1,0 +1,14 @@
+pub mod Sessions
+pub mod Others
+pub mod Bodies
+pub mod StateBoots
+pub mod Kept
+pub mod Origins
+pub mod FileData
+pub mod LineWrites
+pub mod Writers
+pub mod BootLines
+pub mod PresentLines
+pub mod Restores
+pub mod ShortLines
+pub mod GivenLines

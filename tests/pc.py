@@ -25,14 +25,15 @@ class Machine:
 
     def __init__(self, qemu, image, folder, plug='ide', megabytes=64, cpu='qemu64', writes=False):
         self.file, sock, self.rest = os.path.join(folder, 'memory'), os.path.join(folder, 'gdb'), b''
-        if os.path.exists(sock):
-            os.remove(sock)
+        for path in filter(os.path.exists, (sock, sock + '-keys')):
+            os.remove(path)
         self.process = subprocess.Popen(
             [qemu, '-accel', 'tcg', '-cpu', cpu, '-m', str(megabytes), '-display', 'none', '-nodefaults', '-vga', 'std', '-S',
-             '-chardev', f'socket,path={sock},server=on,wait=off,id=gdb', '-gdb', 'chardev:gdb', '-drive',
-             f'file={image},format=raw,if=none,id=d,snapshot={"off" if writes else "on"},file.locking=off', *PLUGS[plug]],
+             '-chardev', f'socket,path={sock},server=on,wait=off,id=gdb', '-gdb', 'chardev:gdb',
+             '-chardev', f'socket,path={sock}-keys,server=on,wait=off,id=keys', '-mon', 'chardev=keys,mode=readline',
+             '-drive', f'file={image},format=raw,if=none,id=d,snapshot={"off" if writes else "on"},file.locking=off', *PLUGS[plug]],
             stdin=subprocess.DEVNULL, stdout=subprocess.DEVNULL, stderr=subprocess.DEVNULL)
-        self.socket = socket.socket(socket.AF_UNIX)
+        self.socket, self.keys = socket.socket(socket.AF_UNIX), sock + '-keys'
         until = time.monotonic() + 60
         while self.socket.connect_ex(sock):
             if self.process.poll() is not None or time.monotonic() > until:
@@ -94,7 +95,7 @@ class Machine:
         return text[-1:].decode('latin-1')
 
     def boot_second(self, keys=(), seconds=60):
-        """Boots from the start by a second stage, to which these keys are sent as it begins; the answer is where it
+        """Boots from the start by a second stage, to which these keys are sent at its prompt; the answer is where it
         ended: `kernel`, `sector` where it entered a boot sector, or else the screen's text."""
         self.stop_at({ENTRY})
         self.monitor('system_reset')
@@ -104,9 +105,10 @@ class Machine:
             self.stop_at(set())
             self.ask('s')
             self.stop_at({ENTRY, SECTOR})
-            for key in keys:
-                self.monitor(f'sendkey {key}')
-            while not self.go(min(until, time.monotonic() + 1)):
+            typed = ()
+            while not self.go(min(until, time.monotonic() + 0.5), typed):
+                typed = keys if 'boot:' in self.screen() else ()
+                keys = () if typed else keys
                 if REFUSED in self.screen() or time.monotonic() >= until:
                     return self.screen()
             found = self.registers()
@@ -120,9 +122,15 @@ class Machine:
             self.ask(f'Z1,{at:x},1')
         self.stops = stops
 
-    def go(self, until):
-        """Goes on; whether it stopped by itself before this time."""
+    def go(self, until, keys=()):
+        """Goes on, with these keys; whether it stopped by itself before this time."""
         self.send('c')
+        if keys:
+            # QEMU takes no key while the PC is stopped.
+            with socket.socket(socket.AF_UNIX) as monitor:
+                monitor.connect(self.keys)
+                monitor.sendall(b''.join(b'sendkey %s 30\n' % key.encode() for key in keys))
+                time.sleep(0.1 * len(keys))
         try:
             self.answer(max(0.01, until - time.monotonic()))
         except socket.timeout:

@@ -53,6 +53,8 @@ begin:
 	popfl
 	pushfl
 	popl	%eax
+	pushl	%ecx
+	popfl
 	cmpl	%eax, %ecx
 	je	old
 	movl	$0x80000000, %eax

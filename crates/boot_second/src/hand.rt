@@ -19,6 +19,7 @@ const TABLE: Region = Region {
     address: 0x7BE,
     length: 64,
 };
+
 const SECTOR: Region = Region {
     address: 0x7C00,
     length: 512,

@@ -26,6 +26,7 @@ use stream_trait::{Shown, StdSink, StdSource, answer};
 
 /// The least memory of the modelled PC, and the most, in bytes.
 const LEAST: u32 = 1_048_576;
+
 const MOST: u32 = 1_073_741_824;
 
 /// The most disks that a BIOS numbers here.

@@ -20,7 +20,7 @@ class Ended(Exception):
 
 
 class Machine:
-    """A PC whose disk is an image file, which it can't change unless that is said; it is watched through GDB's protocol.
+    """A PC whose disk is an image file, which it can't change unless it `writes`; it is watched through GDB's protocol.
     The file may be written anew between two boots, in the same length."""
 
     def __init__(self, qemu, image, folder, plug='ide', megabytes=64, cpu='qemu64', writes=False):
@@ -28,10 +28,12 @@ class Machine:
         for path in filter(os.path.exists, (sock, sock + '-keys')):
             os.remove(path)
         self.process = subprocess.Popen(
-            [qemu, '-accel', 'tcg', '-cpu', cpu, '-m', str(megabytes), '-display', 'none', '-nodefaults', '-vga', 'std', '-S',
+            [qemu, '-accel', 'tcg', '-cpu', cpu, '-m', str(megabytes), '-display', 'none', '-nodefaults', '-vga', 'std',
+             '-S',
              '-chardev', f'socket,path={sock},server=on,wait=off,id=gdb', '-gdb', 'chardev:gdb',
              '-chardev', f'socket,path={sock}-keys,server=on,wait=off,id=keys', '-mon', 'chardev=keys,mode=readline',
-             '-drive', f'file={image},format=raw,if=none,id=d,snapshot={"off" if writes else "on"},file.locking=off', *PLUGS[plug]],
+             '-drive', f'file={image},format=raw,if=none,id=d,snapshot={"off" if writes else "on"},file.locking=off',
+             *PLUGS[plug]],
             stdin=subprocess.DEVNULL, stdout=subprocess.DEVNULL, stderr=subprocess.DEVNULL)
         self.socket, self.keys = socket.socket(socket.AF_UNIX), sock + '-keys'
         until = time.monotonic() + 60

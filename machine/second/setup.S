@@ -1,9 +1,9 @@
-# The second stage's real-mode part, for GNU as: a file of the Linux/x86 boot protocol, so that `image=` takes it and the
-# first stage loads it as it loads a kernel. It looks at the processor and the memory, puts what comes after it, the shim,
-# to high memory, and enters long mode; and it keeps a way back to the BIOS for single calls.
+# The second stage's real-mode part, for GNU as: a file of the Linux/x86 boot protocol, so that `image=` takes it and
+# the first stage loads it as it loads a kernel. It looks at the processor and the memory, puts what comes after it, the
+# shim, to high memory, and enters long mode; and it keeps a way back to the BIOS for single calls.
 #
-# Memory is split at P, a multiple of 2 MiB: what is below is the memory that the boot has, and the shim has what is above,
-# seen at 0x40000000 and up. Low memory is seen as it is, up to 1 GiB, and has, while the shim runs:
+# Memory is split at P, a multiple of 2 MiB: what is below is the memory that the boot has, and the shim has what is
+# above, seen at 0x40000000 and up. Low memory is seen as it is, up to 1 GiB, and has, while the shim runs:
 #   0x1000  this way, copied         0x1800  the registers of a BIOS call, then tables for it
 #   0x1ff0  P, and the bytes above   0x2000  page tables
 #   0x10000 a buffer of sectors      0x1fff0 the top of a BIOS call's stack

@@ -114,7 +114,8 @@ static void find_disk(int n) {
   REGS->esi = (u64)SIZES;
   REGS->ds = 0;
   bios(0x13);
-  if (!(REGS->flags & CARRY) && *(volatile u16 *)(SIZES + 24) == SECTOR) disks[n].sectors = *(volatile u64 *)(SIZES + 16);
+  if (!(REGS->flags & CARRY) && *(volatile u16 *)(SIZES + 24) == SECTOR)
+    disks[n].sectors = *(volatile u64 *)(SIZES + 16);
 }
 
 // Reads or writes sectors between the disk and the buffer.
@@ -307,7 +308,8 @@ static void *do_features(u32 index) {
   static u32 features[8];
   u32 *f = features;
   memset(f, 0, sizeof features);
-  if (index < 3) __asm__ volatile("cpuid" : "=a"(f[0]), "=b"(f[1]), "=c"(f[2]), "=d"(f[3]) : "a"(leaves[index]), "c"(0));
+  if (index < 3)
+    __asm__ volatile("cpuid" : "=a"(f[0]), "=b"(f[1]), "=c"(f[2]), "=d"(f[3]) : "a"(leaves[index]), "c"(0));
   memcpy(f + 4, f, 16);
   return f;
 }

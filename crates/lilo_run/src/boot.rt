@@ -80,7 +80,7 @@ fn boot_span<D: Disks, I: Source, O: Sink>(
 }
 
 /// Shows the line that reports that the source of keys failed, and gives its status.
-fn say_keys<O: Sink>(out: &mut Shown<'_, O>) -> u8
+pub fn say_keys<O: Sink>(out: &mut Shown<'_, O>) -> u8
     ensures status { result ≡ 11 }
     ensures shown { Shows (sink_of O.Sink out.old) keys_failed.text (sink_of O.Sink out.new) }
     ensures same_reference { out.new.out.ghost_name ≡ out.old.out.ghost_name }
@@ -90,7 +90,7 @@ fn say_keys<O: Sink>(out: &mut Shown<'_, O>) -> u8
 }
 
 /// Shows the line that says in which phase a disk failed, and gives its status.
-pub(crate) fn say_failed<O: Sink>(out: &mut Shown<'_, O>, phase: Phase) -> u8
+pub fn say_failed<O: Sink>(out: &mut Shown<'_, O>, phase: Phase) -> u8
     ensures status { result ≡ (phase_verdict phase).status }
     ensures lost { IsLost result }
     ensures shown { Shows (sink_of O.Sink out.old) (phase_verdict phase).text (sink_of O.Sink out.new) }

@@ -18,8 +18,11 @@ mod run;
 mod test_part;
 
 pub use bios_model::Ram;
+pub use boot::{say_failed, say_keys};
 pub use laws::{
     boots_answer_as_the_model, keys_matter_to_boots_alone, memory_matters_to_boots_alone,
 };
 pub use memory::boots;
+pub use place::find_device;
+pub use refusal::{Halt, PlaceFault, say};
 pub use run::lilo;

@@ -13,7 +13,7 @@ use mbr_table::{Device, TableFault, place_of};
 
 /// The sectors of a device.
 #[tactic(auto, unfolding(lilo_model::specs::ConfVerdict::place_at))]
-pub(crate) fn find_device<D: Disks>(disks: &mut D, device: Device) -> Result<Span, Halt>
+pub fn find_device<D: Disks>(disks: &mut D, device: Device) -> Result<Span, Halt>
     ensures place { OnDisks D.Disks disks.old (λ now machine.
         GivesPlace result (place_at now machine (device_view device))) }
     ensures inside { IfOk result (λ span. span.start < D.size_of disks.old span.disk) }

@@ -16,7 +16,7 @@ use stream_trait::Sink;
 
 /// Why a device isn't found.
 #[derive(Clone, Copy, Debug, PartialEq, Eq)]
-pub(crate) enum PlaceFault {
+pub enum PlaceFault {
     /// The disk isn't there, or has no sector.
     NoDisk,
     /// The disk has no partition of this number.
@@ -27,7 +27,7 @@ pub(crate) enum PlaceFault {
 
 /// Why a command ends before its work is done.
 #[derive(Clone, Copy, Debug, PartialEq, Eq)]
-pub(crate) enum Halt {
+pub enum Halt {
     /// A disk failed.
     Device,
     /// The device isn't found.
@@ -42,7 +42,7 @@ pub(crate) enum Halt {
 pub(crate) type Line = ArrayVec<u8, 128>;
 
 /// Shows the line that reports why a command ended, and gives its status.
-pub(crate) fn say<O: Sink>(out: &mut Shown<'_, O>, halt: Halt) -> u8
+pub fn say<O: Sink>(out: &mut Shown<'_, O>, halt: Halt) -> u8
     ensures status { result ≡ (halt_verdict halt).status }
     ensures known { IsTrue (is_plain_status result) }
     ensures some { 1 ≤ result }

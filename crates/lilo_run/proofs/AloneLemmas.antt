@@ -8,7 +8,7 @@ use Rattle.lilo_model.specs.Disks.{Image, Machine}
 use Rattle.lilo_model.specs.Prompt.{Key}
 use Rattle.lilo_model.specs.Words.{Part, Install, run_at}
 use Rattle.stream_trait.specs.Shows.{answer_of}
-use Rattle.lilo_run.specs.Install.{InstallLeaves, IsInstallRun, PartLeaves, done_status}
+use Rattle.lilo_run.specs.Install.{InstallDoes, IsInstallRun, PartLeaves, done_status}
 use Rattle.lilo_run.specs.Run.{Carries, CarriedOut, LostBefore, LostAtCommit, LostAfter, Starved, Unheard, EndsAs, State, is_part_status}
 use Rattle.lilo_run.specs.Verdict.{Left, install_effect, leaving}
 use Rattle.lilo_run.proofs.InstallLemmas.{installation}
@@ -18,16 +18,24 @@ use Rattle.lilo_run.proofs.InstallLemmas.{installation}
 module _ {D : Type 0} (g : Ghosts D) (image : Image) (machine : Machine) (root : Option Device) (path : List ℕ) (time : ℕ) (found : Left) where
   pub own_leaves :
       (own status : ℕ) (old new : D) → status ≡ own → EndsAs g (installation image machine root path time found) own old new
-      → InstallLeaves image machine root path time (g.past old) (g.past new) status
+      → InstallDoes image machine root path time (g.past old) (g.past new) status
   own_leaves own status old new same ends =
-      subst (InstallLeaves image machine root path time (g.past old) (g.past new)) (sym same)
-      (λ read is volume there quiet.
-      let left = ends.begun read is volume there in record { settled = found.settled; leaves = left.leaves quiet; unsettled = left.unsettled })
+      subst (InstallDoes image machine root path time (g.past old) (g.past new)) (sym same)
+      (record {
+        leaves =
+            λ read is volume there quiet.
+            let left = ends.begun read is volume there in record { settled = found.settled; leaves = left.leaves quiet; unsettled = left.unsettled };
+        stays = record {
+          unread = ends.unread;
+          no_volume = ends.no_volume;
+          read = λ read is volume there. let left = ends.begun read is volume there in record { refused = left.refused; outside = left.outside };
+        };
+      })
 
   -- whatever keys there are
   pub carried_leaves :
       (keys left : List Key) (own : ℕ) (old new : State D) → Carries g (leaving keys (install_effect image machine root path time found)) own left old new
-      → InstallLeaves image machine root path time (g.past old.disks) (g.past new.disks) own
+      → InstallDoes image machine root path time (g.past old.disks) (g.past new.disks) own
   unfolding install_effect
   carried_leaves keys left own old new (CarriedOut done is ends) = own_leaves own own old.disks new.disks refl ends
   carried_leaves keys left own old new (LostBefore failed (ends, rose)) = own_leaves 8 own old.disks new.disks failed.answer ends

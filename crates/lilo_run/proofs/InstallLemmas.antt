@@ -9,13 +9,16 @@ use Rattle.disk_trait.specs.Calls.{GoesOn}
 use Rattle.disk_trait.specs.declared.disks.Disks.{Ghosts}
 use Rattle.disk_trait.specs.declared.disks.Phase.{Phase}
 use Rattle.disk_trait.specs.declared.disks.Phase.TheVariants.{Before, Commit, After}
-use Rattle.disk_trait.proofs.MomentLemmas.{leaves_none}
+use Rattle.disk_trait.specs.NotWritten.{NotWritten}
+use Rattle.disk_trait.proofs.MomentLemmas.{leaves_none, leaves_weaker}
+use Rattle.disk_trait.proofs.NotWrittenLemmas.{not_written_none}
 use Rattle.lilo_model.specs.Checks.{◌>>=◌, with_fault}
 use Rattle.lilo_model.specs.ConfRefusal.{ConfRefusal}
 use Rattle.lilo_model.specs.ConfVerdict.{place_at, volume_refusal}
 use Rattle.lilo_model.specs.Devices.{Device}
 use Rattle.lilo_model.specs.Disks.{Image, Machine, Span, DiskSector}
 use Rattle.lilo_model.specs.Faults.{Rose}
+use Rattle.lilo_model.specs.Mapped.{mapped_sectors}
 use Rattle.lilo_model.specs.MinixNames.{names_in}
 use Rattle.lilo_model.specs.MinixParts.{Volume, ZoneFault, volume_at}
 use Rattle.lilo_model.specs.Partitions.{TableFault, device_fault, span_of}
@@ -38,17 +41,20 @@ use Rattle.install_begin.specs.Begin as begins
 use Rattle.install_begin.specs.Begin.{answer_on, begun_at, begun_on, begun_with, named_conf, placed_by}
 use Rattle.install_begin.specs.View.{RefusesText}
 use Rattle.install_begin.proofs.BeginLemmas.{answer_law}
-use Rattle.install_laws.specs.Boots.{BootsAs, HasBootOf}
+use Rattle.boot_laws.specs.SameOn.{SameOn}
+use Rattle.install_laws.specs.Boots.{BootsAs, HasBootOf, SparesMapped}
 use Rattle.install_laws.specs.InstallVerdict as installs
 use Rattle.install_laws.specs.InstallVerdict.{Answer, InstallRefusal, Reading, answer_text, install_line, install_room, install_verdict, verdict_by}
 use Rattle.install_laws.specs.Stopped.{StaysAsBefore}
 use Rattle.install_run.specs.Previews.{AnswersVerdict}
 use Rattle.install_run.specs.Answers as outcomes
 use Rattle.install_run.specs.Answers.{AnswersInstall, IsDiskFault, IsSettledFrom, install_on, lost_line, settled_answer}
-use Rattle.install_run.specs.Keeps.{KeepsMost}
+use Rattle.install_run.specs.Keeps.{KeepsMost, WritesInside}
 use Rattle.install_run.specs.Phases.{FailsBy}
+use Rattle.install_run.specs.Staged.{IsStagedFrom, IsStagedOn, SparesClear}
 use Rattle.install_run.proofs.EntryLemmas.{entry_answer_law}
-use Rattle.install_run.proofs.PhaseLemmas.{fails_still}
+use Rattle.install_run.proofs.InstalledLemmas.{not_refused}
+use Rattle.install_run.proofs.PhaseLemmas.{fails_still, fails_weaker}
 use Rattle.install_run.specs.Installs.{Installs, InstallsBegun, OnVolume, NoVolume, VolumeLost}
 use Rattle.lilo_run.specs.Install.{ReadsSteady, IsInstallRun, IsModelled}
 use Rattle.lilo_run.specs.Refusal.{ConfRefuses, conf_verdict, device_failed, no_memory, table_verdict, text_verdict}
@@ -65,9 +71,6 @@ ok_same r a b first second = cc
 
 ok_or_err : {A F : Type 0} (r : Result A F) (a : A) (fault : F) → r ≡ Ok a → r ≡ Err fault → ⊥
 ok_or_err r a fault first second = cc
-
-not_refused : {A F : Type 0} (r : Result A F) (a : A) → r ≡ Ok a → IsErr r → ⊥
-not_refused {A} {F} r a is refused = false≢true (subst (λ (x : Result A F). IsErr x) is refused)
 
 abbrev as_read : Span → begins.Named → Span → begins.Begun
 as_read volume named span = record { volume = volume; named = named; span = span }
@@ -241,6 +244,20 @@ module _ {D : Type 0} (g : Ghosts D) (old new : D) where
       same None = tt
       same (Some path) = refl
 
+  -- and the sectors of a Clear map
+  spares_same : (machine : Machine) (begun : installs.Begun) → g.past new ≡ g.past old → IsQuiet (g.past old) → SparesClear machine begun (g.past old) (g.past new)
+  spares_same machine begun same quiet clear =
+      subst (λ (p : Option Past). SparesMapped machine begun.span (g.past old) p) (sym same)
+      (leaves_none (g.past old) _
+      (λ c left. subst (SameOn (mapped_sectors (now (g.past old)) machine begun.span) (now (g.past old))) (sym (quiet c left)) (λ k d below. refl)))
+
+  -- and writes nothing outside of the volume
+  inside_same : (volume : Volume) (span : Span) (own : ℕ) → g.past new ≡ g.past old → WritesInside volume span (g.past old) (g.past new) own
+  inside_same volume span own same =
+      let none : (d s : ℕ) → NotWritten (g.past old) (g.past new) d s =
+      λ d s. subst (λ (p : Option Past). NotWritten (g.past old) p d s) (sym same) (not_written_none (g.past old) d s) in
+      record { before = λ is d s apart. none d s; others = λ d s apart other. none d s }
+
   -- a disk failed, or memory ended, before anything was done
   pub record IsEarly (found : Installation) (own : ℕ) : Type 0 where
     pub status : (own ≡ 8) ⊎ (own ≡ 13)
@@ -272,6 +289,7 @@ module _ {D : Type 0} (g : Ghosts D) (old new : D) where
             places = [];
             before = λ is. inl (keeps_same found.machine begun names same quiet);
             unstaged = λ is other. keeps_same found.machine begun names same quiet;
+            map = λ is. leaves_weaker (g.past old) (g.past new) _ _ (keeps_same found.machine begun names same quiet) (λ c kept. kept.own names.map);
             later = λ is. absurd (⊎_elim (not_nine own early) (not_done own early) is);
             backup = λ is. absurd (not_done own early is);
             installed = λ zero. absurd (not_done own early (inl zero));
@@ -280,25 +298,33 @@ module _ {D : Type 0} (g : Ghosts D) (old new : D) where
           passes = λ is. absurd (⊎_elim (not_nine own early) (not_done own early) is);
           before = λ is. stays_same found.machine begun.volume begun.span same quiet;
           at_commit = λ nine. absurd (not_nine own early nine);
+          spares = λ is. spares_same found.machine begun same quiet;
+          in_commit = λ nine. absurd (not_nine own early nine);
+          committed = λ is. absurd (not_done own early is);
           done = λ is. absurd (not_done own early is);
           lays = λ is. absurd (not_done own early is);
           quiet = λ zero. absurd (not_done own early (inl zero));
+          holds = λ is other. record { now_is = ap now same ∙ sym is-early.settled; quiet = subst (λ (p : Option Past). IsQuiet p) (sym same) quiet };
+          stages = λ is. inl (λ names own. keeps_same found.machine begun names same quiet);
         };
-    refused = λ other refuses. same;
+    refused = λ refuses. same;
     unsettled =
         λ none. record {
           same = is-early.settled;
           refused = λ is other. same;
+          unplanned = λ refuses. same;
         };
+    outside = inside_same begun.volume begun.span own same;
     phase = λ quiet. by early quiet;
   }
     where
       early : (own ≡ 8) ⊎ (own ≡ 13)
       early = is-early.status
 
-      by : (own ≡ 8) ⊎ (own ≡ 13) → IsQuiet (g.past old) → FailsBy g own begun.span old new
+      by : (own ≡ 8) ⊎ (own ≡ 13) → IsQuiet (g.past old) → FailsBy g own (IsStagedFrom found.machine begun (g.past old)) begun.span old new
       by (inl eight) quiet =
-          subst (λ (n : ℕ). FailsBy g n begun.span old new) (sym eight) (fails_still g begun.span old new same quiet (is-early.rose eight))
+          subst (λ (n : ℕ). FailsBy g n (IsStagedFrom found.machine begun (g.past old)) begun.span old new) (sym eight)
+          (fails_still g (IsStagedFrom found.machine begun (g.past old)) begun.span old new same quiet (is-early.rose eight))
       by (inr thirteen) quiet = λ phase is. absurd (none-13 phase (sym thirteen ∙ is))
 
   -- an installation that did nothing
@@ -372,19 +398,24 @@ module _ {D : Type 0} (g : Ghosts D) (machine : Machine) (root : Option Device) 
   -- it began on a volume
   on_volume :
       (read : begins.Begun) (volume : Volume) → begun_at (now (g.past old)) machine root path ≡ Ok read → volume_at (now (g.past old)) read.volume ≡ Ok volume
-      → (IsDiskFault own → Rose (g.faults old) (g.faults new)) → (IsQuiet (g.past old) → FailsBy g own read.span old new)
+      → (IsDiskFault own → Rose (g.faults old) (g.faults new)) → (IsQuiet (g.past old) → FailsBy g own (IsStagedOn (now (g.past old)) machine read (g.past old)) read.span old new)
       → Installs (now (g.past old)) machine (begun_with read volume) time (g.past old) (g.past new) own sink sink' → FindsOut
   on_volume read volume is there cause fails done = by done.answers
     where
       lies : span_of (now (g.past old)) machine read.named.boot ≡ Ok read.span
       lies = begun_there (now (g.past old)) machine root path read is
 
+      phases : IsQuiet (g.past old) → FailsBy g own (IsStagedFrom machine (begun_with read volume) (g.past old)) read.span old new
+      phases quiet =
+          fails_weaker g own (IsStagedOn (now (g.past old)) machine read (g.past old)) (IsStagedFrom machine (begun_with read volume) (g.past old)) read.span old new
+          (λ past bytes staged. staged volume there) (fails quiet)
+
       ends :
           (answered : Bool) → (answered ≡ true → IsSettledFrom (now (g.past old)) machine (begun_with read volume) done.settled)
           → (own ≢ 8 → own ≢ 13 → answered ≡ true) → EndsAs g (installing_by (finds done.settled answered)) own old new
       ends answered settled owed =
           ends_on g old new (installing_by (finds done.settled answered)) own read volume is there
-          (record { settled = settled; leaves = λ quiet. done.leaves quiet lies; refused = done.refused; unsettled = done.unsettled; phase = fails }) owed refl goes_on
+          (record { settled = settled; leaves = λ quiet. done.leaves quiet lies; refused = done.refused; unsettled = done.unsettled; outside = done.outside; phase = phases }) owed refl goes_on
 
       effect_is :
           (answered : Bool) → install_effect (now (g.past old)) machine root path time (finds done.settled answered)
@@ -418,7 +449,7 @@ module _ {D : Type 0} (g : Ghosts D) (machine : Machine) (root : Option Device) 
   -- it began
   pub begun_found :
       (read : begins.Begun) → begun_at (now (g.past old)) machine root path ≡ Ok read → (IsDiskFault own → Rose (g.faults old) (g.faults new))
-      → (IsQuiet (g.past old) → FailsBy g own read.span old new)
+      → (IsQuiet (g.past old) → FailsBy g own (IsStagedOn (now (g.past old)) machine read (g.past old)) read.span old new)
       → InstallsBegun (now (g.past old)) machine time read (g.past old) (g.past new) own sink sink' → FindsOut
   unfolding install_effect
   begun_found read is cause fails (OnVolume volume there done) = on_volume read volume is there cause fails done

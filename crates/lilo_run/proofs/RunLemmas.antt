@@ -31,6 +31,9 @@ use Rattle.disk_trait.specs.declared.disks.Phase.{Phase}
 use Rattle.install_begin.specs.Begin.{begun_with}
 use Rattle.install_laws.specs.InstallVerdict as verdicts
 use Rattle.install_run.specs.Installs.{Leaves, StaysUnsettled}
+use Rattle.install_run.specs.Keeps.{WritesInside}
+use Rattle.install_run.specs.Phases.{FailsBy}
+use Rattle.install_run.specs.Staged.{IsStagedFrom}
 use Rattle.install_run.proofs.PhaseLemmas.{fails_since}
 use Rattle.lilo_run.specs.Run.{State, IsDone, Does, Carries, CarriedOut, LostBefore, LostAtCommit, LostAfter, Starved, Unheard, EndsAt, IsPassed, IsOver, Runs, IsLost, IsWriteLost, is_plain_status, is_conf_status, is_install_status, is_test_status, is_part_status}
 use Rattle.lilo_run.specs.Run.{IsLeftBy, EndsAs, MakesBy, Makes, ComesBy, StarvesBy}
@@ -78,11 +81,13 @@ module _ {D : Type 0} (g : Ghosts D) where
       leaves =
           λ quiet. subst (λ (p : Option Past). Leaves found.machine begun found.left.settled found.time p (g.past new) own) same.same_past
           (left.leaves (subst (λ (p : Option Past). IsQuiet p) (sym same.same_past) quiet));
-      refused = λ other refuses. left.refused other refuses ∙ same.same_past;
-      unsettled = subst (λ (p : Option Past). StaysUnsettled found.machine begun found.left.settled p (g.past new) own) same.same_past left.unsettled;
+      refused = λ refuses. left.refused refuses ∙ same.same_past;
+      unsettled = subst (λ (p : Option Past). StaysUnsettled found.machine begun found.time found.left.settled p (g.past new) own) same.same_past left.unsettled;
+      outside = subst (λ (p : Option Past). WritesInside begun.volume begun.span p (g.past new) own) same.same_past left.outside;
       phase =
-          λ quiet. fails_since g own begun.span first old new same.same_past (goes_on_read g first old same later)
-          (left.phase (subst (λ (p : Option Past). IsQuiet p) (sym same.same_past) quiet));
+          λ quiet. subst (λ (p : Option Past). FailsBy g own (IsStagedFrom found.machine begun p) begun.span first new) same.same_past
+          (fails_since g own (IsStagedFrom found.machine begun (g.past old)) begun.span first old new same.same_past (goes_on_read g first old same later)
+          (left.phase (subst (λ (p : Option Past). IsQuiet p) (sym same.same_past) quiet)));
     }
 
     pub ends_after : (found : Installation) (own : ℕ) → EndsAs g found own old new → EndsAs g found own first new

@@ -1,5 +1,5 @@
 -- An installation by itself: what it answers, and what a stop at any moment leaves of it.
-use Rattle.std.specs.Prelude.{◌≡◌, ℕ, ◌==◌, true, if◌then◌else◌, List, [], ◌∷◌, Option, Ok}
+use Rattle.std.specs.Prelude.{◌≡◌, ℕ, ◌==◌, true, if◌then◌else◌, List, [], ◌∷◌, Option, Ok, IsErr}
 use Rattle.disk_trait.specs.Past.{Past}
 use Rattle.disk_trait.specs.Moments.{IsQuiet}
 use Rattle.disk_trait.specs.declared.disks.Disks as disks
@@ -15,8 +15,8 @@ use Rattle.stream_trait.specs.declared.source.Source as sources
 use Rattle.install_begin.specs.Begin as begins
 use Rattle.install_begin.specs.Begin.{begun_at, begun_with}
 use Rattle.install_laws.specs.InstallVerdict.{Begun, install_verdict}
-use Rattle.install_run.specs.Installs.{Leaves, StaysUnsettled}
-use Rattle.install_run.specs.Keeps.{IsSteady}
+use Rattle.install_run.specs.Installs.{Leaves, StaysRefused, StaysUnsettled}
+use Rattle.install_run.specs.Keeps.{IsSteady, WritesInside}
 use Rattle.lilo_run.specs.Run.{Tells, scene_of}
 use Rattle.lilo_run.specs.Verdict.{Left, leaving, install_effect}
 
@@ -53,7 +53,7 @@ done_status status = if status == 12 then 0 else status
 pub record LeavesBy (machine : Machine) (begun : Begun) (time : ℕ) (entry ended : Option Past) (status : ℕ) : Type 0 where
   pub settled : Image
   pub leaves : Leaves machine begun settled time entry ended status
-  pub unsettled : StaysUnsettled machine begun settled entry ended status
+  pub unsettled : StaysUnsettled machine begun time settled entry ended status
 
 -- so it is from a quiet moment, where a volume and a configuration are read
 abbrev pub InstallLeaves : Image → Machine → Option Device → List ℕ → ℕ → Option Past → Option Past → ℕ → Type 0
@@ -64,8 +64,25 @@ InstallLeaves image machine root path time entry ended status =
 abbrev pub InstallHolds : Image → Machine → Option Device → List ℕ → ℕ → Option Past → Option Past → ℕ → Type 0
 InstallHolds image machine root path time entry ended status = InstallLeaves image machine root path time entry ended (done_status status)
 
+-- What is left alone, whatever is answered and from any moment on: all, where a check before the first write refuses; and what lies outside
+-- of the volume, but for the boot device's first sector.
+pub record StaysBy (image : Image) (machine : Machine) (begun : Begun) (entry ended : Option Past) (status : ℕ) : Type 0 where
+  pub refused : StaysRefused image machine begun entry ended
+  pub outside : WritesInside begun.volume begun.span entry ended status
+
+pub record InstallStays (image : Image) (machine : Machine) (root : Option Device) (path : List ℕ) (entry ended : Option Past) (status : ℕ) : Type 0 where
+  pub unread : IsErr (begun_at image machine root path) → ended ≡ entry
+  pub no_volume : (read : begins.Begun) → begun_at image machine root path ≡ Ok read → IsErr (volume_at image read.volume) → ended ≡ entry
+  pub read : (read : begins.Begun) → begun_at image machine root path ≡ Ok read → (volume : Volume) → volume_at image read.volume ≡ Ok volume
+      → StaysBy image machine (begun_with read volume) entry ended status
+
 -- the same of a part that installs, on disks that report what they hold
+pub record InstallDoes (image : Image) (machine : Machine) (root : Option Device) (path : List ℕ) (time : ℕ) (entry ended : Option Past)
+    (status : ℕ) : Type 0 where
+  pub leaves : InstallLeaves image machine root path time entry ended status
+  pub stays : InstallStays image machine root path entry ended status
+
 abbrev pub PartLeaves : {D : Type 0} → disks.Ghosts D → ℕ → Part → ℕ → D → D → Type 0
 PartLeaves g time part status old new =
     part.command ≡ Install → OnDisks g old (λ image machine.
-    InstallLeaves image machine part.root (conf_path part.config) time (g.past old) (g.past new) status)
+    InstallDoes image machine part.root (conf_path part.config) time (g.past old) (g.past new) status)

@@ -43,7 +43,9 @@ use Rattle.install_begin.specs.Begin.{begun_at, begun_with}
 use Rattle.install_laws.specs.InstallVerdict.{Begun}
 use Rattle.install_run.specs.Answers.{IsSettledFrom}
 use Rattle.install_run.specs.Installs.{Leaves, StaysRefused, StaysUnsettled}
+use Rattle.install_run.specs.Keeps.{WritesInside}
 use Rattle.install_run.specs.Phases.{FailsBy}
+use Rattle.install_run.specs.Staged.{IsStagedFrom}
 use Rattle.lilo_run.specs.Verdict.{Effect, Installation, Left, leaving, effects_of, run_verdict, run_image}
 
 -- ---- a reader
@@ -116,14 +118,15 @@ DoesBeside g o disks memory status old new effect =
 -- ---- what a part makes of the disks
 
 -- What settling leaves is found out where that decided the answer, and from a quiet moment on a stop leaves what the status
--- says. Where a check up to settling refuses, nothing was written, nor where nothing is left to settle and another check refuses.
--- Where a disk failed the count of its faults rose in the phase that the status names.
+-- says. Where a check up to settling refuses, nothing was written, nor where nothing is left to settle and another check refuses. Outside
+-- of the volume only the boot device's first sector is written. Where a disk failed the count of its faults rose in the phase that the status names.
 pub record IsLeftBy {D : Type 0} (g : Ghosts D) (found : Installation) (begun : Begun) (own : ℕ) (old new : D) : Type 0 where
   pub settled : found.left.answered ≡ true → IsSettledFrom found.image found.machine begun found.left.settled
   pub leaves : IsQuiet (g.past old) → Leaves found.machine begun found.left.settled found.time (g.past old) (g.past new) own
-  pub refused : StaysRefused found.image found.machine begun (g.past old) (g.past new) own
-  pub unsettled : StaysUnsettled found.machine begun found.left.settled (g.past old) (g.past new) own
-  pub phase : IsQuiet (g.past old) → FailsBy g own begun.span old new
+  pub refused : StaysRefused found.image found.machine begun (g.past old) (g.past new)
+  pub unsettled : StaysUnsettled found.machine begun found.time found.left.settled (g.past old) (g.past new) own
+  pub outside : WritesInside begun.volume begun.span (g.past old) (g.past new) own
+  pub phase : IsQuiet (g.past old) → FailsBy g own (IsStagedFrom found.machine begun (g.past old)) begun.span old new
 
 -- An installation ended with this status. Where what it begins with is refused, it did nothing.
 pub record EndsAs {D : Type 0} (g : Ghosts D) (found : Installation) (own : ℕ) (old new : D) : Type 0 where

@@ -5,7 +5,7 @@ ghost use Rattle.lilo_model.specs.Place.{Memory};
 ghost use Rattle.mbr_table.specs.View.{device_view};
 ghost use Rattle.loader_core.specs.Leaves.{WritesAndShows};
 ghost use Rattle.sector_address.specs.Machine.{OnDisks};
-ghost use Rattle.lilo_run.specs.Install.{InstallLeaves};
+ghost use Rattle.lilo_run.specs.Install.{InstallDoes};
 ghost use Rattle.lilo_run.specs.Run.{is_install_status, CarriesFound, IsLost};
 ghost use Rattle.lilo_run.specs.Verdict.{install_effect};
 
@@ -31,7 +31,7 @@ pub(crate) fn install<D: Disks, O: Sink>(
     ensures does { (memory : Memory) → CarriesFound D.Disks O.Sink memory result
         (disks.old, out.old) (disks.new, out.new)
         (λ now machine. install_effect now machine (option_map device_view root) path.now time) }
-    ensures leaves { OnDisks D.Disks disks.old (λ image machine. InstallLeaves image machine (option_map device_view root)
+    ensures leaves { OnDisks D.Disks disks.old (λ image machine. InstallDoes image machine (option_map device_view root)
         path.now time (D.past disks.old) (D.past disks.new) result) }
     ensures known { IsTrue (is_install_status result) }
     ensures only { WritesAndShows D.Disks O.Sink (disks.old, out.old) (disks.new, out.new) (IsLost result) }

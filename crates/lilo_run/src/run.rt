@@ -28,7 +28,14 @@ ghost use Rattle.lilo_model.specs.ConfVerdict.{place_at};
 ghost use Rattle.lilo_run.specs.Verdict.{part_effect, parts_effects, run_verdict, run_left, run_written, Left};
 ghost use Rattle.lilo_run.specs.Verdict.{early_answer, early_parts, has_boot, has_write, has_conf, has_work_on};
 ghost use Rattle.lilo_run.specs.Laws.{IsBootRun, TellsBoot};
-ghost use Rattle.lilo_run.specs.Install.{IsInstallRun, InstallHolds, PartLeaves, TellsInstall, done_status};
+ghost use Rattle.lilo_run.specs.Install.{
+  IsInstallRun,
+  InstallHolds,
+  InstallStays,
+  PartLeaves,
+  TellsInstall,
+  done_status,
+};
 ghost use Rattle.loader_core.specs.Leaves.{WritesAndAsks};
 
 use crate::part::carry_out;
@@ -135,6 +142,11 @@ pub fn lilo<D: Disks, I: Source, O: Sink>(
     ensures headline { (root : Option Device) (path : List ℕ) → IsInstallRun words.now root path
         → OnDisks D.Disks disks.old (λ image machine.
         InstallHolds image machine root path now (D.past disks.old) (D.past disks.new) result) }
+    // What it leaves alone, whatever it answers: all, where a check before the first write refuses; and each sector
+    // outside of the volume, but for the boot device's first, from its commit on.
+    ensures stays { (root : Option Device) (path : List ℕ) → IsInstallRun words.now root path
+        → OnDisks D.Disks disks.old (λ image machine.
+        InstallStays image machine root path (D.past disks.old) (D.past disks.new) (done_status result)) }
 
     // Each part that answers 0 wrote its default line or boot sector, or installed. Where none installs, a stop at any
     // moment leaves what the disks held before one of the parts or after it: that sector has its old bytes or its new

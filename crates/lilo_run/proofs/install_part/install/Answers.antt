@@ -1,16 +1,15 @@
 -- What it begins with is read, and then it is installed.
-use Rattle.std.proofs.Common.{[], sym, subst, rules}
+use Rattle.std.proofs.Common.{[], rules}
 use Rattle.std.specs.Prelude.{option_map}
 use Rattle.bios_model.proofs.WriteLemmas.{goes_on_read}
 use Rattle.bios_model.specs.Memory.{memory_of}
-use Rattle.disk_trait.specs.Moments.{IsTold, IsQuiet}
 use Rattle.disk_trait.proofs.MomentLemmas.{told_now}
 use Rattle.disk_trait.proofs.ToldLemmas.{told_map}
 use Rattle.install_begin.specs.View.{begun_view}
 use Rattle.lilo_model.proofs.RoseLemmas.{rose_after}
 use Rattle.loader_core.proofs.LeavesLemmas.{goes_on_after}
-use Rattle.mbr_table.specs.View.{device_view, span_view}
-use Rattle.install_run.proofs.PhaseLemmas.{fails_since}
+use Rattle.mbr_table.specs.View.{device_view}
+use Rattle.install_run.proofs.PhaseLemmas.{read_fails}
 use Rattle.sector_address.specs.Machine.{machine_of}
 use Rattle.lilo_run.proofs.AloneLemmas.{carried_leaves}
 use Rattle.lilo_run.proofs.InstallLemmas.{begun_there, begun_found, refused_found}
@@ -42,9 +41,7 @@ returns-in-Ok-clause-does g c =
     (λ is. begun_found g.D.Disks machine (option_map device_view c.args.root) c.args.path.now c.args.time c.install_begun.result memory disks c.install_begun.new.disks _ _ goes_on
     (begun_view c.in-Ok.begun) (told_now (g.D.Disks.past disks) _ c.in-Ok.ensures.begun is)
     (λ lost. rose_after _ _ _ later (c.install_begun.ensures.cause lost))
-    (λ quiet. fails_since g.D.Disks c.install_begun.result (span_view c.in-Ok.begun.boot) disks c.begin.new.disks c.install_begun.new.disks same.same_past
-    (goes_on_read g.D.Disks disks c.begin.new.disks same later)
-    (c.install_begun.ensures.phase (subst IsTold (sym same.same_past) is) (subst IsQuiet (sym same.same_past) quiet)))
+    (λ quiet. read_fails g.D.Disks disks c.begin.new.disks c.install_begun.new.disks same later c.install_begun.result (begun_view c.in-Ok.begun) c.install_begun.ensures.phase is quiet)
     (told_now (g.D.Disks.past disks) _ installs is))
 
 pub returns-in-Ok-clause-leaves : goal.returns-in-Ok-clause-leaves

@@ -3,7 +3,7 @@ use Rattle.std.proofs.Common.{◌∙◌, inl, [], length, subst}
 use Rattle.std.specs.Prelude.{option_map}
 use Rattle.mbr_table.specs.View.{device_view}
 use Rattle.sector_address.specs.Machine.{OnDisks, machine_of}
-use Rattle.lilo_run.specs.Install.{InstallLeaves}
+use Rattle.lilo_run.specs.Install.{InstallDoes}
 use Rattle.lilo_run.specs.Run.{Starved, DoesBeside, CarriesBeside, CarriesFound, state_of}
 use Rattle.lilo_run.specs.Verdict.{query_command, install_effect, line_effect, command_effect, first_left}
 use Rattle.bios_model.specs.Memory.{memory_of}
@@ -56,7 +56,7 @@ returns-in-Install-clause-leaves g c = λ is.
     let same = c.as_bytes-path.ensures.value ∙ c.conf_path.ensures in
     subst
     (λ path. OnDisks g.D.Disks c.args.bios.now.disks.now (λ image machine.
-    InstallLeaves image machine (option_map device_view c.args.part.root) path c.args.time (g.D.Disks.past c.args.bios.now.disks.now) (g.D.Disks.past c.install.new.disks) c.install.result))
+    InstallDoes image machine (option_map device_view c.args.part.root) path c.args.time (g.D.Disks.past c.args.bios.now.disks.now) (g.D.Disks.past c.install.new.disks) c.install.result))
     same c.install.ensures.leaves
 
 pub returns-in-Test-clause-does : goal.returns-in-Test-clause-does

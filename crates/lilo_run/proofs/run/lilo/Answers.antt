@@ -2,10 +2,11 @@
 use Rattle.std.proofs.Common.{◌≡◌, ℕ, List, Option, ap, subst, rules}
 use Rattle.std.specs.Prelude.{length}
 use Rattle.disk_trait.specs.Past.{Told}
+use Rattle.disk_trait.proofs.ToldLemmas.{told_map}
 use Rattle.lilo_model.specs.Devices.{Device}
 use Rattle.sector_address.specs.Machine.{OnDisks, machine_of}
 use Rattle.loader_core.specs.Start.{OnKeys}
-use Rattle.lilo_run.specs.Install.{InstallHolds}
+use Rattle.lilo_run.specs.Install.{InstallDoes, InstallHolds, InstallStays, done_status}
 use Rattle.lilo_run.specs.Run.{TellsRun, scene_of}
 use Rattle.lilo_run.specs.Verdict.{Left, effects_of}
 use Rattle.lilo_run.proofs.AloneLemmas.{of_run}
@@ -78,7 +79,20 @@ returns-clause-headline g c = λ root path run.
     subst
     (λ disks. OnDisks g.D.Disks c.args.disks.now (λ image machine.
     InstallHolds image machine root path c.args.now (g.D.Disks.past c.args.disks.now) (g.D.Disks.past disks) c.run_words.result)) end
+    (told_map (g.D.Disks.past c.args.disks.now) _ _ (λ now does. does.leaves)
     (of_run c.args.words.now root path
     (λ (r : Option Device) (p : List ℕ). OnDisks g.D.Disks c.args.disks.now (λ image machine.
-    InstallHolds image machine r p c.args.now (g.D.Disks.past c.args.disks.now) (g.D.Disks.past c.run_words.new.bios.disks.now) c.run_words.result))
-    run c.run_words.ensures.alone)
+    InstallDoes image machine r p c.args.now (g.D.Disks.past c.args.disks.now) (g.D.Disks.past c.run_words.new.bios.disks.now) (done_status c.run_words.result)))
+    run c.run_words.ensures.alone))
+
+pub returns-clause-stays : goal.returns-clause-stays
+returns-clause-stays g c = λ root path run.
+    let end : c.run_words.new.bios.disks.now ≡ c.disks-1.given.0 = search rules in
+    subst
+    (λ disks. OnDisks g.D.Disks c.args.disks.now (λ image machine.
+    InstallStays image machine root path (g.D.Disks.past c.args.disks.now) (g.D.Disks.past disks) (done_status c.run_words.result))) end
+    (told_map (g.D.Disks.past c.args.disks.now) _ _ (λ now does. does.stays)
+    (of_run c.args.words.now root path
+    (λ (r : Option Device) (p : List ℕ). OnDisks g.D.Disks c.args.disks.now (λ image machine.
+    InstallDoes image machine r p c.args.now (g.D.Disks.past c.args.disks.now) (g.D.Disks.past c.run_words.new.bios.disks.now) (done_status c.run_words.result)))
+    run c.run_words.ensures.alone))

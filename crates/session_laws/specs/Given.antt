@@ -57,12 +57,16 @@ BackupLaw =
     → file_block volume.layout (parts_of volume image) ((parts_of volume image).node number) 0 ≡ Ok bytes
     → (file_of (names_in volume image) text ≡ Some bytes) × (length bytes ≡ 512)
 
--- a sector that is restored of the backup of a device, another system's, keeps what a session keeps, and is what `-u` makes
+-- an image with the boot sector that is restored of a backup
+abbrev pub with_restored : Site → Image → List ℕ → Image
+with_restored site image backup =
+    with_sector image (boot_place site) (restored_sector backup (bytes_at image (boot_place site)))
+
+-- one restored of the backup of a device, another system's, keeps what a session keeps, and is what `-u` makes
 abbrev pub RestoreLaw : Type 0
 RestoreLaw =
     (site : Site) (device : Device) (old : Image) (backup : List ℕ)
     → IsBootApart site → Keeps site old
     → file_of (names_in site.volume old) (default_backup device) ≡ Some backup → length backup ≡ 512 → is_foreign backup ≡ true
-    → SoundAsIn site.volume old (with_sector old (boot_place site) (restored_sector backup (bytes_at old (boot_place site))))
-    → Keeps site (with_sector old (boot_place site) (restored_sector backup (bytes_at old (boot_place site))))
-    × IsRestored site device old (with_sector old (boot_place site) (restored_sector backup (bytes_at old (boot_place site))))
+    → SoundAsIn site.volume old (with_restored site old backup)
+    → Keeps site (with_restored site old backup) × IsRestored site device old (with_restored site old backup)

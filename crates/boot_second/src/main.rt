@@ -9,7 +9,8 @@
 #![tactic(auto)]
 
 // The arguments.
-ghost use Rattle.std.specs.Prelude.{◌≡◌, ◌≤◌, IfSome};
+ghost use Rattle.std.specs.Prelude.{◌≡◌, ◌≤◌, ◌⊎◌, IfSome, IsTrue};
+ghost use Rattle.lilo_run.specs.Run.{is_boot_status};
 
 mod boot;
 mod hand;
@@ -99,8 +100,10 @@ fn add_image(
     }
 }
 
-/// Boots a device by keys from standard input, and answers the status.
-fn serve(rt: &HostRuntime, device: Device, disks: &mut FileDisks<File>, ram: &mut Ram) -> u8 {
+/// Boots a device by keys from standard input, and answers the status: 12 where not all was handed over.
+fn serve(rt: &HostRuntime, device: Device, disks: &mut FileDisks<File>, ram: &mut Ram) -> u8
+    ensures known { IsTrue (is_boot_status result) ⊎ (result ≡ 12) }
+{
     let mut keys = StdSource::new(rt.stdin());
     let mut texts = StdSink::new(rt.stderr());
     let mut records = StdSink::new(rt.stdout());

@@ -16,8 +16,7 @@ pub use join_laws::{
     committed_installation_has_its_backup, committed_map_lies_as_planned,
     done_installation_has_its_map, done_map_lies_as_planned, installation_is_the_headline,
     installation_keeps_names, staged_installation_means_its_configuration,
-    staging_keeps_the_old_map, staging_prepares,
-    stopped_beginning_leaves_what_boots_as_before, stopped_commit_keeps_names,
-    stopped_plan_keeps_names, stopped_staging_keeps_names,
+    staging_keeps_the_old_map, staging_prepares, stopped_beginning_leaves_what_boots_as_before,
+    stopped_commit_keeps_names, stopped_plan_keeps_names, stopped_staging_keeps_names,
     stopped_staging_leaves_what_boots_as_before,
 };

@@ -1,6 +1,7 @@
 // One disk over an opened image file.
-ghost use Rattle.std.specs.Prelude.{◌≡◌, ◌*◌, ◌/◌, ◌<◌, ◌≤◌, ◌^◌, length, IfOk, IfSome, OnSome};
-ghost use Rattle.file_disks.specs.FileDisks.{DiskShape};
+ghost use Rattle.std.specs.Prelude.{◌≡◌, ◌⊎◌, ◌*◌, ◌/◌, ◌<◌, ◌≤◌, ◌^◌, ◌↔◌, IsTrue, length, IfOk, IfSome, IsOkAnd, OnOk, OnErr, OnSome};
+ghost use Rattle.file_disks.specs.FileDisks.{DiskState, IsDurable, IsHeld, held_sector, Takes};
+ghost use Rattle.file_disks.specs.FileDisks.{touched, written_out, made_durable};
 
 use crate::sector_file::SectorFile;
 use disk_trait::Geometry;
@@ -19,9 +20,14 @@ pub struct FileDisk<F> {
 }
 
 impl<F> Model for FileDisk<F> {
-    ghost Value = { DiskShape };
+    ghost Value = { DiskState };
 
-    ghost view = { λ disk. record { sectors = disk.sectors; geometry = disk.geometry } };
+    ghost view = { λ disk. record {
+      sectors = disk.sectors;
+      geometry = disk.geometry;
+      gathered = disk.file.gathered;
+      synced = disk.file.synced;
+    } };
 
     ghost invariant = { λ disk. disk.sectors * 512 < 2 ^ 64 };
 }
@@ -51,6 +57,9 @@ impl<F: Seek + Drop> FileDisk<F> {
         // Where the file's bytes are known, they give the size.
         ensures size { OnSome (F.stream_position file) (IfSome (F.stream_bytes file)
             (λ bytes. IfOk result (λ disk. disk.sectors ≡ length bytes / 512))) }
+
+        // Nothing was written yet.
+        ensures durable { IfOk result (λ disk. IsDurable disk) }
     {
         let bytes = file.seek(SeekFrom::End(0))?;
         Ok(FileDisk {
@@ -65,7 +74,9 @@ impl<F: Read + Write + Seek + OpenFile> FileDisk<F> {
     /// Reads a sector. An error is the file's, or says that it ends within the sector.
     pub(crate) fn read(&mut self, sector: u64) -> io::Result<Sector>
         requires { sector < self.old.sectors }
-        ensures { self.new ≡ self.old }
+        ensures state { self.new ≡ self.old }
+        ensures gathered { IsHeld self.old.gathered sector
+            → IsOkAnd result (λ bytes. bytes ≡ held_sector self.old.gathered sector) }
     {
         self.file.read(sector, self.sectors)
     }
@@ -74,7 +85,8 @@ impl<F: Read + Write + Seek + OpenFile> FileDisk<F> {
     /// this one isn't.
     pub(crate) fn write(&mut self, sector: u64, from: &Sector) -> io::Result<()>
         requires { sector < self.old.sectors }
-        ensures { self.new ≡ self.old }
+        ensures ok { OnOk result (Takes self.old sector from.now self.new) }
+        ensures err { OnErr result (self.new ≡ touched self.old) }
     {
         self.file.write(sector, from)
     }
@@ -88,15 +100,24 @@ impl<F: Read + Write + Seek + OpenFile> FileDisk<F> {
 
     /// Writes the sectors that were taken to the file. After an error they stay taken.
     pub(crate) fn write_out(&mut self) -> io::Result<()>
-        ensures { self.new ≡ self.old }
+        ensures ok { OnOk result (self.new ≡ written_out self.old) }
+        ensures err { OnErr result (self.new ≡ touched self.old) }
     {
         self.file.write_out()
     }
 
     /// Writes the sectors that were taken, and makes the writes so far durable.
     pub(crate) fn sync(&mut self) -> io::Result<()>
-        ensures { self.new ≡ self.old }
+        ensures ok { OnOk result (self.new ≡ made_durable self.old) }
+        ensures err { OnErr result ((self.new ≡ touched self.old) ⊎ (self.new ≡ touched (written_out self.old))) }
     {
         self.file.sync()
+    }
+
+    /// Whether all that was written is durable.
+    pub(crate) fn is_durable(&self) -> bool
+        ensures { IsTrue result ↔ IsDurable self.now }
+    {
+        self.file.is_durable()
     }
 }

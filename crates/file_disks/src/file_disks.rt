@@ -1,10 +1,12 @@
 // Disks over opened image files.
-ghost use Rattle.std.specs.Prelude.{◌≡◌, ◌<◌, ◌≤◌, [], ◌∷◌, ◌++◌, length, OnOk, OnErr, None};
-ghost use Rattle.disk_trait.specs.Cause.{HasFlushCause};
+ghost use Rattle.std.specs.Prelude.{◌≡◌, ◌≢◌, ◌↔◌, ℕ, ◌<◌, ◌≤◌, [], ◌∷◌, ◌++◌, length, IsTrue, OnOk, OnErr, IsOk, IfOk, None};
+ghost use Rattle.disk_trait.specs.Cause.{HasCause, HasFlushCause};
 ghost use Rattle.disk_trait.specs.Count.{risen};
-ghost use Rattle.file_disks.specs.FileDisks.{FileState, file_sizes_of, file_geometries_of};
+ghost use Rattle.file_disks.specs.FileDisks.{FileState, file_sizes_of, file_geometries_of, shapes_of, disk_at};
+ghost use Rattle.file_disks.specs.FileDisks.{IsHeld, held_sector, touched, written_out, IsDurable, AreDurable};
+ghost use Rattle.file_disks.specs.FileDisks.{AllHandOn, AllMaySync, AllWrittenOut, OthersWrittenOut, WriteTaken, MaySync, IsOnlyAt};
 
-use crate::FileDisk;
+use crate::{FileDisk, slot};
 use disk_trait::{DiskFault, Disks, Geometry};
 use sector_parts::Sector;
 use std::alloc::{AllocError, Global};
@@ -18,8 +20,6 @@ use std::marker::Model;
 #[derive(Drop)]
 pub struct FileDisks<F> {
     disks: Vec<Option<FileDisk<F>>>,
-    // Whether nothing was written since all files were synced, or since they were opened.
-    durable: bool,
     faults: u64,
 }
 
@@ -38,7 +38,6 @@ impl<F> FileDisks<F> {
     {
         FileDisks {
             disks: Vec::new(alloc),
-            durable: true,
             faults: 0,
         }
     }
@@ -74,7 +73,9 @@ impl<F: Read + Write + Seek + OpenFile> FileDisks<F> {
     /// `Failed` alone, where a file failed. What it didn't take stays gathered.
     pub fn write_out(&mut self) -> Result<(), DiskFault>
         ensures cause { HasFlushCause self.old.faults self.new.faults result }
-        ensures disks { self.new.disks ≡ self.old.disks }
+        ensures disks { AllHandOn self.old.disks self.new.disks }
+        ensures ok { OnOk result (AllWrittenOut self.old.disks self.new.disks) }
+        ensures durable { AreDurable self.new.disks → AreDurable self.old.disks }
     {
         if !self.write_out_all() {
             return Err(self.failure());
@@ -85,28 +86,28 @@ impl<F: Read + Write + Seek + OpenFile> FileDisks<F> {
     // Two disks may be over the same file, so that a read finds what was written by any of them.
     fn read_sector(&mut self, disk: u8, sector: u64) -> io::Result<Sector>
         requires { sector < file_sizes_of self.old disk }
-        ensures { self.new ≡ self.old }
+        ensures faults { self.new.faults ≡ self.old.faults }
+        ensures disks { AllHandOn self.old.disks self.new.disks }
+        ensures others { OnOk result (OthersWrittenOut self.old.disks disk self.new.disks) }
+        ensures gathered { IsHeld (disk_at self.old.disks disk).gathered sector
+            → IfOk result (λ bytes. bytes ≡ held_sector (disk_at self.old.disks disk).gathered sector) }
     {
         self.write_out_others(usize::from(disk))?;
-        match &mut self.disks[usize::from(disk)] {
-            Some(file) => file.read(sector),
-            None => unreachable!(),
-        }
+        slot::read(&mut self.disks[usize::from(disk)], sector)
     }
 
     // Two disks may be over the same file, so that a write leaves nothing that any of them has read ahead, and comes
-    // after all that the others have gathered: no more than one of them has any.
+    // after all that the others have gathered.
     fn write_sector(&mut self, disk: u8, sector: u64, from: &Sector) -> io::Result<()>
         requires { sector < file_sizes_of self.old disk }
-        ensures { self.new ≡ self.old }
+        ensures faults { self.new.faults ≡ self.old.faults }
+        ensures ok { OnOk result (WriteTaken self.old.disks disk sector from.now self.new.disks) }
+        ensures err { OnErr result (AllHandOn self.old.disks self.new.disks) }
+        ensures durable { AreDurable self.new.disks → ⊥ }
     {
         self.forget_all();
-        self.durable = false;
         self.write_out_others(usize::from(disk))?;
-        match &mut self.disks[usize::from(disk)] {
-            Some(file) => file.write(sector, from),
-            None => unreachable!(),
-        }
+        slot::write(&mut self.disks[usize::from(disk)], sector, from)
     }
 
     // Forgets what each file has read ahead.
@@ -123,14 +124,16 @@ impl<F: Read + Write + Seek + OpenFile> FileDisks<F> {
         requires { disk < length self.old.disks }
         ensures { self.new ≡ self.old }
     {
-        if let Some(file) = &mut self.disks[disk] {
-            file.forget();
-        }
+        slot::forget(&mut self.disks[disk]);
     }
 
     // Writes out what each file but one has gathered.
     fn write_out_others(&mut self, disk: usize) -> io::Result<()>
-        ensures { self.new ≡ self.old }
+        ensures faults { self.new.faults ≡ self.old.faults }
+        ensures disks { AllHandOn self.old.disks self.new.disks }
+        ensures own { disk_at self.new.disks disk ≡ disk_at self.old.disks disk }
+        ensures ok { OnOk result (OthersWrittenOut self.old.disks disk self.new.disks) }
+        ensures err { OnErr result (AreDurable self.new.disks → ⊥) }
     {
         for other in 0..self.disks.len() {
             if other != disk {
@@ -142,7 +145,9 @@ impl<F: Read + Write + Seek + OpenFile> FileDisks<F> {
 
     // Writes out what each file has gathered, also after one has failed, and says whether all did.
     fn write_out_all(&mut self) -> bool
-        ensures { self.new ≡ self.old }
+        ensures faults { self.new.faults ≡ self.old.faults }
+        ensures disks { AllHandOn self.old.disks self.new.disks }
+        ensures ok { IsTrue result → AllWrittenOut self.old.disks self.new.disks }
     {
         let mut done = true;
         for disk in 0..self.disks.len() {
@@ -154,17 +159,19 @@ impl<F: Read + Write + Seek + OpenFile> FileDisks<F> {
     // Writes out what one file has gathered.
     fn write_out_one(&mut self, disk: usize) -> io::Result<()>
         requires { disk < length self.old.disks }
-        ensures { self.new ≡ self.old }
+        ensures faults { self.new.faults ≡ self.old.faults }
+        ensures only { IsOnlyAt disk self.old.disks self.new.disks }
+        ensures ok { OnOk result (disk_at self.new.disks disk ≡ written_out (disk_at self.old.disks disk)) }
+        ensures err { OnErr result (disk_at self.new.disks disk ≡ touched (disk_at self.old.disks disk)) }
     {
-        match &mut self.disks[disk] {
-            Some(file) => file.write_out(),
-            None => Ok(()),
-        }
+        slot::write_out(&mut self.disks[disk])
     }
 
     // Writes out and syncs each file, also after one has failed, and says whether all did.
     fn sync_all(&mut self) -> bool
-        ensures { self.new ≡ self.old }
+        ensures faults { self.new.faults ≡ self.old.faults }
+        ensures disks { AllMaySync self.old.disks self.new.disks }
+        ensures durable { IsTrue result ↔ AreDurable self.new.disks }
     {
         let mut done = true;
         for disk in 0..self.disks.len() {
@@ -176,12 +183,25 @@ impl<F: Read + Write + Seek + OpenFile> FileDisks<F> {
     // Writes out and syncs one file.
     fn sync(&mut self, disk: usize) -> io::Result<()>
         requires { disk < length self.old.disks }
-        ensures { self.new ≡ self.old }
+        ensures faults { self.new.faults ≡ self.old.faults }
+        ensures only { IsOnlyAt disk self.old.disks self.new.disks }
+        ensures ok { OnOk result (IsDurable (disk_at self.new.disks disk)) }
+        ensures err { OnErr result (IsDurable (disk_at self.new.disks disk) → ⊥) }
+        ensures kept { MaySync (disk_at self.old.disks disk) (disk_at self.new.disks disk) }
     {
-        match &mut self.disks[disk] {
-            Some(file) => file.sync(),
-            None => Ok(()),
+        slot::sync(&mut self.disks[disk])
+    }
+
+    // Whether all that was written to any disk is durable.
+    fn is_durable(&self) -> bool
+        ensures { IsTrue result ↔ AreDurable self.now.disks }
+    {
+        for disk in 0..self.disks.len() {
+            if !slot::is_durable(&self.disks[disk]) {
+                return false;
+            }
         }
+        true
     }
 }
 
@@ -196,7 +216,21 @@ impl<F: Read + Write + Seek + OpenFile + Drop> Disks for FileDisks<F> {
 
     ghost geometry_of = { λ files. file_geometries_of files };
 
-    fn read(&mut self, disk: u8, sector: u64, into: &mut Sector) -> Result<(), DiskFault> {
+    fn read(&mut self, disk: u8, sector: u64, into: &mut Sector) -> Result<(), DiskFault>
+        ensures cause { HasCause (file_sizes_of self.old disk) sector self.old.faults self.new.faults result }
+        ensures refused { OnErr result (into.new ≡ into.old) }
+        ensures size { file_sizes_of self.new ≡ file_sizes_of self.old }
+        ensures count { length self.new.disks ≡ length self.old.disks }
+        ensures geometry { file_geometries_of self.new ≡ file_geometries_of self.old }
+
+        // What is gathered of the disk is read as it was written, what others gathered comes to their files first, and
+        // nothing becomes durable.
+        ensures gathered { IsHeld (disk_at self.old.disks disk).gathered sector
+            → OnOk result (into.new ≡ held_sector (disk_at self.old.disks disk).gathered sector) }
+        ensures others { OnOk result (OthersWrittenOut self.old.disks disk self.new.disks) }
+        ensures disks { AllHandOn self.old.disks self.new.disks }
+        ensures durable { AreDurable self.new.disks → AreDurable self.old.disks }
+    {
         if self.size(disk) <= sector {
             return Err(DiskFault::OutOfRange);
         }
@@ -209,7 +243,18 @@ impl<F: Read + Write + Seek + OpenFile + Drop> Disks for FileDisks<F> {
         }
     }
 
-    fn write(&mut self, disk: u8, sector: u64, from: &Sector) -> Result<(), DiskFault> {
+    fn write(&mut self, disk: u8, sector: u64, from: &Sector) -> Result<(), DiskFault>
+        ensures cause { HasCause (file_sizes_of self.old disk) sector self.old.faults self.new.faults result }
+        ensures size { file_sizes_of self.new ≡ file_sizes_of self.old }
+        ensures count { length self.new.disks ≡ length self.old.disks }
+        ensures geometry { file_geometries_of self.new ≡ file_geometries_of self.old }
+
+        // It is taken after all that other disks gathered, or nothing but what was gathered came to the files. In
+        // either way not all is durable then.
+        ensures taken { OnOk result (WriteTaken self.old.disks disk sector from.now self.new.disks) }
+        ensures failed { OnErr result (AllHandOn self.old.disks self.new.disks) }
+        ensures durable { sector < file_sizes_of self.old disk → AreDurable self.new.disks → ⊥ }
+    {
         if self.size(disk) <= sector {
             return Err(DiskFault::OutOfRange);
         }
@@ -222,12 +267,18 @@ impl<F: Read + Write + Seek + OpenFile + Drop> Disks for FileDisks<F> {
     /// Writes out what each file that is there has gathered, and syncs it, also after one has failed. What failed a
     /// later flush tries again. Where nothing was written to these disks since all were synced, or at all, there is
     /// nothing to sync.
-    fn flush(&mut self) -> Result<(), DiskFault> {
-        if self.durable {
-            return Ok(());
-        }
-        if self.sync_all() {
-            self.durable = true;
+    fn flush(&mut self) -> Result<(), DiskFault>
+        ensures cause { HasFlushCause self.old.faults self.new.faults result }
+        ensures size { file_sizes_of self.new ≡ file_sizes_of self.old }
+        ensures count { length self.new.disks ≡ length self.old.disks }
+        ensures geometry { file_geometries_of self.new ≡ file_geometries_of self.old }
+
+        // It answers Ok exactly where all is durable then. After an error what came to no file is still gathered.
+        ensures durable { IsOk result ↔ AreDurable self.new.disks }
+        ensures nothing { AreDurable self.old.disks → self.new ≡ self.old }
+        ensures disks { AllMaySync self.old.disks self.new.disks }
+    {
+        if self.is_durable() || self.sync_all() {
             return Ok(());
         }
         Err(self.failure())
@@ -239,15 +290,15 @@ impl<F: Read + Write + Seek + OpenFile + Drop> Disks for FileDisks<F> {
 
     fn size(&self, disk: u8) -> u64 {
         match self.disks.get(usize::from(disk)) {
-            Some(Some(file)) => file.sectors(),
-            _ => 0,
+            Some(disk) => slot::sectors(disk),
+            None => 0,
         }
     }
 
     fn geometry(&self, disk: u8) -> Geometry {
         match self.disks.get(usize::from(disk)) {
-            Some(Some(file)) => file.geometry(),
-            _ => Geometry::absent(),
+            Some(disk) => slot::geometry(disk),
+            None => Geometry::absent(),
         }
     }
 }

@@ -8,6 +8,7 @@ mod file_disks;
 mod gathered;
 mod held;
 mod sector_file;
+mod slot;
 
 pub use file_disk::FileDisk;
 pub use file_disks::FileDisks;

@@ -1,5 +1,6 @@
 // A file that is read and written by sectors.
-ghost use Rattle.std.specs.Prelude.{◌≡◌, ◌≢◌, ◌⊎◌, ◌*◌, ◌+◌, ◌<◌, ◌≤◌, ◌^◌, IfOk, IsOkAnd, OnOk, OnErr, IsOk, Some, None};
+ghost use Rattle.std.specs.Prelude.{◌≡◌, ◌≢◌, ◌⊎◌, ◌*◌, ◌+◌, ◌<◌, ◌≤◌, ◌^◌, ◌==◌, ◌&&◌, true, false, IsTrue, ◌↔◌};
+ghost use Rattle.std.specs.Prelude.{IfOk, IsOkAnd, OnOk, OnErr, IsOk, Some, None};
 ghost use Rattle.std.specs.Io.Seek.{MovesTo};
 ghost use Rattle.file_disks.specs.FileDisks.{IsHeld, held_sector, HasRoom, IsPut, IsWritten, emptied};
 
@@ -18,6 +19,8 @@ pub(crate) struct SectorFile<F> {
     at: Option<u64>,
     ahead: Ahead,
     gathered: Gathered,
+    // Whether the last `sync`, if any, answered Ok, and the file was given no bytes since.
+    synced: bool,
 }
 
 impl<F> SectorFile<F> {
@@ -27,12 +30,14 @@ impl<F> SectorFile<F> {
         ensures at { result.at ≡ None }
         ensures ahead { result.ahead.count ≡ 0 }
         ensures gathered { result.gathered.count ≡ 0 }
+        ensures synced { IsTrue result.synced }
     {
         SectorFile {
             file,
             at: None,
             ahead: Ahead::new(),
             gathered: Gathered::new(),
+            synced: true,
         }
     }
 }
@@ -51,6 +56,7 @@ impl<F: Read + Write + Seek + OpenFile> SectorFile<F> {
         ensures held { IsHeld self.old.ahead sector → IsOk result × (self.new ≡ self.old) }
         ensures err { OnErr result (self.new.at ≡ None) }
         ensures kept { self.new.gathered ≡ self.old.gathered }
+        ensures synced { self.new.synced ≡ self.old.synced }
     {
         if let Some(bytes) = self.gathered.get(sector) {
             return Ok(bytes);
@@ -76,6 +82,7 @@ impl<F: Read + Write + Seek + OpenFile> SectorFile<F> {
         ensures at { OnOk result (self.new.at ≡ Some (sector + count)) }
         ensures err { OnErr result (self.new.at ≡ None) }
         ensures gathered { self.new.gathered ≡ self.old.gathered }
+        ensures synced { self.new.synced ≡ self.old.synced }
     {
         self.go_to(sector)?;
         self.ahead.fill(&mut self.file, sector, count)?;
@@ -99,6 +106,8 @@ impl<F: Read + Write + Seek + OpenFile> SectorFile<F> {
             × IsWritten self.old.gathered self.old.at (F.contents self.old.file) (F.contents self.new.file)) }
         ensures err { OnErr result (self.new.at ≡ None) }
         ensures kept { OnErr result (self.new.gathered ≡ self.old.gathered) }
+        ensures synced { OnOk result (IsTrue self.new.synced → IsTrue self.old.synced) }
+        ensures unsynced { OnErr result (self.new.synced ≡ false) }
         ensures ahead { self.new.ahead.count ≡ 0 }
     {
         self.forget();
@@ -121,12 +130,15 @@ impl<F: Read + Write + Seek + OpenFile> SectorFile<F> {
             (IsWritten self.old.gathered self.old.at (F.contents self.old.file) (F.contents self.new.file)) }
         ensures err { OnErr result (self.new.at ≡ None) }
         ensures kept { OnErr result (self.new.gathered ≡ self.old.gathered) }
+        ensures synced { OnOk result (self.new.synced ≡ (self.old.synced && (self.old.gathered.count == 0))) }
+        ensures unsynced { OnErr result (self.new.synced ≡ false) }
         ensures ahead { 0 < self.old.gathered.count → self.new.ahead.count ≡ 0 }
     {
         let Some(first) = self.gathered.first() else {
             return Ok(());
         };
         self.ahead.clear();
+        self.synced = false;
         let end = self.gathered.end();
         self.go_to(first)?;
         self.gathered.write_to(&mut self.file)?;
@@ -140,20 +152,34 @@ impl<F: Read + Write + Seek + OpenFile> SectorFile<F> {
         ensures file { self.new.file ≡ self.old.file }
         ensures at { self.new.at ≡ self.old.at }
         ensures gathered { self.new.gathered ≡ self.old.gathered }
+        ensures synced { self.new.synced ≡ self.old.synced }
     {
         self.ahead.clear();
     }
 
     /// Writes out what is gathered, and makes the writes so far durable. The file is synced also where it didn't take
-    /// them all.
+    /// them all, and is durable only where it did and the sync answered Ok.
     pub(crate) fn sync(&mut self) -> io::Result<()>
         ensures ok { OnOk result (self.new.gathered ≡ emptied self.old.gathered) }
-        ensures err { OnErr result ((self.new.gathered ≡ self.old.gathered) ⊎ (self.new.gathered.count ≡ 0)) }
+        ensures err { OnErr result ((self.new.gathered ≡ self.old.gathered)
+            ⊎ (self.new.gathered ≡ emptied self.old.gathered)) }
+        ensures synced { OnOk result (IsTrue self.new.synced) }
+        ensures unsynced { OnErr result (self.new.synced ≡ false) }
         ensures ahead { 0 < self.old.gathered.count → self.new.ahead.count ≡ 0 }
     {
         let written = self.write_out();
+        self.synced = false;
         self.file.sync_all()?;
-        written
+        written?;
+        self.synced = true;
+        Ok(())
+    }
+
+    /// Whether nothing is gathered and the file is synced.
+    pub(crate) fn is_durable(&self) -> bool
+        ensures { IsTrue result ↔ ((self.now.gathered.count ≡ 0) × IsTrue self.now.synced) }
+    {
+        self.synced && self.gathered.first().is_none()
     }
 
     // Goes to the start of a sector, where the file isn't there already, and forgets where it was.
@@ -165,6 +191,7 @@ impl<F: Read + Write + Seek + OpenFile> SectorFile<F> {
         ensures at { self.new.at ≡ None }
         ensures ahead { self.new.ahead ≡ self.old.ahead }
         ensures gathered { self.new.gathered ≡ self.old.gathered }
+        ensures synced { self.new.synced ≡ self.old.synced }
     {
         if self.at.take() == Some(sector) {
             return Ok(());

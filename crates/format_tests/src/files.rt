@@ -481,8 +481,9 @@ const GATHERED: &[Row] = &[
     (WHOLE, Call::Read(0, 68), Ok(69), NO_CALL),
 ];
 
-// Each file is synced, also after one that failed or doesn't take what it should. Where nothing was written, or nothing
-// since all were synced, none is.
+// Each file is synced, also after one that failed or doesn't take what it should, and also where what was written came to
+// its file before: by a read of the other disk, or by `write_out`. Where nothing was written, or nothing since all were
+// synced, none is.
 const SYNCED: &[Row] = &[
     (UNSYNCED, Call::Flush, Ok(0), NO_CALL),
     (WHOLE, Call::Write(1, 0, 6), Ok(0), NO_CALL),
@@ -500,6 +501,13 @@ const SYNCED: &[Row] = &[
     (WHOLE, Call::Write(0, 0, 7), Ok(0), NO_CALL),
     (FAULTY, Call::Flush, FAILED, Some([1, 0, 0, 1])),
     (WHOLE, Call::Flush, Ok(0), Some([1, 0, 1, 1])),
+    (WHOLE, Call::Write(0, 0, 8), Ok(0), NO_CALL),
+    (WHOLE, Call::Read(1, 1), Ok(2), Some([1, 0, 1, 0])),
+    (WHOLE, Call::Flush, Ok(0), Some([0, 0, 0, 1])),
+    (WHOLE, Call::Write(0, 0, 9), Ok(0), NO_CALL),
+    (WHOLE, Call::WriteOut, Ok(0), Some([1, 0, 1, 0])),
+    (WHOLE, Call::Flush, Ok(0), Some([0, 0, 0, 1])),
+    (WHOLE, Call::Flush, Ok(0), NO_CALL),
 ];
 
 const USUAL: Scenario = Scenario {

@@ -1,5 +1,5 @@
 -- Records that are handed over one after the other, and where a boot hands none over.
-use Rattle.std.proofs.Common.{◌≡◌, ◌≤◌, ◌⊎◌, ◌==◌, ◌∙◌, ℕ, inl, inr, arith, Bool, IsTrue, refl, false, List, [], ◌∷◌, ◌++◌, map, length, drop, Result, Ok, sym, ap, subst, append-nil, length-drop}
+use Rattle.std.proofs.Common.{◌≡◌, ◌≤◌, ◌∙◌, ℕ, inl, inr, arith, false, List, [], ◌∷◌, ◌++◌, map, length, drop, Result, Ok, sym, ap, subst, append-nil, length-drop}
 use Rattle.std.specs.List.{flat_map}
 use Rattle.std.specs.Option.{option_to_list}
 use Rattle.std.proofs.lemmas.List.{map-append, length-take-le}
@@ -15,16 +15,16 @@ use Rattle.setup_header.specs.declared.layout.Layout.{Layout}
 use Rattle.setup_header.specs.declared.layout.Region.{Region}
 use Rattle.setup_header.specs.View.{layout_view}
 use Rattle.setup_header.specs.Words.{EndsBy}
-use Rattle.stream_trait.specs.Shows.{SinkState, Shows, sink_of, answer_of}
+use Rattle.stream_trait.specs.Shows.{SinkState, Shows, sink_of}
 use Rattle.stream_trait.specs.declared.shown.Shown.{Shown}
 use Rattle.stream_trait.specs.declared.sink.Sink as sinks
 use Rattle.stream_trait.specs.declared.source.Source as sources
-use Rattle.stream_trait.proofs.ShowsLemmas.{shows_join, shows_same, answered}
+use Rattle.stream_trait.proofs.ShowsLemmas.{shows_join, shows_same}
 use Rattle.memory_dump.specs.Dump.{written_in, regions_of}
 use Rattle.loader_core.specs.Report.{Report, boot_report}
 use Rattle.loader_core.specs.Start.{OnKeys}
 use Rattle.loader_core.proofs.BootLemmas.{keys_map}
-use Rattle.lilo_run.specs.Run.{State, Carries, IsLost, is_boot_status}
+use Rattle.lilo_run.specs.Run.{State, Carries, IsLost}
 use Rattle.lilo_run.specs.Verdict.{boot_effect, report_effect}
 use Rattle.lilo_run.proofs.EffectLemmas.{regions_same}
 use Rattle.lilo_run.proofs.RunLemmas.{carries_after}
@@ -126,11 +126,3 @@ pub sector_handed :
     → Shows c (entry_record 0x7C00) d → Shows a (sector_records memory) d
 unfolding sector_records
 sector_handed memory a b c d table sector entry = shows_join a b d _ _ table (shows_join b c d _ _ sector entry)
-
--- ---- the program's status
-
-pub known_answer : (status : ℕ) (failed : Bool) → IsTrue (is_boot_status status) → IsTrue (is_boot_status (answer_of status failed)) ⊎ (answer_of status failed ≡ 12)
-known_answer status failed known = elim (answered (status == 0) failed status status refl refl) [
-  | inl same ↦ inl (subst (λ n. IsTrue (is_boot_status n)) (sym same) known)
-  | inr twelve ↦ inr twelve.0
-]

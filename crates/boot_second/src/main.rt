@@ -9,8 +9,7 @@
 #![tactic(auto)]
 
 // The arguments.
-ghost use Rattle.std.specs.Prelude.{◌≡◌, ◌≤◌, ◌⊎◌, IfSome, IsTrue};
-ghost use Rattle.lilo_run.specs.Run.{is_boot_status};
+ghost use Rattle.std.specs.Prelude.{◌≡◌, ◌≤◌, IfSome};
 
 mod boot;
 mod hand;
@@ -100,10 +99,8 @@ fn add_image(
     }
 }
 
-/// Boots a device by keys from standard input, and answers the status: 12 where not all was handed over.
-fn serve(rt: &HostRuntime, device: Device, disks: &mut FileDisks<File>, ram: &mut Ram) -> u8
-    ensures known { IsTrue (is_boot_status result) ⊎ (result ≡ 12) }
-{
+/// Boots a device by keys from standard input, and answers the status.
+fn serve(rt: &HostRuntime, device: Device, disks: &mut FileDisks<File>, ram: &mut Ram) -> u8 {
     let mut keys = StdSource::new(rt.stdin());
     let mut texts = StdSink::new(rt.stderr());
     let mut records = StdSink::new(rt.stdout());

@@ -93,6 +93,15 @@ module _ (now : Image) (machine : Machine) (device : devices.Device) (kind : Kin
     answered (Err Misplaced) is = elim is [ ]
     answered (Err NoPlace) is = elim is [ ]
 
+    -- where a check refuses, the place being found, there is no room
+    pub no_layout : status_of (mkfs_check now machine device kind inodes) ≢ 0 → format_layout kind span.count inodes ≡ None
+    unfolding mkfs_check
+    no_layout some = by (format_layout kind span.count inodes) refl
+      where
+        by : (layout : Option Super) → format_layout kind span.count inodes ≡ layout → format_layout kind span.count inodes ≡ None
+        by None e = e
+        by (Some layout) e = absurd (some (rw (finds.0, e) refl))
+
     pub formatted_here : (time : ℕ) (image : Image) → format_at (span_view span) kind inodes time now ≡ Some image
         → formatted_on (span_of now machine device) kind inodes time now ≡ Some image
     formatted_here time image is = rw finds.1 is
@@ -158,6 +167,14 @@ module _ (machine : Machine) (device : devices.Device) (kind : Kind) (inodes : �
       let P : Option Past → Type 0 = λ past. LeavesOnly past new (LeftOrPartlyMade past (format_at (span_view span) kind inodes time)) in
       let R : Result Span model.TableFault → Type 0 = λ place. LeavesOnly old new (LeftOrPartlyMade old (formatted_on place kind inodes time)) in
       subst R (sym found.1) (subst P same leaves))
+      finds
+
+  pub unwritten_told : (new : Option Past) → (format_layout kind span.count inodes ≡ None → new ≡ mid)
+      → Told old (λ held. status_of (mkfs_check held machine device kind inodes) ≢ 0 → new ≡ old)
+  unwritten_told new stays =
+      told_map old (λ held. Finds (Ok span) (place_check held machine device) (span_of held machine device))
+      (λ held. status_of (mkfs_check held machine device kind inodes) ≢ 0 → new ≡ old)
+      (λ held found some. stays (no_layout held machine device kind inodes span found some) ∙ same)
       finds
 
   pub outside_told : (new : Option Past) → ((d s : ℕ) → IsOutside span.disk span.start span.count d s → NotWritten mid new d s)

@@ -1,11 +1,11 @@
 // An empty volume is made on a device.
-ghost use Rattle.std.specs.Prelude.{◌≡◌, ◌≢◌, ℕ, ◌≤◌, ◌+◌, Some, true, false, Err, OnOk, IfOk, IfErr};
+ghost use Rattle.std.specs.Prelude.{◌≡◌, ◌≢◌, ℕ, ◌≤◌, ◌+◌, Some, None, true, false, Err, OnOk, IfOk, IfErr};
 ghost use Rattle.disk_trait.specs.Moments.{IsTold, now, IsQuiet, IsWholeImage, LeavesOnly};
 ghost use Rattle.disk_trait.specs.Calls.{GoesOn, SameOf};
 ghost use Rattle.disk_trait.specs.NotWritten.{NotWritten};
 ghost use Rattle.sector_address.specs.Machine.{OnDisks};
 ghost use Rattle.lilo_model.specs.Partitions.{span_of};
-ghost use Rattle.ldisk_model.specs.Verdict.{place_check, mkfs_check, formatted_on, is_in_found};
+ghost use Rattle.ldisk_model.specs.Verdict.{status_of, place_check, mkfs_check, formatted_on, is_in_found};
 ghost use Rattle.mbr_table.specs.View.{device_view};
 ghost use Rattle.minix_layout.specs.View.{kind_view};
 ghost use Rattle.ldisk_make.specs.Answer.{
@@ -34,7 +34,8 @@ use minix_layout::FsKind;
 ///
 /// # Errors
 ///
-/// `NoPlace` and `NoSpace`, in this order: then nothing is written. `Device`.
+/// `NoPlace` and `NoSpace`, in this order: then nothing is written. `Device`. Where a check refuses nothing is written
+/// whatever is answered, `Device` too.
 pub fn mkfs<D: Disks>(
     disks: &mut D,
     device: Device,
@@ -56,6 +57,9 @@ pub fn mkfs<D: Disks>(
         (LeftOrPartlyMade (D.past disks.old) (formatted_on (span_of old machine (device_view device)) (kind_view kind)
         inodes time))) }
     ensures refused { IfErr result (λ fault. is_refusal fault ≡ true → D.past disks.new ≡ D.past disks.old) }
+    ensures unwritten { OnDisks D.Disks disks.old (λ now machine.
+        status_of (mkfs_check now machine (device_view device) (kind_view kind) inodes) ≢ 0
+        → D.past disks.new ≡ D.past disks.old) }
     ensures cause { IfErr result (HasMakeCause (D.faults disks.old) (D.faults disks.new)) }
     ensures outside { OnDisks D.Disks disks.old (λ old machine. (d s : ℕ)
         → is_in_found (span_of old machine (device_view device)) d s ≡ false
@@ -88,6 +92,7 @@ fn format_in<D: Disks>(
     ensures any_moment { LeavesOnly (D.past disks.old) (D.past disks.new)
         (LeftOrPartlyMade (D.past disks.old) (format_at (span_view span) (kind_view kind) inodes time)) }
     ensures refused { IfErr result (λ fault. is_refusal fault ≡ true → D.past disks.new ≡ D.past disks.old) }
+    ensures unwritten { format_layout (kind_view kind) span.count inodes ≡ None → D.past disks.new ≡ D.past disks.old }
     ensures cause { IfErr result (HasMakeCause (D.faults disks.old) (D.faults disks.new)) }
     ensures outside { (d s : ℕ) → IsOutside span.disk span.start span.count d s
         → NotWritten (D.past disks.old) (D.past disks.new) d s }

@@ -31,7 +31,7 @@ use Rattle.ldisk_files.specs.Left.{HasSoundVolume, IsNamed, IsEither, LeavesName
 use Rattle.ldisk_files.specs.declared.fault.FileFault.{FileFault}
 use Rattle.ldisk_files.specs.declared.fault.FileFault.TheVariants as faults
 use Rattle.std.proofs.lemmas.Bool.{eq-eqb, leb-false, ltb-false}
-use Rattle.ldisk_run.specs.Left.{AnswersAs, HasSoundOn, HasInodeOf, HasVolumeOf, IsAfter, IsAfterChange, IsChanged, IsChanging, LeavesBy, LeavesChanging, is_refusal}
+use Rattle.ldisk_run.specs.Left.{AnswersAs, HasSoundOn, HasInodeOf, HasVolumeOf, IsAfter, IsAfterChange, IsChanged, IsChanging, LeavesBy, LeavesChanging, is_refusal, makes_image}
 use Rattle.ldisk_run.specs.Made.{file_status}
 use Rattle.ldisk_run.specs.Run.{Halts, HasCause, is_command_status, status_of}
 use Rattle.ldisk_run.specs.declared.halt.Halt.{Halt}
@@ -67,6 +67,7 @@ pub record IsFileCommand (given : List ℕ) (command : Command) (change : NameCh
   pub verdict : (image : Image) (machine : Machine) (sectors : ℕ) → command_verdict image machine given sectors command ≡ silent (checked_status (device_check check image machine change.device))
   pub names : name_change given command ≡ Some change
   pub writes : only_reads command ≡ false
+  pub no_image : makes_image command ≡ false
   pub may : (image : Image) (machine : Machine) (d s : ℕ) → may_write image machine command d s ≡ is_in_found (span_of image machine change.device) d s
   pub no_volume : (old image : Image) (machine : Machine) → HasVolumeOf old machine command image
 
@@ -76,6 +77,7 @@ removes given device path = record {
   verdict = λ image machine sectors. refl;
   names = refl;
   writes = refl;
+  no_image = refl;
   may = λ image machine d s. refl;
   no_volume = λ old image machine. tt;
 }
@@ -86,6 +88,7 @@ makes_directory given device path = record {
   verdict = λ image machine sectors. refl;
   names = refl;
   writes = refl;
+  no_image = refl;
   may = λ image machine d s. refl;
   no_volume = λ old image machine. tt;
 }
@@ -96,6 +99,7 @@ makes_link given device path target = record {
   verdict = λ image machine sectors. refl;
   names = refl;
   writes = refl;
+  no_image = refl;
   may = λ image machine d s. refl;
   no_volume = λ old image machine. tt;
 }
@@ -106,6 +110,7 @@ makes_file given device path = record {
   verdict = λ image machine sectors. refl;
   names = refl;
   writes = refl;
+  no_image = refl;
   may = λ image machine d s. refl;
   no_volume = λ old image machine. tt;
 }
@@ -193,9 +198,10 @@ module _ (given : List ℕ) (command : Command) (change : NameChange) (check : V
             room = sound.room;
             either = record { volume = sound.volume.volume; is = sound.volume.is; has = inl record { sound = sound.volume.sound; same = λ p. refl } };
           })))));
+      partly = λ makes. absurd (let no : true ≡ false = sym makes ∙ is-one.no_image in cc);
       quiet = λ is writes. absurd (some is);
       refused = λ is. same.same_past;
-      unwritten = λ none. told_all (disks.past old) _ (λ image some. same.same_past);
+      unwritten = told_all (disks.past old) _ (λ image some. same.same_past);
       outside = told_all (disks.past old) _ (λ image d s out. not_written_flushed (disks.past old) (disks.past new) (inr same.same_past) d s);
       same = λ reads. absurd (let no : true ≡ false = sym reads ∙ is-one.writes in cc);
       goes_on = goes_on_same disks old new same.same_past record { later = later; size = same.same_size; count = same.same_count; geometry = same.same_geometry };
@@ -307,9 +313,10 @@ module _ (given : List ℕ) (command : Command) (change : NameChange) (check : V
     done = told_from (disks.past old) _ (λ told is. after-as given command change check is-one disks old new I (now (disks.past new)) M time (named told is));
     empty = told_all (disks.past old) _ (λ image is whole. is-one.no_volume image (now (disks.past new)) M);
     any_moment = λ quiet. told_from (disks.past old) _ (λ told. changes-as given command change check is-one disks old new I M (moment told quiet));
+    partly = λ makes. absurd (let no : true ≡ false = sym makes ∙ is-one.no_image in cc);
     quiet = λ is writes. zero-of result leaves.quiet is;
     refused = λ is. refused-of result leaves.refused is ∙ same.same_past;
-    unwritten = λ none. unwritten sectors;
+    unwritten = unwritten sectors;
     outside = told_from (disks.past old) _ (λ told d s out. apart d s (outside-span I M d s (span-is I M change.device (span_view span) (room-now told)) (sym (is-one.may I M d s) ∙ out)));
     same = λ reads. absurd (let no : true ≡ false = sym reads ∙ is-one.writes in cc);
     goes_on = goes_on_join disks old mid new goes-on-mid leaves.goes_on;

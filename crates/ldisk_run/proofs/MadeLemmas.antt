@@ -6,10 +6,11 @@ use Rattle.disk_trait.specs.declared.disks.Disks.{Ghosts}
 use Rattle.disk_trait.specs.Calls.{SameOf, GoesOn}
 use Rattle.disk_trait.specs.Past.{Past, Image, Told, now_of}
 use Rattle.disk_trait.specs.Past as past
-use Rattle.disk_trait.specs.Moments.{IsTold, now, IsQuiet, IsWholeImage}
+use Rattle.disk_trait.specs.Moments.{IsTold, now, IsQuiet, IsWholeImage, LeftOrWritten, LeavesOnly}
 use Rattle.disk_trait.specs.NotWritten.{NotWritten, WritesNoOther}
 use Rattle.disk_trait.specs.NotWritten as written
 use Rattle.disk_trait.proofs.CallLemmas.{goes_on_same}
+use Rattle.disk_trait.proofs.MomentLemmas.{leaves_weaker, told_now}
 use Rattle.disk_trait.proofs.NotWrittenLemmas.{not_written_flushed}
 use Rattle.disk_trait.proofs.ToldLemmas.{told_all, told_map}
 use Rattle.lilo_model.specs.Devices as devices
@@ -20,15 +21,16 @@ use Rattle.lilo_model.specs.Faults.{Rose}
 use Rattle.sector_address.specs.Machine.{OnDisks, machine_of}
 use Rattle.ldisk_model.specs.Arguments.{PartWish, Command, Make, Mkfs, Put, Get, Ls, Rm, Mkdir, Ln, Asked}
 use Rattle.ldisk_model.specs.DiskTable.{table_sector, are_placed}
-use Rattle.ldisk_model.specs.Verdict.{Refusal, make_check, command_verdict, asked_verdict, name_change, asked_change, status_of, formatted_on, is_in_found, image_after, may_write, asked_may_write, only_reads, asked_only_read}
+use Rattle.ldisk_model.specs.Verdict.{Refusal, make_check, mkfs_check, command_verdict, asked_verdict, name_change, asked_change, status_of, formatted_on, is_in_found, image_after, asked_after, may_write, asked_may_write, only_reads, asked_only_read}
 use Rattle.lilo_model.specs.LdiskVerdict.{silent}
 use Rattle.ldisk_make.specs.Answer.{Answers, HasEmptyVolume, HasMakeCause, is_refusal as is_make_refusal}
 use Rattle.ldisk_make.specs.declared.fault.MakeFault.{MakeFault}
 use Rattle.ldisk_make.specs.declared.fault.MakeFault.TheVariants as faults
 use Rattle.lilo_model.specs.Verdict.{Verdict}
+use Rattle.minix_format.specs.Left.{IsPartlyMade, LeftOrPartlyMade}
 use Rattle.stream_trait.specs.Shows.{answer_of}
 use Rattle.stream_trait.proofs.ShowsLemmas.{answered as answered_sink}
-use Rattle.ldisk_run.specs.Left.{IsAfter, LeavesChanging, IsDone, is_refusal, AnswersAs, HasVolumeOf, LeavesBy, LeavesAsked, IsAskedDone, HasAskedVolume, asked_makes_volume, held_now}
+use Rattle.ldisk_run.specs.Left.{IsAfter, LeavesChanging, IsDone, is_refusal, AnswersAs, HasVolumeOf, LeavesBy, LeavesAsked, IsAskedDone, HasAskedVolume, makes_image, asked_makes_image, held_now}
 use Rattle.ldisk_run.specs.Pieces.{Held}
 use Rattle.ldisk_run.specs.Run.{DoesAs, is_command_status, is_any_status, is_status}
 use Rattle.ldisk_run.proofs.AddsLemmas.{adds_nothing, adds_same}
@@ -115,6 +117,12 @@ elsewhere_by d s false other is zs out = inl (λ same. let e = rw same at is in 
 elsewhere_by d s true false is zs out = inr (λ same. let e = rw same at zs in cc)
 elsewhere_by d s true true is zs out = absurd cc
 
+-- one sector holds what it held, or its new bytes
+written_partly : (old b c : Image) (d s : ℕ) (bytes : List ℕ) → b ≡ old → (c ≡ b) ⊎ (c ≡ past.with_sector b d s bytes)
+    → IsPartlyMade (Some (past.with_sector old d s bytes)) old c
+written_partly old b c d s bytes is (inl same) = λ e t. inl (ap (λ (i : Image). i e t) (same ∙ is))
+written_partly old b c d s bytes is (inr with) = λ e t. inr (ap (λ (i : Image). i e t) (with ∙ ap (λ (i : Image). past.with_sector i d s bytes) is))
+
 module _ {D : Type 0} (disks : Ghosts D) (old new : D) (result : Result (Unit {0}) MakeFault)
     (refused : IfErr result (λ fault. is_make_refusal fault ≡ true → disks.past new ≡ disks.past old))
     (quiet : OnOk result (IsQuiet (disks.past new)))
@@ -122,17 +130,22 @@ module _ {D : Type 0} (disks : Ghosts D) (old new : D) (result : Result (Unit {0
     (goes_on : GoesOn disks old new) where
   pub make_leaves : (time : ℕ) (given : List ℕ) (sectors : ℕ) (parts : List PartWish)
       → (IsTold (disks.past old) → OnOk result (now (disks.past new) ≡ past.with_sector (now (disks.past old)) 0 0 (table_sector parts)))
+      → LeavesOnly (disks.past old) (disks.past new) (LeftOrWritten (disks.past old) 0 0 (table_sector parts))
       → WritesNoOther 0 0 (disks.past old) (disks.past new)
       → (status_of (make_check (machine_of disks old) sectors parts) ≢ 0 → disks.past new ≡ disks.past old)
       → LeavesBy disks old new time given sectors (Make parts) (made_status result)
   unfolding command_verdict image_after may_write only_reads
-  make_leaves time given sectors parts made others stays = record {
+  make_leaves time given sectors parts made moment others stays = record {
     done = told_from (disks.past old) _ (λ told is. ap Some (sym (done_by result (made told) is)));
     empty = told_all (disks.past old) _ (λ image is whole. tt);
     any_moment = λ quiet. told_all (disks.past old) _ (λ image. tt);
+    partly = λ makes quiet. told_from (disks.past old) _ (λ told.
+        leaves_weaker (disks.past old) (disks.past new) (LeftOrWritten (disks.past old) 0 0 (table_sector parts))
+        (IsPartlyMade (Some (past.with_sector (now (disks.past old)) 0 0 (table_sector parts))) (now (disks.past old))) moment
+        (λ c from. written_partly (now (disks.past old)) from.0 c 0 0 (table_sector parts) (quiet from.0 from.1) from.2));
     quiet = λ is writes. done_by result quiet is;
     refused = refused_by result refused;
-    unwritten = λ none. told_all (disks.past old) _ (λ image some. stays some);
+    unwritten = told_all (disks.past old) _ (λ image some. stays some);
     outside = told_all (disks.past old) _ (λ image d s out. others d s (elsewhere_by d s (d == 0) (s == 0) refl refl out));
     same = λ is. absurd cc;
     goes_on = goes_on;
@@ -143,16 +156,27 @@ module _ {D : Type 0} (disks : Ghosts D) (old new : D) (result : Result (Unit {0
       → OnOk result (OnDisks disks old (λ image machine. formatted_on (span_of image machine device) kind inodes time image ≡ Some (now (disks.past new))))
       → OnOk result (OnDisks disks old (λ image machine. IsWholeImage (disks.size_of old) image
       → HasEmptyVolume (span_of image machine device) kind inodes (now (disks.past new))))
+      → OnDisks disks old (λ image machine. LeavesOnly (disks.past old) (disks.past new)
+      (LeftOrPartlyMade (disks.past old) (formatted_on (span_of image machine device) kind inodes time)))
+      → OnDisks disks old (λ image machine. status_of (mkfs_check image machine device kind inodes) ≢ 0 → disks.past new ≡ disks.past old)
       → OnDisks disks old (λ image machine. (d s : ℕ) → is_in_found (span_of image machine device) d s ≡ false → NotWritten (disks.past old) (disks.past new) d s)
       → LeavesBy disks old new time given sectors (Mkfs device kind inodes) (made_status result)
   unfolding command_verdict image_after may_write only_reads
-  mkfs_leaves time given sectors device kind inodes made empty outside = record {
+  mkfs_leaves time given sectors device kind inodes made empty moment stays outside = record {
     done = by_status (disks.past old) _ (λ is. done_by result made is);
     empty = by_status (disks.past old) _ (λ is. done_by result empty is);
     any_moment = λ quiet. told_all (disks.past old) _ (λ image. tt);
+    partly = λ makes quiet. told_from (disks.past old) _ (λ told.
+        let I = now (disks.past old) in
+        let place = span_of I (machine_of disks old) device in
+        leaves_weaker (disks.past old) (disks.past new) (LeftOrPartlyMade (disks.past old) (formatted_on place kind inodes time))
+        (IsPartlyMade (formatted_on place kind inodes time I) I)
+        (told_now (disks.past old) (λ image. LeavesOnly (disks.past old) (disks.past new)
+        (LeftOrPartlyMade (disks.past old) (formatted_on (span_of image (machine_of disks old) device) kind inodes time))) moment told)
+        (λ c from. subst (λ (b : Image). IsPartlyMade (formatted_on place kind inodes time b) b c) (quiet from.0 from.1) from.2));
     quiet = λ is writes. done_by result quiet is;
     refused = refused_by result refused;
-    unwritten = λ none. absurd cc;
+    unwritten = stays;
     outside = outside;
     same = λ is. absurd cc;
     goes_on = goes_on;
@@ -203,15 +227,27 @@ module _ {D : Type 0} (disks : Ghosts D) (old new : D) (same : SameOf disks old 
   no_change image machine given (Mkdir device path) is = absurd cc
   no_change image machine given (Ln device path target) is = absurd cc
 
+  not_made : (command : Command) → only_reads command ≡ true → makes_image command ≡ true → ⊥
+  unfolding only_reads
+  not_made (Make parts) is makes = cc
+  not_made (Mkfs device kind inodes) is makes = cc
+  not_made (Put device path) is makes = cc
+  not_made (Get device path) is makes = cc
+  not_made (Ls device path) is makes = cc
+  not_made (Rm device path) is makes = cc
+  not_made (Mkdir device path) is makes = cc
+  not_made (Ln device path target) is makes = cc
+
   pub reading_leaves : (time : ℕ) (given : List ℕ) (sectors : ℕ) (command : Command) (status : ℕ) → only_reads command ≡ true
       → (status ≡ 8 → Rose (disks.faults old) (disks.faults new)) → LeavesBy disks old new time given sectors command status
   reading_leaves time given sectors command status reads rose = record {
     done = told_from (disks.past old) _ (λ told is. kept (now (disks.past old)) (now (disks.past new)) (machine_of disks old) time given command reads now_same);
     any_moment = λ quiet. told_all (disks.past old) _ (λ image. no_change image (machine_of disks old) given command reads);
+    partly = λ makes. absurd (not_made command reads makes);
     empty = told_all (disks.past old) _ (λ image is whole. no_volume image (now (disks.past new)) (machine_of disks old) command reads);
     quiet = λ is writes. absurd (let no = rw reads at writes in cc);
     refused = λ is. same.same_past;
-    unwritten = λ none. told_all (disks.past old) _ (λ image some. same.same_past);
+    unwritten = told_all (disks.past old) _ (λ image some. same.same_past);
     outside = told_all (disks.past old) _ (λ image d s out. not_written_flushed (disks.past old) (disks.past new) (inr same.same_past) d s);
     same = λ is. same;
     goes_on = goes_on;
@@ -289,6 +325,12 @@ module _ {D : Type 0} (disks : Ghosts D) (old new : D) (time : ℕ) (given : Lis
   asked_moment None left quiet = told_all (disks.past old) _ (λ image. tt)
   asked_moment (Some asked) left quiet = left.any_moment quiet
 
+  pub asked_partly : (asked : Option Asked) → LeavesAsked disks old new time given asked status
+      → asked_makes_image asked ≡ true → IsQuiet (disks.past old)
+      → OnDisks disks old (λ image machine. LeavesOnly (disks.past old) (disks.past new) (IsPartlyMade (asked_after image machine time asked) image))
+  asked_partly None left makes quiet = absurd cc
+  asked_partly (Some asked) left makes quiet = left.partly makes quiet
+
   pub asked_quiet : (asked : Option Asked) → LeavesAsked disks old new time given asked status
       → IsDone (answer_of status failed) → asked_only_read asked ≡ false → IsQuiet (disks.past new)
   asked_quiet None left done writes = absurd cc
@@ -300,9 +342,9 @@ module _ {D : Type 0} (disks : Ghosts D) (old new : D) (time : ℕ) (given : Lis
   asked_refused (Some asked) left refused = left.refused (refusal_status status failed refused)
 
   pub asked_unwritten : (asked : Option Asked) → LeavesAsked disks old new time given asked status
-      → asked_makes_volume asked ≡ false → OnDisks disks old (λ image machine. (asked_verdict image machine given asked).status ≢ 0 → disks.past new ≡ disks.past old)
-  asked_unwritten None left none = told_all (disks.past old) _ (λ image some. left.0.same_past)
-  asked_unwritten (Some asked) left none = left.unwritten none
+      → OnDisks disks old (λ image machine. (asked_verdict image machine given asked).status ≢ 0 → disks.past new ≡ disks.past old)
+  asked_unwritten None left = told_all (disks.past old) _ (λ image some. left.0.same_past)
+  asked_unwritten (Some asked) left = left.unwritten
 
   pub asked_outside : (asked : Option Asked) → LeavesAsked disks old new time given asked status
       → OnDisks disks old (λ image machine. (d s : ℕ) → asked_may_write image machine asked d s ≡ false → NotWritten (disks.past old) (disks.past new) d s)

@@ -13,12 +13,13 @@ use Rattle.lilo_model.specs.MinixNames.{Thing, File, Link, Directory, Other}
 use Rattle.lilo_model.specs.Partitions.{span_of}
 use Rattle.lilo_model.specs.Verdict.{Verdict}
 use Rattle.sector_address.specs.Machine.{OnDisks}
-use Rattle.ldisk_model.specs.Arguments.{Command, Mkfs, Asked}
+use Rattle.ldisk_model.specs.Arguments.{Command, Make, Mkfs, Asked}
 use Rattle.ldisk_model.specs.FileVerdict.{NameChange, NewDirectory, NewLink, NewFile}
 use Rattle.ldisk_model.specs.Verdict.{command_verdict, image_after, may_write, name_change, only_reads}
 use Rattle.ldisk_files.specs.Inode.{HasChangedIn}
 use Rattle.ldisk_files.specs.Left.{HasSoundVolume, IsNamed, IsEither}
 use Rattle.ldisk_make.specs.Answer.{HasEmptyVolume}
+use Rattle.minix_format.specs.Left.{IsPartlyMade}
 use Rattle.ldisk_run.specs.Run.{IsFailure}
 
 -- the command was carried out: the status is 0, or 12 where the sink failed
@@ -97,15 +98,16 @@ LeavesChanging disks old new image machine (Some change) =
     HasSoundOn image machine change.device → LeavesOnly (disks.past old) (disks.past new) (IsChanging image machine change)
 LeavesChanging disks old new image machine None = Unit {0}
 
--- whether a command makes a volume
-abbrev pub makes_volume : Command → Bool
-makes_volume (Mkfs device kind inodes) = true
-makes_volume command = false
+-- whether a command makes an image: a partition table, or an empty volume
+abbrev pub makes_image : Command → Bool
+makes_image (Make parts) = true
+makes_image (Mkfs device kind inodes) = true
+makes_image command = false
 
 -- the same of arguments
-abbrev pub asked_makes_volume : Option Asked → Bool
-asked_makes_volume (Some asked) = makes_volume asked.command
-asked_makes_volume None = false
+abbrev pub asked_makes_image : Option Asked → Bool
+asked_makes_image (Some asked) = makes_image asked.command
+asked_makes_image None = false
 
 -- What the disks hold after a command at a time, on an image with so many sectors where it is new, where a source gives
 -- these bytes.
@@ -115,10 +117,13 @@ pub record LeavesBy {D : Type 0} (disks : Ghosts D) (old new : D) (time : ℕ) (
   pub empty : OnDisks disks old (λ image machine. status ≡ 0 → IsWholeImage (disks.size_of old) image
       → HasVolumeOf image machine command (now (disks.past new)))
   pub any_moment : IsQuiet (disks.past old) → OnDisks disks old (λ image machine. LeavesChanging disks old new image machine (name_change given command))
+  -- while an image is made, a stop leaves in each sector what it held or what is defined for it
+  pub partly : makes_image command ≡ true → IsQuiet (disks.past old) → OnDisks disks old (λ image machine.
+      LeavesOnly (disks.past old) (disks.past new) (IsPartlyMade (image_after image machine time command) image))
   pub quiet : status ≡ 0 → only_reads command ≡ false → IsQuiet (disks.past new)
   pub refused : is_refusal status ≡ true → disks.past new ≡ disks.past old
   -- where a check refuses there was no event, whatever is answered
-  pub unwritten : makes_volume command ≡ false → OnDisks disks old (λ image machine.
+  pub unwritten : OnDisks disks old (λ image machine.
       (command_verdict image machine given sectors command).status ≢ 0 → disks.past new ≡ disks.past old)
   pub outside : OnDisks disks old (λ image machine. (d s : ℕ) → may_write image machine command d s ≡ false → NotWritten (disks.past old) (disks.past new) d s)
   pub same : only_reads command ≡ true → SameOf disks old new

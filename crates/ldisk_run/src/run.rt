@@ -1,7 +1,7 @@
 // The top call: what the program `ldisk` does with its arguments.
 ghost use Rattle.std.specs.Prelude.{◌≡◌, ◌≢◌, ◌↔◌, ◌≤◌, ℕ, true, false, IsTrue};
 ghost use Rattle.disk_trait.specs.Calls.{SameOf, GoesOn};
-ghost use Rattle.disk_trait.specs.Moments.{IsQuiet, IsWhole, IsWholeImage};
+ghost use Rattle.disk_trait.specs.Moments.{IsQuiet, IsWhole, IsWholeImage, LeavesOnly};
 ghost use Rattle.disk_trait.specs.NotWritten.{NotWritten};
 ghost use Rattle.sector_address.specs.Machine.{OnDisks};
 ghost use Rattle.lilo_model.specs.Faults.{Rose};
@@ -19,11 +19,13 @@ ghost use Rattle.ldisk_model.specs.Verdict.{
   asks_source,
   asked_asks_source,
   asked_change,
+  asked_after,
   asked_may_write,
   asked_only_read,
 };
 ghost use Rattle.lilo_model.specs.LdiskVerdict as reads;
 ghost use Rattle.ldisk_words.specs.View.{command_view};
+ghost use Rattle.minix_format.specs.Left.{IsPartlyMade};
 ghost use Rattle.ldisk_run.specs.Left.{
   IsDone,
   is_refusal,
@@ -32,7 +34,7 @@ ghost use Rattle.ldisk_run.specs.Left.{
   LeavesChanging,
   IsAskedDone,
   HasAskedVolume,
-  asked_makes_volume,
+  asked_makes_image,
   held_now,
 };
 ghost use Rattle.ldisk_run.specs.Pieces.{sink_of, held_by};
@@ -87,9 +89,10 @@ use stream_trait::{Shown, Sink, Source, Words, answer};
 ///
 /// No text is put for a fault. What was printed before a refusal stays printed: the blocks of a file or the lines of
 /// entries before it. Once the sink failed nothing more is put, and the command goes on. `make` and `mkfs` write only
-/// once all their checks passed; what a stop leaves of them isn't said. The source is asked by `put` alone, once a
-/// survey and the checks of its path have passed: to its end, or one byte past the most. `put`, `rm`, `mkdir` and `ln`
-/// alone take memory, for the survey, for what is chosen and for the source's bytes.
+/// once all their checks passed, and whenever they are stopped each sector is as before or as it is to be: that of
+/// `mkfs` may be no sound volume. The source is asked by `put` alone, once a survey and the checks of its path have
+/// passed: to its end, or one byte past the most. `put`, `rm`, `mkdir` and `ln` alone take memory, for the survey, for
+/// what is chosen and for the source's bytes.
 #[tactic(auto, unfolding(ldisk_model::specs::Verdict::ldisk_verdict))]
 pub fn ldisk<D: Disks, I: Source, O: Sink>(
     alloc: Global,
@@ -135,9 +138,14 @@ pub fn ldisk<D: Disks, I: Source, O: Sink>(
         OnGiven (I.left source.old) (λ given.
         LeavesChanging D.Disks disks.old disks.new now machine (asked_change given (asked_at words.now)))) }
 
-    // What isn't written: where a check refuses there was no event, whatever is answered, but by `mkfs`.
-    ensures unwritten { asked_makes_volume (asked_at words.now) ≡ false
-        → OnDisks D.Disks disks.old (λ now machine. OnGiven (I.left source.old) (λ given.
+    // From a quiet moment on, whatever a stop of `make` and `mkfs` leaves has in each sector what it held or what is
+    // defined for it.
+    ensures partly { asked_makes_image (asked_at words.now) ≡ true → IsQuiet (D.past disks.old)
+        → OnDisks D.Disks disks.old (λ now machine. LeavesOnly (D.past disks.old) (D.past disks.new)
+        (IsPartlyMade (asked_after now machine time (asked_at words.now)) now)) }
+
+    // What isn't written: where a check refuses there was no event, whatever is answered.
+    ensures unwritten { OnDisks D.Disks disks.old (λ now machine. OnGiven (I.left source.old) (λ given.
         (ldisk_verdict now machine given words.now).status ≢ 0 → D.past disks.new ≡ D.past disks.old)) }
     ensures refused { is_refusal result ≡ true → D.past disks.new ≡ D.past disks.old }
     ensures outside { OnDisks D.Disks disks.old (λ now machine. (d s : ℕ)

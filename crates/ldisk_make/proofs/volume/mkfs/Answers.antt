@@ -1,17 +1,17 @@
-use Rattle.std.proofs.Common.{◌≡◌, false, ℕ, Ok, Err, inr}
+use Rattle.std.proofs.Common.{◌≡◌, ◌≢◌, false, ℕ, Ok, Err, inr}
 use Rattle.disk_trait.proofs.CallLemmas.{goes_on_same, goes_on_join}
 use Rattle.disk_trait.proofs.NotWrittenLemmas.{not_written_flushed}
 use Rattle.disk_trait.proofs.ToldLemmas.{told_all, told_map}
 use Rattle.disk_trait.specs.NotWritten.{NotWritten}
 use Rattle.disk_trait.specs.Moments.{now, LeavesOnly}
 use Rattle.lilo_model.specs.Partitions.{span_of}
-use Rattle.ldisk_model.specs.Verdict.{place_check, mkfs_check, formatted_on, is_in_found}
+use Rattle.ldisk_model.specs.Verdict.{status_of, place_check, mkfs_check, formatted_on, is_in_found}
 use Rattle.mbr_table.specs.View.{device_view}
 use Rattle.minix_layout.specs.View.{kind_view}
 use Rattle.sector_address.specs.Machine.{machine_of}
 use Rattle.minix_format.specs.Left.{LeftOrPartlyMade}
 use Rattle.ldisk_make.specs.Answer.{Answers, Finds}
-use Rattle.ldisk_make.proofs.VolumeLemmas.{no_place, answered, made_told, empty_told, partly_told, partly_same, outside_told, refused_before, cause_before}
+use Rattle.ldisk_make.proofs.VolumeLemmas.{no_place, answered, made_told, empty_told, partly_told, partly_same, unwritten_told, outside_told, refused_before, cause_before}
 use Rattle.ldisk_make.proofs.volume.mkfs.Goals as goal
 
 pub returns-in-Err-clause-status : goal.returns-in-Err-clause-status
@@ -32,6 +32,15 @@ returns-in-Err-clause-any_moment g c =
     let new = g.D.Disks.past c.find_place.new.disks in
     told_all old (λ now. LeavesOnly old new (LeftOrPartlyMade old (formatted_on (span_of now machine device) kind c.args.inodes c.args.time)))
     (λ now. partly_same old new (formatted_on (span_of now machine device) kind c.args.inodes c.args.time) c.in-Err.ensures.same.same_past)
+
+pub returns-in-Err-clause-unwritten : goal.returns-in-Err-clause-unwritten
+returns-in-Err-clause-unwritten g c =
+    let machine = machine_of g.D.Disks c.args.disks.now in
+    let device = device_view c.args.device in
+    let old = g.D.Disks.past c.args.disks.now in
+    let new = g.D.Disks.past c.find_place.new.disks in
+    told_all old (λ now. status_of (mkfs_check now machine device (kind_view c.args.kind) c.args.inodes) ≢ 0 → new ≡ old)
+    (λ now some. c.in-Err.ensures.same.same_past)
 
 pub returns-in-Err-clause-outside : goal.returns-in-Err-clause-outside
 returns-in-Err-clause-outside g c =
@@ -80,6 +89,12 @@ pub returns-in-Ok-clause-refused : goal.returns-in-Ok-clause-refused
 returns-in-Ok-clause-refused g c =
     refused_before (g.D.Disks.past c.args.disks.now) (g.D.Disks.past c.find_place.new.disks) (g.D.Disks.past c.format_in.new.disks) c.format_in.result
     c.in-Ok.ensures.same.same_past c.format_in.ensures.refused
+
+pub returns-in-Ok-clause-unwritten : goal.returns-in-Ok-clause-unwritten
+returns-in-Ok-clause-unwritten g c =
+    unwritten_told (machine_of g.D.Disks c.args.disks.now) (device_view c.args.device) (kind_view c.args.kind) c.args.inodes c.in-Ok.span
+    (g.D.Disks.past c.args.disks.now) (g.D.Disks.past c.find_place.new.disks) c.in-Ok.ensures.same.same_past c.in-Ok.ensures.place
+    (g.D.Disks.past c.format_in.new.disks) c.format_in.ensures.unwritten
 
 pub returns-in-Ok-clause-cause : goal.returns-in-Ok-clause-cause
 returns-in-Ok-clause-cause g c =

@@ -32,5 +32,5 @@ pub returns-clause-leaves : goal.returns-clause-leaves
 returns-clause-leaves g c =
     rw c.status_of.ensures
     (λ time given. make_leaves g.D.Disks c.args.disks.now c.make.new.disks c.make.result c.make.ensures.refused c.make.ensures.quiet
-    c.make.ensures.cause c.make.ensures.goes_on time given c.args.sectors (map part_view c.args.parts.now) c.make.ensures.made c.make.ensures.others
+    c.make.ensures.cause c.make.ensures.goes_on time given c.args.sectors (map part_view c.args.parts.now) c.make.ensures.made c.make.ensures.any_moment c.make.ensures.others
     (make_unwritten (machine_of g.D.Disks c.args.disks.now) c.args.sectors (map part_view c.args.parts.now) c.make.result c.make.ensures.misplaced c.make.ensures.no_disk c.make.ensures.refused))

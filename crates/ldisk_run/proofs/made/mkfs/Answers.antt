@@ -33,4 +33,4 @@ returns-clause-leaves g c =
     rw c.status_of.ensures
     (λ given sectors. mkfs_leaves g.D.Disks c.args.disks.now c.mkfs.new.disks c.mkfs.result c.mkfs.ensures.refused c.mkfs.ensures.quiet
     c.mkfs.ensures.cause c.mkfs.ensures.goes_on c.args.time given sectors (device_view c.args.device) (kind_view c.args.kind) c.args.inodes
-    c.mkfs.ensures.made c.mkfs.ensures.empty c.mkfs.ensures.outside)
+    c.mkfs.ensures.made c.mkfs.ensures.empty c.mkfs.ensures.any_moment c.mkfs.ensures.unwritten c.mkfs.ensures.outside)

@@ -254,6 +254,9 @@ inode-created start new outer making chosen blocks suits may creates told =
       times = ap (λ (i : Inode). i.times) node;
       holes = holes-created start new outer making chosen blocks suits (may told) one told;
       marks = marks-created start new outer making chosen blocks suits (may told) one told;
+      directory = chosen.directory;
+      above = (may told).links.leads;
+      others = one.nodes told;
     }
 
 -- what was written before was made durable first

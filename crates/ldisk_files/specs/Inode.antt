@@ -1,6 +1,6 @@
 -- What becomes of inodes and bitmap bits where a name changes. The inode of what is made at a path has its mode, how many
 -- links it has, its owner, its times, and the holes of a file. A path is a list of components, the last one first.
-use Rattle.std.specs.Prelude.{◌≡◌, ◌<◌, ℕ, true, List, length, replicate, Option, Some, None, Result, Ok, OnOk}
+use Rattle.std.specs.Prelude.{◌≡◌, ◌<◌, ℕ, true, List, length, drop, replicate, Option, Some, None, Result, Ok, OnOk}
 use Rattle.disk_trait.specs.declared.disks.Disks.{Ghosts}
 use Rattle.disk_trait.specs.Moments.{IsTold, now}
 use Rattle.lilo_model.specs.Disks.{Image, Span}
@@ -8,6 +8,7 @@ use Rattle.lilo_model.specs.MinixNames.{reached, names_in, zone_number}
 use Rattle.lilo_model.specs.MinixParts.{Volume, parts_of, volume_at, blocks_for}
 use Rattle.lilo_model.specs.NamePlaces.{name_path}
 use Rattle.ldisk_model.specs.FileVerdict.{Making, NewDirectory, NewLink, NewFile, is_zero_block, stored_block}
+use Rattle.minix_grow.specs.Others.{KeepsNodes}
 use Rattle.minix_zones.specs.Volume.{volume_view, past_of}
 use Rattle.minix_zones.specs.declared.volume.Volume as held
 use Rattle.ldisk_files.specs.Made.{mode_made}
@@ -29,7 +30,8 @@ HasHoles volume image number (NewFile bytes) =
     → zone_number volume.layout (parts_of volume image) number index ≡ 0
 
 -- in an image a path leads to an inode with the mode, the links and the holes of what is made at a time, owned by user 0
--- and group 0, with that time as each of its three; and no bitmap bit is set without a use that wasn't in another image
+-- and group 0, with that time as each of its three. No bitmap bit is set without a use that wasn't in another image, and
+-- each other inode is as in that one, the directory's but for its links, its size and its zones
 pub record HasInode (volume : Volume) (old : Image) (path : List (List ℕ)) (making : Making) (time : ℕ) (image : Image) : Type 0 where
   pub number : ℕ
   pub leads : reached volume.layout (parts_of volume image) path ≡ Some number
@@ -40,6 +42,9 @@ pub record HasInode (volume : Volume) (old : Image) (path : List (List ℕ)) (ma
   pub times : ((parts_of volume image).node number).times ≡ replicate 3 time
   pub holes : HasHoles volume image number making
   pub marks : MarksNamed volume old image
+  pub directory : ℕ
+  pub above : reached volume.layout (parts_of volume old) (drop 1 path) ≡ Some directory
+  pub others : KeepsNodes volume.layout (parts_of volume old) (parts_of volume image) directory number
 
 -- ---- a name that comes or goes
 

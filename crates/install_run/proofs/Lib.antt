@@ -7,6 +7,7 @@ pub mod PreviewStateLemmas
 pub mod RefusedLemmas
 pub mod TrialLemmas
 pub mod AnswerLemmas
+pub mod HeadlineLemmas
 pub mod EntryLemmas
 pub mod PreparedLemmas
 pub mod CarriedLemmas

@@ -8,4 +8,5 @@ pub mod Keeps
 pub mod Entry
 pub mod Staged
 pub mod Installs
+pub mod Headline
 pub mod Phases

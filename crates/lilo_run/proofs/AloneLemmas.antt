@@ -1,6 +1,7 @@
 -- A part that installs by itself, whatever keys there are.
 use Rattle.std.proofs.Common.{◌≡◌, ◌≢◌, ◌⊎◌, ◌∙◌, ◌==◌, ℕ, Bool, true, false, List, [], ◌∷◌, Option, Ok, IsTrue, inl, inr, refl, sym, ap, subst, subst₂}
 use Rattle.std.proofs.lemmas.Bool.{eqb-true, ne_eqb}
+use Rattle.disk_trait.specs.Past.{Past}
 use Rattle.disk_trait.specs.declared.disks.Disks.{Ghosts}
 use Rattle.lilo_model.specs.ConfVerdict.{conf_path}
 use Rattle.lilo_model.specs.Devices.{Device}
@@ -8,7 +9,9 @@ use Rattle.lilo_model.specs.Disks.{Image, Machine}
 use Rattle.lilo_model.specs.Prompt.{Key}
 use Rattle.lilo_model.specs.Words.{Part, Install, run_at}
 use Rattle.stream_trait.specs.Shows.{answer_of}
-use Rattle.lilo_run.specs.Install.{InstallDoes, IsInstallRun, PartLeaves, done_status}
+use Rattle.install_begin.specs.Begin.{begun_with}
+use Rattle.install_run.proofs.HeadlineLemmas.{headline_by}
+use Rattle.lilo_run.specs.Install.{HoldsHeadline, InstallDoes, InstallLeaves, IsInstallRun, PartLeaves, done_status}
 use Rattle.lilo_run.specs.Run.{Carries, CarriedOut, LostBefore, LostAtCommit, LostAfter, Starved, Unheard, EndsAs, State, is_part_status}
 use Rattle.lilo_run.specs.Verdict.{Left, install_effect, leaving}
 use Rattle.lilo_run.proofs.InstallLemmas.{installation}
@@ -43,6 +46,13 @@ module _ {D : Type 0} (g : Ghosts D) (image : Image) (machine : Machine) (root :
   carried_leaves keys left own old new (LostAfter failed (ends, rose)) = own_leaves 10 own old.disks new.disks failed.answer ends
   carried_leaves keys left own old new (Starved failed ends) = own_leaves 13 own old.disks new.disks failed.answer ends
   carried_leaves keys left own old new (Unheard failed rose same) = absurd failed.shown
+
+-- the headline is of what it leaves
+pub headline_of : (image : Image) (machine : Machine) (root : Option Device) (path : List ℕ) (time : ℕ) (entry ended : Option Past) (status : ℕ)
+    → InstallLeaves image machine root path time entry ended status → HoldsHeadline image machine root path entry ended status
+headline_of image machine root path time entry ended status leaves = λ read is volume there quiet.
+    let left = leaves read is volume there quiet in
+    headline_by machine (begun_with read volume) left.settled time entry ended status left.leaves
 
 -- ---- in the run
 

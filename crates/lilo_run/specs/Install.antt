@@ -15,6 +15,7 @@ use Rattle.stream_trait.specs.declared.source.Source as sources
 use Rattle.install_begin.specs.Begin as begins
 use Rattle.install_begin.specs.Begin.{begun_at, begun_with}
 use Rattle.install_laws.specs.InstallVerdict.{Begun, install_verdict}
+use Rattle.install_run.specs.Headline.{HeadlineBy}
 use Rattle.install_run.specs.Installs.{Leaves, StaysRefused, StaysUnsettled}
 use Rattle.install_run.specs.Keeps.{IsSteady, WritesInside}
 use Rattle.lilo_run.specs.Run.{Tells, scene_of}
@@ -47,6 +48,12 @@ TellsInstall g i o now machine root path time keys left status old new =
 -- the status of what was done: 12 comes where it is 0 and the text wasn't shown
 abbrev pub done_status : ℕ → ℕ
 done_status status = if status == 12 then 0 else status
+
+-- The headline, from a quiet moment, where a volume and a configuration are read.
+abbrev pub HoldsHeadline : Image → Machine → Option Device → List ℕ → Option Past → Option Past → ℕ → Type 0
+HoldsHeadline image machine root path entry ended status =
+    (read : begins.Begun) → begun_at image machine root path ≡ Ok read → (volume : Volume) → volume_at image read.volume ≡ Ok volume
+    → IsQuiet entry → HeadlineBy machine (begun_with read volume) entry ended status
 
 -- There is an image by which a stop at any moment leaves what the status says: where the commit began, the image that settling left,
 -- which is that of the entry where nothing is left to settle.

@@ -30,6 +30,7 @@ ghost use Rattle.lilo_run.specs.Verdict.{early_answer, early_parts, has_boot, ha
 ghost use Rattle.lilo_run.specs.Laws.{IsBootRun, TellsBoot};
 ghost use Rattle.lilo_run.specs.Install.{
   IsInstallRun,
+  HoldsHeadline,
   InstallHolds,
   InstallStays,
   PartLeaves,
@@ -137,9 +138,14 @@ pub fn lilo<D: Disks, I: Source, O: Sink>(
         TellsInstall D.Disks I.Source O.Sink image machine root path now all left result
         (disks.old, keys.old, ram.old, out.old) (disks.new, keys.new, ram.new, out.new))) }
 
-    // What a stop leaves of it at any moment: what boots as before until the commit, in it the one or the other, and
-    // from then on what boots as the configuration means.
+    // The headline: at any moment a stop leaves what boots as before, or as the configuration and its files mean, the
+    // same of the two for all keys; where it isn't done only the first, and once it is done only the second.
     ensures headline { (root : Option Device) (path : List ℕ) → IsInstallRun words.now root path
+        → OnDisks D.Disks disks.old (λ image machine.
+        HoldsHeadline image machine root path (D.past disks.old) (D.past disks.new) (done_status result)) }
+    // All that a stop leaves of it at any moment, and what it holds at its end: names, the map, the backup, what is
+    // durable, and what boots where the old map isn't Clear.
+    ensures leaves { (root : Option Device) (path : List ℕ) → IsInstallRun words.now root path
         → OnDisks D.Disks disks.old (λ image machine.
         InstallHolds image machine root path now (D.past disks.old) (D.past disks.new) result) }
     // What it leaves alone, whatever it answers: all, where a check before the first write refuses; and each sector

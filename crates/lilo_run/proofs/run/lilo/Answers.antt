@@ -6,10 +6,10 @@ use Rattle.disk_trait.proofs.ToldLemmas.{told_map}
 use Rattle.lilo_model.specs.Devices.{Device}
 use Rattle.sector_address.specs.Machine.{OnDisks, machine_of}
 use Rattle.loader_core.specs.Start.{OnKeys}
-use Rattle.lilo_run.specs.Install.{InstallDoes, InstallHolds, InstallStays, done_status}
+use Rattle.lilo_run.specs.Install.{HoldsHeadline, InstallDoes, InstallHolds, InstallStays, done_status}
 use Rattle.lilo_run.specs.Run.{TellsRun, scene_of}
 use Rattle.lilo_run.specs.Verdict.{Left, effects_of}
-use Rattle.lilo_run.proofs.AloneLemmas.{of_run}
+use Rattle.lilo_run.proofs.AloneLemmas.{headline_of, of_run}
 use Rattle.lilo_run.proofs.InstallLemmas.{install_tells}
 use Rattle.lilo_run.proofs.LawLemmas.{boot_tells}
 use Rattle.lilo_run.proofs.LineLemmas.{told_leaves, told_others, told_holds}
@@ -75,6 +75,19 @@ returns-clause-install g c =
 
 pub returns-clause-headline : goal.returns-clause-headline
 returns-clause-headline g c = λ root path run.
+    let end : c.run_words.new.bios.disks.now ≡ c.disks-1.given.0 = search rules in
+    subst
+    (λ disks. OnDisks g.D.Disks c.args.disks.now (λ image machine.
+    HoldsHeadline image machine root path (g.D.Disks.past c.args.disks.now) (g.D.Disks.past disks) (done_status c.run_words.result))) end
+    (told_map (g.D.Disks.past c.args.disks.now) _ _
+    (λ now does. headline_of now (machine_of g.D.Disks c.args.disks.now) root path c.args.now _ _ (done_status c.run_words.result) does.leaves)
+    (of_run c.args.words.now root path
+    (λ (r : Option Device) (p : List ℕ). OnDisks g.D.Disks c.args.disks.now (λ image machine.
+    InstallDoes image machine r p c.args.now (g.D.Disks.past c.args.disks.now) (g.D.Disks.past c.run_words.new.bios.disks.now) (done_status c.run_words.result)))
+    run c.run_words.ensures.alone))
+
+pub returns-clause-leaves : goal.returns-clause-leaves
+returns-clause-leaves g c = λ root path run.
     let end : c.run_words.new.bios.disks.now ≡ c.disks-1.given.0 = search rules in
     subst
     (λ disks. OnDisks g.D.Disks c.args.disks.now (λ image machine.

@@ -11,3 +11,6 @@ pub mod RunLemmas
 pub mod ShotLemmas
 pub mod TellLemmas
 pub mod TestLemmas
+pub mod TurnEffects
+pub mod TurnLemmas
+pub mod TurnWrites

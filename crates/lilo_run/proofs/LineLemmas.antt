@@ -47,13 +47,13 @@ module _ {D : Type 0} (g : Ghosts D) where
 
   -- a part that doesn't install
   module _ (old new : D) (part : Effect) (none : part.installs ≡ None) where
-    makes_put : (own : ℕ) → Makes g part own old new → HasPut g old new part.write
+    pub makes_put : (own : ℕ) → Makes g part own old new → HasPut g old new part.write
     makes_put own makes = subst (λ (installs : Option Installation). MakesBy g installs part.write own old new) none makes
 
-    comes_to : (phase : Phase) → Comes g part phase old new → CameTo g old new part.write phase
+    pub comes_to : (phase : Phase) → Comes g part phase old new → CameTo g old new part.write phase
     comes_to phase comes = subst (λ (installs : Option Installation). ComesBy g installs part.write phase old new) none comes
 
-    starves_same : Starves g part old new → SameOf g old new
+    pub starves_same : Starves g part old new → SameOf g old new
     starves_same starves = subst (λ (installs : Option Installation). StarvesBy g installs old new) none starves
 
   put_quiet : (old new : D) (write : Option LineWrite) → HasPut g old new write → IsQuiet (g.past old) → IsQuiet (g.past new)

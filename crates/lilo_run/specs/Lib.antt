@@ -3,4 +3,5 @@ pub mod Laws
 pub mod Line
 pub mod Refusal
 pub mod Run
+pub mod Turn
 pub mod Verdict

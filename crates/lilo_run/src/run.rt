@@ -37,6 +37,7 @@ ghost use Rattle.lilo_run.specs.Install.{
   TellsInstall,
   done_status,
 };
+ghost use Rattle.lilo_run.specs.Turn.{PartTurns};
 ghost use Rattle.loader_core.specs.Leaves.{WritesAndAsks};
 
 use crate::part::carry_out;
@@ -163,6 +164,12 @@ pub fn lilo<D: Disks, I: Source, O: Sink>(
         (λ parts _ _. LeavesWritten D.Disks parts disks.old disks.new) }
     ensures others { OnParts D.Disks I.Source disks.old (keys.old, keys.new) (length ram.old) now words.now
         (λ parts _ _. LeavesOthers D.Disks parts disks.old disks.new) }
+
+    // A part by itself that boots, sets a line, restores or looks is a command of a session: on each site on which it
+    // is, each image left at any moment is what the command makes of the one at its entry, and keeps what a session keeps.
+    ensures turn { (part : Part) → run_at words.now ≡ Ok (part ∷ [])
+        → OnDisks D.Disks disks.old (λ image machine. OnKeys I.Source (keys.old, keys.new) (λ all _.
+        PartTurns image machine (length ram.old) all part result (D.past disks.old) (D.past disks.new))) }
 
     // Arguments that aren't in the grammar, whatever the disks report.
     ensures usage { (result ≡ 1) ↔ IsErr (run_at words.now) }

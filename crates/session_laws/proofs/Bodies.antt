@@ -225,6 +225,9 @@ module _ (site : Site) (old : Image) (place : DiskSector) (bytes : List ℕ) (na
       (unlisted_law (boot_place site ∷ others site old place names) old place bytes
       (All-from_recursion (λ (other : DiskSector). other ≢ place) (boot_place site ∷ others site old place names) (boot-other site old place names, others-other site old place names)))
 
+  pub boot-stays : new site.boot.disk site.boot.start ≡ old site.boot.disk site.boot.start
+  boot-stays = here-others.0
+
   says-new : boot_at (new site.boot.disk site.boot.start) ≡ Ok names.boot
   says-new = ap boot_at here-others.0 ∙ names.says
 

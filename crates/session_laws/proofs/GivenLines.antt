@@ -206,7 +206,7 @@ module _ (site : Site) (image : Image) (keys : List Key) (memory : ℕ) (whole :
       let setup : Setup = record { settings = settings_of decided.boot; entries = listed_entries image site.machine good; line = good.line } in
       choice-fits setup (omega arith) (listed-fits image site.machine good.entries good.passwords named) (text-fits good.line fits) keys fits
 
-  given-fits : (line : DefaultLine) → (whole_boot image site.machine site.boot keys memory).line ≡ Some line → IsLine line
+  pub given-fits : (line : DefaultLine) → (whole_boot image site.machine site.boot keys memory).line ≡ Some line → IsLine line
   unfolding line_in
   given-fits line is = by (decides site image keys memory)
     where

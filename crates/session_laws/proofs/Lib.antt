@@ -12,3 +12,5 @@ pub mod PresentLines
 pub mod Restores
 pub mod ShortLines
 pub mod GivenLines
+pub mod Leads
+pub mod Turns

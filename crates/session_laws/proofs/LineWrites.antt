@@ -1,26 +1,34 @@
 -- A write of the default line's sector.
-use Rattle.std.proofs.Common.{◌≡◌, ◌≢◌, ◌⊎◌, ◌<◌, ◌≤◌, ℕ, ◌+◌, ◌*◌, ◌-◌, ◌/◌, ◌%◌, ◌==◌, Bool, true, false, ◌&&◌, if◌then◌else◌, nat_lt, nat_le, List, ◌++◌, length, Option, Some, refl, sym, ap, subst, ◌∙◌, arith, inl, inr, eqb-true, eq-eqb, length-append}
+use Rattle.std.proofs.Common.{◌≡◌, ◌≢◌, ◌⊎◌, ◌<◌, ◌≤◌, ℕ, ◌+◌, ◌*◌, ◌-◌, ◌/◌, ◌%◌, ◌==◌, Bool, true, false, ◌&&◌, if◌then◌else◌, nat_lt, nat_le, List, ◌++◌, length, get_or, Option, Some, Result, Ok, Err, refl, sym, ap, subst, ◌∙◌, arith, inl, inr, eqb-true, eq-eqb, length-append}
 use Rattle.std.proofs.lemmas.Bool.{leb-true, ltb-true}
 use Rattle.std.proofs.lemmas.Bool.Decides.{nat_tests}
 use Rattle.std.specs.List.{All}
+use Rattle.lilo_model.specs.BootSector.{boot_at}
 use Rattle.lilo_model.specs.Bytes.{part_of}
 use Rattle.lilo_model.specs.Clear.{IsClearPlace, IsPlain, IsOfZone}
 use Rattle.lilo_model.specs.DefaultLine.{DefaultLine}
 use Rattle.lilo_model.specs.Disks.{Image, DiskSector, with_sector}
 use Rattle.lilo_model.specs.MinixLayout.{Kind, V1Short, V1Long, V2Short, V2Long, Super, inode_size, table_start, table_blocks, inode_place, inode_of, zone_sector, super_sector, super_at}
-use Rattle.lilo_model.specs.MinixNames.{Named, PointsTo, Refers, HasSound, IsSound, names_in}
-use Rattle.lilo_model.specs.MinixParts.{Volume, Pointer, sector_of, bit, inode_mark_sector, zone_bit, zone_mark_sector, parts_of, is_directory, is_link}
+use Rattle.lilo_model.specs.MinixFindNames.{leads_to_directory, link_text}
+use Rattle.lilo_model.specs.MinixNames.{Thing, File, Named, PointsTo, Refers, HasSound, IsSound, names_in}
+use Rattle.lilo_model.specs.MinixParts.{Volume, Pointer, sector_of, bit, inode_mark_sector, zone_bit, zone_mark_sector, parts_of, is_directory, is_file, is_link}
+use Rattle.lilo_model.specs.NamePlaces.{with_tilde}
+use Rattle.lilo_model.specs.Settled.{Holds, NamesInFile, is_foreign}
+use Rattle.lilo_model.specs.Slots.{AddressFault, place_at}
 use Rattle.minix_change_laws.proofs.Beside.{lies}
 use Rattle.minix_change_laws.proofs.Laid.{Laid, mark-from, mark-below, zone_mark-from, zone_mark-below, place-from}
-use Rattle.session_model.specs.Keeps.{Keeps}
+use Rattle.session_model.specs.Keeps.{Keeps, IsHeld}
 use Rattle.session_model.specs.Site.{Site}
 use Rattle.session_model.specs.State.{SaysLine, line_place}
 use Rattle.session_model.specs.Step.{HasLine, KeepsNamesButLine}
 use Rattle.session_laws.specs.Bodies.{HasOtherLine}
 use Rattle.session_laws.specs.FileData.{KeepsButData, SoundButData}
+use Rattle.session_laws.specs.Leads.{LeadsOn}
 use Rattle.session_laws.specs.LineWrites.{LineWriteLaw}
-use Rattle.session_laws.proofs.Bodies.{line-mapped, names-line, other_line_law}
+use Rattle.session_laws.specs.Turns.{HeldLineLaw}
+use Rattle.session_laws.proofs.Bodies.{boot-stays, line-mapped, names-line, other_line_law}
 use Rattle.session_laws.proofs.FileData.{data_law}
+use Rattle.session_laws.proofs.Leads.{name_path_law}
 
 pub opened : (volume : Volume) (image : Image) → IsSound volume image → HasSound volume image
 unfolding IsSound
@@ -54,6 +62,10 @@ module _ (site : Site) (old : Image) (place : DiskSector) (bytes : List ℕ) (ke
 
   abbrev new : Image
   new = with_sector old place bytes
+
+  -- all is kept with this line, and so is Held
+  abbrev Written : DefaultLine → Type 0
+  Written line = (Keeps site new × HasLine site (Some line) old new) × ((text : List ℕ) → IsHeld site text old → IsHeld site text new)
 
   -- the place is this sector of the volume
   abbrev Hit : ℕ → Type 0
@@ -205,6 +217,61 @@ module _ (site : Site) (old : Image) (place : DiskSector) (bytes : List ℕ) (ke
         some-same : (one other : DiskSector) → ◌≡◌ {A = Option DiskSector} (Some one) (Some other) → one ≡ other
         some-same one other is = cc
 
+    -- ---- Held
+
+    -- only a regular file's bytes are others, so a text leads where it led
+    leads-on : LeadsOn (names_in site.volume old) (names_in site.volume new)
+    leads-on = record {
+      directories = λ path is. subst (λ thing. leads_to_directory thing ≡ true) (sym (names-new.others path (λ line. let again = names-new.file path line in no-directory (names_in site.volume old path) again.before again.was is))) is;
+      links = λ path text is. subst (λ thing. link_text thing ≡ Some text) (sym (names-new.others path (λ line. let again = names-new.file path line in no-link (names_in site.volume old path) again.before text again.was is))) is;
+    }
+      where
+        no-directory : (thing : Option Thing) (bytes : List ℕ) → thing ≡ Some (File bytes) → leads_to_directory thing ≡ true → ⊥
+        no-directory thing bytes is directory = let clash : leads_to_directory (Some (File bytes)) ≡ true = rw is at directory in cc
+
+        no-link : (thing : Option Thing) (bytes text : List ℕ) → thing ≡ Some (File bytes) → link_text thing ≡ Some text → ⊥
+        no-link thing bytes text is link = let clash : link_text (Some (File bytes)) ≡ Some text = rw is at link in cc
+
+    boot-same : new site.boot.disk site.boot.start ≡ old site.boot.disk site.boot.start
+    boot-same = boot-stays site old place bytes (names-line site old place keeps.line_apart is)
+
+    holds-new : (path : List (List ℕ)) → Holds old site.machine site.volume site.boot path → Holds new site.machine site.volume site.boot path
+    holds-new path holds = record {
+      boot = holds.boot;
+      says = ap boot_at boot-same ∙ holds.says;
+      number = holds.number;
+      leads = after.leads path ∙ holds.leads;
+      regular = ap (λ node. is_file node) (node-same holds.number named) ∙ holds.regular;
+      table = λ index default below. by (place_at site.machine (get_or holds.boot.table index default) 0) (holds.table index default below);
+    }
+      where
+        named : Named site.volume.layout (parts_of site.volume old) holds.number
+        named = record { path = path; leads = holds.leads }
+
+        by : (found : Result DiskSector AddressFault) → NamesInFile site.machine site.volume old holds.number found → NamesInFile site.machine site.volume new holds.number found
+        by (Ok at) lies = record {
+          at = lies.at;
+          zone = lies.zone;
+          sector = lies.sector;
+          points = (after.refers_new holds.number lies.at lies.zone (record { named = named; to = lies.points })).to;
+          is = lies.is;
+          of = lies.of;
+        }
+        by (Err fault) lies = lies
+
+    held-new : (text : List ℕ) → IsHeld site text old → IsHeld site text new
+    held-new text (inl foreign) = inl (ap is_foreign boot-same ∙ foreign)
+    held-new text (inr holder) = inr (record {
+      path = holder.path;
+      is = name_path_law (names_in site.volume old) (names_in site.volume new) text holder.path leads-on holder.is;
+      holds = by holder.holds;
+    })
+      where
+        by : Holds old site.machine site.volume site.boot holder.path ⊎ Holds old site.machine site.volume site.boot (with_tilde holder.path)
+            → Holds new site.machine site.volume site.boot holder.path ⊎ Holds new site.machine site.volume site.boot (with_tilde holder.path)
+        by (inl at) = inl (holds-new holder.path at)
+        by (inr at) = inr (holds-new (with_tilde holder.path) at)
+
     -- ---- the whole
 
     module _ (line : DefaultLine) (says : SaysLine site old bytes line) where
@@ -240,13 +307,13 @@ module _ (site : Site) (old : Image) (place : DiskSector) (bytes : List ℕ) (ke
             ap (λ node. is_link node) (node-same number before.named) ∙ keeps.off_links other (place-new other named) number at zone sector before of at_place;
       }
 
-      written : Keeps site new × HasLine site (Some line) old new
-      written = (keeps-new, record { body = changed.body; line = changed.line_is; names = names-new })
+      written : Written line
+      written = ((keeps-new, record { body = changed.body; line = changed.line_is; names = names-new }), held-new)
 
   -- ---- where the place lies
 
   module _ (line : DefaultLine) (says : SaysLine site old bytes line) where
-    outside : ((sector : ℕ) → sector < 2 * site.volume.layout.zones → Hit sector → ⊥) → Keeps site new × HasLine site (Some line) old new
+    outside : ((sector : ℕ) → sector < 2 * site.volume.layout.zones → Hit sector → ⊥) → Written line
     outside none =
         written site.volume.layout.zones
         (λ other sector inside of hit. absurd (none sector (below other sector inside of) hit))
@@ -257,7 +324,7 @@ module _ (site : Site) (old : Image) (place : DiskSector) (bytes : List ℕ) (ke
         below other sector inside (inl at) = omega (arith, inside, at)
         below other sector inside (inr at) = omega (arith, inside, at)
 
-    inside-at : (there : ℕ) → Hit there → there < 2 * site.volume.layout.zones → Keeps site new × HasLine site (Some line) old new
+    inside-at : (there : ℕ) → Hit there → there < 2 * site.volume.layout.zones → Written line
     inside-at there hit inside =
         written (there / 2)
         (λ other sector low of at.
@@ -277,14 +344,14 @@ module _ (site : Site) (old : Image) (place : DiskSector) (bytes : List ℕ) (ke
             by true test = let zero : rest ≡ 0 = eqb-true rest 0 test in inl (omega (arith, is, zero))
             by false test = let some : rest ≢ 0 = λ e. let t = eq-eqb rest 0 e in cc in inr (omega (arith, is, some))
 
-    all : Keeps site new × HasLine site (Some line) old new
+    all : Written line
     all = by (place.disk == site.volume.span.disk) refl (nat_le site.volume.span.start place.sector) refl (nat_lt place.sector (site.volume.span.start + 2 * site.volume.layout.zones)) refl
       where
         sector-of : (sector : ℕ) → Hit sector → (place.disk ≡ site.volume.span.disk) × (place.sector ≡ site.volume.span.start + sector)
         sector-of sector hit = (ap (λ (place : DiskSector). place.disk) hit, ap (λ (place : DiskSector). place.sector) hit)
 
         by : (disk : Bool) → (place.disk == site.volume.span.disk) ≡ disk → (from : Bool) → nat_le site.volume.span.start place.sector ≡ from
-            → (to : Bool) → nat_lt place.sector (site.volume.span.start + 2 * site.volume.layout.zones) ≡ to → Keeps site new × HasLine site (Some line) old new
+            → (to : Bool) → nat_lt place.sector (site.volume.span.start + 2 * site.volume.layout.zones) ≡ to → Written line
         by false one from two to three = outside (λ sector inside hit. let at = sector-of sector hit in let t = eq-eqb place.disk site.volume.span.disk at.0 in absurd cc)
         by true one false two to three = outside (λ sector inside hit. let at = (sector-of sector hit).1 in absurd (grind (arith, nat_tests, two, at)))
         by true one true two false three = outside (λ sector inside hit. let at = (sector-of sector hit).1 in absurd (grind (arith, nat_tests, three, at, inside)))
@@ -297,4 +364,7 @@ module _ (site : Site) (old : Image) (place : DiskSector) (bytes : List ℕ) (ke
             inside-at (place.sector - site.volume.span.start) (ap (λ n. made n place.sector) disk ∙ ap (made site.volume.span.disk) sector) (omega (arith, from, to))
 
 pub line_write_law : LineWriteLaw
-line_write_law site old place bytes line keeps is long says = all site old place bytes keeps is long line says
+line_write_law site old place bytes line keeps is long says = (all site old place bytes keeps is long line says).0
+
+pub held_line_law : HeldLineLaw
+held_line_law site old place bytes line text keeps is long says held = (all site old place bytes keeps is long line says).1 text held

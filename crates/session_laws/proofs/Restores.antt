@@ -19,7 +19,7 @@ use Rattle.session_model.specs.Site.{boot_place}
 use Rattle.session_laws.specs.Given.{BackupLaw, RestoreLaw}
 use Rattle.session_laws.proofs.Kept.{foreign_law, restored_law}
 
-restored-long : (backup present : List ℕ) → length backup ≡ 512 → length (restored_sector backup present) ≡ 512
+pub restored-long : (backup present : List ℕ) → length backup ≡ 512 → length (restored_sector backup present) ≡ 512
 unfolding restored_sector
 restored-long backup present long = length-with_part backup 440 (part_of present 440 70) (omega (arith, long, length-take 70 (drop 440 present))) ∙ long
 

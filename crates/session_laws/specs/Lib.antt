@@ -6,3 +6,5 @@ pub mod FileData
 pub mod LineWrites
 pub mod Writers
 pub mod Given
+pub mod Leads
+pub mod Turns

@@ -3,9 +3,11 @@ ghost use Rattle.session_laws.specs.Bodies.{BodyMeansLaw, OtherLineLaw, SparedLa
 ghost use Rattle.session_laws.specs.FileData.{DataLaw};
 ghost use Rattle.session_laws.specs.Given.{BackupLaw, BootLineLaw, GivenLineLaw, PresentLineLaw, RestoreLaw};
 ghost use Rattle.session_laws.specs.Kept.{ForeignLaw, RestoredLaw, WriterLaw};
+ghost use Rattle.session_laws.specs.Leads.{NamePathLaw};
 ghost use Rattle.session_laws.specs.LineWrites.{LineWriteLaw};
 ghost use Rattle.session_laws.specs.Origins.{BodyLaw, BootsLaw, DevicesAtEntryLaw, ForeignBootsLaw, LineLaw};
 ghost use Rattle.session_laws.specs.Sessions.{HeldLaw, JoinedLaw, SessionLaw, TurnLaw};
+ghost use Rattle.session_laws.specs.Turns.{BootMakesLaw, BootStaysLaw, HeldLineLaw, OneTurnLaw, RestoreMakesLaw, ShotMakesLaw, StillTurnLaw, UnchangedLaw};
 ghost use Rattle.session_laws.specs.Writers.{WriterRunLaw};
 
 /// Each image of a session keeps what the first one did, and its state is reached by Step.
@@ -126,4 +128,49 @@ pub fn read_backups_are_the_named_ones()
 /// The default line that a boot gives is one that its sector can say.
 pub fn given_lines_can_be_said()
     ensures { GivenLineLaw }
+{}
+
+/// A text leads to the name that it led to, where each directory and each link is one still.
+pub fn texts_lead_where_directories_and_links_stay()
+    ensures { NamePathLaw }
+{}
+
+/// Where nothing was written, the image is left by a command that isn't answered that it was done.
+pub fn unwritten_images_are_left()
+    ensures { UnchangedLaw }
+{}
+
+/// A write of the default line leaves the map with its Holder.
+pub fn written_lines_keep_the_holder()
+    ensures { HeldLineLaw }
+{}
+
+/// A boot that gives the present line leaves the image as it is.
+pub fn boots_that_keep_the_line_leave_the_image()
+    ensures { BootStaysLaw }
+{}
+
+/// A boot leaves the line that it gives in the line's sector.
+pub fn boots_leave_the_line_that_they_give()
+    ensures { BootMakesLaw }
+{}
+
+/// `-R` leaves the line of its text there.
+pub fn shots_leave_the_line_of_their_text()
+    ensures { ShotMakesLaw }
+{}
+
+/// `-u` leaves the boot sector that is restored of another system's backup.
+pub fn restored_backups_are_left()
+    ensures { RestoreMakesLaw }
+{}
+
+/// A call that wrote nothing, and isn't answered that it was done, leaves what its command may leave.
+pub fn calls_that_write_nothing_are_turns()
+    ensures { StillTurnLaw }
+{}
+
+/// So does one that leaves what was held or what its command makes, by how far it came.
+pub fn calls_that_write_a_sector_are_turns()
+    ensures { OneTurnLaw }
 {}

@@ -2,9 +2,12 @@
 use Rattle.std.proofs.Common.{◌≡◌, ℕ, List, Option, ap, subst, rules}
 use Rattle.std.specs.Prelude.{length}
 use Rattle.disk_trait.specs.Past.{Told}
+use Rattle.disk_trait.proofs.MomentLemmas.{told_now}
 use Rattle.disk_trait.proofs.ToldLemmas.{told_map}
+use Rattle.install_run.proofs.PreviewStateLemmas.{told_from}
 use Rattle.lilo_model.specs.Devices.{Device}
 use Rattle.sector_address.specs.Machine.{OnDisks, machine_of}
+use Rattle.loader_core.proofs.BootLemmas.{keys_map}
 use Rattle.loader_core.specs.Start.{OnKeys}
 use Rattle.lilo_run.specs.Install.{HoldsHeadline, InstallDoes, InstallHolds, InstallStays, done_status}
 use Rattle.lilo_run.specs.Run.{TellsRun, scene_of}
@@ -15,6 +18,7 @@ use Rattle.lilo_run.proofs.LawLemmas.{boot_tells}
 use Rattle.lilo_run.proofs.LineLemmas.{told_leaves, told_others, told_holds}
 use Rattle.lilo_run.proofs.PartLemmas.{parts_then, parts_alone}
 use Rattle.lilo_run.proofs.TellLemmas.{runs_tell, told_answers, told_whole, told_placed, told_left, held_of_four}
+use Rattle.lilo_run.proofs.TurnLemmas.{turn_tells}
 use Rattle.lilo_run.proofs.run.lilo.Goals as goal
 
 pub returns-clause-text : goal.returns-clause-text
@@ -109,3 +113,9 @@ returns-clause-stays g c = λ root path run.
     (λ (r : Option Device) (p : List ℕ). OnDisks g.D.Disks c.args.disks.now (λ image machine.
     InstallDoes image machine r p c.args.now (g.D.Disks.past c.args.disks.now) (g.D.Disks.past c.run_words.new.bios.disks.now) (done_status c.run_words.result)))
     run c.run_words.ensures.alone))
+
+pub returns-clause-turn : goal.returns-clause-turn
+returns-clause-turn g c = λ part run.
+    told_from (g.D.Disks.past c.args.disks.now) _
+    (λ is. keys_map g.I.Source _ _ _ (λ all left found. turn_tells g.D.Disks _ _ _ c.args.words.now found.0 all left _ _ _ part run is found.1)
+    (told_now (g.D.Disks.past c.args.disks.now) _ (returns-clause-text g c) is))

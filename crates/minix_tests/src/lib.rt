@@ -16,4 +16,6 @@ mod steps;
 #[cfg(test)]
 mod tree;
 #[cfg(test)]
+mod waste;
+#[cfg(test)]
 mod zones;

@@ -1,0 +1,10 @@
+pub mod WasteLemmas
+pub mod ClearedLemmas
+pub mod BitsLemmas
+pub mod ClearLemmas
+pub mod FreesLemmas
+pub mod MapLemmas
+pub mod UseLemmas
+pub mod BothLemmas
+pub mod ReclaimLemmas
+pub mod AfterLemmas

@@ -508,6 +508,10 @@ const SYNCED: &[Row] = &[
     (WHOLE, Call::WriteOut, Ok(0), Some([1, 0, 1, 0])),
     (WHOLE, Call::Flush, Ok(0), Some([0, 0, 0, 1])),
     (WHOLE, Call::Flush, Ok(0), NO_CALL),
+    (WHOLE, Call::Write(0, 0, 8), Ok(0), NO_CALL),
+    (WHOLE, Call::WriteOut, Ok(0), Some([1, 0, 1, 0])),
+    (WHOLE, Call::Read(0, 2), Ok(3), Some([1, 1, 0, 0])),
+    (WHOLE, Call::Flush, Ok(0), Some([0, 0, 0, 1])),
 ];
 
 const USUAL: Scenario = Scenario {

@@ -242,8 +242,8 @@ const ANY: Counts = None;
 // The plan, a call, what it answers, and the calls of the files.
 type Row = (Plan, Call, Answer, Counts);
 
-// Two files, the first of so many sectors, or one that is named twice; how many sectors of it are written first, without a
-// call of the file, so that they hold 0xA0; and calls.
+// Two files, the first of so many sectors, or one that is named twice; how many sectors of it are written first,
+// without a call of the file, so that they hold 0xA0; and calls.
 #[derive(Clone, Copy)]
 struct Scenario {
     sectors: u8,
@@ -452,9 +452,9 @@ const TAKING_NOTHING: &[Row] = &[
     (SINGLE, Call::Read(1, 1), Ok(2), NO_CALL),
 ];
 
-// After 64 sectors there is room for no other. A sector may be written again while it waits, and all that wait are written
-// at once, here without a seek. The one before those that wait, or the second after them, has no place with them. What is
-// written out isn't synced.
+// After 64 sectors there is room for no other. A sector may be written again while it waits, and all that wait are
+// written at once, here without a seek. The one before those that wait, or the second after them, has no place with
+// them. What is written out isn't synced.
 const GATHERED: &[Row] = &[
     (WHOLE, Call::Write(0, 64, 0xA0), Ok(0), Some([1, 0, 1, 0])),
     (WHOLE, Call::Write(0, 65, 0xA0), Ok(0), NO_CALL),
@@ -481,9 +481,9 @@ const GATHERED: &[Row] = &[
     (WHOLE, Call::Read(0, 68), Ok(69), NO_CALL),
 ];
 
-// Each file is synced, also after one that failed or doesn't take what it should, and also where what was written came to
-// its file before: by a read of the other disk, or by `write_out`. Where nothing was written, or nothing since all were
-// synced, none is.
+// Each file is synced, also after one that failed or doesn't take what it should, and also where what was written came
+// to its file before: by a read of the other disk, or by `write_out`. Where nothing was written, or nothing since all
+// were synced, none is.
 const SYNCED: &[Row] = &[
     (UNSYNCED, Call::Flush, Ok(0), NO_CALL),
     (WHOLE, Call::Write(1, 0, 6), Ok(0), NO_CALL),

@@ -23,8 +23,8 @@ fn is_streamed(rt: &HostRuntime) -> io::Result<bool> {
     )
 }
 
-// How many bytes a file has once a disk of four sectors was opened over it, with 100 bytes after them, calls, and what each
-// answers. The file is opened for reading alone, which shows when it is to be written.
+// How many bytes a file has once a disk of four sectors was opened over it, with 100 bytes after them, calls, and what
+// each answers. The file is opened for reading alone, which shows when it is to be written.
 const CUT: &[(usize, Call, Answer)] = &[
     (2148, Call::Read(0, 3), Ok(1)),
     (2148, Call::Read(0, 4), OUT_OF_RANGE),

@@ -64,8 +64,8 @@ const HOLED_BYTES: &[Piece] = &[
 ];
 
 const ROWS: &[Boot] = &[
-    // A kernel with a hole and an initial ramdisk at the memory's end, with each way to name sectors, and with slots of one
-    // sector or of many.
+    // A kernel with a hole and an initial ramdisk at the memory's end, with each way to name sectors, and with slots of
+    // one sector or of many.
     Boot {
         what: "by cylinder, head and sector",
         text: b"boot=/dev/hda\nimage=/kernel\nlabel=linux\nread-only\ninitrd=/initrd\n",

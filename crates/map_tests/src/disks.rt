@@ -231,8 +231,8 @@ const FAR: &[Edit] = &[
     (1220, 0, b"Hey!\n"),
 ];
 
-// What is on the first disk and on the second. All other bytes are zeros. The second disk that is far has the partitions
-// of sectors 1100 to 1109, with a boot sector, and 1200 to 1209.
+// What is on the first disk and on the second. All other bytes are zeros. The second disk that is far has the
+// partitions of sectors 1100 to 1109, with a boot sector, and 1200 to 1209.
 fn bytes_on(on: On) -> (&'static [Edit], &'static [Edit]) {
     match on {
         On::Near => (NEAR, &[(0, 510, b"\x55\xAA")]),
@@ -269,8 +269,8 @@ pub fn disks_of(alloc: Global, on: On, failing: &[Failing]) -> Result<MemDisks, 
     Ok(disks)
 }
 
-/// Where the volume lies: zone n in the sectors 9 + 2n and 10 + 2n of the disk that is near, and one before these of the
-/// disk that is far.
+/// Where the volume lies: zone n in the sectors 9 + 2n and 10 + 2n of the disk that is near, and one before these of
+/// the disk that is far.
 pub fn volume_on(on: On) -> Span
     ensures { result.disk ≡ 0 }
 {

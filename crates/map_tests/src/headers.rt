@@ -290,8 +290,8 @@ fn put(sector: &mut Sector, at: usize, bytes: &[u8]) {
     }
 }
 
-// A kernel with so many bytes in its real-mode part and after it, an initrd, a line, and the bytes of memory; and where the
-// protected-mode part and the initrd lie then.
+// A kernel with so many bytes in its real-mode part and after it, an initrd, a line, and the bytes of memory; and where
+// the protected-mode part and the initrd lie then.
 struct Placed {
     kernel: &'static [Edit],
     real: u32,

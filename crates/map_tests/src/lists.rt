@@ -21,7 +21,8 @@ const GEOMETRY: Geometry = Geometry {
     sectors: 63,
 };
 
-// Numbers of sectors of the first disk, and their slots, of one sector each or joined; or the first of them without one.
+// Numbers of sectors of the first disk, and their slots, of one sector each or joined; or the first of them without
+// one.
 struct List {
     numbers: &'static [u64],
     mode: Mode,
@@ -36,8 +37,8 @@ const LISTS: &[List] = &[
         is_joined: true,
         slots: Ok(b""),
     },
-    // The last sector of head 1 and the first of head 2: a slot by cylinder, head and sector stays on its track, and one
-    // by number doesn't.
+    // The last sector of head 1 and the first of head 2: a slot by cylinder, head and sector stays on its track, and
+    // one by number doesn't.
     List {
         numbers: &[125, 126],
         mode: Mode::Chs,
@@ -304,8 +305,8 @@ fn slots_take_section_sectors(rt: HostRuntime) {
     }
 }
 
-// Sectors from a number on, two in a hole, and others; how their slots are made, and those that a cursor answers when it is
-// asked for each, by their counts and numbers; then what it refuses once. The zero sector is 98.
+// Sectors from a number on, two in a hole, and others; how their slots are made, and those that a cursor answers when
+// it is asked for each, by their counts and numbers; then what it refuses once. The zero sector is 98.
 struct Asked {
     starts: [u32; 2],
     counts: [u32; 2],
@@ -428,8 +429,8 @@ fn is_gone_along(runs: &RunList, row: &Asked) -> bool
     refuses && cursor.next(runs, 0, 98) == Ok(None) && cursor.next(runs, 0, 98) == Ok(None)
 }
 
-// A file of so many sectors, the most section sectors, and whether the first of them is asked for; its bytes, the slots that
-// a reader answers then, by their counts and numbers, and what it answers from then on.
+// A file of so many sectors, the most section sectors, and whether the first of them is asked for; its bytes, the slots
+// that a reader answers then, by their counts and numbers, and what it answers from then on.
 struct Read {
     sectors: u32,
     chain: u16,

@@ -65,8 +65,8 @@ const PLANS: &[Plan] = &[
         ],
         ..PLAN
     },
-    // The fields of a boot sector: its time, its delay, no timeout, the second of two names, no message, and the slots of
-    // the default line, of the zero sector and of the table. The code is zeros, and the bytes from 440 to 509 stay.
+    // The fields of a boot sector: its time, its delay, no timeout, the second of two names, no message, and the slots
+    // of the default line, of the zero sector and of the table. The code is zeros, and the bytes from 440 to 509 stay.
     Plan {
         what: "a boot sector",
         text: b"boot=/dev/hda\nlba32\ndelay=20\ndefault=l\nimage=/kernel\nlabel=linux\nalias=l\n",
@@ -209,8 +209,8 @@ const PLANS: &[Plan] = &[
         sectors: &[(6, &[(0, 1, b"\x03\x80\x03\0\x52")])],
         ..PLAN
     },
-    // Initial ramdisks: of no byte, which isn't mapped; with a hole at the end; with two bytes past a sector; and through
-    // an indirect zone.
+    // Initial ramdisks: of no byte, which isn't mapped; with a hole at the end; with two bytes past a sector; and
+    // through an indirect zone.
     Plan {
         what: "an empty file",
         text: b"lba32\nimage=/kernel\nlabel=linux\ninitrd=/empty\n",

@@ -7,8 +7,8 @@ use minix_zones::{Volume, ZoneFault, reach};
 use std::alloc::{AllocError, Global};
 use std::test::Fail;
 
-// Where a call of the disk fails, and what a file with an indirect zone comes to: the superblock is call 0 and the inode
-// call 1. The indirect zone is calls 2 and 3, and no other call comes, though two blocks are found through it.
+// Where a call of the disk fails, and what a file with an indirect zone comes to: the superblock is call 0 and the
+// inode call 1. The indirect zone is calls 2 and 3, and no other call comes, though two blocks are found through it.
 const ROWS: &[(u64, Option<TreeFault>)] = &[
     (1, Some(TreeFault::Zone(ZoneFault::Device))),
     (2, Some(TreeFault::Zone(ZoneFault::Device))),

@@ -158,7 +158,8 @@ const ALONE: &[(On, &[u8], Told)] = &[
         b"message=/far\nimage=/none\nlabel=linux\noptional\n",
         Told::NoImagesLeft,
     ),
-    // An initial ramdisk with a slot more than 4,128,705 comes after its kernel's addresses, and before the next section's.
+    // An initial ramdisk with a slot more than 4,128,705 comes after its kernel's addresses, and before the next
+    // section's.
     (
         On::Far,
         b"image=/high\ninitrd=/vast\n",

@@ -22,9 +22,10 @@ use Rattle.lilo_run.specs.Refusal.{table_verdict, text_verdict, conf_verdict, ha
 use Rattle.disk_trait.specs.declared.disks.Disks.{Ghosts}
 use Rattle.bios_model.specs.Reads.{OnlyReads}
 use Rattle.lilo_model.specs.Faults.{Rose}
-use Rattle.lilo_run.specs.Run.{State, Does, Carries, IsPlaceHalt}
+use Rattle.lilo_run.specs.Run.{State, Does, CarriesKeys, IsPlaceHalt}
 use Rattle.lilo_run.proofs.RunLemmas.{carries_kept}
 use Rattle.lilo_model.specs.Prompt.{Key}
+use Rattle.prompt_loop.proofs.LastLemmas.{all_last}
 use Rattle.lilo_run.specs.Verdict.{Left, query_command, command_effect, test_effect, conf_effect, conf_query_effect, query_effect, reads_conf, has_conf}
 use Rattle.lilo_run.specs.declared.conf.ConfHalt.{ConfHalt}
 use Rattle.lilo_run.specs.declared.conf.ConfHalt.TheVariants.{File, Text}
@@ -171,16 +172,16 @@ conf_listed now machine root path device status memory old new is (inr (inr fail
 module _ {D : Type 0} (g : Ghosts D) (now : Image) (machine : Machine) (size time : ℕ) (root : Option Device) (path : List ℕ) (status : ℕ) (left : Left) (keys : List Key) (old new : State D) (reads : OnlyReads g old.disks new.disks (status ≡ 8)) where
   pub tests :
       Does (test_effect now machine time root path) status old.memory new.memory old.sink new.sink
-      → Carries g (command_effect now machine size time root path words.Test left keys) status keys old new
+      → CarriesKeys g (command_effect now machine size time root path words.Test left keys) status keys old new
   unfolding command_effect
-  tests does = carries_kept g (test_effect now machine time root path) status keys old new reads does
+  tests does = record { does = carries_kept g (test_effect now machine time root path) status keys old new reads does; keys = all_last keys }
 
   -- `-q`
   pub queries :
       (device : Option Device) → Does (query_command now machine root path device) status old.memory new.memory old.sink new.sink
-      → Carries g (command_effect now machine size time root path (words.Query device) left keys) status keys old new
+      → CarriesKeys g (command_effect now machine size time root path (words.Query device) left keys) status keys old new
   unfolding command_effect
-  queries device does = carries_kept g (query_command now machine root path device) status keys old new reads does
+  queries device does = record { does = carries_kept g (query_command now machine root path device) status keys old new reads does; keys = all_last keys }
 
 -- ---- parts that read one
 

@@ -1,5 +1,5 @@
 -- How a boot ends.
-use Rattle.std.proofs.Common.{◌≡◌, ◌≤◌, ◌∙◌, ℕ, inl, inr, Bool, List, [], ◌∷◌, ◌++◌, map, Option, None, Some, Result, Ok, Err, refl, arith}
+use Rattle.std.proofs.Common.{◌≡◌, ◌≤◌, ◌∙◌, ℕ, inl, inr, Bool, List, [], ◌∷◌, ◌++◌, map, Option, None, Some, Result, Ok, Err, refl, sym, subst, arith}
 use Rattle.lilo_model.specs.Boot as boots
 use Rattle.lilo_model.specs.Disks.{Image, Machine, Span}
 use Rattle.lilo_model.specs.Place.{Memory, Written, with_bytes, memory_after}
@@ -15,11 +15,12 @@ use Rattle.loader_core.specs.Start.{OnKeys, Went, result_of}
 use Rattle.stream_trait.specs.declared.source.Source as sources
 use Rattle.prompt_loop.specs.declared.asking.Stop.TheVariants as stops
 use Rattle.section_loader.specs.declared.reason.Halt.TheVariants as ends
-use Rattle.lilo_model.specs.Prompt.{Key}
+use Rattle.lilo_model.specs.Prompt.{Key, AreLastKeys}
 use Rattle.loader_core.specs.Report.{Report, boot_report}
 use Rattle.lilo_model.specs.Faults.{Rose}
 use Rattle.loader_core.specs.Leaves.{HasPut, CameTo}
-use Rattle.loader_core.proofs.BootLemmas.{keys_map}
+use Rattle.loader_core.proofs.BootLemmas.{keys_map, boot_last}
+use Rattle.prompt_loop.proofs.LastLemmas.{all_last}
 use Rattle.disk_trait.specs.declared.disks.Disks.{Ghosts}
 use Rattle.disk_trait.specs.declared.disks.Phase.{Phase}
 use Rattle.disk_trait.specs.declared.disks.Phase.TheVariants.{Before, Commit, After}
@@ -30,7 +31,7 @@ use Rattle.loader_core.specs.declared.outcome.Outcome.TheVariants as outcomes
 use Rattle.stream_trait.proofs.ShowsLemmas.{shows_join}
 use Rattle.memory_dump.specs.Dump as dumps
 use Rattle.lilo_run.specs.Refusal.{device_failed, failed_at_commit, failed_after_commit, phase_verdict, keys_failed, halt_verdict, reason_verdict}
-use Rattle.lilo_run.specs.Run.{State, IsDone, Carries, CarriedOut, LostBefore, LostAtCommit, LostAfter, Unheard, HaltsAt}
+use Rattle.lilo_run.specs.Run.{State, IsDone, Carries, CarriesKeys, CarriedOut, LostBefore, LostAtCommit, LostAfter, Unheard, HaltsAt}
 use Rattle.lilo_run.specs.Verdict.{report_effect, boot_effect, regions_text}
 use Rattle.lilo_run.proofs.RunLemmas.{carries_after}
 use Rattle.lilo_run.specs.declared.refusal.Halt.{Halt}
@@ -87,32 +88,44 @@ module _ {D : Type 0} (g : Ghosts D) (dump : Bool) (report : Report) (left : Lis
       }) in
       CarriedOut done kept put
 
+  carried : {status : ℕ} → Carries g (report_effect dump report) status left old new → AreLastKeys left report.left
+      → CarriesKeys g (report_effect dump report) status left old new
+  unfolding report_effect
+  carried does last = record { does = does; keys = last }
+
+  all_left : report.left ≡ left → AreLastKeys left report.left
+  all_left is = subst (λ keys. AreLastKeys left keys) (sym is) (all_last left)
+
   pub boot_loaded :
       (layout : Layout) (ram : List ℕ) → new.memory ≡ memory_of ram
       → Went (result_of (outcomes.Loaded layout)) report old.memory ram left old.sink mid
       → Shows mid (regions_text dump (dumps.regions_of layout ram)) new.sink → HasPut g old.disks new.disks report.write
-      → Carries g (report_effect dump report) 0 left old new
+      → CarriesKeys g (report_effect dump report) 0 left old new
   boot_loaded layout ram is went told put =
       let reports = went.1 in
-      boot_done (boots.Loaded (layout_view layout)) reports.starts.written (dumps.regions_of layout ram)
-      reports.starts.is refl (is ∙ reports.starts.placed) went.0 (reports.starts.held ∙ regions_same ram layout) reports.shows told put
+      carried
+      (boot_done (boots.Loaded (layout_view layout)) reports.starts.written (dumps.regions_of layout ram)
+      reports.starts.is refl (is ∙ reports.starts.placed) went.0 (reports.starts.held ∙ regions_same ram layout) reports.shows told put)
+      (all_left went.0)
 
   pub boot_handed :
       (ram : List ℕ) → new.memory ≡ memory_of ram
       → Went (result_of outcomes.Handed) report old.memory ram left old.sink mid
       → Shows mid (regions_text dump (dumps.boot_sector_in ram ∷ [])) new.sink → HasPut g old.disks new.disks report.write
-      → Carries g (report_effect dump report) 0 left old new
+      → CarriesKeys g (report_effect dump report) 0 left old new
   boot_handed ram is went told put =
       let reports = went.1 in
-      boot_done boots.Handed reports.starts.written (dumps.boot_sector_in ram ∷ [])
-      reports.starts.is refl (is ∙ reports.starts.placed) went.0 reports.starts.held reports.shows told put
+      carried
+      (boot_done boots.Handed reports.starts.written (dumps.boot_sector_in ram ∷ [])
+      reports.starts.is refl (is ∙ reports.starts.placed) went.0 reports.starts.held reports.shows told put)
+      (all_left went.0)
 
   -- nothing was started
   pub boot_refused :
       (reason : Reason) (status : ℕ) (ram : List ℕ)
       → Went (result_of (outcomes.Refused reason)) report old.memory ram left old.sink mid
       → status ≡ (halt_verdict (Boot reason)).status → 1 ≤ status → Shows mid (halt_verdict (Boot reason)).text new.sink
-      → HasPut g old.disks new.disks report.write → Carries g (report_effect dump report) status left old new
+      → HasPut g old.disks new.disks report.write → CarriesKeys g (report_effect dump report) status left old new
   unfolding report_effect
   boot_refused reason status ram went answer some told put =
       let starts = went.1.starts in
@@ -123,53 +136,74 @@ module _ {D : Type 0} (g : Ghosts D) (dump : Bool) (report : Report) (left : Lis
         shown = shows_join old.sink mid new.sink report.shown (reason_verdict (reason_view reason)).text went.1.shows told;
         placed = λ zero. absurd (omega (arith, zero, some));
       }) in
-      CarriedOut done went.0 put
+      carried (CarriedOut done went.0 put) (all_left went.0)
 
   -- a disk failed
   pub boot_failed :
       (phase : Phase) (status : ℕ) (ram : List ℕ)
       → Went (Err (stops.Halt ends.Device)) report old.memory ram left old.sink mid → status ≡ (phase_verdict phase).status
       → Shows mid (phase_verdict phase).text new.sink → CameTo g old.disks new.disks report.write phase
-      → Carries g (report_effect dump report) status left old new
+      → CarriesKeys g (report_effect dump report) status left old new
   unfolding report_effect
   boot_failed Before status ram went answer told came =
-      LostBefore (record { answer = answer; shown = shows_one_then old.sink mid new.sink report.device device_failed.text went.shows told }) came
+      carried (LostBefore (record { answer = answer; shown = shows_one_then old.sink mid new.sink report.device device_failed.text went.1.shows told }) came) went.0
   boot_failed Commit status ram went answer told came =
-      LostAtCommit (record { answer = answer; shown = shows_one_then old.sink mid new.sink report.device failed_at_commit.text went.shows told }) came
+      carried (LostAtCommit (record { answer = answer; shown = shows_one_then old.sink mid new.sink report.device failed_at_commit.text went.1.shows told }) came) went.0
   boot_failed After status ram went answer told came =
-      LostAfter (record { answer = answer; shown = shows_one_then old.sink mid new.sink report.device failed_after_commit.text went.shows told }) came
+      carried (LostAfter (record { answer = answer; shown = shows_one_then old.sink mid new.sink report.device failed_after_commit.text went.1.shows told }) came) went.0
 
   -- the source of keys failed
   pub boot_unheard :
       (status : ℕ) (ram : List ℕ)
       → Went (result_of outcomes.Keys) report old.memory ram left old.sink mid → status ≡ 11 → Shows mid keys_failed.text new.sink
-      → Rose old.key_faults new.key_faults → SameOf g old.disks new.disks → Carries g (report_effect dump report) status left old new
+      → Rose old.key_faults new.key_faults → SameOf g old.disks new.disks → CarriesKeys g (report_effect dump report) status left old new
   unfolding report_effect
   boot_unheard status ram went answer told rose same =
-      Unheard (record { answer = answer; shown = shows_one_then old.sink mid new.sink report.unheard keys_failed.text went told }) rose same
+      carried (Unheard (record { answer = answer; shown = shows_one_then old.sink mid new.sink report.unheard keys_failed.text went.1 told }) rose same) went.0
 
 -- a device was found, and booted
 pub place_booted :
     {D I : Type 0} → (g : Ghosts D) (i : sources.Ghosts I) (now : Image) (machine : Machine) (size : ℕ) (dump : Bool) (place : Result Span DeviceFault) (span : Span)
     (status : ℕ) (keys : I × I) (first : D) (old new : State D)
     → place ≡ Ok span → SameOf g first old.disks → g.faults first ≤ g.faults old.disks
-    → OnKeys i keys (λ all left. Carries g (report_effect dump (boot_report now machine span size all)) status left old new)
-    → OnKeys i keys (λ all left. Carries g (boot_effect now machine size dump place all) status left (record { disks = first; memory = old.memory; sink = old.sink; key_faults = old.key_faults }) new)
+    → OnKeys i keys (λ all left. CarriesKeys g (report_effect dump (boot_report now machine span size all)) status left old new)
+    → OnKeys i keys (λ all left. CarriesKeys g (boot_effect now machine size dump place all) status left (record { disks = first; memory = old.memory; sink = old.sink; key_faults = old.key_faults }) new)
 unfolding boot_effect
 place_booted g i now machine size dump place span status keys first old new is same later goes =
     keys_map i keys _ _
-    (λ all left carries. rw is (carries_after g (report_effect dump (boot_report now machine span size all)) status left first old new same later carries)) goes
+    (λ all left carries.
+    rw is
+    (record {
+      does = carries_after g (report_effect dump (boot_report now machine span size all)) status left first old new same later carries.does;
+      keys = carries.keys;
+    })) goes
 
 -- no device was found
 module _ {D : Type 0} (g : Ghosts D) (now : Image) (machine : Machine) (size : ℕ) (dump : Bool) (keys : List Key) (status : ℕ) (old new : State D) (same : SameOf g old.disks new.disks) (kept : new.memory ≡ old.memory) where
+  lost_finding :
+      (span : Span) → Rose (g.faults old.disks) (g.faults new.disks) → status ≡ 8 → Shows old.sink device_failed.text new.sink
+      → Carries g (report_effect dump (boot_report now machine span size keys)) status keys old new
+  unfolding report_effect boot_report
+  lost_finding span rose answer told = LostBefore (record { answer = answer; shown = inl told }) (record { same = same; rose = rose })
+
   pub place_failed :
       (place : Result Span DeviceFault) (halt : Halt) → HaltsAt halt place → (halt ≡ Device → Rose (g.faults old.disks) (g.faults new.disks))
       → status ≡ (halt_verdict halt).status → 1 ≤ status → Shows old.sink (halt_verdict halt).text new.sink
-      → Carries g (boot_effect now machine size dump place keys) status keys old new
-  unfolding boot_effect report_effect boot_report
-  place_failed (Ok span) Device halts failed answer some told = LostBefore (record { answer = answer; shown = inl told }) (record { same = same; rose = failed refl })
-  place_failed (Err fault) Device halts failed answer some told = LostBefore (record { answer = answer; shown = inl told }) (record { same = same; rose = failed refl })
+      → CarriesKeys g (boot_effect now machine size dump place keys) status keys old new
+  unfolding boot_effect report_effect
+  place_failed (Ok span) Device halts failed answer some told = record {
+    does = lost_finding span (failed refl) answer told;
+    keys = boot_last now machine span size keys;
+  }
+  place_failed (Err fault) Device halts failed answer some told = record {
+    does = LostBefore (record { answer = answer; shown = inl told }) (record { same = same; rose = failed refl });
+    keys = all_last keys;
+  }
   place_failed place (NoPlace fault) halts failed answer some told =
-      rw halts (CarriedOut (record { answer = answer; shown = told; placed = λ zero. absurd (omega (arith, zero, some)) }) refl same)
+      rw halts
+      (record {
+        does = CarriedOut (record { answer = answer; shown = told; placed = λ zero. absurd (omega (arith, zero, some)) }) refl same;
+        keys = all_last keys;
+      })
   place_failed place NotOurs halts failed answer some told = absurd halts
   place_failed place (Boot reason) halts failed answer some told = absurd halts

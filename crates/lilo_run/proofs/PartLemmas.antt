@@ -8,13 +8,14 @@ use Rattle.sector_address.specs.Machine.{machine_of}
 use Rattle.bios_model.specs.Memory.{memory_of}
 use Rattle.lilo_model.specs.Devices.{Device}
 use Rattle.lilo_model.specs.Prompt.{Key}
+use Rattle.prompt_loop.proofs.LastLemmas.{all_last}
 use Rattle.loader_core.proofs.BootLemmas.{keys_map, keys_still}
 use Rattle.loader_core.specs.Start.{OnKeys}
 use Rattle.stream_trait.specs.Shows.{sink_of}
 use Rattle.stream_trait.specs.declared.shown.Shown.{Shown}
 use Rattle.stream_trait.specs.declared.sink.Sink as sinks
 use Rattle.stream_trait.specs.declared.source.Source as sources
-use Rattle.lilo_run.specs.Run.{Carries, CarriesFound, CarriesPart, state_of}
+use Rattle.lilo_run.specs.Run.{Carries, CarriesKeys, CarriesFound, CarriesPart, state_of}
 use Rattle.lilo_run.specs.Verdict.{Left, install_effect, leaving}
 use Rattle.lilo_run.proofs.LineLemmas.{told_using}
 
@@ -54,6 +55,6 @@ part_installs {D} {I} {O} g i o status keys ram old new root path time carries =
         → (found : Left) × ((all : List Key) (key_faults : ℕ) → Carries g (leaving all (install_effect now (machine_of g old.0) root path time found)) status all
         (record { disks = old.0; memory = memory_of ram; sink = sink_of o old.1; key_faults = key_faults })
         (record { disks = new.0; memory = memory_of ram; sink = sink_of o new.1; key_faults = key_faults }))
-        → OnKeys i (keys, keys) (λ all left. (found : Left) × Carries g (leaving all (install_effect now (machine_of g old.0) root path time found)) status left
+        → OnKeys i (keys, keys) (λ all left. (found : Left) × CarriesKeys g (leaving all (install_effect now (machine_of g old.0) root path time found)) status left
         (state_of i o (old.0, keys, ram, old.1)) (state_of i o (new.0, keys, ram, new.1)))
-    by now (found, carries) = keys_still i keys _ (λ all. (found, carries all (i.faults keys)))
+    by now (found, carries) = keys_still i keys _ (λ all. (found, record { does = carries all (i.faults keys); keys = all_last all }))

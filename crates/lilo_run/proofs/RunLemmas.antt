@@ -14,6 +14,7 @@ use Rattle.sector_address.specs.Machine.{OnDisks, machine_of}
 use Rattle.lilo_model.specs.Disks.{Machine}
 use Rattle.lilo_model.specs.Place.{Memory}
 use Rattle.lilo_model.specs.Prompt.{Key}
+use Rattle.prompt_loop.proofs.LastLemmas.{all_last}
 use Rattle.lilo_model.specs.Words as words
 use Rattle.lilo_model.specs.Words.{Command, Part, run_at, usage_text, wrong_word}
 use Rattle.stream_trait.specs.Shows.{SinkState, Shows, answer_of}
@@ -35,7 +36,7 @@ use Rattle.install_run.specs.Keeps.{WritesInside}
 use Rattle.install_run.specs.Phases.{FailsBy}
 use Rattle.install_run.specs.Staged.{IsStagedFrom}
 use Rattle.install_run.proofs.PhaseLemmas.{fails_since}
-use Rattle.lilo_run.specs.Run.{State, IsDone, Does, Carries, CarriedOut, LostBefore, LostAtCommit, LostAfter, Starved, Unheard, EndsAt, IsPassed, IsOver, Runs, IsLost, IsWriteLost, is_plain_status, is_conf_status, is_install_status, is_test_status, is_part_status}
+use Rattle.lilo_run.specs.Run.{State, IsDone, Does, Carries, CarriesKeys, CarriedOut, LostBefore, LostAtCommit, LostAfter, Starved, Unheard, EndsAt, IsPassed, IsOver, Runs, IsLost, IsWriteLost, is_plain_status, is_conf_status, is_install_status, is_test_status, is_part_status}
 use Rattle.lilo_run.specs.Run.{IsLeftBy, EndsAs, MakesBy, Makes, ComesBy, StarvesBy}
 use Rattle.lilo_run.specs.Verdict.{Effect, Installation, Left, keeping, early_status, early_parts, parts_effects, effects_of, image_by, image_after, is_boot, has_boot, is_write, has_write, works_on, has_work_on}
 
@@ -187,7 +188,7 @@ module _ {D I : Type 0} (g : Ghosts D) (i : sources.Ghosts I) (effect : Image �
   -- a part was done, by what it found out
   abbrev pub CarriesOne : D → Part → ℕ → I → I → State D → State D → Type 0
   CarriesOne disks part own k1 k2 here there =
-      OnKeys i (k1, k2) (λ keys left. (found : Left) × Carries g (effect (now (g.past disks)) part found keys) own left here there)
+      OnKeys i (k1, k2) (λ keys left. (found : Left) × CarriesKeys g (effect (now (g.past disks)) part found keys) own left here there)
 
   pub continues_more :
       (all rest behind : List Part) (part : Part) (own : ℕ) (k0 k1 k2 : I) (start here there : State D)
@@ -200,7 +201,7 @@ module _ {D I : Type 0} (g : Ghosts D) (i : sources.Ghosts I) (effect : Image �
       let (found, carries) = one in
       let (keys0, may0, later) = goes keys1 may1 in
       let first = effect (now (g.past here.disks)) part found keys1 in
-      let (done, kept, put) = done_with_zero g first own keys2 here there carries none in
+      let (done, kept, put) = done_with_zero g first own keys2 here there carries.does none in
       let passed : IsPassed g first here there = record { done = done; wrote = put; whole = shown_by there.sink.failed own none zero } in (
         keys0,
         may0,
@@ -233,7 +234,15 @@ module _ {D I : Type 0} (g : Ghosts D) (i : sources.Ghosts I) (effect : Image �
       let (found, carries) = one in
       let (keys0, may0, later) = goes keys1 may1 in
       let ends : EndsAt g (effect (now (g.past here.disks)) part found keys1) status keys2 here there =
-      record { own = own; does = carries; answer = answer; some = some; own_not_12 = not_12 own known; quiet = quiet found keys1 } in
+      record {
+        own = own;
+        does = carries.does;
+        keys = carries.keys;
+        answer = answer;
+        some = some;
+        own_not_12 = not_12 own known;
+        quiet = quiet found keys1;
+      } in
       (keys0, may0, later status there keys2 (found ∷ []) (rw is (inl ends)))
 
 -- a status that the sink doesn't change
@@ -436,6 +445,7 @@ usage_runs g image machine size time words lefts keys wrong disks memory key_fau
     rw is (inl (record {
       own = 1;
       does = CarriedOut (record { answer = refl; shown = shown; placed = λ zero. absurd (omega (arith, zero)) }) refl (same_self g disks);
+      keys = all_last keys;
       answer = refl;
       some = λ zero. omega (arith, zero);
       own_not_12 = λ twelve. omega (arith, twelve);

@@ -98,6 +98,7 @@ module _ {D : Type 0} (g : Ghosts D) where
       inl (record {
         some = ends.some;
         tells = end_tells part status left old new ends fine;
+        keys = ends.keys;
         placed = end_placed part status left old new ends;
         quiet = ends.quiet;
       })

@@ -10,7 +10,7 @@ use Rattle.bios_model.specs.Memory.{memory_of}
 use Rattle.loader_core.specs.Start.{OnKeys}
 use Rattle.lilo_model.specs.Disks as disks
 use Rattle.lilo_model.specs.Place.{Memory, memory_after}
-use Rattle.lilo_model.specs.Prompt.{Key}
+use Rattle.lilo_model.specs.Prompt.{Key, AreLastKeys}
 use Rattle.lilo_model.specs.Refusal as model
 use Rattle.boot_map.specs.declared.map_fault.MapFault.{MapFault}
 use Rattle.boot_map.specs.declared.map_fault.MapFault.TheVariants as maps
@@ -189,6 +189,11 @@ pub data Carries {D : Type 0} (g : Ghosts D) (effect : Effect) (status : ℕ) (l
   Unheard : IsFailed 11 effect.unheard status old.sink new.sink → Rose old.key_faults new.key_faults → SameOf g old.disks new.disks
       → Carries g effect status left old new
 
+-- the same, and no key was taken that it isn't to take: those that it is to leave are the last of those that are left
+pub record CarriesKeys {D : Type 0} (g : Ghosts D) (effect : Effect) (status : ℕ) (left : List Key) (old new : State D) : Type 0 where
+  pub does : Carries g effect status left old new
+  pub keys : AreLastKeys left effect.left
+
 -- the state of disks, a source, a memory and a sink
 abbrev pub state_of : {D I O : Type 0} → sources.Ghosts I → sinks.Ghosts O → D × I × List ℕ × Shown O → State D
 state_of i o (disks, keys, ram, out) =
@@ -199,7 +204,7 @@ state_of i o (disks, keys, ram, out) =
 abbrev pub CarriesBy : {D I O : Type 0} → Ghosts D → sources.Ghosts I → sinks.Ghosts O → ℕ → (List Key → Effect) → D × I × List ℕ × Shown O
     → D × I × List ℕ × Shown O → Type 0
 CarriesBy g i o status effect old new =
-    OnKeys i (old.1, new.1) (λ all left. Carries g (effect all) status left (state_of i o old) (state_of i o new))
+    OnKeys i (old.1, new.1) (λ all left. CarriesKeys g (effect all) status left (state_of i o old) (state_of i o new))
 
 -- the same of what the disks held, where they report their past
 abbrev pub CarriesOn : {D I O : Type 0} → Ghosts D → sources.Ghosts I → sinks.Ghosts O → ℕ → D × I × List ℕ × Shown O → D × I × List ℕ × Shown O
@@ -212,7 +217,7 @@ abbrev pub CarriesPart : {D I O : Type 0} → Ghosts D → sources.Ghosts I → 
     → (disks.Image → disks.Machine → ℕ → Left → List Key → Effect) → Type 0
 CarriesPart g i o status old new effect =
     OnDisks g old.0 (λ now machine. OnKeys i (old.1, new.1) (λ all left. (found : Left)
-    × Carries g (effect now machine (length old.2) found all) status left (state_of i o old) (state_of i o new)))
+    × CarriesKeys g (effect now machine (length old.2) found all) status left (state_of i o old) (state_of i o new)))
 
 -- the same of a command that leaves this memory and all keys alone, by the disks and the sink before it and after it
 abbrev pub CarriesBeside : {D O : Type 0} → Ghosts D → sinks.Ghosts O → Memory → ℕ → D × Shown O → D × Shown O → (disks.Image → disks.Machine → Effect) → Type 0
@@ -243,6 +248,7 @@ IsLost status = (status ≡ 8) ⊎ IsWriteLost status
 pub record EndsAt {D : Type 0} (g : Ghosts D) (part : Effect) (status : ℕ) (left : List Key) (old new : State D) : Type 0 where
   pub own : ℕ
   pub does : Carries g part own left old new
+  pub keys : AreLastKeys left part.left
   pub answer : status ≡ answer_of own new.sink.failed
   pub some : status ≢ 0
   -- no part has 12 of its own
@@ -335,10 +341,12 @@ pub data Tells {D : Type 0} (g : Ghosts D) (part : Effect) (status : ℕ) (left 
 abbrev pub taken_behind : Option (List ℕ) → List ℕ → Option (List ℕ)
 taken_behind old text = option_map (λ taken. taken ++ text) old
 
--- a run ended at a part: with 12 memory has what the part puts there, and where it doesn't boot memory stays
+-- A run ended at a part, which took no key that it isn't to take: with 12 memory has what the part puts there, and where it
+-- doesn't boot memory stays.
 pub record TellsEnd {D : Type 0} (g : Ghosts D) (part : Effect) (status : ℕ) (left : List Key) (old new : Scene D) : Type 0 where
   pub some : status ≢ 0
   pub tells : Tells g part status left old new
+  pub keys : AreLastKeys left part.left
   pub placed : status ≡ 12 → new.memory ≡ memory_after old.memory part.written
   pub quiet : part.boots ≡ false → new.memory ≡ old.memory
 

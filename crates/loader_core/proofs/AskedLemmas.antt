@@ -6,7 +6,7 @@ use Rattle.std.proofs.lemmas.Simd.{map-map}
 use Rattle.lilo_model.specs.Disks.{Image, Machine}
 use Rattle.lilo_model.specs.BootSector.{BootSector}
 use Rattle.lilo_model.specs.Slots as slots
-use Rattle.lilo_model.specs.Prompt.{Key, Decision, Opening}
+use Rattle.lilo_model.specs.Prompt.{Key, AreLastKeys, Decision, Opening}
 use Rattle.lilo_model.specs.Place.{Memory}
 use Rattle.lilo_model.specs.Boot.{GoodMap, error_text, settings_of, listed_entries, opening_at}
 use Rattle.lilo_model.specs.Reason as reasons
@@ -19,6 +19,7 @@ use Rattle.prompt_loop.specs.Asking.{Comes}
 use Rattle.prompt_loop.specs.Laws.{ComesTo}
 use Rattle.prompt_loop.specs.Message.{ShowsPrefix}
 use Rattle.prompt_loop.specs.Tale.{Tale, tale_of}
+use Rattle.prompt_loop.proofs.LastLemmas.{all_last, run_last}
 use Rattle.prompt_loop.proofs.LawLemmas.{ask_law}
 use Rattle.section_loader.specs.declared.reason.Reason.{Reason}
 use Rattle.section_loader.specs.declared.reason.Halt.{Halt}
@@ -70,7 +71,13 @@ pub asked_chosen :
 asked_chosen text left report (Ok started) m ram a b c first second =
     (refl, record { starts = second.starts; shows = shows_join a b c text report.shown first second.shows })
 asked_chosen text left report (Err Device) m ram a b c first second =
-    record { starts = tt; shows = one_of_more (map (λ front. front ++ codes "Error 80\n") (prefixes text)) (map (λ shown. text ++ shown) report.device) a c (shows_one_join a b c text report.device first second.shows) }
+    let lost = map (λ front. front ++ codes "Error 80\n") (prefixes text) in (
+      all_last left,
+      record {
+        starts = tt;
+        shows = one_of_more lost (map (λ shown. text ++ shown) report.device) a c (shows_one_join a b c text report.device first second.shows);
+      },
+    )
 asked_chosen text left report (Err (Refused reason)) m ram a b c first second =
     (refl, record { starts = second.starts; shows = shows_join a b c text report.shown first second.shows })
 
@@ -85,27 +92,29 @@ asked_refused text left why reason m ram a b c is first second =
 -- a disk failed
 asked_lost :
     (text : List ℕ) (left left' : List Key) (report : Report) (m : Memory) (ram : List ℕ) (a b c : SinkState)
-    → ShowsPrefix a text b → Shows b (codes "Error 80\n") c
+    → AreLastKeys left' left → ShowsPrefix a text b → Shows b (codes "Error 80\n") c
     → Went (Err (stops.Halt Device)) (asking_report text left report) m ram left' a c
-asked_lost text left left' report m ram a b c first second =
-    let joined = shows_join a b c first.prefix (codes "Error 80\n") first.shown second in
-    record {
-      starts = tt;
-      shows =
-          subst (λ t. ShowsOne a (map (λ front. front ++ codes "Error 80\n") (prefixes t) ++ map (λ shown. text ++ shown) report.device) c) (sym first.joined)
-          (prefix_among (λ front. front ++ codes "Error 80\n") first.prefix first.rest (map (λ shown. text ++ shown) report.device) a c joined);
-    }
+asked_lost text left left' report m ram a b c last first second =
+    let joined = shows_join a b c first.prefix (codes "Error 80\n") first.shown second in (
+      last,
+      record {
+        starts = tt;
+        shows =
+            subst (λ t. ShowsOne a (map (λ front. front ++ codes "Error 80\n") (prefixes t) ++ map (λ shown. text ++ shown) report.device) c) (sym first.joined)
+            (prefix_among (λ front. front ++ codes "Error 80\n") first.prefix first.rest (map (λ shown. text ++ shown) report.device) a c joined);
+      },
+    )
 
 -- the source of keys failed
 asked_unheard :
     (text : List ℕ) (left left' : List Key) (report : Report) (m : Memory) (ram : List ℕ) (a b c : SinkState)
-    → ShowsPrefix a text b → Shows b [] c
+    → AreLastKeys left' left → ShowsPrefix a text b → Shows b [] c
     → Went (Err stops.Keys) (asking_report text left report) m ram left' a c
-asked_unheard text left left' report m ram a b c first second =
+asked_unheard text left left' report m ram a b c last first second =
     let joined = shows_same a c (first.prefix ++ []) first.prefix (append-nil first.prefix) (shows_join a b c first.prefix [] first.shown second) in
     let among = prefix_among (λ front. front) first.prefix first.rest [] a c joined in
     let plain = append-nil (map (λ front. front) (prefixes (first.prefix ++ first.rest))) ∙ map-id (prefixes (first.prefix ++ first.rest)) in
-    subst (λ t. ShowsOne a (prefixes t) c) (sym first.joined) (subst (λ texts. ShowsOne a texts c) plain among)
+    (last, subst (λ t. ShowsOne a (prefixes t) c) (sym first.joined) (subst (λ texts. ShowsOne a texts c) plain among))
 
 -- ---- by the tale
 
@@ -168,6 +177,18 @@ asked_law :
 unfolding opening_at decision_read
 asked_law image machine boot good keys = ask_law (settings_of boot) (listed_entries image machine good) good.line (message_read image machine boot) keys
 
+-- the keys that it leaves are the last of these
+pub asked_last :
+    (image : Image) (machine : Machine) (boot : BootSector) (good : GoodMap) (memory : ℕ) (keys : List Key)
+    → AreLastKeys keys (asked_report image machine boot memory good keys).left
+unfolding asked_report
+asked_last image machine boot good memory keys =
+    let tale = asked_tale image machine boot good keys in
+    let message = message_read image machine boot in
+    let any = tale_any image machine boot.line good memory message (decision_read image machine boot good keys) tale message.stop
+    (opening_at image machine boot good keys) (asked_law image machine boot good keys) tale.end refl in
+    rw any.is (run_last message (plain_setup (settings_of boot) (listed_entries image machine good) good.line) keys)
+
 -- asking came to a choice, or to none
 pub asked_ok :
     (image : Image) (machine : Machine) (boot : BootSector) (good : GoodMap) (memory : ℕ) (keys left : List Key) (state : State) (result : Result Started Halt) (m : Memory) (ram : List ℕ) (a b c : SinkState)
@@ -194,13 +215,13 @@ asked_err image machine boot good memory keys left state stops.Keys m ram a b c 
     let message = message_read image machine boot in
     let any = tale_any image machine boot.line good memory message (decision_read image machine boot good keys) tale message.stop
     (opening_at image machine boot good keys) (asked_law image machine boot good keys) tale.end refl in
-    rw any.is (asked_unheard tale.shown tale.left left any.behind m ram a b c comes shown)
+    rw any.is (asked_unheard tale.shown tale.left left any.behind m ram a b c comes.0 comes.1 shown)
 asked_err image machine boot good memory keys left state (stops.Halt Device) m ram a b c comes shown =
     let tale = asked_tale image machine boot good keys in
     let message = message_read image machine boot in
     let any = tale_any image machine boot.line good memory message (decision_read image machine boot good keys) tale message.stop
     (opening_at image machine boot good keys) (asked_law image machine boot good keys) tale.end refl in
-    rw any.is (asked_lost tale.shown tale.left left any.behind m ram a b c comes shown)
+    rw any.is (asked_lost tale.shown tale.left left any.behind m ram a b c comes.0 comes.1 shown)
 asked_err image machine boot good memory keys left state (stops.Halt (Refused reason)) m ram a b c comes shown =
     let tale = asked_tale image machine boot good keys in
     let message = message_read image machine boot in

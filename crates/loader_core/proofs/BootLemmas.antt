@@ -9,7 +9,7 @@ use Rattle.lilo_model.specs.Place.{with_bytes, memory_after}
 use Rattle.lilo_model.specs.Choice.{filled_text}
 use Rattle.lilo_model.specs.DefaultLine.{DefaultLine, line_after}
 use Rattle.disk_trait.specs.declared.disks.Disks.{Ghosts}
-use Rattle.lilo_model.specs.Prompt.{Key, Picked}
+use Rattle.lilo_model.specs.Prompt.{Key, AreLastKeys, Picked}
 use Rattle.lilo_model.specs.Reason as reasons
 use Rattle.lilo_model.specs.BootSector.{MapFault, NotOurs, BadVersion, BadTable, BadLine, boot_at, is_bootable}
 use Rattle.lilo_model.specs.Disks.{Span}
@@ -43,6 +43,8 @@ use Rattle.loader_core.specs.Leaves.{Leaves, HasPut, IsPast, LineWritten}
 use Rattle.loader_core.proofs.LeavesLemmas.{leaves_after, lost_leaves, put_leaves, put_told}
 use Rattle.loader_core.specs.Report.{boot_report, report_by, foreign_report, LineWrite, line_write, image_with, locked_line, chosen_line, writing_report}
 use Rattle.loader_core.specs.View.{picked_view, started_view}
+use Rattle.prompt_loop.proofs.LastLemmas.{all_last}
+use Rattle.loader_core.proofs.AskedLemmas.{asked_last}
 use Rattle.loader_core.proofs.ChoiceLemmas.{entry_listed, line_chosen}
 use Rattle.loader_core.proofs.MemoryLemmas.{held}
 use Rattle.lilo_model.specs.Disks.{Image, Machine}
@@ -59,7 +61,7 @@ use Rattle.section_loader.specs.declared.reason.Halt.TheVariants.{Device, Refuse
 use Rattle.loader_core.specs.declared.outcome.Started.{Started}
 use Rattle.stream_trait.specs.Shows.{SinkState, Shows}
 use Rattle.stream_trait.specs.declared.source.Source as sources
-use Rattle.loader_core.specs.Report.{Report, report_behind, or_device, refused_report, end_text, entry_report, line_report, middle_report, texts_report, picked_report, decided_report, asked_report, good_report, sectors_report, found_report, map_report}
+use Rattle.loader_core.specs.Report.{Report, report_behind, or_device, refused_report, end_text, entry_report, line_report, middle_report, texts_report, picked_report, decided_report, asked_report, good_report, judged_report, sectors_report, found_report, map_report}
 use Rattle.loader_core.specs.Start.{Starts, Reports, halt_text, map_text}
 use Rattle.section_loader.specs.View.{reason_view}
 use Rattle.stream_trait.proofs.ShowsLemmas.{shows_nothing, shows_join, shows_one_join}
@@ -365,7 +367,7 @@ pub went_unasked :
     (report : Report) (result : Result Started Halt) (m : Memory) (ram : List ℕ) (left : List Key) (a c : SinkState)
     → report.left ≡ left → Reports report result m ram a c → Went (unasked result) report m ram left a c
 went_unasked report (Ok started) m ram left a c is rest = (is, rest)
-went_unasked report (Err Device) m ram left a c is rest = rest
+went_unasked report (Err Device) m ram left a c is rest = (subst (λ keys. AreLastKeys left keys) (sym is) (all_last left), rest)
 went_unasked report (Err (Refused reason)) m ram left a c is rest = (is, rest)
 
 -- a text, and what went after it
@@ -373,8 +375,9 @@ pub went_behind :
     (text : List ℕ) (report : Report) (result : Result Started Stop) (m : Memory) (ram : List ℕ) (left : List Key) (a b c : SinkState)
     → Shows a text b → Went result report m ram left b c → Went result (report_behind text report) m ram left a c
 went_behind text report (Ok started) m ram left a b c first second = (second.0, reports_behind text report (Ok started) m ram a b c first second.1)
-went_behind text report (Err stops.Keys) m ram left a b c first second = shows_one_join a b c text report.unheard first second
-went_behind text report (Err (stops.Halt Device)) m ram left a b c first second = reports_behind text report (Err Device) m ram a b c first second
+went_behind text report (Err stops.Keys) m ram left a b c first second = (second.0, shows_one_join a b c text report.unheard first second.1)
+went_behind text report (Err (stops.Halt Device)) m ram left a b c first second =
+    (second.0, reports_behind text report (Err Device) m ram a b c first second.1)
 went_behind text report (Err (stops.Halt (Refused reason))) m ram left a b c first second =
     (second.0, reports_behind text report (Err (Refused reason)) m ram a b c first second.1)
 
@@ -384,7 +387,7 @@ pub went_or_device :
     → Went result report m ram left a c → Went result (or_device text report) m ram left a c
 went_or_device text report (Ok started) m ram left a c rest = (rest.0, reports_or_device text report (Ok started) m ram a c rest.1)
 went_or_device text report (Err stops.Keys) m ram left a c rest = rest
-went_or_device text report (Err (stops.Halt Device)) m ram left a c rest = reports_or_device text report (Err Device) m ram a c rest
+went_or_device text report (Err (stops.Halt Device)) m ram left a c rest = (rest.0, reports_or_device text report (Err Device) m ram a c rest.1)
 went_or_device text report (Err (stops.Halt (Refused reason))) m ram left a c rest =
     (rest.0, reports_or_device text report (Err (Refused reason)) m ram a c rest.1)
 
@@ -398,6 +401,35 @@ keys_map i keys P Q f holds = λ left may. let (all, before, p) = holds left may
 pub keys_still :
     {I : Type 0} → (i : sources.Ghosts I) (k : I) (P : List Key → List Key → Type 0) → ((keys : List Key) → P keys keys) → OnKeys i (k, k) P
 keys_still i k P f = λ left may. (left, may, f left)
+
+-- ---- the keys that are left
+
+sectors_last :
+    (image : Image) (machine : Machine) (boot : BootSector) (memory : ℕ) (sectors : MapSectors) (keys : List Key)
+    → AreLastKeys keys (sectors_report image machine boot memory sectors keys).left
+unfolding sectors_report good_report
+sectors_last image machine boot memory sectors keys = by (good_map sectors)
+  where
+    by : (judged : Result GoodMap MapFault) → AreLastKeys keys (judged_report image machine boot memory keys judged).left
+    by (Err fault) = all_last keys
+    by (Ok good) = asked_last image machine boot good memory keys
+
+found_last :
+    (image : Image) (machine : Machine) (boot : BootSector) (memory : ℕ) (keys : List Key) (found : Result MapSectors slots.AddressFault)
+    → AreLastKeys keys (found_report image machine boot memory keys found).left
+found_last image machine boot memory keys (Err fault) = all_last keys
+found_last image machine boot memory keys (Ok sectors) = sectors_last image machine boot memory sectors keys
+
+-- they are the last of those that the boot was given
+said_last :
+    (image : Image) (machine : Machine) (bytes : List ℕ) (memory : ℕ) (keys : List Key) (said : Result BootSector MapFault)
+    → AreLastKeys keys (report_by image machine bytes memory said keys).left
+unfolding map_report foreign_report
+said_last image machine bytes memory keys (Ok boot) = found_last image machine boot memory keys (map_sectors image machine boot)
+said_last image machine bytes memory keys (Err NotOurs) = all_last keys
+said_last image machine bytes memory keys (Err (BadVersion version)) = all_last keys
+said_last image machine bytes memory keys (Err (BadTable entry)) = all_last keys
+said_last image machine bytes memory keys (Err BadLine) = all_last keys
 
 -- ---- a map
 
@@ -519,9 +551,11 @@ pub map_halted :
     → ReadsMap (Err halt) (map_sectors image machine boot) → Shows a (codes "L") b → Shows b (map_text halt) c
     → Went (Err (stops.Halt halt)) (map_report image machine boot memory left) m ram left a c
 unfolding map_report
-map_halted image machine boot memory Device m ram left a b c read first second =
-    reports_behind (codes "L") (or_device (codes " 80\n") (found_report image machine boot memory left (map_sectors image machine boot))) (Err Device) m ram a b c first
-    (reports_device (codes " 80\n") (found_report image machine boot memory left (map_sectors image machine boot)) m ram b c second)
+map_halted image machine boot memory Device m ram left a b c read first second = (
+  found_last image machine boot memory left (map_sectors image machine boot),
+  reports_behind (codes "L") (or_device (codes " 80\n") (found_report image machine boot memory left (map_sectors image machine boot))) (Err Device) m ram a b c first
+      (reports_device (codes " 80\n") (found_report image machine boot memory left (map_sectors image machine boot)) m ram b c second),
+)
 map_halted image machine boot memory (Refused reason) m ram left a b c read first second =
     lost_map image machine boot memory (map_sectors image machine boot) reason m ram left a b c read.0 (ap reason_view read.1) first second
 
@@ -535,12 +569,22 @@ read_failed size sector before now (Ok done) cause inside lost = let h : ⊥ = c
 read_failed size sector before now (Err Failed) cause inside lost = cause.failed refl
 read_failed size sector before now (Err OutOfRange) cause inside lost = absurd (let past = cause.out_of_range.0 refl in omega (arith, inside, past))
 
+pub boot_last :
+    (image : Image) (machine : Machine) (span : Span) (memory : ℕ) (keys : List Key)
+    → AreLastKeys keys (boot_report image machine span memory keys).left
+unfolding boot_report
+boot_last image machine span memory keys =
+    said_last image machine (image span.disk span.start) memory keys (boot_at (image span.disk span.start))
+
 -- a boot whose first sector couldn't be read
 pub boot_lost :
     (image : Image) (machine : Machine) (span : Span) (memory : ℕ) (m : Memory) (ram : List ℕ) (left : List Key) (a : SinkState)
     → Went (Err (stops.Halt Device)) (boot_report image machine span memory left) m ram left a a
 unfolding boot_report
-boot_lost image machine span memory m ram left a = record { starts = tt; shows = inl (shows_nothing a) }
+boot_lost image machine span memory m ram left a = (
+  boot_last image machine span memory left,
+  record { starts = tt; shows = inl (shows_nothing a) },
+)
 
 -- one by what the sector says
 pub boot_read :
@@ -609,8 +653,8 @@ ends_as (Ok started) report boot write m ram left a c is went =
       shows = subst (λ text. Shows a text c) (sym is.shown) went.1.shows;
       keys = is.left ∙ went.0;
     }
-ends_as (Err stops.Keys) report boot write m ram left a c is went = tt
-ends_as (Err (stops.Halt Device)) report boot write m ram left a c is went = tt
+ends_as (Err stops.Keys) report boot write m ram left a c is went = subst (λ keys. AreLastKeys left keys) (sym is.left) went.0
+ends_as (Err (stops.Halt Device)) report boot write m ram left a c is went = subst (λ keys. AreLastKeys left keys) (sym is.left) went.0
 ends_as (Err (stops.Halt (Refused reason))) report boot write m ram left a c is went = record {
   outcome = subst (λ r. EndsSo boot r) went.1.starts is.ends;
   shows = subst (λ text. Shows a text c) (sym is.shown) went.1.shows;

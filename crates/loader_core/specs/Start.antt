@@ -6,7 +6,7 @@ use Rattle.disk_trait.specs.declared.disks.Phase.{Phase}
 use Rattle.disk_trait.specs.declared.disks.Phase.TheVariants as phases
 use Rattle.lilo_model.specs.Disks as disks
 use Rattle.lilo_model.specs.DefaultLine.{DefaultLine}
-use Rattle.lilo_model.specs.Prompt.{Key}
+use Rattle.lilo_model.specs.Prompt.{Key, AreLastKeys}
 use Rattle.lilo_model.specs.Place.{Memory, Written, memory_after}
 use Rattle.lilo_model.specs.Boot as boots
 use Rattle.lilo_model.specs.Bytes.{part_of}
@@ -89,11 +89,12 @@ unasked (Ok started) = Ok started
 unasked (Err halt) = Err (stops.Halt halt)
 
 -- A boot, or a part of it, went as a report says, and left these keys. Where the source of keys failed, one of the
--- report's texts for that was shown.
+-- report's texts for that was shown; there, and where a disk failed, no key was taken that the report doesn't take.
 abbrev pub Went : Result Started Stop → Report → Memory → List ℕ → List Key → SinkState → SinkState → Type 0
 Went (Ok started) report memory ram left old new = (report.left ≡ left) × Reports report (Ok started) memory ram old new
-Went (Err stops.Keys) report memory ram left old new = ShowsOne old report.unheard new
-Went (Err (stops.Halt Device)) report memory ram left old new = Reports report (Err Device) memory ram old new
+Went (Err stops.Keys) report memory ram left old new = AreLastKeys left report.left × ShowsOne old report.unheard new
+Went (Err (stops.Halt Device)) report memory ram left old new =
+    AreLastKeys left report.left × Reports report (Err Device) memory ram old new
 Went (Err (stops.Halt (Refused reason))) report memory ram left old new =
     (report.left ≡ left) × Reports report (Err (Refused reason)) memory ram old new
 
@@ -170,11 +171,11 @@ pub record RefusesBoot (reason : Reason) (boot : boots.Boot) (left : List Key) (
   pub shows : Shows old boot.shown new
   pub keys : boot.left ≡ left
 
--- what was done is this boot, unless a disk or the source of keys failed
+-- what was done is this boot, unless a disk or the source of keys failed: then it took no key that this boot doesn't take
 abbrev pub EndsAs : Result Started Stop → boots.Boot → Memory → Memory → List Key → SinkState → SinkState → Type 0
 EndsAs (Ok started) boot memory memory' left old new = StartsBoot started boot memory memory' left old new
-EndsAs (Err stops.Keys) boot memory memory' left old new = Unit {0}
-EndsAs (Err (stops.Halt Device)) boot memory memory' left old new = Unit {0}
+EndsAs (Err stops.Keys) boot memory memory' left old new = AreLastKeys left boot.left
+EndsAs (Err (stops.Halt Device)) boot memory memory' left old new = AreLastKeys left boot.left
 EndsAs (Err (stops.Halt (Refused reason))) boot memory memory' left old new = RefusesBoot reason boot left old new
 
 -- what was done is this boot, and this was written for its default line

@@ -2,7 +2,7 @@
 use Rattle.std.proofs.Common.{◌≡◌, ◌∙◌, refl, sym, ap, subst, ℕ, true, false, List, [], ◌∷◌, ◌++◌, append_assoc, Option, None, Some, Result, Ok, Err, ◌≤◌, arith}
 use Rattle.std.specs.Prelude.{IsTrue}
 use Rattle.lilo_model.specs.Faults.{Rose}
-use Rattle.lilo_model.specs.Prompt.{Key, Byte, Tick}
+use Rattle.lilo_model.specs.Prompt.{Key, Byte, Tick, AreLastKeys}
 use Rattle.lilo_model.specs.Choice.{Setup}
 use Rattle.stream_trait.specs.declared.source.Source.{Ghosts}
 use Rattle.stream_trait.specs.Shows.{SinkState, Shows}
@@ -22,6 +22,7 @@ use Rattle.prompt_loop.specs.Message.{ShowsPrefix}
 use Rattle.prompt_loop.specs.Tale.{Tale, tale_behind, marks_tale, tale_of, Says}
 use Rattle.prompt_loop.specs.Asking.{Comes, ComesBy, ComesInSilence}
 use Rattle.prompt_loop.proofs.TaleLemmas.{behind_behind, run_tale}
+use Rattle.prompt_loop.proofs.LastLemmas.{said_last, driven_last}
 use Rattle.prompt_loop.proofs.SilenceLemmas.{silence_first}
 
 -- ---- keys
@@ -82,8 +83,8 @@ pub comes_behind :
     (result : Result (Unit {0}) Stop) (text : List ℕ) (tale : Tale) (state : State) (left : List Key) (a b c : SinkState)
     → Shows a text b → Comes result tale state left b c → Comes result (tale_behind text tale) state left a c
 comes_behind (Ok done) text tale state left a b c first comes = (comes.0, comes.1, shows_join a b c text tale.shown first comes.2)
-comes_behind (Err stops.Keys) text tale state left a b c first comes = prefix_behind text tale.shown a b c first comes
-comes_behind (Err (stops.Halt Device)) text tale state left a b c first comes = prefix_behind text tale.shown a b c first comes
+comes_behind (Err stops.Keys) text tale state left a b c first comes = (comes.0, prefix_behind text tale.shown a b c first comes.1)
+comes_behind (Err (stops.Halt Device)) text tale state left a b c first comes = (comes.0, prefix_behind text tale.shown a b c first comes.1)
 comes_behind (Err (stops.Halt (Refused reason))) text tale state left a b c first comes =
     (comes.0, comes.1, shows_join a b c text tale.shown first comes.2)
 
@@ -179,18 +180,21 @@ comes_unheard i message tale setup state fault old mid new a b far gives stays l
     } in
     let (all, may_all, same) = far.goes left here in
     let rest : Tale = tale_of message (driven setup left state) in
-    (all, may_all, record { prefix = far.text; rest = rest.shown; joined = ap (λ t. t.shown) same; shown = far.shows })
+    let last : AreLastKeys left (tale all).left =
+    subst (λ t. AreLastKeys left t.left) (sym same) (driven_last message setup left state) in
+    (all, may_all, (last, record { prefix = far.text; rest = rest.shown; joined = ap (λ t. t.shown) same; shown = far.shows }))
 
 -- an answer wasn't shown whole
 says_comes :
     (halt : Halt) (message : FileRest) (setup : Setup) (state : State) (left : List Key) (said : Tale → Tale) (tale : Tale) (a b : SinkState)
     → (key : heard.Key) → (marks_tale message (said_marks setup.entries left (key_step setup state key).said) tale ≡ said tale)
-    → Says (Err halt) message setup.entries (key_step setup state key).said a b
+    → AreLastKeys left tale.left → Says (Err halt) message setup.entries (key_step setup state key).said a b
     → Comes (Err (stops.Halt halt)) (marks_tale message (said_marks setup.entries left (key_step setup state key).said) tale) (key_step setup state key).state left a b
-says_comes Device message setup state left said tale a b key same says =
+says_comes Device message setup state left said tale a b key same last says =
     let (rest, joined) = says.says left tale in
-    record { prefix = says.text; rest = rest; joined = joined; shown = says.shows }
-says_comes (Refused reason) message setup state left said tale a b key same says =
+    let is = said_last message setup.entries left (key_step setup state key).said tale last in
+    (is, record { prefix = says.text; rest = rest; joined = joined; shown = says.shows })
+says_comes (Refused reason) message setup state left said tale a b key same last says =
     rw (says.says left tale) (refl, refl, says.shows)
 
 pub comes_halted :
@@ -209,7 +213,7 @@ comes_halted i message tale setup state key halt old mid new a b c far waits som
       may_all,
       comes_same (Err (stops.Halt halt)) (tale all) (tale_behind far.text marks) next left a c
           (same ∙ ap (λ t. tale_behind far.text t) (key_first message setup state key left waits some))
-          (comes_behind (Err (stops.Halt halt)) far.text marks next left a b c far.shows (says_comes halt message setup state left (λ t. marks) rest b c key refl says)),
+          (comes_behind (Err (stops.Halt halt)) far.text marks next left a b c far.shows (says_comes halt message setup state left (λ t. marks) rest b c key refl (driven_last message setup left next) says)),
     )
 
 -- silence, from which on no key is taken
@@ -283,7 +287,7 @@ silent_halted message tale setup state halt a b c far waits says =
     let marks : Tale = marks_tale message (said_marks setup.entries [] (key_step setup state keys.Silence).said) rest in
     comes_same (Err (stops.Halt halt)) tale (tale_behind far.text marks) next [] a c
     (far.goes ∙ ap (λ t. tale_behind far.text t) (silence_tale message setup state waits))
-    (comes_behind (Err (stops.Halt halt)) far.text marks next [] a b c far.shows (says_comes halt message setup state [] (λ t. marks) rest b c keys.Silence refl says))
+    (comes_behind (Err (stops.Halt halt)) far.text marks next [] a b c far.shows (says_comes halt message setup state [] (λ t. marks) rest b c keys.Silence refl (driven_last message setup [] next) says))
 
 -- ---- the start
 
@@ -306,12 +310,13 @@ started_comes i message setup state result old new a b c says comes left may =
 
 start_comes :
     (halt : Halt) (message : FileRest) (setup : Setup) (state : State) (left : List Key) (tale : Tale) (a b : SinkState)
-    → Says (Err halt) message setup.entries (start_step setup).said a b
+    → AreLastKeys left tale.left → Says (Err halt) message setup.entries (start_step setup).said a b
     → Comes (Err (stops.Halt halt)) (marks_tale message (said_marks setup.entries left (start_step setup).said) tale) state left a b
-start_comes Device message setup state left tale a b says =
+start_comes Device message setup state left tale a b last says =
     let (rest, joined) = says.says left tale in
-    record { prefix = says.text; rest = rest; joined = joined; shown = says.shows }
-start_comes (Refused reason) message setup state left tale a b says = rw (says.says left tale) (refl, refl, says.shows)
+    let is = said_last message setup.entries left (start_step setup).said tale last in
+    (is, record { prefix = says.text; rest = rest; joined = joined; shown = says.shows })
+start_comes (Refused reason) message setup state left tale a b last says = rw (says.says left tale) (refl, refl, says.shows)
 
 pub started_halted :
     {I : Type 0} (i : Ghosts I) (message : FileRest) (setup : Setup) (state : State) (halt : Halt) (keys : I) (a b : SinkState)
@@ -324,7 +329,7 @@ started_halted i message setup state halt keys a b says left may =
       may,
       comes_same (Err (stops.Halt halt)) (tale_of message (run_of setup left)) (marks_tale message (said_marks setup.entries left (start_step setup).said) behind) state left a b
           (run_tale message (said_marks setup.entries left (start_step setup).said) (driven setup left (start_step setup).state))
-          (start_comes halt message setup state left behind a b says),
+          (start_comes halt message setup state left behind a b (driven_last message setup left (start_step setup).state) says),
     )
 
 -- ---- what failed

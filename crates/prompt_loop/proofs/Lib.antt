@@ -1,4 +1,5 @@
 pub mod AskLemmas
+pub mod LastLemmas
 pub mod LawLemmas
 pub mod ShowLemmas
 pub mod SilenceLemmas

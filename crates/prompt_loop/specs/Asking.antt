@@ -1,7 +1,7 @@
 -- What keys come to at a prompt that is asked over a BIOS.
 use Rattle.std.specs.Prelude.{◌≡◌, ◌≤◌, List, [], Result, Ok, Err}
 use Rattle.lilo_model.specs.Faults.{Rose}
-use Rattle.lilo_model.specs.Prompt.{Key}
+use Rattle.lilo_model.specs.Prompt.{Key, AreLastKeys}
 use Rattle.disk_trait.specs.declared.disks.Disks as disks
 use Rattle.bios_model.specs.declared.bios.Bios.{Bios}
 use Rattle.bios_model.specs.Keys.{MayLeave}
@@ -20,11 +20,11 @@ use Rattle.prompt_loop.specs.Message.{ShowsPrefix}
 use Rattle.prompt_loop.specs.Tale.{Tale}
 
 -- Asking came to a tale, and left the prompt in a state and these keys: all was shown, up to where the message is
--- refused. Where a source or a disk failed, a prefix of the tale's text was shown.
+-- refused. Where a source or a disk failed, a prefix of the tale's text was shown, and no key was taken that the tale doesn't take.
 abbrev pub Comes : Result (Unit {0}) Stop → Tale → State → List Key → SinkState → SinkState → Type 0
 Comes (Ok done) tale state left old new = (tale.end ≡ Ok (chosen_in state)) × (tale.left ≡ left) × Shows old tale.shown new
-Comes (Err Keys) tale state left old new = ShowsPrefix old tale.shown new
-Comes (Err (Halt Device)) tale state left old new = ShowsPrefix old tale.shown new
+Comes (Err Keys) tale state left old new = AreLastKeys left tale.left × ShowsPrefix old tale.shown new
+Comes (Err (Halt Device)) tale state left old new = AreLastKeys left tale.left × ShowsPrefix old tale.shown new
 Comes (Err (Halt (Refused reason))) tale state left old new = (tale.end ≡ Err (reason_view reason)) × (tale.left ≡ left) × Shows old tale.shown new
 
 -- the same of what is heard where no key is left

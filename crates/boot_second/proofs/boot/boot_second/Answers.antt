@@ -34,10 +34,10 @@ returns-in-Err-clause-boots g c =
     told_map (g.D.Disks.past c.args.bios.now.disks.now) _ _
     (λ now halts. keys_still g.I.Source c.args.bios.now.keys.now _
     (λ keys. (
-      place_failed g.D.Disks now machine (length c.args.ram.now) false keys c.say.result
+      (place_failed g.D.Disks now machine (length c.args.ram.now) false keys c.say.result
           (state_of g.I.Source g.O.Sink (c.args.bios.now.disks.now, c.args.bios.now.keys.now, c.args.ram.now, c.args.out.now))
           (state_of g.I.Source g.O.Sink (c.find_device.new.disks, c.args.bios.now.keys.now, c.args.ram.now, c.say.new.out))
-          c.in-Err.ensures.reads.same refl (place_at now machine (device_view c.args.device)) c.in-Err.halt halts (λ is. c.in-Err.ensures.reads.failed (ap Err is)) c.say.ensures.status c.say.ensures.some c.say.ensures.shown,
+          c.in-Err.ensures.reads.same refl (place_at now machine (device_view c.args.device)) c.in-Err.halt halts (λ is. c.in-Err.ensures.reads.failed (ap Err is)) c.say.ensures.status c.say.ensures.some c.say.ensures.shown).does,
       λ zero. absurd (let some = c.say.ensures.some in omega (arith, zero, some)),
     )))
     c.in-Err.ensures.place

@@ -19,7 +19,7 @@ returns-in-Loaded-clause-boots g c =
     rw c.hand_kernel.ensures.same (told_map (g.D.Disks.past c.args.bios.now.disks.now) _ _
     (λ now goes. keys_map g.I.Source _ _ _
     (λ all left went. (
-      boot_loaded g.D.Disks false _ left old new (sink_of g.O.Sink c.boot.new.out) c.in-Loaded.layout c.boot.new.ram refl went.1 (shows_nothing _) went.0,
+      (boot_loaded g.D.Disks false _ left old new (sink_of g.O.Sink c.boot.new.out) c.in-Loaded.layout c.boot.new.ram refl went.1 (shows_nothing _) went.0).does,
       λ zero. started_handed (boot_report now (machine_of g.D.Disks c.args.bios.now.disks.now) (span_view c.args.span) (length c.args.ram.now) all) _ _ c.boot.new.ram _ _ went.1.1.starts.is c.hand_kernel.ensures.handed,
     )) goes)
     c.in-Loaded.ensures.report)
@@ -31,7 +31,7 @@ returns-in-Handed-clause-boots g c =
     rw c.hand_sector.ensures.same (told_map (g.D.Disks.past c.args.bios.now.disks.now) _ _
     (λ now goes. keys_map g.I.Source _ _ _
     (λ all left went. (
-      boot_handed g.D.Disks false _ left old new (sink_of g.O.Sink c.boot.new.out) c.boot.new.ram refl went.1 (shows_nothing _) went.0,
+      (boot_handed g.D.Disks false _ left old new (sink_of g.O.Sink c.boot.new.out) c.boot.new.ram refl went.1 (shows_nothing _) went.0).does,
       λ zero. started_handed (boot_report now (machine_of g.D.Disks c.args.bios.now.disks.now) (span_view c.args.span) (length c.args.ram.now) all) _ _ c.boot.new.ram _ _ went.1.1.starts.is c.hand_sector.ensures.handed,
     )) goes)
     c.in-Handed.ensures.report)
@@ -43,8 +43,8 @@ returns-in-Refused-clause-boots g c =
     told_map (g.D.Disks.past c.args.bios.now.disks.now) _ _
     (λ now goes. keys_map g.I.Source _ _ _
     (λ all left went. (
-      boot_refused g.D.Disks false _ left old new (sink_of g.O.Sink c.boot.new.out) c.in-Refused.reason c.say.result c.boot.new.ram went.1
-          c.say.ensures.status c.say.ensures.some c.say.ensures.shown went.0,
+      (boot_refused g.D.Disks false _ left old new (sink_of g.O.Sink c.boot.new.out) c.in-Refused.reason c.say.result c.boot.new.ram went.1
+          c.say.ensures.status c.say.ensures.some c.say.ensures.shown went.0).does,
       λ zero. absurd (let some = c.say.ensures.some in omega (arith, zero, some)),
     )) goes)
     c.in-Refused.ensures.report
@@ -56,8 +56,8 @@ returns-in-Keys-clause-boots g c =
     told_map (g.D.Disks.past c.args.bios.now.disks.now) _ _
     (λ now goes. keys_map g.I.Source _ _ _
     (λ all left went. (
-      boot_unheard g.D.Disks false _ left old new (sink_of g.O.Sink c.boot.new.out) c.say_keys.result c.boot.new.ram went.1
-          c.say_keys.ensures.status c.say_keys.ensures.shown (c.boot.ensures.asks.keys c.in-Keys.is) went.0,
+      (boot_unheard g.D.Disks false _ left old new (sink_of g.O.Sink c.boot.new.out) c.say_keys.result c.boot.new.ram went.1
+          c.say_keys.ensures.status c.say_keys.ensures.shown (c.boot.ensures.asks.keys c.in-Keys.is) went.0).does,
       λ zero. absurd (let eleven = c.say_keys.ensures.status in omega (arith, zero, eleven)),
     )) goes)
     c.in-Keys.ensures.report
@@ -69,8 +69,8 @@ returns-in-Device-clause-boots g c =
     told_map (g.D.Disks.past c.args.bios.now.disks.now) _ _
     (λ now goes. keys_map g.I.Source _ _ _
     (λ all left went. (
-      boot_failed g.D.Disks false _ left old new (sink_of g.O.Sink c.boot.new.out) c.in-Device.phase c.say_failed.result c.boot.new.ram went.1
-          c.say_failed.ensures.status c.say_failed.ensures.shown went.0,
+      (boot_failed g.D.Disks false _ left old new (sink_of g.O.Sink c.boot.new.out) c.in-Device.phase c.say_failed.result c.boot.new.ram went.1
+          c.say_failed.ensures.status c.say_failed.ensures.shown went.0).does,
       λ zero. absurd (not_zero _ zero c.say_failed.ensures.lost),
     )) goes)
     c.in-Device.ensures.report

@@ -10,6 +10,7 @@ use Rattle.bios_model.specs.Memory.{memory_of}
 use Rattle.disk_trait.proofs.ToldLemmas.{told_map, told_all}
 use Rattle.lilo_run.proofs.ConfLemmas.{queries, tests}
 use Rattle.lilo_run.proofs.PartLemmas.{part_installs}
+use Rattle.prompt_loop.proofs.LastLemmas.{all_last}
 use Rattle.loader_core.proofs.BootLemmas.{keys_still, keys_map}
 use Rattle.loader_core.proofs.LeavesLemmas.{same_self}
 use Rattle.bios_model.proofs.WriteLemmas.{goes_on_read}
@@ -78,7 +79,7 @@ returns-in-Ok-clause-does g c =
     (λ now machine. line_effect now machine (option_map device_view c.args.part.root) path c.in-Ok.text.items))
     same (rw c.as_slice.ensures.value at (c.put_line.ensures.does (memory_of c.args.ram.now))) in
     rw (c.in-SetLine.is, ← c.in-Ok.ensures)
-    (told_map (g.D.Disks.past c.args.bios.now.disks.now) _ _ (λ now carries. keys_still g.I.Source c.args.bios.now.keys.now _ (λ keys. (first_left now [], carries keys (g.I.Source.faults c.args.bios.now.keys.now)))) does)
+    (told_map (g.D.Disks.past c.args.bios.now.disks.now) _ _ (λ now carries. keys_still g.I.Source c.args.bios.now.keys.now _ (λ keys. (first_left now [], record { does = carries keys (g.I.Source.faults c.args.bios.now.keys.now); keys = all_last keys }))) does)
 
 pub returns-in-Err-clause-does : goal.returns-in-Err-clause-does
 unfolding command_effect line_effect
@@ -86,13 +87,15 @@ returns-in-Err-clause-does g c =
     let disks = c.args.bios.now.disks.now in
     rw c.in-SetLine.is
     (told_all (g.D.Disks.past disks) _ (λ now. keys_still g.I.Source c.args.bios.now.keys.now _
-    (λ keys. (first_left now [], Starved (record { answer = c.say_memory.ensures.status; shown = inl c.say_memory.ensures.shown }) (same_self g.D.Disks disks)))))
+    (λ keys.
+    let starved = Starved (record { answer = c.say_memory.ensures.status; shown = inl c.say_memory.ensures.shown }) (same_self g.D.Disks disks) in
+    (first_left now [], record { does = starved; keys = all_last keys }))))
 
 pub returns-in-Restore-clause-does : goal.returns-in-Restore-clause-does
 unfolding command_effect
 returns-in-Restore-clause-does g c =
     rw c.in-Restore.is
-    (told_map (g.D.Disks.past c.args.bios.now.disks.now) _ _ (λ now carries. keys_still g.I.Source c.args.bios.now.keys.now _ (λ keys. (first_left now [], carries keys (g.I.Source.faults c.args.bios.now.keys.now))))
+    (told_map (g.D.Disks.past c.args.bios.now.disks.now) _ _ (λ now carries. keys_still g.I.Source c.args.bios.now.keys.now _ (λ keys. (first_left now [], record { does = carries keys (g.I.Source.faults c.args.bios.now.keys.now); keys = all_last keys })))
     (c.put_back.ensures.does (memory_of c.args.ram.now)))
 
 pub returns-in-Query-clause-asks : goal.returns-in-Query-clause-asks

@@ -10,7 +10,7 @@ use Rattle.lilo_words.specs.View.{part_view}
 use Rattle.stream_trait.specs.Shows.{sink_of, answer_of}
 use Rattle.stream_trait.proofs.ShowsLemmas.{has_failed_twice, zero_before}
 use Rattle.loader_core.specs.Start.{OnKeys}
-use Rattle.lilo_run.specs.Run.{Carries, state_of}
+use Rattle.lilo_run.specs.Run.{CarriesKeys, state_of}
 use Rattle.lilo_run.specs.Verdict.{Left, part_effect, early_status}
 use Rattle.lilo_run.specs.Install.{done_status}
 use Rattle.lilo_run.proofs.AloneLemmas.{alone_end, alone_last, alone_more, done_answer}
@@ -40,11 +40,11 @@ returns-in_default-answer-clause-does g c =
     (λ is.
     let told = told_here g.D.Disks c.args.bios.now.disks.now c.loop-next.bios.disks.now invariant.keeps.size invariant.keeps.geometry
     (λ image machine. OnKeys g.I.Source (c.loop-next.bios.keys.now, run.new.bios.keys.now) (λ keys left. (found : Left)
-    × Carries g.D.Disks (part_effect machine (length c.loop-next.ram) c.args.time image part found keys) run.result left here there))
+    × CarriesKeys g.D.Disks (part_effect machine (length c.loop-next.ram) c.args.time image part found keys) run.result left here there))
     run.ensures.does (invariant.keeps.told is) in
     let done = subst
     (λ size. OnKeys g.I.Source (c.loop-next.bios.keys.now, run.new.bios.keys.now) (λ keys left. (found : Left)
-    × Carries g.D.Disks (part_effect machine size c.args.time (now (g.D.Disks.past c.loop-next.bios.disks.now)) part found keys) run.result left here there))
+    × CarriesKeys g.D.Disks (part_effect machine size c.args.time (now (g.D.Disks.past c.loop-next.bios.disks.now)) part found keys) run.result left here there))
     invariant.memory told in
     continues_last g.D.Disks g.I.Source (part_effect machine (length c.args.ram.now) c.args.time) _ _ _ part run.result c.answer.result _ _ _ start here there (invariant.does is) rest done run.ensures.known answer
     (grind (arith, tests))
@@ -171,11 +171,11 @@ loop-next-preserved g c =
           λ is.
           let told = told_here g.D.Disks c.args.bios.now.disks.now c.loop-next.bios.disks.now invariant.keeps.size invariant.keeps.geometry
           (λ image machine. OnKeys g.I.Source (c.loop-next.bios.keys.now, run.new.bios.keys.now) (λ keys left. (found : Left)
-          × Carries g.D.Disks (part_effect machine (length c.loop-next.ram) c.args.time image part found keys) run.result left here there))
+          × CarriesKeys g.D.Disks (part_effect machine (length c.loop-next.ram) c.args.time image part found keys) run.result left here there))
           run.ensures.does (invariant.keeps.told is) in
           let done = subst
           (λ size. OnKeys g.I.Source (c.loop-next.bios.keys.now, run.new.bios.keys.now) (λ keys left. (found : Left)
-          × Carries g.D.Disks (part_effect machine size c.args.time (now (g.D.Disks.past c.loop-next.bios.disks.now)) part found keys) run.result left here there))
+          × CarriesKeys g.D.Disks (part_effect machine size c.args.time (now (g.D.Disks.past c.loop-next.bios.disks.now)) part found keys) run.result left here there))
           invariant.memory told in
           continues_more g.D.Disks g.I.Source (part_effect machine (length c.args.ram.now) c.args.time) _ _ behind part run.result _ _ _ start here there (invariant.does is) rest done (invariant.keeps.told is) zero;
       begun =

@@ -6,7 +6,7 @@ use Rattle.stream_trait.specs.Shows.{sink_of}
 use Rattle.disk_trait.proofs.ToldLemmas.{told_all, told_map, told_both}
 use Rattle.prompt_loop.specs.Message.{message_rest}
 use Rattle.prompt_loop.specs.Tale.{tale_of}
-use Rattle.prompt_loop.proofs.AskLemmas.{goes_begin, goes_on, comes_done, comes_halted, comes_silent, lost_counted}
+use Rattle.prompt_loop.proofs.AskLemmas.{goes_begin, goes_on, comes_done, comes_unheard, comes_halted, comes_silent, lost_counted}
 use Rattle.prompt_loop.proofs.asking.hear.Goals as goal
 
 pub loop-bios-init : goal.loop-bios-init
@@ -112,3 +112,14 @@ loop-bios-preserved g c =
       same_keys_reference = search rules;
       same_reference = search rules;
     }
+
+pub returns-in_default-clause-heard : goal.returns-in_default-clause-heard
+returns-in_default-clause-heard g c =
+    let machine = machine_of g.D.Disks c.args.bios.now.disks.now in
+    let setup = c.args.prompt.now.setup in
+    told_map (g.D.Disks.past c.args.bios.now.disks.now) _ _
+    (λ now far.
+    comes_unheard g.I.Source (message_rest now machine c.args.message.now) (λ heard. tale_of (message_rest now machine c.args.message.now) (driven setup heard c.args.prompt.now.state)) setup c.loop-bios.prompt.state c.in_default.field-0
+    c.args.bios.now.keys.now c.loop-bios.bios.keys.now c.key.new.self.keys.now (sink_of g.O.Sink c.args.out.now) (sink_of g.O.Sink c.loop-bios.out)
+    far c.in_default.ensures.key (λ end. (c.in_default.ensures.stays end).0))
+    c.loop-bios.invariant.goes

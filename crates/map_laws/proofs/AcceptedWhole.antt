@@ -1,5 +1,5 @@
 -- What is accepted on a sound volume and written boots as the configuration and its files mean.
-use Rattle.std.proofs.Common.{◌≡◌, ◌≢◌, ◌≤◌, ℕ, List, [], ◌∷◌, length, Option, None, Some, Ok, sym, ap, ◌∙◌, arith}
+use Rattle.std.proofs.Common.{◌≡◌, ◌≢◌, ◌≤◌, ℕ, List, [], length, Option, None, Some, Ok, sym, ap, ◌∙◌, arith}
 use Rattle.std.specs.Prelude.{IfSome, nat_le, option_map, flat_map}
 use Rattle.std.specs.List.{AllByRecursion}
 use Rattle.std.proofs.lemmas.List.Elements.{recursion_from_All}
@@ -18,6 +18,7 @@ use Rattle.map_laws.proofs.Accepted.{both-pass, required, all-pass, not-ok, plac
 use Rattle.map_laws.proofs.AcceptedSections.{files-lie, all-ready}
 use Rattle.map_laws.proofs.MeantFiles.{optional_file_law}
 use Rattle.map_laws.proofs.Planned.{planned_law}
+use Rattle.map_laws.specs.Lies.{all_places}
 
 -- a message that is accepted is short
 few : (file : Option MappedFile) (bytes : Option (List ℕ)) → option_map (λ (file : MappedFile). file.size) file ≡ option_map length bytes → if_there message_check file ≡ Ok tt → IfSome bytes (λ bytes. length bytes ≤ message_limit)
@@ -40,7 +41,7 @@ some-left sections is none = not-ok NoImagesLeft tt (ap left_check (sym none) �
 
 pub accepted_lies_law : AcceptedLiesLaw
 unfolding plan_at file_checks held_checks address_checks planned plan_sectors sectors_of_table
-accepted_lies_law before image machine volume span config time line p0 p1 p2 p3 p4 rest present sound a w =
+accepted_lies_law before image machine volume span config time line places present sound a w =
     let plan = planned before machine volume config time in
     let parts = parts_of volume before in
     let sections = flat_map (mapped_section before machine volume) config.sections in
@@ -59,9 +60,9 @@ accepted_lies_law before image machine volume span config time line p0 p1 p2 p3 
     let short = both-pass (if_there message_check message) (λ b. each_passes (mapped_check before volume span) sections) tt disks.2 in
     -- addresses
     let sent = both-pass (if_there (mapped_file_check config machine options.Message) message) (λ a. each_passes (mapped_address_check config machine) sections) tt addresses.1 in
-    let named = places_law machine config (p0 ∷ (p1 ∷ (p2 ∷ (p3 ∷ (p4 ∷ rest))))) a.has.geometries a.inside a.own in
-    let z : HasZeros image machine config p0 p4 = record { named = (named.1.1.1.1.0, tt); other = w.apart.1.1.1.0; zeros = w.lies.1.1.1.0 } in
-    let ready = all-ready before image machine volume span config p0 p4 sound a.has z a.devices w.whole sections (all-pass (mapped_address_check config machine) sections sent.2) (all-pass (mapped_check before volume span) sections short.2) w.sections a.small in
+    let named = places_law machine config (all_places places) a.has.geometries a.inside a.own in
+    let z : HasZeros image machine config places.line places.zero_place = record { named = (named.1.1.1.1.0, tt); other = w.apart.1.1.1.0; zeros = w.lies.1.1.1.0 } in
+    let ready = all-ready before image machine volume span config places.line places.zero_place sound a.has z a.devices w.whole sections (all-pass (mapped_address_check config machine) sections sent.2) (all-pass (mapped_check before volume span) sections short.2) w.sections a.small in
     record {
       lawful = a.lawful;
       time_fits = a.time_fits;
@@ -73,12 +74,12 @@ accepted_lies_law before image machine volume span config time line p0 p1 p2 p3 
       apart = w.apart;
       left = some-left sections left.2;
       message_few = few message (filled_file (names_in volume before) config.message) (optional_file_law volume before config.message sound) short.1;
-      message = optional-lies before image machine volume config p0 p4 options.Message sound a.has z config.message (message-small message short.1) sent.1 w.message;
-      files = files-lie before image machine volume span config p0 p4 sound a.has z a.devices w.whole config.sections (recursion_from_All _ config.sections a.lawful.sections)
+      message = optional-lies before image machine volume config places.line places.zero_place options.Message sound a.has z config.message (message-small message short.1) sent.1 w.message;
+      files = files-lie before image machine volume span config places.line places.zero_place sound a.has z a.devices w.whole config.sections (recursion_from_All _ config.sections a.lawful.sections)
           (all-pass (λ (section : ConfSection). section_check before machine volume section section.other) config.sections each.1) ready;
     }
 
 pub accepted_law : AcceptedLaw
-accepted_law before image machine volume span config time line p0 p1 p2 p3 p4 rest present keys memory sound a w =
-    planned_law before image machine volume span config time (devices_in before machine) line p0 p1 p2 p3 p4 rest present keys memory sound
-    (accepted_lies_law before image machine volume span config time line p0 p1 p2 p3 p4 rest present sound a w)
+accepted_law before image machine volume span config time line places present keys memory sound a w =
+    planned_law before image machine volume span config time (devices_in before machine) line places present keys memory sound
+    (accepted_lies_law before image machine volume span config time line places present sound a w)

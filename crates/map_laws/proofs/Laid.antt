@@ -20,7 +20,7 @@ use Rattle.lilo_model.specs.MinixNames.{names_in}
 use Rattle.lilo_model.specs.Plan.{MappedFile, MappedSection, Plan, slot_to, place_of_sector, filled_places, compact_slots, chain_for, optional_chain, file_slots, file_sectors, optional_sectors, main_places, initrd_places, places_after, section_sectors_at, descriptor_for, sections_sectors, sections_entries, plan_boot}
 use Rattle.lilo_model.specs.Planned.{planned, devices_in}
 use Rattle.lilo_model.specs.Lays.{AreAsSaid, LaysFile, LaysOptional, LaysEntry, LaysNames, LaysSections, IsPlaceAt, AreAt, Lays}
-use Rattle.map_laws.specs.Lies.{AreNamed, FileLies, OptionalLies, TargetLies, TargetsLie, MapLies}
+use Rattle.map_laws.specs.Lies.{MapPlaces, all_places, AreNamed, FileLies, OptionalLies, TargetLies, TargetsLie, MapLies}
 use Rattle.map_laws.specs.MapLays.{HoldsMap, LaysLaw, PlannedLaysLaw, AcceptedLaysLaw, LaysStaysLaw}
 use Rattle.map_laws.specs.PlannedLies.{targets_for}
 use Rattle.map_laws.proofs.Maximal.{compact_law}
@@ -109,84 +109,81 @@ module _ (image : Image) (machine : Machine) (config : Config) (line_place zero_
 
 -- ---- the whole map
 
-module _ (image : Image) (machine : Machine) (span : Span) (plan : Plan) (menu : Menu) (targets : List Target) (line : DefaultLine) (p0 p1 p2 p3 p4 : DiskSector) (rest : List DiskSector) (present : List ℕ)
-    (s : MapLies image machine span plan menu targets line p0 p1 p2 p3 p4 rest present) where
-  abbrev places : List DiskSector
-  places = p0 ∷ (p1 ∷ (p2 ∷ (p3 ∷ (p4 ∷ rest))))
-
+module _ (image : Image) (machine : Machine) (span : Span) (plan : Plan) (menu : Menu) (targets : List Target) (line : DefaultLine) (places : MapPlaces) (present : List ℕ)
+    (s : MapLies image machine span plan menu targets line places present) where
   abbrev goes : DiskSector → Slot
   goes = slot_to plan.config.mode machine
 
   abbrev said : BootSector
-  said = plan_boot plan machine places
+  said = plan_boot plan machine (all_places places)
 
   abbrev entries : List Descriptor
-  entries = whole.entries image machine span plan menu targets line p0 p1 p2 p3 p4 rest present s
+  entries = whole.entries image machine span plan menu targets line places present s
 
-  table-at : (index : ℕ) → index < 3 → IsPlaceAt places (1 + index) (place_at machine (slice_index_or said.table index said.line) 0)
+  table-at : (index : ℕ) → index < 3 → IsPlaceAt (all_places places) (1 + index) (place_at machine (slice_index_or said.table index said.line) 0)
   unfolding plan_boot
-  table-at zero below = (p1, refl, s.named.1.0.names)
-  table-at (suc zero) below = (p2, refl, s.named.1.1.0.names)
-  table-at (suc (suc zero)) below = (p3, refl, s.named.1.1.1.0.names)
+  table-at zero below = (places.one, refl, s.named.1.0.names)
+  table-at (suc zero) below = (places.two, refl, s.named.1.1.0.names)
+  table-at (suc (suc zero)) below = (places.three, refl, s.named.1.1.1.0.names)
   table-at (suc (suc (suc index))) below = absurd (omega (arith, below))
 
   table-says : (each (map (slot_bytes_at image machine) said.table) >>= λ sectors. Ok (table_at said.names sectors)) ≡ Ok (Ok entries)
   unfolding plan_boot
   table-says =
       rw (
-        slot-read image machine goes p1 (bytes_at image p1) s.named.1.0 refl,
-        slot-read image machine goes p2 (bytes_at image p2) s.named.1.1.0 refl,
-        slot-read image machine goes p3 (bytes_at image p3) s.named.1.1.1.0 refl,
-        whole.table-lies image machine span plan menu targets line p0 p1 p2 p3 p4 rest present s,
-        whole.table-read image machine span plan menu targets line p0 p1 p2 p3 p4 rest present s,
+        slot-read image machine goes places.one (bytes_at image places.one) s.named.1.0 refl,
+        slot-read image machine goes places.two (bytes_at image places.two) s.named.1.1.0 refl,
+        slot-read image machine goes places.three (bytes_at image places.three) s.named.1.1.1.0 refl,
+        whole.table-lies image machine span plan menu targets line places present s,
+        whole.table-read image machine span plan menu targets line places present s,
       ) refl
 
-  message-laid : LaysOptional image machine plan.config p4 plan.message said.message said.message_length said.message_chain
+  message-laid : LaysOptional image machine plan.config places.zero_place plan.message said.message said.message_length said.message_chain
   unfolding plan_boot
-  message-laid = optional-laid image machine plan.config p0 p4 plan.message menu.message rest s.message s.named.1.1.1.1.1 (whole.message-lie image machine span plan menu targets line p0 p1 p2 p3 p4 rest present s)
+  message-laid = optional-laid image machine plan.config places.line places.zero_place plan.message menu.message places.rest s.message s.named.1.1.1.1.1 (whole.message-lie image machine span plan menu targets line places present s)
 
-  pub lays : (volume : Volume) (path : List (List ℕ)) → HoldsMap image machine volume plan path places → Lays image machine volume span plan path present
+  pub lays : (volume : Volume) (path : List (List ℕ)) → HoldsMap image machine volume plan path (all_places places) → Lays image machine volume span plan path present
   unfolding plan_boot
   lays volume path h = record {
     boot = said;
-    says = whole.boot-read image machine span plan menu targets line p0 p1 p2 p3 p4 rest present s;
+    says = whole.boot-read image machine span plan menu targets line places present s;
     holder = h.holder;
     leads = h.leads;
     regular = h.regular;
-    places = places;
+    places = all_places places;
     solid = h.solid;
     size_is = h.size_is;
     layout = s.lies;
     odd = h.odd;
-    line = (p0, refl, s.named.0.names);
+    line = (places.line, refl, s.named.0.names);
     table = table-at;
-    zero_place = p4;
+    zero_place = places.zero_place;
     zero_is = (refl, s.named.1.1.1.1.0.names);
-    zeros = whole.zeros-lie image machine span plan menu targets line p0 p1 p2 p3 p4 rest present s;
+    zeros = whole.zeros-lie image machine span plan menu targets line places present s;
     message = message-laid;
     entries = entries;
     table_says = table-says;
     default = refl;
-    files = sections-laid image machine plan.config p0 p4 plan.sections targets (whole.after image machine span plan menu targets line p0 p1 p2 p3 p4 rest present s) s.targets_lie
-        (whole.after-named image machine span plan menu targets line p0 p1 p2 p3 p4 rest present s) (whole.sections-lie image machine span plan menu targets line p0 p1 p2 p3 p4 rest present s);
-    code = whole.code-read image machine span plan menu targets line p0 p1 p2 p3 p4 rest present s;
-    kept = whole.kept-read image machine span plan menu targets line p0 p1 p2 p3 p4 rest present s;
+    files = sections-laid image machine plan.config places.line places.zero_place plan.sections targets (whole.after image machine span plan menu targets line places present s) s.targets_lie
+        (whole.after-named image machine span plan menu targets line places present s) (whole.sections-lie image machine span plan menu targets line places present s);
+    code = whole.code-read image machine span plan menu targets line places present s;
+    kept = whole.kept-read image machine span plan menu targets line places present s;
   }
 
 pub lays_law : LaysLaw
-lays_law image machine volume span plan menu targets line p0 p1 p2 p3 p4 rest present path s h = lays image machine span plan menu targets line p0 p1 p2 p3 p4 rest present s volume path h
+lays_law image machine volume span plan menu targets line places present path s h = lays image machine span plan menu targets line places present s volume path h
 
 pub planned_lays_law : PlannedLaysLaw
-planned_lays_law before image machine volume span config time devices line p0 p1 p2 p3 p4 rest present path sound s h =
-    lays_law image machine volume span (planned before machine volume config time) (menu_of config (names_in volume before) devices) (targets_for (names_in volume before) devices config.sections) line p0 p1 p2 p3 p4 rest present path
-    (map-lies before image machine volume span config time devices line p0 p1 p2 p3 p4 rest present sound s) h
+planned_lays_law before image machine volume span config time devices line places present path sound s h =
+    lays_law image machine volume span (planned before machine volume config time) (menu_of config (names_in volume before) devices) (targets_for (names_in volume before) devices config.sections) line places present path
+    (map-lies before image machine volume span config time devices line places present sound s) h
 
 pub accepted_lays_law : AcceptedLaysLaw
-accepted_lays_law before image machine volume span config time line p0 p1 p2 p3 p4 rest present path sound a w h =
-    planned_lays_law before image machine volume span config time (devices_in before machine) line p0 p1 p2 p3 p4 rest present path sound
-    (accepted_lies_law before image machine volume span config time line p0 p1 p2 p3 p4 rest present sound a w) h
+accepted_lays_law before image machine volume span config time line places present path sound a w h =
+    planned_lays_law before image machine volume span config time (devices_in before machine) line places present path sound
+    (accepted_lies_law before image machine volume span config time line places present sound a w) h
 
 pub lays_stays_law : LaysStaysLaw
-lays_stays_law image c machine volume span plan menu targets line other p0 p1 p2 p3 p4 rest present path s same is h =
-    lays_law c machine volume span plan menu targets other p0 p1 p2 p3 p4 rest present path
-    (map_stays_law image c machine span plan menu targets line other p0 p1 p2 p3 p4 rest present s same is) h
+lays_stays_law image c machine volume span plan menu targets line other places present path s same is h =
+    lays_law c machine volume span plan menu targets other places present path
+    (map_stays_law image c machine span plan menu targets line other places present s same is) h

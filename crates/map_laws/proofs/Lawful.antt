@@ -106,12 +106,12 @@ module _ (image : Image) (machine : Machine) (volume : Volume) where
   mapped-lawful (section ∷ sections) all = with-mapped section (flat_map (mapped_section image machine volume) sections) all.0 (mapped-lawful sections all.1)
 
 -- their files lie, and so they fit
-pub targets-lie : (image : Image) (machine : Machine) (config : Config) (p0 p4 : DiskSector) (sections : List MappedSection) (targets : List Target) → MappedLawful sections → FilesLie image machine config p0 p4 sections targets → TargetsLie image machine config p0 p4 sections targets
-targets-lie image machine config p0 p4 [] [] all lie = tt
-targets-lie image machine config p0 p4 [] (target ∷ targets) all lie = absurd lie
-targets-lie image machine config p0 p4 (mapped ∷ sections) [] all lie = absurd lie
-targets-lie image machine config p0 p4 (mapped ∷ sections) (target ∷ targets) all lie =
-    (fits mapped.section all.0 lie.0, lie.1, targets-lie image machine config p0 p4 sections targets all.1 lie.2)
+pub targets-lie : (image : Image) (machine : Machine) (config : Config) (line_place zero_place : DiskSector) (sections : List MappedSection) (targets : List Target) → MappedLawful sections → FilesLie image machine config line_place zero_place sections targets → TargetsLie image machine config line_place zero_place sections targets
+targets-lie image machine config line_place zero_place [] [] all lie = tt
+targets-lie image machine config line_place zero_place [] (target ∷ targets) all lie = absurd lie
+targets-lie image machine config line_place zero_place (mapped ∷ sections) [] all lie = absurd lie
+targets-lie image machine config line_place zero_place (mapped ∷ sections) (target ∷ targets) all lie =
+    (fits mapped.section all.0 lie.0, lie.1, targets-lie image machine config line_place zero_place sections targets all.1 lie.2)
 
 -- ---- names
 

@@ -13,7 +13,7 @@ use Rattle.lilo_model.specs.Meant.{Target, Kernel, System, Menu, meant, menu_of}
 use Rattle.lilo_model.specs.Plan.{MappedFile, MappedSection, Plan, plan_boot}
 use Rattle.lilo_model.specs.Planned.{planned}
 use Rattle.boot_laws.proofs.Unlisted.{unlisted_law}
-use Rattle.map_laws.specs.Lies.{IsNone, OptionalLies, TargetLies, TargetsLie, MapLies}
+use Rattle.map_laws.specs.Lies.{MapPlaces, after_line, all_places, IsNone, OptionalLies, TargetLies, TargetsLie, MapLies}
 use Rattle.map_laws.specs.MapStays.{file_sectors_of, section_places, fixed_places}
 use Rattle.map_laws.specs.PlannedLies.{targets_for}
 use Rattle.map_laws.specs.Lines.{LinesLaw}
@@ -57,25 +57,32 @@ written image place bytes =
     let sector : (place.sector == place.sector) ≡ true = grind (arith, nat_tests) in
     rw (disk, sector) refl
 
-other-line : (image : Image) (machine : Machine) (span : Span) (plan : Plan) (menu : Menu) (targets : List Target) (line other : DefaultLine) (p0 p1 p2 p3 p4 : DiskSector) (rest : List DiskSector) (present bytes : List ℕ)
-    → MapLies image machine span plan menu targets line p0 p1 p2 p3 p4 rest present → p0 ≢ record { disk = span.disk; sector = span.start } → line_at bytes ≡ Ok other
-    → MapLies (with_sector image p0 bytes) machine span plan menu targets other p0 p1 p2 p3 p4 rest present
-other-line image machine span plan menu targets line other p0 p1 p2 p3 p4 rest present bytes s elsewhere is =
-    let after = p1 ∷ (p2 ∷ (p3 ∷ (p4 ∷ rest))) in
-    let files = joined image machine plan.config p0 p4 (file_sectors_of p4 plan.message) (flat_map (section_places p4) plan.sections) (of-optional image machine plan.config p0 p4 plan.message menu.message s.message) (of-targets image machine plan.config p0 p4 plan.sections targets s.targets_lie) in
-    let others : AllByRecursion (λ place. place ≢ p0) (fixed_places span plan p4 after) = ((λ same. elsewhere (sym same)), joined image machine plan.config p0 p4 after _ (from-none image machine plan.config p0 p4 after s.apart) files) in
-    map_stays_law image (with_sector image p0 bytes) machine span plan menu targets line other p0 p1 p2 p3 p4 rest present s
-    (unlisted_law (fixed_places span plan p4 after) image p0 bytes (All-from_recursion _ (fixed_places span plan p4 after) others))
-    (ap line_at (written image p0 bytes) ∙ is)
+-- none of the sectors that the map, its boot sector and its files lie in is the default line's
+pub fixed-apart : (image : Image) (machine : Machine) (span : Span) (plan : Plan) (menu : Menu) (targets : List Target) (line : DefaultLine) (places : MapPlaces) (present : List ℕ)
+    → MapLies image machine span plan menu targets line places present → places.line ≢ record { disk = span.disk; sector = span.start }
+    → AllByRecursion (λ place. place ≢ places.line) (fixed_places span plan places)
+fixed-apart image machine span plan menu targets line places present s elsewhere =
+    let files = joined image machine plan.config places.line places.zero_place (file_sectors_of places.zero_place plan.message) (flat_map (section_places places.zero_place) plan.sections) (of-optional image machine plan.config places.line places.zero_place plan.message menu.message s.message) (of-targets image machine plan.config places.line places.zero_place plan.sections targets s.targets_lie) in
+    ((λ same. elsewhere (sym same)), joined image machine plan.config places.line places.zero_place (after_line places) _ (from-none image machine plan.config places.line places.zero_place (after_line places) s.apart) files)
+
+-- so the map lies with each other default line
+pub other-line : (image : Image) (machine : Machine) (span : Span) (plan : Plan) (menu : Menu) (targets : List Target) (line other : DefaultLine) (places : MapPlaces) (present bytes : List ℕ)
+    → MapLies image machine span plan menu targets line places present → places.line ≢ record { disk = span.disk; sector = span.start } → line_at bytes ≡ Ok other
+    → MapLies (with_sector image places.line bytes) machine span plan menu targets other places present
+other-line image machine span plan menu targets line other places present bytes s elsewhere is =
+    map_stays_law image (with_sector image places.line bytes) machine span plan menu targets line other places present s
+    (unlisted_law (fixed_places span plan places) image places.line bytes
+    (All-from_recursion _ (fixed_places span plan places) (fixed-apart image machine span plan menu targets line places present s elsewhere)))
+    (ap line_at (written image places.line bytes) ∙ is)
 
 pub lines_law : LinesLaw
 unfolding meant plan_boot
-lines_law before image machine volume span config time devices line p0 p1 p2 p3 p4 rest present sound s elsewhere =
+lines_law before image machine volume span config time devices line places present sound s elsewhere =
     let plan = planned before machine volume config time in
     let menu = menu_of config (names_in volume before) devices in
     let targets = targets_for (names_in volume before) devices config.sections in
-    let lies : MapLies image machine span plan menu targets line p0 p1 p2 p3 p4 rest present = map-lies before image machine volume span config time devices line p0 p1 p2 p3 p4 rest present sound s in
+    let lies : MapLies image machine span plan menu targets line places present = map-lies before image machine volume span config time devices line places present sound s in
     record {
-      names = record { boot = plan_boot plan machine (p0 ∷ (p1 ∷ (p2 ∷ (p3 ∷ (p4 ∷ rest))))); says = boot-read image machine span plan menu targets line p0 p1 p2 p3 p4 rest present lies; named = lies.named.0.names };
-      boots = λ bytes other keys memory is. map_law (with_sector image p0 bytes) machine span plan menu targets other p0 p1 p2 p3 p4 rest present keys memory (other-line image machine span plan menu targets line other p0 p1 p2 p3 p4 rest present bytes lies elsewhere is);
+      names = record { boot = plan_boot plan machine (all_places places); says = boot-read image machine span plan menu targets line places present lies; named = lies.named.0.names };
+      boots = λ bytes other keys memory is. map_law (with_sector image places.line bytes) machine span plan menu targets other places present keys memory (other-line image machine span plan menu targets line other places present bytes lies elsewhere is);
     }

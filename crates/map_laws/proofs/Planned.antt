@@ -3,7 +3,7 @@ use Rattle.std.proofs.Common.{◌≡◌, ◌≢◌, ◌≤◌, ◌<◌, ℕ, Lis
 use Rattle.std.specs.Prelude.{IfSome, flat_map}
 use Rattle.std.proofs.lemmas.List.{length-take, length-take-le, length-drop}
 use Rattle.lilo_model.specs.Bytes.{part_of}
-use Rattle.lilo_model.specs.Disks.{Image, Machine, Span, DiskSector}
+use Rattle.lilo_model.specs.Disks.{Image, Machine, Span}
 use Rattle.lilo_model.specs.Devices.{Device}
 use Rattle.lilo_model.specs.Conf.{Config}
 use Rattle.lilo_model.specs.DefaultLine.{DefaultLine}
@@ -13,7 +13,7 @@ use Rattle.lilo_model.specs.MinixNames.{names_in, IsSound}
 use Rattle.lilo_model.specs.Meant.{menu_of, meant}
 use Rattle.lilo_model.specs.Plan.{MappedSection, plan_names}
 use Rattle.lilo_model.specs.Planned.{code_in, planned}
-use Rattle.map_laws.specs.Lies.{TargetsLie, MapLies}
+use Rattle.map_laws.specs.Lies.{MapPlaces, TargetsLie, MapLies}
 use Rattle.map_laws.specs.PlannedLies.{targets_for, PlannedLies, PlannedLaw}
 use Rattle.map_laws.proofs.Whole.{map_law}
 use Rattle.map_laws.proofs.MeantMenu.{menu-entries, menu-settings}
@@ -40,13 +40,13 @@ unfolding planned code_in
 code-long before machine volume config time = take-most 512 _
 
 -- it lies as a map whose menu is the configuration's
-pub map-lies : (before image : Image) (machine : Machine) (volume : Volume) (span : Span) (config : Config) (time : ℕ) (devices : Device → List ℕ) (line : DefaultLine) (p0 p1 p2 p3 p4 : DiskSector) (rest : List DiskSector) (present : List ℕ)
-    → IsSound volume before → PlannedLies before image machine volume span config time devices line p0 p1 p2 p3 p4 rest present
-    → MapLies image machine span (planned before machine volume config time) (menu_of config (names_in volume before) devices) (targets_for (names_in volume before) devices config.sections) line p0 p1 p2 p3 p4 rest present
+pub map-lies : (before image : Image) (machine : Machine) (volume : Volume) (span : Span) (config : Config) (time : ℕ) (devices : Device → List ℕ) (line : DefaultLine) (places : MapPlaces) (present : List ℕ)
+    → IsSound volume before → PlannedLies before image machine volume span config time devices line places present
+    → MapLies image machine span (planned before machine volume config time) (menu_of config (names_in volume before) devices) (targets_for (names_in volume before) devices config.sections) line places present
 unfolding menu_of planned plan_names
-map-lies before image machine volume span config time devices line p0 p1 p2 p3 p4 rest present sound s =
+map-lies before image machine volume span config time devices line places present sound s =
     let targets = targets_for (names_in volume before) devices config.sections in
-    let lie : TargetsLie image machine config p0 p4 (planned before machine volume config time).sections targets = targets-lie image machine config p0 p4 (planned before machine volume config time).sections targets (sections-lawful before machine volume config time s.lawful) s.files in
+    let lie : TargetsLie image machine config places.line places.zero_place (planned before machine volume config time).sections targets = targets-lie image machine config places.line places.zero_place (planned before machine volume config time).sections targets (sections-lawful before machine volume config time s.lawful) s.files in
     let some : 1 ≤ length (plan_names (planned before machine volume config time)) = some-name (planned before machine volume config time).sections s.left in
     record {
       boot = s.boot;
@@ -67,11 +67,11 @@ map-lies before image machine volume span config time devices line p0 p1 p2 p3 p
       message = s.message;
       targets_lie = lie;
       entries = menu-entries before machine volume sound config time devices;
-      prompt_is = menu-settings before image machine volume sound config time devices p0 p4 lie;
+      prompt_is = menu-settings before image machine volume sound config time devices places.line places.zero_place lie;
     }
 
 pub planned_law : PlannedLaw
 unfolding meant
-planned_law before image machine volume span config time devices line p0 p1 p2 p3 p4 rest present keys memory sound s =
-    map_law image machine span (planned before machine volume config time) (menu_of config (names_in volume before) devices) (targets_for (names_in volume before) devices config.sections) line p0 p1 p2 p3 p4 rest present keys memory
-    (map-lies before image machine volume span config time devices line p0 p1 p2 p3 p4 rest present sound s)
+planned_law before image machine volume span config time devices line places present keys memory sound s =
+    map_law image machine span (planned before machine volume config time) (menu_of config (names_in volume before) devices) (targets_for (names_in volume before) devices config.sections) line places present keys memory
+    (map-lies before image machine volume span config time devices line places present sound s)

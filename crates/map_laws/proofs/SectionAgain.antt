@@ -218,7 +218,7 @@ module _ (image : Image) (machine : Machine) (to : DiskSector → Slot) (chain :
       (lists-reads (places_in groups ++ suffix) here (map Names (places_in groups) ++ follow (link_of number (slot_at (optional_bytes link))))
       (lists-after (places_in groups) suffix (follow (link_of number (slot_at (optional_bytes link)))) lists))
 
-  link-of : (number : ℕ) (slot : Slot) → IsOneSlot slot → link_of number (slot_at (optional_bytes (Some slot))) ≡ Ok (Some slot)
+  pub link-of : (number : ℕ) (slot : Slot) → IsOneSlot slot → link_of number (slot_at (optional_bytes (Some slot))) ≡ Ok (Some slot)
   link-of number slot one = rw (encode_law slot one.whole, one.one) refl
 
   chain-lists : (more number : ℕ) (groups : List Group) (here : DiskSector) (after : List DiskSector)

@@ -8,7 +8,7 @@ use Rattle.boot_laws.proofs.Same.{Same, same-from_all, same-front, same-back, sa
 use Rattle.lilo_model.specs.Meant.{Target, Kernel, System}
 use Rattle.lilo_model.specs.Plan.{MappedFile, MappedSection, Plan, filled_places}
 use Rattle.lilo_model.specs.Lays.{AreAt}
-use Rattle.map_laws.specs.Lies.{FileLies, OptionalLies, TargetLies, TargetsLie}
+use Rattle.map_laws.specs.Lies.{after_line, all_places, FileLies, OptionalLies, TargetLies, TargetsLie}
 use Rattle.map_laws.specs.MapStays.{file_sectors_of, section_places, fixed_places, MapStaysLaw}
 
 module _ (image c : Image) (machine : Machine) (config : Config) (line_place zero_place : DiskSector) where
@@ -54,17 +54,17 @@ module _ (image c : Image) (machine : Machine) (config : Config) (line_place zer
       (s.0, target-same mapped target (same-front image c here others same) s.1, targets-same sections targets (same-back image c here others same) s.2)
 
 pub map_stays_law : MapStaysLaw
-map_stays_law image c machine span plan menu targets line other p0 p1 p2 p3 p4 rest present s all is =
-    let after = p1 ∷ (p2 ∷ (p3 ∷ (p4 ∷ rest))) in
-    let files = file_sectors_of p4 plan.message ++ Rattle.std.specs.Prelude.flat_map (section_places p4) plan.sections in
-    let same = same-from_all image c (fixed_places span plan p4 after) all in
+map_stays_law image c machine span plan menu targets line other places present s all is =
+    let after = after_line places in
+    let files = file_sectors_of places.zero_place plan.message ++ Rattle.std.specs.Prelude.flat_map (section_places places.zero_place) plan.sections in
+    let same = same-from_all image c (fixed_places span plan places) all in
     let same_files = same-back image c after files same.1 in
     record {
       boot = same.0 ∙ s.boot;
       present_long = s.present_long;
       code_long = s.code_long;
       line_is = is;
-      lies = lie-same image c machine plan.config p0 p4 after (drop 1 (Rattle.lilo_model.specs.Plan.plan_sectors plan machine (p0 ∷ after))) (same-front image c after files same.1) s.lies;
+      lies = lie-same image c machine plan.config places.line places.zero_place after (drop 1 (Rattle.lilo_model.specs.Plan.plan_sectors plan machine (all_places places))) (same-front image c after files same.1) s.lies;
       named = s.named;
       apart = s.apart;
       time = s.time;
@@ -75,8 +75,8 @@ map_stays_law image c machine span plan menu targets line other p0 p1 p2 p3 p4 r
       few_names = s.few_names;
       default = s.default;
       message_few = s.message_few;
-      message = optional-same image c machine plan.config p0 p4 plan.message menu.message (same-front image c (file_sectors_of p4 plan.message) (Rattle.std.specs.Prelude.flat_map (section_places p4) plan.sections) same_files) s.message;
-      targets_lie = targets-same image c machine plan.config p0 p4 plan.sections targets (same-back image c (file_sectors_of p4 plan.message) (Rattle.std.specs.Prelude.flat_map (section_places p4) plan.sections) same_files) s.targets_lie;
+      message = optional-same image c machine plan.config places.line places.zero_place plan.message menu.message (same-front image c (file_sectors_of places.zero_place plan.message) (Rattle.std.specs.Prelude.flat_map (section_places places.zero_place) plan.sections) same_files) s.message;
+      targets_lie = targets-same image c machine plan.config places.line places.zero_place plan.sections targets (same-back image c (file_sectors_of places.zero_place plan.message) (Rattle.std.specs.Prelude.flat_map (section_places places.zero_place) plan.sections) same_files) s.targets_lie;
       entries = s.entries;
       prompt_is = s.prompt_is;
     }

@@ -17,7 +17,7 @@ use Rattle.lilo_model.specs.Meant.{Target, Menu, MenuEntry, menu_entry}
 use Rattle.lilo_model.specs.ConfLawful.{names_of_section}
 use Rattle.lilo_model.specs.Plan.{MappedFile, MappedSection, Plan, slot_to, places_after, section_sectors_at, sections_sectors, sections_entries, descriptor_for, extra_sectors, main_places, initrd_places, file_sectors, optional_sectors, chain_for, optional_chain, sectors_of_table, plan_entries, plan_sectors, sectors_after, sections_places, plan_names, plan_boot, plan_boot_sector, place_of_sector}
 use Rattle.map_laws.specs.Shows.{whole, ShowsEntries, Shows}
-use Rattle.map_laws.specs.Lies.{AreNamed, IsNone, OptionalLies, IsFitSection, IsOtherName, AreNames, TargetLies, TargetsLie, entries_for, MapLies, MapLaw}
+use Rattle.map_laws.specs.Lies.{MapPlaces, after_line, all_places, AreNamed, IsNone, OptionalLies, IsFitSection, IsOtherName, AreNames, TargetLies, TargetsLie, entries_for, MapLies, MapLaw}
 use Rattle.lilo_model.specs.Lays.{AreAt}
 use Rattle.map_again_laws.proofs.TableAgain as table
 use Rattle.map_again_laws.specs.Fits as fits
@@ -173,65 +173,62 @@ names-of-entries config machine (mapped ∷ sections) own =
 
 -- ---- the whole map
 
-module _ (image : Image) (machine : Machine) (span : Span) (plan : Plan) (menu : Menu) (targets : List Target) (line : DefaultLine) (p0 p1 p2 p3 p4 : DiskSector) (rest : List DiskSector) (present : List ℕ)
-    (s : MapLies image machine span plan menu targets line p0 p1 p2 p3 p4 rest present) where
+module _ (image : Image) (machine : Machine) (span : Span) (plan : Plan) (menu : Menu) (targets : List Target) (line : DefaultLine) (places : MapPlaces) (present : List ℕ)
+    (s : MapLies image machine span plan menu targets line places present) where
   abbrev config : Config
   config = plan.config
 
   abbrev goes : DiskSector → Slot
   goes = slot_to plan.config.mode machine
 
-  abbrev places : List DiskSector
-  places = p0 ∷ (p1 ∷ (p2 ∷ (p3 ∷ (p4 ∷ rest))))
-
   abbrev pub after : List DiskSector
-  after = sections_places plan machine places
+  after = sections_places plan machine (all_places places)
 
   abbrev pub entries : List Descriptor
   entries = sections_entries config machine plan.sections after
 
   abbrev message_sectors : List (List ℕ)
-  message_sectors = optional_sectors config machine p4 plan.message rest
+  message_sectors = optional_sectors config machine places.zero_place plan.message places.rest
 
   abbrev other_sectors : List (List ℕ)
-  other_sectors = sections_sectors config machine p4 plan.sections after
+  other_sectors = sections_sectors config machine places.zero_place plan.sections after
 
-  all-lie : AreAt image (p1 ∷ (p2 ∷ (p3 ∷ (p4 ∷ rest)))) (sectors_of_table entries ++ (replicate 512 0 ∷ (message_sectors ++ other_sectors)))
+  all-lie : AreAt image (after_line places) (sectors_of_table entries ++ (replicate 512 0 ∷ (message_sectors ++ other_sectors)))
   unfolding plan_sectors plan_entries sectors_after
   all-lie = s.lies
 
-  pub table-lies : (bytes_at image p1 ∷ (bytes_at image p2 ∷ (bytes_at image p3 ∷ []))) ≡ sectors_of_table entries
+  pub table-lies : (bytes_at image places.one ∷ (bytes_at image places.two ∷ (bytes_at image places.three ∷ []))) ≡ sectors_of_table entries
   unfolding sectors_of_table
   table-lies = rw (all-lie.0, all-lie.1.0, all-lie.1.1.0) refl
 
-  pub zeros-lie : bytes_at image p4 ≡ replicate 512 0
+  pub zeros-lie : bytes_at image places.zero_place ≡ replicate 512 0
   unfolding sectors_of_table
   zeros-lie = all-lie.1.1.1.0
 
-  rest-lie : AreAt image rest (message_sectors ++ other_sectors)
+  rest-lie : AreAt image places.rest (message_sectors ++ other_sectors)
   unfolding sectors_of_table
   rest-lie = all-lie.1.1.1.1
 
-  pub message-lie : AreAt image rest message_sectors
-  message-lie = lie-prefix image rest message_sectors other_sectors rest-lie
+  pub message-lie : AreAt image places.rest message_sectors
+  message-lie = lie-prefix image places.rest message_sectors other_sectors rest-lie
 
   pub sections-lie : AreAt image after other_sectors
-  sections-lie = subst (λ n. AreAt image (drop n rest) other_sectors) (length-optional config machine p4 plan.message rest) (lie-suffix image rest message_sectors other_sectors rest-lie)
+  sections-lie = subst (λ n. AreAt image (drop n places.rest) other_sectors) (length-optional config machine places.zero_place plan.message places.rest) (lie-suffix image places.rest message_sectors other_sectors rest-lie)
 
-  rest-named : AreNamed machine goes rest
+  rest-named : AreNamed machine goes places.rest
   rest-named = s.named.1.1.1.1.1
 
-  rest-none : IsNone p0 rest
+  rest-none : IsNone places.line places.rest
   rest-none = s.apart.1.1.1.1
 
   pub after-named : AreNamed machine goes after
-  after-named = named-drop machine goes (optional_chain config machine plan.message) rest rest-named
+  after-named = named-drop machine goes (optional_chain config machine plan.message) places.rest rest-named
 
-  after-none : IsNone p0 after
-  after-none = none-drop p0 (optional_chain config machine plan.message) rest rest-none
+  after-none : IsNone places.line after
+  after-none = none-drop places.line (optional_chain config machine plan.message) places.rest rest-none
 
-  shown : AllShown image machine p0 entries (entries_for plan.sections targets)
-  shown = sections-shown image machine config p0 p4 plan.sections targets after s.targets_lie after-named after-none sections-lie
+  shown : AllShown image machine places.line entries (entries_for plan.sections targets)
+  shown = sections-shown image machine config places.line places.zero_place plan.sections targets after s.targets_lie after-named after-none sections-lie
 
   names-are : map (λ (entry : Descriptor). entry.name) entries ≡ plan_names plan
   unfolding plan_names
@@ -242,7 +239,7 @@ module _ (image : Image) (machine : Machine) (span : Span) (plan : Plan) (menu :
 
   fit : FitEntries entries
   unfolding plan_names
-  fit = sections-fit image machine config p0 p4 plan.sections targets after s.targets_lie s.names after-named sections-lie
+  fit = sections-fit image machine config places.line places.zero_place plan.sections targets after s.targets_lie s.names after-named sections-lie
 
   pub table-read : table_at (length (plan_names plan)) (sectors_of_table entries) ≡ Ok entries
   table-read =
@@ -252,19 +249,19 @@ module _ (image : Image) (machine : Machine) (span : Span) (plan : Plan) (menu :
   -- ---- the boot sector
 
   abbrev said : BootSector
-  said = plan_boot plan machine places
+  said = plan_boot plan machine (all_places places)
 
-  message-fits : (file : Option MappedFile) (bytes : Option (List ℕ)) → OptionalLies image machine config p0 p4 file bytes → IfSome bytes (λ bytes. length bytes ≤ 65535) → AreAt image rest (optional_sectors config machine p4 file rest)
-      → FitsMessage (option_map (λ (file : MappedFile). goes (place_of_sector rest 0)) file) (unwrap_or (option_map (λ (file : MappedFile). file.size) file) 0) (optional_chain config machine file)
+  message-fits : (file : Option MappedFile) (bytes : Option (List ℕ)) → OptionalLies image machine config places.line places.zero_place file bytes → IfSome bytes (λ bytes. length bytes ≤ 65535) → AreAt image places.rest (optional_sectors config machine places.zero_place file places.rest)
+      → FitsMessage (option_map (λ (file : MappedFile). goes (place_of_sector places.rest 0)) file) (unwrap_or (option_map (λ (file : MappedFile). file.size) file) 0) (optional_chain config machine file)
   message-fits None bytes lies few lie = (refl, refl)
   message-fits (Some file) None lies few lie = absurd lies
   message-fits (Some file) (Some bytes) lies few lie =
       let size = lies.size in
       let some = lies.some in
       let count = lies.count in
-      let chain = chain-is image machine config p0 p4 file in
+      let chain = chain-is image machine config places.line places.zero_place file in
       let most = (slots-between machine config file (omega (arith, count, some))).1 in
-      (first-one image machine config p0 p4 file bytes rest lies rest-named lie, omega (arith, size, some), omega (arith, size, few), chain-some image machine config p0 p4 file bytes lies, omega (arith, chain, count, few, most))
+      (first-one image machine config places.line places.zero_place file bytes places.rest lies rest-named lie, omega (arith, size, some), omega (arith, size, few), chain-some image machine config places.line places.zero_place file bytes lies, omega (arith, chain, count, few, most))
 
   boot-fits : FitsBoot said
   unfolding plan_boot
@@ -279,9 +276,9 @@ module _ (image : Image) (machine : Machine) (span : Span) (plan : Plan) (menu :
     line = s.named.0.one;
     zero_one = s.named.1.1.1.1.0.one;
     message = message-fits plan.message menu.message s.message s.message_few message-lie;
-    one = goes p1;
-    two = goes p2;
-    three = goes p3;
+    one = goes places.one;
+    two = goes places.two;
+    three = goes places.three;
     table = refl;
     first = s.named.1.0.one;
     second = s.named.1.1.0.one;
@@ -310,34 +307,34 @@ module _ (image : Image) (machine : Machine) (span : Span) (plan : Plan) (menu :
   -- ---- what is read before the prompt
 
   read-sectors : MapSectors
-  read-sectors = record { line = bytes_at image p0; table = Ok entries; extras = extras-of image machine p0 entries (entries_for plan.sections targets) shown }
+  read-sectors = record { line = bytes_at image places.line; table = Ok entries; extras = extras-of image machine places.line entries (entries_for plan.sections targets) shown }
 
   sectors-read : map_sectors image machine said ≡ Ok read-sectors
   unfolding map_sectors plan_boot read-sectors
   sectors-read =
-      rw (slot-read image machine goes p0 (bytes_at image p0) s.named.0 refl, slot-read image machine goes p1 (bytes_at image p1) s.named.1.0 refl, slot-read image machine goes p2 (bytes_at image p2) s.named.1.1.0 refl, slot-read image machine goes p3 (bytes_at image p3) s.named.1.1.1.0 refl, table-lies, table-read, extras-read image machine p0 entries (entries_for plan.sections targets) shown) refl
+      rw (slot-read image machine goes places.line (bytes_at image places.line) s.named.0 refl, slot-read image machine goes places.one (bytes_at image places.one) s.named.1.0 refl, slot-read image machine goes places.two (bytes_at image places.two) s.named.1.1.0 refl, slot-read image machine goes places.three (bytes_at image places.three) s.named.1.1.1.0 refl, table-lies, table-read, extras-read image machine places.line entries (entries_for plan.sections targets) shown) refl
 
   read-map : GoodMap
-  read-map = record { line = line; entries = entries; passwords = passwords_of image machine p0 (entries_for plan.sections targets) }
+  read-map = record { line = line; entries = entries; passwords = passwords_of image machine places.line (entries_for plan.sections targets) }
 
   map-good : good_map read-sectors ≡ Ok read-map
   unfolding good_map read-sectors read-map
-  map-good = rw (s.line_is, passwords-read image machine p0 entries (entries_for plan.sections targets) shown) refl
+  map-good = rw (s.line_is, passwords-read image machine places.line entries (entries_for plan.sections targets) shown) refl
 
   listed-read : listed_entries image machine read-map ≡ map (λ meant. meant.listed) menu.entries
   unfolding listed_entries read-map
-  listed-read = listed-all image machine p0 entries (entries_for plan.sections targets) shown ∙ ap (map (λ (meant : MenuEntry). meant.listed)) (sym s.entries)
+  listed-read = listed-all image machine places.line entries (entries_for plan.sections targets) shown ∙ ap (map (λ (meant : MenuEntry). meant.listed)) (sym s.entries)
 
   message-read : message_of image machine said ≡ option_map whole menu.message
   unfolding message_of plan_boot
   message-read = by-message plan.message menu.message s.message message-lie
     where
-      by-message : (file : Option MappedFile) (bytes : Option (List ℕ)) → OptionalLies image machine config p0 p4 file bytes → AreAt image rest (optional_sectors config machine p4 file rest)
-          → option_map (λ slot. file_content image machine slot (unwrap_or (option_map (λ (file : MappedFile). file.size) file) 0) (optional_chain config machine file)) (option_map (λ (file : MappedFile). goes (place_of_sector rest 0)) file) ≡ option_map whole bytes
+      by-message : (file : Option MappedFile) (bytes : Option (List ℕ)) → OptionalLies image machine config places.line places.zero_place file bytes → AreAt image places.rest (optional_sectors config machine places.zero_place file places.rest)
+          → option_map (λ slot. file_content image machine slot (unwrap_or (option_map (λ (file : MappedFile). file.size) file) 0) (optional_chain config machine file)) (option_map (λ (file : MappedFile). goes (place_of_sector places.rest 0)) file) ≡ option_map whole bytes
       by-message None None lies lie = refl
       by-message None (Some bytes) lies lie = absurd lies
       by-message (Some file) None lies lie = absurd lies
-      by-message (Some file) (Some bytes) lies lie = ap Some (file-shown image machine config p0 p4 file bytes rest lies rest-named lie)
+      by-message (Some file) (Some bytes) lies lie = ap Some (file-shown image machine config places.line places.zero_place file bytes places.rest lies rest-named lie)
 
   settings-read : settings_of said ≡ menu.settings
   unfolding settings_of plan_boot
@@ -350,7 +347,7 @@ module _ (image : Image) (machine : Machine) (span : Span) (plan : Plan) (menu :
     boot = said;
     says = boot-read;
     settings = settings-read;
-    line_place = p0;
+    line_place = places.line;
     line_at = s.named.0.names;
     sectors = read-sectors;
     reads = sectors-read;
@@ -359,9 +356,9 @@ module _ (image : Image) (machine : Machine) (span : Span) (plan : Plan) (menu :
     line_is = refl;
     listed = listed-read;
     message = message-read;
-    entries = subst (λ menu. ShowsEntries image machine p0 entries menu) (sym s.entries) (shown-entries image machine p0 entries (entries_for plan.sections targets) shown);
+    entries = subst (λ menu. ShowsEntries image machine places.line entries menu) (sym s.entries) (shown-entries image machine places.line entries (entries_for plan.sections targets) shown);
   }
 
 pub map_law : MapLaw
-map_law image machine span plan menu targets line p0 p1 p2 p3 p4 rest present keys memory s =
-    shows_law image machine span menu line keys memory (map-shows image machine span plan menu targets line p0 p1 p2 p3 p4 rest present s)
+map_law image machine span plan menu targets line places present keys memory s =
+    shows_law image machine span menu line keys memory (map-shows image machine span plan menu targets line places present s)

@@ -19,7 +19,7 @@ use Rattle.lilo_model.specs.Meant.{filled_file, meant}
 use Rattle.lilo_model.specs.Plan.{MappedFile, MappedSection, slot_to, plan_sectors, plan_boot_sector}
 use Rattle.lilo_model.specs.Planned.{devices_in, mapped_inode, optional_file, planned}
 use Rattle.lilo_model.specs.PlanRefusal.{if_there, mapped_file_check, own_places_check, plan_at}
-use Rattle.map_laws.specs.Lies.{AreNamed, IsNone, FileLies, OptionalLies}
+use Rattle.map_laws.specs.Lies.{MapPlaces, after_line, all_places, AreNamed, IsNone, FileLies, OptionalLies}
 use Rattle.map_laws.specs.Files.{IsKept}
 use Rattle.map_laws.specs.PlannedLies.{PlannedLies}
 
@@ -120,36 +120,34 @@ pub record IsAccepted (before : Image) (machine : Machine) (volume : Volume) (sp
 
 -- what is in another: the boot sector, the map at its places, and all that is mapped as it was
 pub record IsWritten (before image : Image) (machine : Machine) (volume : Volume) (span : Span) (config : Config)
-    (time : ℕ) (line : DefaultLine) (p0 p1 p2 p3 p4 : DiskSector) (rest : List DiskSector)
-    (present : List ℕ) : Type 0 where
+    (time : ℕ) (line : DefaultLine) (places : MapPlaces) (present : List ℕ) : Type 0 where
   pub whole : (place : DiskSector) → IsInside machine place → length (bytes_at image place) ≡ 512
   pub present_long : length present ≡ 512
-  pub boot : image span.disk span.start ≡ plan_boot_sector (planned before machine volume config time) machine (p0 ∷ (p1 ∷ (p2 ∷ (p3 ∷ (p4 ∷ rest))))) present
-  pub line_is : line_at (bytes_at image p0) ≡ Ok line
-  pub lies : AreAt image (p1 ∷ (p2 ∷ (p3 ∷ (p4 ∷ rest))))
-      (drop 1 (plan_sectors (planned before machine volume config time) machine
-      (p0 ∷ (p1 ∷ (p2 ∷ (p3 ∷ (p4 ∷ rest)))))))
-  pub apart : IsNone p0 (p1 ∷ (p2 ∷ (p3 ∷ (p4 ∷ rest))))
-  pub message : IsOptionalLeft before image p0 (planned before machine volume config time).message
-  pub sections : AllByRecursion (λ mapped. IsSectionLeft before image p0 mapped mapped.section.other) (planned before machine volume config time).sections
+  pub boot : image span.disk span.start ≡ plan_boot_sector (planned before machine volume config time) machine (all_places places) present
+  pub line_is : line_at (bytes_at image places.line) ≡ Ok line
+  pub lies : AreAt image (after_line places)
+      (drop 1 (plan_sectors (planned before machine volume config time) machine (all_places places)))
+  pub apart : IsNone places.line (after_line places)
+  pub message : IsOptionalLeft before image places.line (planned before machine volume config time).message
+  pub sections : AllByRecursion (λ mapped. IsSectionLeft before image places.line mapped mapped.section.other)
+      (planned before machine volume config time).sections
 
 -- what is accepted by one image on a sound volume and written in another lies there as planned
 abbrev pub AcceptedLiesLaw : Type 0
 AcceptedLiesLaw =
     (before image : Image) (machine : Machine) (volume : Volume) (span : Span) (config : Config) (time : ℕ)
-    (line : DefaultLine) (p0 p1 p2 p3 p4 : DiskSector) (rest : List DiskSector) (present : List ℕ)
+    (line : DefaultLine) (places : MapPlaces) (present : List ℕ)
     → IsSound volume before
-    → IsAccepted before machine volume span config time (p0 ∷ (p1 ∷ (p2 ∷ (p3 ∷ (p4 ∷ rest)))))
-    → IsWritten before image machine volume span config time line p0 p1 p2 p3 p4 rest present
-    → PlannedLies before image machine volume span config time (devices_in before machine) line p0 p1 p2 p3 p4 rest present
+    → IsAccepted before machine volume span config time (all_places places)
+    → IsWritten before image machine volume span config time line places present
+    → PlannedLies before image machine volume span config time (devices_in before machine) line places present
 
 -- and so it boots as the configuration and its files mean
 abbrev pub AcceptedLaw : Type 0
 AcceptedLaw =
     (before image : Image) (machine : Machine) (volume : Volume) (span : Span) (config : Config) (time : ℕ)
-    (line : DefaultLine) (p0 p1 p2 p3 p4 : DiskSector) (rest : List DiskSector) (present : List ℕ) (keys : List Key)
-    (memory : ℕ)
+    (line : DefaultLine) (places : MapPlaces) (present : List ℕ) (keys : List Key) (memory : ℕ)
     → IsSound volume before
-    → IsAccepted before machine volume span config time (p0 ∷ (p1 ∷ (p2 ∷ (p3 ∷ (p4 ∷ rest)))))
-    → IsWritten before image machine volume span config time line p0 p1 p2 p3 p4 rest present
+    → IsAccepted before machine volume span config time (all_places places)
+    → IsWritten before image machine volume span config time line places present
     → whole_boot image machine span keys memory ≡ meant config (names_in volume before) (devices_in before machine) line keys memory

@@ -17,6 +17,25 @@ use Rattle.lilo_model.specs.ConfLawful.{names_of_section}
 use Rattle.lilo_model.specs.Lays.{AreAt}
 use Rattle.lilo_model.specs.Plan.{MappedFile, MappedSection, Plan, slot_to, slots_for, filled_places, plan_sectors, plan_boot_sector, plan_names}
 
+-- the places of a map's sectors: its default line's, those of its table's three, the zero sector's, and all after it
+pub record MapPlaces : Type 0 where
+  pub line : DiskSector
+  pub one : DiskSector
+  pub two : DiskSector
+  pub three : DiskSector
+  pub zero_place : DiskSector
+  pub rest : List DiskSector
+
+abbrev pub table_places : MapPlaces → List DiskSector
+table_places places = places.one ∷ (places.two ∷ (places.three ∷ []))
+
+-- all but the default line's
+abbrev pub after_line : MapPlaces → List DiskSector
+after_line places = table_places places ++ (places.zero_place ∷ places.rest)
+
+abbrev pub all_places : MapPlaces → List DiskSector
+all_places places = places.line ∷ after_line places
+
 -- a slot of one sector names a place
 pub record IsNamed (machine : Machine) (to : DiskSector → Slot) (place : DiskSector) : Type 0 where
   pub one : IsOneSlot (to place)
@@ -105,15 +124,14 @@ AreNames (name ∷ names) = IsName name × IsOtherName name names × AreNames na
 
 -- a planned map lies at its places, with its boot sector, and the files where they are mapped from
 pub record MapLies (image : Image) (machine : Machine) (span : Span) (plan : Plan) (menu : Menu)
-    (targets : List Target) (line : DefaultLine) (p0 p1 p2 p3 p4 : DiskSector) (rest : List DiskSector)
-    (present : List ℕ) : Type 0 where
-  pub boot : image span.disk span.start ≡ plan_boot_sector plan machine (p0 ∷ (p1 ∷ (p2 ∷ (p3 ∷ (p4 ∷ rest))))) present
+    (targets : List Target) (line : DefaultLine) (places : MapPlaces) (present : List ℕ) : Type 0 where
+  pub boot : image span.disk span.start ≡ plan_boot_sector plan machine (all_places places) present
   pub present_long : length (part_of present 440 70) ≡ 70
   pub code_long : length plan.code ≤ 512
-  pub line_is : line_at (bytes_at image p0) ≡ Ok line
-  pub lies : AreAt image (p1 ∷ (p2 ∷ (p3 ∷ (p4 ∷ rest)))) (drop 1 (plan_sectors plan machine (p0 ∷ (p1 ∷ (p2 ∷ (p3 ∷ (p4 ∷ rest)))))))
-  pub named : AreNamed machine (slot_to plan.config.mode machine) (p0 ∷ (p1 ∷ (p2 ∷ (p3 ∷ (p4 ∷ rest)))))
-  pub apart : IsNone p0 (p1 ∷ (p2 ∷ (p3 ∷ (p4 ∷ rest))))
+  pub line_is : line_at (bytes_at image places.line) ≡ Ok line
+  pub lies : AreAt image (after_line places) (drop 1 (plan_sectors plan machine (all_places places)))
+  pub named : AreNamed machine (slot_to plan.config.mode machine) (all_places places)
+  pub apart : IsNone places.line (after_line places)
   pub time : plan.time < 2 ^ 32
   pub delay : plan.config.delay < 0xFFFF
   pub timeout : IfSome plan.config.timeout (λ tenths. tenths < 0xFFFF)
@@ -122,8 +140,8 @@ pub record MapLies (image : Image) (machine : Machine) (span : Span) (plan : Pla
   pub few_names : length (plan_names plan) ≤ 19
   pub default : default_place plan.config.default_name (plan_names plan) < length (plan_names plan)
   pub message_few : IfSome menu.message (λ bytes. length bytes ≤ 65535)
-  pub message : OptionalLies image machine plan.config p0 p4 plan.message menu.message
-  pub targets_lie : TargetsLie image machine plan.config p0 p4 plan.sections targets
+  pub message : OptionalLies image machine plan.config places.line places.zero_place plan.message menu.message
+  pub targets_lie : TargetsLie image machine plan.config places.line places.zero_place plan.sections targets
   pub entries : menu.entries ≡ entries_for plan.sections targets
   pub prompt_is : menu.settings
       ≡ record {
@@ -138,7 +156,6 @@ pub record MapLies (image : Image) (machine : Machine) (span : Span) (plan : Pla
 abbrev pub MapLaw : Type 0
 MapLaw =
     (image : Image) (machine : Machine) (span : Span) (plan : Plan) (menu : Menu) (targets : List Target)
-    (line : DefaultLine) (p0 p1 p2 p3 p4 : DiskSector) (rest : List DiskSector) (present : List ℕ) (keys : List Key)
-    (memory : ℕ)
-    → MapLies image machine span plan menu targets line p0 p1 p2 p3 p4 rest present
+    (line : DefaultLine) (places : MapPlaces) (present : List ℕ) (keys : List Key) (memory : ℕ)
+    → MapLies image machine span plan menu targets line places present
     → whole_boot image machine span keys memory ≡ menu_boot menu line keys memory

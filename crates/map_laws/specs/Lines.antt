@@ -13,6 +13,7 @@ use Rattle.lilo_model.specs.MinixNames.{names_in, IsSound}
 use Rattle.lilo_model.specs.Boot.{whole_boot}
 use Rattle.lilo_model.specs.Meant.{meant}
 use Rattle.map_laws.specs.PlannedLies.{PlannedLies}
+use Rattle.map_laws.specs.Lies.{MapPlaces}
 
 -- the boot sector of an image names a place as that of the default line
 pub record NamesLine (image : Image) (machine : Machine) (span : Span) (place : DiskSector) : Type 0 where
@@ -32,9 +33,8 @@ pub record BootsWithLines (before image : Image) (machine : Machine) (volume : V
 abbrev pub LinesLaw : Type 0
 LinesLaw =
     (before image : Image) (machine : Machine) (volume : Volume) (span : Span) (config : Config) (time : ℕ)
-    (devices : Device → List ℕ) (line : DefaultLine) (p0 p1 p2 p3 p4 : DiskSector) (rest : List DiskSector)
-    (present : List ℕ)
+    (devices : Device → List ℕ) (line : DefaultLine) (places : MapPlaces) (present : List ℕ)
     → IsSound volume before
-    → PlannedLies before image machine volume span config time devices line p0 p1 p2 p3 p4 rest present
-    → p0 ≢ record { disk = span.disk; sector = span.start }
-    → BootsWithLines before image machine volume span config devices p0
+    → PlannedLies before image machine volume span config time devices line places present
+    → places.line ≢ record { disk = span.disk; sector = span.start }
+    → BootsWithLines before image machine volume span config devices places.line

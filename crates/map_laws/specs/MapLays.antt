@@ -1,5 +1,5 @@
 -- A planned map that lies, in a file of its own, is laid out as an installation has to leave it.
-use Rattle.std.specs.Prelude.{◌≡◌, ◌⊎◌, ℕ, ◌*◌, ◌%◌, true, List, ◌∷◌, map, Some, Ok, replicate}
+use Rattle.std.specs.Prelude.{◌≡◌, ◌⊎◌, ℕ, ◌*◌, ◌%◌, true, List, map, Some, Ok, replicate}
 use Rattle.lilo_model.specs.Disks.{Image, Machine, Span, DiskSector, bytes_at}
 use Rattle.lilo_model.specs.Devices.{Device}
 use Rattle.lilo_model.specs.Conf.{Config}
@@ -14,7 +14,7 @@ use Rattle.lilo_model.specs.Planned.{inode_places, planned}
 use Rattle.lilo_model.specs.Settled.{Held}
 use Rattle.lilo_model.specs.Lays.{Lays, tail_place}
 use Rattle.boot_laws.specs.SameOn.{SameOn}
-use Rattle.map_laws.specs.Lies.{MapLies}
+use Rattle.map_laws.specs.Lies.{MapPlaces, all_places, MapLies}
 use Rattle.map_laws.specs.PlannedLies.{PlannedLies}
 use Rattle.map_laws.specs.Accepted.{IsAccepted, IsWritten}
 use Rattle.map_laws.specs.MapStays.{fixed_places}
@@ -34,33 +34,30 @@ pub record HoldsMap (image : Image) (machine : Machine) (volume : Volume) (plan 
 abbrev pub LaysLaw : Type 0
 LaysLaw =
     (image : Image) (machine : Machine) (volume : Volume) (span : Span) (plan : Plan) (menu : Menu)
-    (targets : List Target) (line : DefaultLine) (p0 p1 p2 p3 p4 : DiskSector) (rest : List DiskSector)
-    (present : List ℕ) (path : List (List ℕ))
-    → MapLies image machine span plan menu targets line p0 p1 p2 p3 p4 rest present
-    → HoldsMap image machine volume plan path (p0 ∷ (p1 ∷ (p2 ∷ (p3 ∷ (p4 ∷ rest)))))
+    (targets : List Target) (line : DefaultLine) (places : MapPlaces) (present : List ℕ) (path : List (List ℕ))
+    → MapLies image machine span plan menu targets line places present
+    → HoldsMap image machine volume plan path (all_places places)
     → Lays image machine volume span plan path present
 
 -- so it does where what a configuration plans on a volume, as another image has it, lies
 abbrev pub PlannedLaysLaw : Type 0
 PlannedLaysLaw =
     (before image : Image) (machine : Machine) (volume : Volume) (span : Span) (config : Config) (time : ℕ)
-    (devices : Device → List ℕ) (line : DefaultLine) (p0 p1 p2 p3 p4 : DiskSector) (rest : List DiskSector)
-    (present : List ℕ) (path : List (List ℕ))
+    (devices : Device → List ℕ) (line : DefaultLine) (places : MapPlaces) (present : List ℕ) (path : List (List ℕ))
     → IsSound volume before
-    → PlannedLies before image machine volume span config time devices line p0 p1 p2 p3 p4 rest present
-    → HoldsMap image machine volume (planned before machine volume config time) path (p0 ∷ (p1 ∷ (p2 ∷ (p3 ∷ (p4 ∷ rest)))))
+    → PlannedLies before image machine volume span config time devices line places present
+    → HoldsMap image machine volume (planned before machine volume config time) path (all_places places)
     → Lays image machine volume span (planned before machine volume config time) path present
 
 -- and where what a plan's checks accept is written
 abbrev pub AcceptedLaysLaw : Type 0
 AcceptedLaysLaw =
     (before image : Image) (machine : Machine) (volume : Volume) (span : Span) (config : Config) (time : ℕ)
-    (line : DefaultLine) (p0 p1 p2 p3 p4 : DiskSector) (rest : List DiskSector) (present : List ℕ)
-    (path : List (List ℕ))
+    (line : DefaultLine) (places : MapPlaces) (present : List ℕ) (path : List (List ℕ))
     → IsSound volume before
-    → IsAccepted before machine volume span config time (p0 ∷ (p1 ∷ (p2 ∷ (p3 ∷ (p4 ∷ rest)))))
-    → IsWritten before image machine volume span config time line p0 p1 p2 p3 p4 rest present
-    → HoldsMap image machine volume (planned before machine volume config time) path (p0 ∷ (p1 ∷ (p2 ∷ (p3 ∷ (p4 ∷ rest)))))
+    → IsAccepted before machine volume span config time (all_places places)
+    → IsWritten before image machine volume span config time line places present
+    → HoldsMap image machine volume (planned before machine volume config time) path (all_places places)
     → Lays image machine volume span (planned before machine volume config time) path present
 
 -- A planned map that lies in one image has Lays in each later one where its sectors, its boot sector's and its files' stay,
@@ -68,12 +65,11 @@ AcceptedLaysLaw =
 abbrev pub LaysStaysLaw : Type 0
 LaysStaysLaw =
     (image c : Image) (machine : Machine) (volume : Volume) (span : Span) (plan : Plan) (menu : Menu)
-    (targets : List Target) (line other : DefaultLine) (p0 p1 p2 p3 p4 : DiskSector) (rest : List DiskSector)
-    (present : List ℕ) (path : List (List ℕ))
-    → MapLies image machine span plan menu targets line p0 p1 p2 p3 p4 rest present
-    → SameOn (fixed_places span plan p4 (p1 ∷ (p2 ∷ (p3 ∷ (p4 ∷ rest))))) image c
-    → line_at (bytes_at c p0) ≡ Ok other
-    → HoldsMap c machine volume plan path (p0 ∷ (p1 ∷ (p2 ∷ (p3 ∷ (p4 ∷ rest)))))
+    (targets : List Target) (line other : DefaultLine) (places : MapPlaces) (present : List ℕ) (path : List (List ℕ))
+    → MapLies image machine span plan menu targets line places present
+    → SameOn (fixed_places span plan places) image c
+    → line_at (bytes_at c places.line) ≡ Ok other
+    → HoldsMap c machine volume plan path (all_places places)
     → Lays c machine volume span plan path present
 
 -- an image that has Lays is Held: the file that holds the map has the table of its boot sector

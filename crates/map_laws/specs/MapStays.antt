@@ -6,7 +6,7 @@ use Rattle.lilo_model.specs.DefaultLine.{DefaultLine}
 use Rattle.lilo_model.specs.Meant.{Target, Menu}
 use Rattle.lilo_model.specs.Plan.{MappedFile, MappedSection, Plan, filled_places}
 use Rattle.boot_laws.specs.SameOn.{SameOn}
-use Rattle.map_laws.specs.Lies.{MapLies}
+use Rattle.map_laws.specs.Lies.{MapPlaces, after_line, MapLies}
 
 -- the sectors that a planned map, its boot sector and its files lie in, but for the default line's
 abbrev pub file_sectors_of : DiskSector → Option MappedFile → List DiskSector
@@ -16,17 +16,18 @@ file_sectors_of zero_place (Some file) = filled_places zero_place file.places
 abbrev pub section_places : DiskSector → MappedSection → List DiskSector
 section_places zero_place mapped = filled_places zero_place mapped.main.places ++ file_sectors_of zero_place mapped.initrd
 
-abbrev pub fixed_places : Span → Plan → DiskSector → List DiskSector → List DiskSector
-fixed_places span plan zero_place after =
+abbrev pub fixed_places : Span → Plan → MapPlaces → List DiskSector
+fixed_places span plan places =
     record { disk = span.disk; sector = span.start }
-    ∷ (after ++ (file_sectors_of zero_place plan.message ++ flat_map (section_places zero_place) plan.sections))
+    ∷ (after_line places
+    ++ (file_sectors_of places.zero_place plan.message ++ flat_map (section_places places.zero_place) plan.sections))
 
 -- where these sectors stay, and the line's sector has a line, the map lies
 abbrev pub MapStaysLaw : Type 0
 MapStaysLaw =
     (image c : Image) (machine : Machine) (span : Span) (plan : Plan) (menu : Menu) (targets : List Target)
-    (line other : DefaultLine) (p0 p1 p2 p3 p4 : DiskSector) (rest : List DiskSector) (present : List ℕ)
-    → MapLies image machine span plan menu targets line p0 p1 p2 p3 p4 rest present
-    → SameOn (fixed_places span plan p4 (p1 ∷ (p2 ∷ (p3 ∷ (p4 ∷ rest))))) image c
-    → line_at (bytes_at c p0) ≡ Ok other
-    → MapLies c machine span plan menu targets other p0 p1 p2 p3 p4 rest present
+    (line other : DefaultLine) (places : MapPlaces) (present : List ℕ)
+    → MapLies image machine span plan menu targets line places present
+    → SameOn (fixed_places span plan places) image c
+    → line_at (bytes_at c places.line) ≡ Ok other
+    → MapLies c machine span plan menu targets other places present

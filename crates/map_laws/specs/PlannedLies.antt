@@ -16,7 +16,7 @@ use Rattle.lilo_model.specs.Boot.{whole_boot}
 use Rattle.lilo_model.specs.Meant.{Target, middle_text, target_of, filled_file, meant}
 use Rattle.lilo_model.specs.Plan.{MappedSection, slot_to, plan_sectors, plan_boot_sector}
 use Rattle.lilo_model.specs.Planned.{planned}
-use Rattle.map_laws.specs.Lies.{AreNamed, IsNone, OptionalLies, TargetLies}
+use Rattle.map_laws.specs.Lies.{MapPlaces, after_line, all_places, AreNamed, IsNone, OptionalLies, TargetLies}
 use Rattle.lilo_model.specs.Lays.{AreAt}
 
 -- what the sections of a configuration start
@@ -42,32 +42,30 @@ FilesLie image machine config line_place zero_place (mapped ∷ sections) (targe
 -- before; the sectors of the map at their places, of which the default line's is none of the others and of no file, and
 -- may say any line; and the files and sectors of other systems where they are mapped from.
 pub record PlannedLies (before image : Image) (machine : Machine) (volume : Volume) (span : Span) (config : Config)
-    (time : ℕ) (devices : Device → List ℕ) (line : DefaultLine) (p0 p1 p2 p3 p4 : DiskSector)
-    (rest : List DiskSector) (present : List ℕ) : Type 0 where
+    (time : ℕ) (devices : Device → List ℕ) (line : DefaultLine) (places : MapPlaces) (present : List ℕ) : Type 0 where
   pub lawful : IsLawful config
   pub time_fits : time < 2 ^ 32
   pub present_long : length present ≡ 512
-  pub boot : image span.disk span.start ≡ plan_boot_sector (planned before machine volume config time) machine (p0 ∷ (p1 ∷ (p2 ∷ (p3 ∷ (p4 ∷ rest))))) present
-  pub line_is : line_at (bytes_at image p0) ≡ Ok line
-  pub lies : AreAt image (p1 ∷ (p2 ∷ (p3 ∷ (p4 ∷ rest))))
-      (drop 1 (plan_sectors (planned before machine volume config time) machine
-      (p0 ∷ (p1 ∷ (p2 ∷ (p3 ∷ (p4 ∷ rest)))))))
-  pub named : AreNamed machine (slot_to config.mode machine) (p0 ∷ (p1 ∷ (p2 ∷ (p3 ∷ (p4 ∷ rest)))))
-  pub apart : IsNone p0 (p1 ∷ (p2 ∷ (p3 ∷ (p4 ∷ rest))))
+  pub boot : image span.disk span.start ≡ plan_boot_sector (planned before machine volume config time) machine (all_places places) present
+  pub line_is : line_at (bytes_at image places.line) ≡ Ok line
+  pub lies : AreAt image (after_line places)
+      (drop 1 (plan_sectors (planned before machine volume config time) machine (all_places places)))
+  pub named : AreNamed machine (slot_to config.mode machine) (all_places places)
+  pub apart : IsNone places.line (after_line places)
   -- a section is left
   pub left : (planned before machine volume config time).sections ≢ []
   pub message_few : IfSome (filled_file (names_in volume before) config.message) (λ bytes. length bytes ≤ message_limit)
-  pub message : OptionalLies image machine config p0 p4 (planned before machine volume config time).message
+  pub message : OptionalLies image machine config places.line places.zero_place (planned before machine volume config time).message
       (filled_file (names_in volume before) config.message)
-  pub files : FilesLie image machine config p0 p4 (planned before machine volume config time).sections
+  pub files : FilesLie image machine config places.line places.zero_place (planned before machine volume config time).sections
       (targets_for (names_in volume before) devices config.sections)
 
 -- it boots as the configuration and its files mean
 abbrev pub PlannedLaw : Type 0
 PlannedLaw =
     (before image : Image) (machine : Machine) (volume : Volume) (span : Span) (config : Config) (time : ℕ)
-    (devices : Device → List ℕ) (line : DefaultLine) (p0 p1 p2 p3 p4 : DiskSector) (rest : List DiskSector)
+    (devices : Device → List ℕ) (line : DefaultLine) (places : MapPlaces)
     (present : List ℕ) (keys : List Key) (memory : ℕ)
     → IsSound volume before
-    → PlannedLies before image machine volume span config time devices line p0 p1 p2 p3 p4 rest present
+    → PlannedLies before image machine volume span config time devices line places present
     → whole_boot image machine span keys memory ≡ meant config (names_in volume before) devices line keys memory

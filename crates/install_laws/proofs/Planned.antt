@@ -7,18 +7,18 @@ use Rattle.map_laws.proofs.Lines.{lines_law}
 use Rattle.install_laws.specs.Planned.{MeansLaw, AcceptedMeansLaw}
 
 pub means_law : MeansLaw
-means_law before c machine volume span config time devices p0 p1 p2 p3 p4 rest present sound s elsewhere =
-    let lines = lines_law before c machine volume span config time devices Empty p0 p1 p2 p3 p4 rest present sound s elsewhere in
+means_law before c machine volume span config time devices places present sound s elsewhere =
+    let lines = lines_law before c machine volume span config time devices Empty places present sound s elsewhere in
     record {
       boot = lines.names.boot;
       says = lines.names.says;
       named = lines.names.named;
       line_is = s.line_is;
-      empty = λ keys memory. planned_law before c machine volume span config time devices Empty p0 p1 p2 p3 p4 rest present keys memory sound s;
+      empty = λ keys memory. planned_law before c machine volume span config time devices Empty places present keys memory sound s;
       each_line = λ bytes line is keys memory. lines.boots bytes line keys memory is;
     }
 
 pub accepted_means_law : AcceptedMeansLaw
-accepted_means_law before c machine volume span config time p0 p1 p2 p3 p4 rest present sound a w elsewhere =
-    means_law before c machine volume span config time (devices_in before machine) p0 p1 p2 p3 p4 rest present sound
-    (accepted_lies_law before c machine volume span config time Empty p0 p1 p2 p3 p4 rest present sound a w) elsewhere
+accepted_means_law before c machine volume span config time places present sound a w elsewhere =
+    means_law before c machine volume span config time (devices_in before machine) places present sound
+    (accepted_lies_law before c machine volume span config time Empty places present sound a w) elsewhere

@@ -23,6 +23,7 @@ use Rattle.minix_change_laws.proofs.Tree.{sees_tree_law, keeps_join_law}
 use Rattle.minix_change_laws.specs.Tree.{TreeAs}
 use Rattle.map_laws.proofs.MeantFiles.{inode-named}
 use Rattle.map_laws.specs.MapStays.{file_sectors_of, section_places}
+use Rattle.map_laws.specs.Lies.{after_line, all_places}
 use Rattle.install_laws.specs.Writes.{IsApartSector}
 use Rattle.install_stage_laws.specs.StaysLaws.{planned_places}
 use Rattle.install_stage_laws.specs.ClearMap.{AddedKeepsLaw, SeenKeepsLaw, KeepsJoinedLaw, KeepsAllLaw, KeepsButJoinedLaw}
@@ -244,19 +245,19 @@ each-some volume c (place ∷ places) each = (each.0, each-some volume c places 
 
 pub staged_clear_law : StagedClearLaw
 unfolding planned
-staged_clear_law before c machine volume span config device time p0 p1 p2 p3 p4 rest path sound apart outside keeps held =
-    let after = p1 ∷ (p2 ∷ (p3 ∷ (p4 ∷ rest))) in
-    let message = file_sectors_of p4 (optional_file volume (parts_of volume before) config.message) in
-    let sections = flat_map (section_places p4) (flat_map (mapped_section before machine volume) config.sections) in
+staged_clear_law before c machine volume span config device time places path sound apart outside keeps held =
+    let after = after_line places in
+    let message = file_sectors_of places.zero_place (optional_file volume (parts_of volume before) config.message) in
+    let sections = flat_map (section_places places.zero_place) (flat_map (mapped_section before machine volume) config.sections) in
     let zeros = own.1.1.1.1.0 in
-    All-from_recursion (IsClearPlace volume c) (planned_places before machine volume span config time p0 p1 p2 p3 p4 rest) (
+    All-from_recursion (IsClearPlace volume c) (planned_places before machine volume span config time places) (
       own.0,
       (
         clear-apart volume c keeps.sound (record { disk = span.disk; sector = span.start }) outside,
-        joined before c machine volume p4 sound keeps.sound zeros after (message ++ sections) own.1
-            (joined before c machine volume p4 sound keeps.sound zeros message sections (path-clear before c machine volume p4 sound keeps.sound zeros config.message keeps.mapped.message)
-            (mapped-clear before c machine volume p4 sound keeps.sound zeros (flat_map (mapped_section before machine volume) config.sections)
-            (sections-clear before c machine volume p4 sound keeps.sound zeros config.sections keeps.mapped.sections (others-apart before machine volume config device apart) (tables-apart before machine volume config device apart)))),
+        joined before c machine volume places.zero_place sound keeps.sound zeros after (message ++ sections) own.1
+            (joined before c machine volume places.zero_place sound keeps.sound zeros message sections (path-clear before c machine volume places.zero_place sound keeps.sound zeros config.message keeps.mapped.message)
+            (mapped-clear before c machine volume places.zero_place sound keeps.sound zeros (flat_map (mapped_section before machine volume) config.sections)
+            (sections-clear before c machine volume places.zero_place sound keeps.sound zeros config.sections keeps.mapped.sections (others-apart before machine volume config device apart) (tables-apart before machine volume config device apart)))),
       ),
     )
   where
@@ -265,9 +266,9 @@ staged_clear_law before c machine volume span config device time p0 p1 p2 p3 p4 
     named (inl leads) = record { path = path; leads = leads }
     named (inr leads) = record { path = with_tilde path; leads = leads }
 
-    own : AllByRecursion (IsClearPlace volume c) (p0 ∷ (p1 ∷ (p2 ∷ (p3 ∷ (p4 ∷ rest)))))
+    own : AllByRecursion (IsClearPlace volume c) (all_places places)
     own =
-        each-some volume c (p0 ∷ (p1 ∷ (p2 ∷ (p3 ∷ (p4 ∷ rest)))))
+        each-some volume c (all_places places)
         (subst (Each volume c (IsClearPlace volume c)) held.solid
         (places-have volume c (IsClearPlace volume c) held.holder (λ index zone is some.
         clear-block volume c keeps.sound held.holder (index / 2) zone (2 * zone + index % 2)

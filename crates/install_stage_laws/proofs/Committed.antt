@@ -1,5 +1,5 @@
 -- What was staged, once its boot sector is written.
-use Rattle.std.proofs.Common.{◌≡◌, ◌≢◌, ◌≤◌, ◌<◌, ◌⊎◌, inl, inr, ℕ, suc, ◌+◌, ◌*◌, ◌%◌, Bool, List, ◌∷◌, ◌++◌, length, Some, refl, sym, ap, subst, ◌∙◌, arith}
+use Rattle.std.proofs.Common.{◌≡◌, ◌≢◌, ◌≤◌, ◌<◌, ◌⊎◌, inl, inr, ℕ, suc, ◌+◌, ◌*◌, ◌%◌, Bool, List, ◌++◌, length, Some, refl, sym, ap, subst, ◌∙◌, arith}
 use Rattle.std.specs.Prelude.{All}
 use Rattle.disk_trait.specs.Past as past
 use Rattle.disk_trait.specs.Moments.{now}
@@ -9,7 +9,7 @@ use Rattle.lilo_model.specs.Clear.{IsClearPlace}
 use Rattle.lilo_model.specs.Conf.{Config}
 use Rattle.lilo_model.specs.DefaultLine.{Empty}
 use Rattle.lilo_model.specs.Devices.{Device}
-use Rattle.lilo_model.specs.Disks.{Image, Machine, Span, DiskSector, bytes_at}
+use Rattle.lilo_model.specs.Disks.{Image, Machine, Span, bytes_at}
 use Rattle.lilo_model.specs.Lays.{Lays}
 use Rattle.lilo_model.specs.LineSector.{line_at}
 use Rattle.lilo_model.specs.Meant.{menu_of}
@@ -33,6 +33,7 @@ use Rattle.map_laws.proofs.Planned.{map-lies}
 use Rattle.map_laws.specs.Accepted.{IsWritten}
 use Rattle.map_laws.specs.MapLays.{HoldsMap}
 use Rattle.map_laws.specs.PlannedLies.{PlannedLies, targets_for}
+use Rattle.map_laws.specs.Lies.{MapPlaces, all_places}
 use Rattle.install_stage_laws.specs.StaysLaws.{planned_places}
 use Rattle.install_stage_laws.proofs.Stays.{clear_stays_law, tidy_law}
 use Rattle.install_stage_laws.specs.Mapped.{KeepsMapped}
@@ -108,67 +109,64 @@ commit_holds_law volume staged span bytes machine plan path places sound apart l
 -- ---- what is staged
 
 module _ (before staged : Image) (machine : Machine) (volume : Volume) (span : Span) (config : Config) (device : Device) (time : ℕ)
-    (chosen : ℕ → Bool) (p0 p1 p2 p3 p4 : DiskSector) (rest : List DiskSector) (bytes : List ℕ) (path : List (List ℕ))
-    (s : IsStaged before staged machine volume span config device time chosen p0 p1 p2 p3 p4 rest bytes path) where
-  abbrev places : List DiskSector
-  places = p0 ∷ (p1 ∷ (p2 ∷ (p3 ∷ (p4 ∷ rest))))
-
+    (chosen : ℕ → Bool) (places : MapPlaces) (bytes : List ℕ) (path : List (List ℕ))
+    (s : IsStaged before staged machine volume span config device time chosen places bytes path) where
   abbrev new : Image
   new = past.with_sector staged span.disk span.start bytes
 
   pub size-is : length bytes ≡ 512
-  size-is = ap length s.boot.is ∙ boot-long before machine volume config time places (before span.disk span.start) s.boot.long
+  size-is = ap length s.boot.is ∙ boot-long before machine volume config time (all_places places) (before span.disk span.start) s.boot.long
 
-  written : IsWritten before new machine volume span config time Empty p0 p1 p2 p3 p4 rest (before span.disk span.start) × (p0 ≢ record { disk = span.disk; sector = span.start })
-  written = staged_written_law before staged machine volume span config device time chosen p0 p1 p2 p3 p4 rest bytes s.sound s.apart s.outside s.accepted s.map s.boot
+  pub written : IsWritten before new machine volume span config time Empty places (before span.disk span.start) × (places.line ≢ record { disk = span.disk; sector = span.start })
+  written = staged_written_law before staged machine volume span config device time chosen places bytes s.sound s.apart s.outside s.accepted s.map s.boot
 
-  holds : HoldsMap new machine volume (planned before machine volume config time) path places
-  holds = commit_holds_law volume staged span bytes machine (planned before machine volume config time) path places s.files.sound s.outside size-is s.holds
+  pub holds : HoldsMap new machine volume (planned before machine volume config time) path (all_places places)
+  holds = commit_holds_law volume staged span bytes machine (planned before machine volume config time) path (all_places places) s.files.sound s.outside size-is s.holds
 
-  files : KeepsMapped volume config before new
+  pub files : KeepsMapped volume config before new
   files = mapped_joined_law volume config before staged new s.files (seen_keeps_law volume staged new s.files.sound (commit_seen_law volume staged span bytes s.files.sound s.outside size-is))
 
-  pub lies-staged : PlannedLies before new machine volume span config time (devices_in before machine) Empty p0 p1 p2 p3 p4 rest (before span.disk span.start)
-  lies-staged = accepted_lies_law before new machine volume span config time Empty p0 p1 p2 p3 p4 rest (before span.disk span.start) s.sound s.accepted written.0
+  pub lies-staged : PlannedLies before new machine volume span config time (devices_in before machine) Empty places (before span.disk span.start)
+  lies-staged = accepted_lies_law before new machine volume span config time Empty places (before span.disk span.start) s.sound s.accepted written.0
 
-  pub clear-staged : All (IsClearPlace volume new) (planned_places before machine volume span config time p0 p1 p2 p3 p4 rest)
-  clear-staged = staged_clear_law before new machine volume span config device time p0 p1 p2 p3 p4 rest path s.sound s.apart s.outside files holds
+  pub clear-staged : All (IsClearPlace volume new) (planned_places before machine volume span config time places)
+  clear-staged = staged_clear_law before new machine volume span config device time places path s.sound s.apart s.outside files holds
 
   -- another image that is the same there has Lays too
-  lays-in : (c : Image) → All (λ place. bytes_at c place ≡ bytes_at new place) (planned_places before machine volume span config time p0 p1 p2 p3 p4 rest)
-      → HoldsMap c machine volume (planned before machine volume config time) path places
+  lays-in : (c : Image) → All (λ place. bytes_at c place ≡ bytes_at new place) (planned_places before machine volume span config time places)
+      → HoldsMap c machine volume (planned before machine volume config time) path (all_places places)
       → Lays c machine volume span (planned before machine volume config time) path (before span.disk span.start)
   lays-in c same h =
       let names = names_in volume before in
       let devices = devices_in before machine in
-      let here : bytes_at c p0 ≡ bytes_at new p0 = same 0 p0 (omega arith) in
+      let here : bytes_at c places.line ≡ bytes_at new places.line = same 0 places.line (omega arith) in
       lays_stays_law new c machine volume span (planned before machine volume config time) (menu_of config names devices) (targets_for names devices config.sections)
-      Empty Empty p0 p1 p2 p3 p4 rest (before span.disk span.start) path
-      (map-lies before new machine volume span config time devices Empty p0 p1 p2 p3 p4 rest (before span.disk span.start) s.sound lies-staged)
+      Empty Empty places (before span.disk span.start) path
+      (map-lies before new machine volume span config time devices Empty places (before span.disk span.start) s.sound lies-staged)
       (λ index d below. same (suc index) d (omega (arith, below))) (ap line_at here ∙ lies-staged.line_is) h
 
 pub staged_lays_law : StagedLaysLaw
-staged_lays_law before staged machine volume span config device time chosen p0 p1 p2 p3 p4 rest bytes path s =
-    accepted_lays_law before (past.with_sector staged span.disk span.start bytes) machine volume span config time Empty p0 p1 p2 p3 p4 rest (before span.disk span.start) path s.sound s.accepted
-    (written before staged machine volume span config device time chosen p0 p1 p2 p3 p4 rest bytes path s).0
-    (holds before staged machine volume span config device time chosen p0 p1 p2 p3 p4 rest bytes path s)
+staged_lays_law before staged machine volume span config device time chosen places bytes path s =
+    accepted_lays_law before (past.with_sector staged span.disk span.start bytes) machine volume span config time Empty places (before span.disk span.start) path s.sound s.accepted
+    (written before staged machine volume span config device time chosen places bytes path s).0
+    (holds before staged machine volume span config device time chosen places bytes path s)
 
 pub staged_tidies_law : StagedTidiesLaw
-staged_tidies_law before machine volume span config device time chosen p0 p1 p2 p3 p4 rest bytes path staged committed tidied s is writes =
-    tidy_law before machine volume span config time (devices_in before machine) p0 p1 p2 p3 p4 rest (before span.disk span.start) committed tidied s.sound
-    (subst (λ (image : Image). PlannedLies before image machine volume span config time (devices_in before machine) Empty p0 p1 p2 p3 p4 rest (before span.disk span.start)) (sym is)
-    (lies-staged before (now staged) machine volume span config device time chosen p0 p1 p2 p3 p4 rest bytes path s))
-    (written before (now staged) machine volume span config device time chosen p0 p1 p2 p3 p4 rest bytes path s).1
-    (subst (λ (image : Image). All (IsClearPlace volume image) (planned_places before machine volume span config time p0 p1 p2 p3 p4 rest)) (sym is)
-    (clear-staged before (now staged) machine volume span config device time chosen p0 p1 p2 p3 p4 rest bytes path s))
+staged_tidies_law before machine volume span config device time chosen places bytes path staged committed tidied s is writes =
+    tidy_law before machine volume span config time (devices_in before machine) places (before span.disk span.start) committed tidied s.sound
+    (subst (λ (image : Image). PlannedLies before image machine volume span config time (devices_in before machine) Empty places (before span.disk span.start)) (sym is)
+    (lies-staged before (now staged) machine volume span config device time chosen places bytes path s))
+    (written before (now staged) machine volume span config device time chosen places bytes path s).1
+    (subst (λ (image : Image). All (IsClearPlace volume image) (planned_places before machine volume span config time places)) (sym is)
+    (clear-staged before (now staged) machine volume span config device time chosen places bytes path s))
     writes
 
 pub tidied_lays_law : TidiedLaysLaw
-tidied_lays_law before machine volume span config device time chosen p0 p1 p2 p3 p4 rest bytes path staged committed tidied s is writes =
-    let lying = planned_places before machine volume span config time p0 p1 p2 p3 p4 rest in
+tidied_lays_law before machine volume span config device time chosen places bytes path staged committed tidied s is writes =
+    let lying = planned_places before machine volume span config time places in
     leaves_weaker committed tidied _ _
     (clear_stays_law volume lying committed tidied
     (subst (λ (image : Image). All (IsClearPlace volume image) lying) (sym is)
-    (clear-staged before (now staged) machine volume span config device time chosen p0 p1 p2 p3 p4 rest bytes path s))
+    (clear-staged before (now staged) machine volume span config device time chosen places bytes path s))
     writes)
-    (λ c same. lays-in before (now staged) machine volume span config device time chosen p0 p1 p2 p3 p4 rest bytes path s c (subst (λ (image : Image). All (λ place. bytes_at c place ≡ bytes_at image place) lying) is same))
+    (λ c same. lays-in before (now staged) machine volume span config device time chosen places bytes path s c (subst (λ (image : Image). All (λ place. bytes_at c place ≡ bytes_at image place) lying) is same))

@@ -26,6 +26,7 @@ use Rattle.map_laws.specs.Accepted.{IsOptionalLeft, IsTableKept, IsSystemLeft, I
 use Rattle.map_laws.specs.Files.{IsKept}
 use Rattle.map_laws.proofs.Accepted.{both-pass, required, all-pass}
 use Rattle.map_laws.proofs.MeantFiles.{inode-named}
+use Rattle.map_laws.specs.Lies.{after_line, all_places}
 use Rattle.install_laws.specs.Writes.{IsWritable, IsApartSector}
 use Rattle.install_laws.proofs.Planned.{accepted_means_law}
 use Rattle.install_stage_laws.specs.Staged.{KeepsRest, AreFree, IsChosenPlace}
@@ -86,9 +87,9 @@ module _ (staged : Image) (span : Span) (bytes : List ℕ) where
 
 -- ---- what is mapped is left
 
-module _ (before staged : Image) (machine : Machine) (volume : Volume) (span : Span) (chosen : ℕ → Bool) (bytes : List ℕ) (p0 : DiskSector)
+module _ (before staged : Image) (machine : Machine) (volume : Volume) (span : Span) (chosen : ℕ → Bool) (bytes : List ℕ) (line_place : DiskSector)
     (sound : IsSound volume before) (free : AreFree volume before chosen) (keeps : KeepsRest volume before chosen staged)
-    (apart : IsApartSector volume span.disk span.start) (own : IsChosenPlace volume chosen p0)
+    (apart : IsApartSector volume span.disk span.start) (own : IsChosenPlace volume chosen line_place)
     (table : part_of bytes 446 64 ≡ part_of (before span.disk span.start) 446 64) where
   abbrev boot : DiskSector
   boot = record { disk = span.disk; sector = span.start }
@@ -108,25 +109,25 @@ module _ (before staged : Image) (machine : Machine) (volume : Volume) (span : S
   all-other (place ∷ places) all = (own-other place all.0, all-other places all.1)
 
   -- one that isn't written isn't the default line's
-  not-line : (place : DiskSector) → (IsWritable volume before chosen place → ⊥) → Some place ≢ Some p0
-  not-line place kept same = kept (subst (IsWritable volume before chosen) (sym (same-some place p0 same)) (chosen-writable volume before sound chosen data-zones p0 own))
+  not-line : (place : DiskSector) → (IsWritable volume before chosen place → ⊥) → Some place ≢ Some line_place
+  not-line place kept same = kept (subst (IsWritable volume before chosen) (sym (same-some place line_place same)) (chosen-writable volume before sound chosen data-zones line_place own))
 
-  none-other : None ≢ Some p0
+  none-other : None ≢ Some line_place
   none-other same = grind (arith, same)
 
-  stays-left : (place : DiskSector) → Stays volume before chosen boot place → IsKept before image (Some place) × (Some place ≢ Some p0)
+  stays-left : (place : DiskSector) → Stays volume before chosen boot place → IsKept before image (Some place) × (Some place ≢ Some line_place)
   stays-left place s = (else-same staged span bytes place s.other ∙ keeps place s.kept, not-line place s.kept)
 
-  all-left : (places : List (Option DiskSector)) → Each volume before (Stays volume before chosen boot) places → AllByRecursion (λ place. IsKept before image place × (place ≢ Some p0)) places
+  all-left : (places : List (Option DiskSector)) → Each volume before (Stays volume before chosen boot) places → AllByRecursion (λ place. IsKept before image place × (place ≢ Some line_place)) places
   all-left [] all = tt
   all-left (None ∷ places) all = ((tt, none-other), all-left places all.1)
   all-left (Some place ∷ places) all = (stays-left place all.0, all-left places all.1)
 
-  optional-left : (file : Option MappedFile) → EachOptional volume before (Stays volume before chosen boot) file → IsOptionalLeft before image p0 file
+  optional-left : (file : Option MappedFile) → EachOptional volume before (Stays volume before chosen boot) file → IsOptionalLeft before image line_place file
   optional-left None all = tt
   optional-left (Some file) all = all-left file.places all
 
-  pub path-left : (path : Option (List ℕ)) → IsOptionalLeft before image p0 (optional_file volume (parts_of volume before) path)
+  pub path-left : (path : Option (List ℕ)) → IsOptionalLeft before image line_place (optional_file volume (parts_of volume before) path)
   path-left path = optional-left (optional_file volume (parts_of volume before) path) (optional-stays volume before chosen boot sound free apart path)
 
   -- ---- devices
@@ -135,12 +136,12 @@ module _ (before staged : Image) (machine : Machine) (volume : Volume) (span : S
   IsApartDevice device = is_apart_device before machine volume device ≡ true
 
   device-left : (path : List ℕ) (device : Device) (after : List (Option DiskSector)) → IsApartDevice device → system_check before span path (first_sector before machine device ∷ after) ≡ Ok tt
-      → IsKept before image (first_sector before machine device) × (first_sector before machine device ≢ Some p0)
+      → IsKept before image (first_sector before machine device) × (first_sector before machine device ≢ Some line_place)
   device-left path device after is check = by (span_of before machine device) is check
     where
       by : (found : Result Span TableFault) → is_apart_place volume found ≡ true
           → system_check before span path (option_map first-of (result_ok found) ∷ after) ≡ Ok tt
-          → IsKept before image (option_map first-of (result_ok found)) × (option_map first-of (result_ok found) ≢ Some p0)
+          → IsKept before image (option_map first-of (result_ok found)) × (option_map first-of (result_ok found) ≢ Some line_place)
       by (Err fault) is check = (tt, none-other)
       by (Ok found) is check =
           let place : DiskSector = record { disk = found.disk; sector = found.start } in
@@ -162,11 +163,11 @@ module _ (before staged : Image) (machine : Machine) (volume : Volume) (span : S
       by true false e1 e2 = ap (λ sector. part_of sector 446 64) (keeps place kept)
       by true true e1 e2 = table ∙ ap (λ (p : DiskSector). part_of (bytes_at before p) 446 64) (same-place boot place e1 e2)
 
-  table-left : (device : Device) → IsApartDevice device → IsTableKept before image (first_sector before machine device) × (first_sector before machine device ≢ Some p0)
+  table-left : (device : Device) → IsApartDevice device → IsTableKept before image (first_sector before machine device) × (first_sector before machine device ≢ Some line_place)
   table-left device is = by (span_of before machine device) is
     where
       by : (found : Result Span TableFault) → is_apart_place volume found ≡ true
-          → IsTableKept before image (option_map first-of (result_ok found)) × (option_map first-of (result_ok found) ≢ Some p0)
+          → IsTableKept before image (option_map first-of (result_ok found)) × (option_map first-of (result_ok found) ≢ Some line_place)
       by (Err fault) is = (tt, none-other)
       by (Ok found) is =
           let place : DiskSector = record { disk = found.disk; sector = found.start } in
@@ -175,7 +176,7 @@ module _ (before staged : Image) (machine : Machine) (volume : Volume) (span : S
 
   system-left : (path : List ℕ) (device : Device) (other : Option Device) → IsApartDevice device → IfSome other IsApartDevice
       → system_check before span path (system_places before machine device other) ≡ Ok tt
-      → IsSystemLeft before image p0 (system_places before machine device other)
+      → IsSystemLeft before image line_place (system_places before machine device other)
   system-left path device None is also check = (device-left path device [] is check, tt)
   system-left path device (Some other) is also check = (device-left path device (first_sector before machine other ∷ []) is check, (table-left other also, tt))
 
@@ -185,7 +186,7 @@ module _ (before staged : Image) (machine : Machine) (volume : Volume) (span : S
   AreChecked sections = AllByRecursion (λ mapped. mapped_check before volume span mapped ≡ Ok tt) sections
 
   abbrev AreLeft : List MappedSection → Type 0
-  AreLeft sections = AllByRecursion (λ (mapped : MappedSection). IsSectionLeft before image p0 mapped mapped.section.other) sections
+  AreLeft sections = AllByRecursion (λ (mapped : MappedSection). IsSectionLeft before image line_place mapped mapped.section.other) sections
 
   kernel-left : (section : ConfSection) (rest : List MappedSection) (inode : Option ℕ) → section.other ≡ None → file_inode volume (parts_of volume before) section.path ≡ inode
       → AreChecked (kernel_section volume (parts_of volume before) section inode ++ rest) → (AreChecked rest → AreLeft rest) → AreLeft (kernel_section volume (parts_of volume before) section inode ++ rest)
@@ -194,8 +195,8 @@ module _ (before staged : Image) (machine : Machine) (volume : Volume) (span : S
       let named = inode-named volume before sound section.path number is in
       let main = mapped_inode volume (parts_of volume before) number in
       let mapped : MappedSection = record { section = section; main = main; initrd = optional_file volume (parts_of volume before) section.initrd } in
-      let left : IsSectionLeft before image p0 mapped None = (all-left main.places (file-stays volume before chosen boot sound free apart number named.0 named.1), path-left section.initrd) in
-      (subst (IsSectionLeft before image p0 mapped) (sym none) left, after checks.1)
+      let left : IsSectionLeft before image line_place mapped None = (all-left main.places (file-stays volume before chosen boot sound free apart number named.0 named.1), path-left section.initrd) in
+      (subst (IsSectionLeft before image line_place mapped) (sym none) left, after checks.1)
 
   section-left : (section : ConfSection) (rest : List MappedSection) → IfSome section.other IsApartDevice → IfSome section.table IsApartDevice
       → AreChecked (mapped_section before machine volume section ++ rest) → (AreChecked rest → AreLeft rest) → AreLeft (mapped_section before machine volume section ++ rest)
@@ -210,7 +211,7 @@ module _ (before staged : Image) (machine : Machine) (volume : Volume) (span : S
           let mapped : MappedSection = record { section = section; main = record { size = Rattle.lilo_model.specs.Planned.system_size section.table; places = places }; initrd = None } in
           let check : system_check before span section.path places ≡ Ok tt =
           subst (λ other. (if is_some other then system_check before span section.path places else kernel_check (names_in volume before) section) ≡ Ok tt) is checks.0 in
-          (subst (IsSectionLeft before image p0 mapped) (sym is) (system-left section.path device section.table apart two check), after checks.1)
+          (subst (IsSectionLeft before image line_place mapped) (sym is) (system-left section.path device section.table apart two check), after checks.1)
 
   pub sections-left : (sections : List ConfSection) → AllByRecursion (λ (section : ConfSection). IfSome section.other IsApartDevice) sections
       → AllByRecursion (λ (section : ConfSection). IfSome section.table IsApartDevice) sections
@@ -236,22 +237,21 @@ sections-checked before machine volume span config time is =
 
 pub staged_written_law : StagedWrittenLaw
 unfolding planned plan_sectors
-staged_written_law before staged machine volume span config device time chosen p0 p1 p2 p3 p4 rest bytes sound apart outside a s new =
-    let places = p0 ∷ (p1 ∷ (p2 ∷ (p3 ∷ (p4 ∷ rest)))) in
-    let long : length bytes ≡ 512 = ap length new.is ∙ boot-long before machine volume config time places (before span.disk span.start) new.long in
+staged_written_law before staged machine volume span config device time chosen places bytes sound apart outside a s new =
+    let long : length bytes ≡ 512 = ap length new.is ∙ boot-long before machine volume config time (all_places places) (before span.disk span.start) new.long in
     let table : part_of bytes 446 64 ≡ part_of (before span.disk span.start) 446 64 =
-    ap (λ sector. part_of sector 446 64) new.is ∙ table-kept before machine volume config time places (before span.disk span.start) new.long in
-    let others = all-other before staged machine volume span chosen bytes p0 sound s.free s.keeps outside s.own.0 table places s.own in (
+    ap (λ sector. part_of sector 446 64) new.is ∙ table-kept before machine volume config time (all_places places) (before span.disk span.start) new.long in
+    let others = all-other before staged machine volume span chosen bytes places.line sound s.free s.keeps outside s.own.0 table (all_places places) s.own in (
       record {
         whole = λ place inside. still-long staged span bytes long place (s.whole place inside);
         present_long = new.long;
         boot = boot-same staged span bytes ∙ new.is;
-        line_is = ap line_at (else-same staged span bytes p0 others.0 ∙ s.lies.0) ∙ line_again Empty tt;
-        lies = at-same staged span bytes (p1 ∷ (p2 ∷ (p3 ∷ (p4 ∷ rest)))) (drop 1 (plan_sectors (planned before machine volume config time) machine places)) others.1 s.lies.1;
+        line_is = ap line_at (else-same staged span bytes places.line others.0 ∙ s.lies.0) ∙ line_again Empty tt;
+        lies = at-same staged span bytes (after_line places) (drop 1 (plan_sectors (planned before machine volume config time) machine (all_places places))) others.1 s.lies.1;
         apart = s.apart;
-        message = path-left before staged machine volume span chosen bytes p0 sound s.free s.keeps outside s.own.0 table config.message;
+        message = path-left before staged machine volume span chosen bytes places.line sound s.free s.keeps outside s.own.0 table config.message;
         sections =
-            sections-left before staged machine volume span chosen bytes p0 sound s.free s.keeps outside s.own.0 table config.sections
+            sections-left before staged machine volume span chosen bytes places.line sound s.free s.keeps outside s.own.0 table config.sections
             (others-apart before machine volume config device apart) (tables-apart before machine volume config device apart)
             (sections-checked before machine volume span config time a.plan);
       },
@@ -259,6 +259,6 @@ staged_written_law before staged machine volume span config device time chosen p
     )
 
 pub staged_means_law : StagedMeansLaw
-staged_means_law before staged machine volume span config device time chosen p0 p1 p2 p3 p4 rest bytes sound apart outside a s new =
-    let both = staged_written_law before staged machine volume span config device time chosen p0 p1 p2 p3 p4 rest bytes sound apart outside a s new in
-    accepted_means_law before (past.with_sector staged span.disk span.start bytes) machine volume span config time p0 p1 p2 p3 p4 rest (before span.disk span.start) sound a both.0 both.1
+staged_means_law before staged machine volume span config device time chosen places bytes sound apart outside a s new =
+    let both = staged_written_law before staged machine volume span config device time chosen places bytes sound apart outside a s new in
+    accepted_means_law before (past.with_sector staged span.disk span.start bytes) machine volume span config time places (before span.disk span.start) sound a both.0 both.1

@@ -1,5 +1,5 @@
 -- What was staged, once its boot sector is written (rules of this project's own).
-use Rattle.std.specs.Prelude.{◌≡◌, ◌⊎◌, ◌<◌, ◌≤◌, ℕ, ◌*◌, Bool, false, List, ◌∷◌, length, Option, Some}
+use Rattle.std.specs.Prelude.{◌≡◌, ◌⊎◌, ◌<◌, ◌≤◌, ℕ, ◌*◌, Bool, false, List, length, Option, Some}
 use Rattle.disk_trait.specs.Past.{Past, with_sector}
 use Rattle.disk_trait.specs.Moments.{now, LeavesOnly}
 use Rattle.lilo_model.specs.Conf.{Config}
@@ -16,6 +16,7 @@ use Rattle.minix_change_laws.specs.Sees.{SeenAsIn}
 use Rattle.minix_change_laws.specs.Tree.{KeepsNamed}
 use Rattle.map_laws.specs.Accepted.{IsAccepted}
 use Rattle.map_laws.specs.MapLays.{HoldsMap}
+use Rattle.map_laws.specs.Lies.{MapPlaces, all_places}
 use Rattle.install_laws.specs.Headline.{Means}
 use Rattle.install_laws.specs.Writes.{IsApartSector, WritesOnly}
 use Rattle.install_stage_laws.specs.Mapped.{KeepsMapped}
@@ -58,23 +59,22 @@ CommitHoldsLaw =
 -- A new map is staged for what a plan's checks accepted: its files' sectors lie, the files that are mapped are there still, and
 -- its places are those of a file of its own.
 pub record IsStaged (before staged : Image) (machine : Machine) (volume : Volume) (span : Span) (config : Config) (device : Device)
-    (time : ℕ) (chosen : ℕ → Bool) (p0 p1 p2 p3 p4 : DiskSector) (rest : List DiskSector) (bytes : List ℕ)
-    (path : List (List ℕ)) : Type 0 where
+    (time : ℕ) (chosen : ℕ → Bool) (places : MapPlaces) (bytes : List ℕ) (path : List (List ℕ)) : Type 0 where
   pub sound : IsSound volume before
   pub apart : AreDevicesApart before machine volume config device
   pub outside : IsApartSector volume span.disk span.start
-  pub accepted : IsAccepted before machine volume span config time (p0 ∷ (p1 ∷ (p2 ∷ (p3 ∷ (p4 ∷ rest)))))
-  pub map : IsStagedMap before staged machine volume config time chosen p0 p1 p2 p3 p4 rest
-  pub boot : IsNewBoot before machine volume span config time (p0 ∷ (p1 ∷ (p2 ∷ (p3 ∷ (p4 ∷ rest))))) bytes
+  pub accepted : IsAccepted before machine volume span config time (all_places places)
+  pub map : IsStagedMap before staged machine volume config time chosen places
+  pub boot : IsNewBoot before machine volume span config time (all_places places) bytes
   pub files : KeepsMapped volume config before staged
-  pub holds : HoldsMap staged machine volume (planned before machine volume config time) path (p0 ∷ (p1 ∷ (p2 ∷ (p3 ∷ (p4 ∷ rest)))))
+  pub holds : HoldsMap staged machine volume (planned before machine volume config time) path (all_places places)
 
 -- then the image has Lays once the boot sector is written
 abbrev pub StagedLaysLaw : Type 0
 StagedLaysLaw =
     (before staged : Image) (machine : Machine) (volume : Volume) (span : Span) (config : Config) (device : Device) (time : ℕ)
-    (chosen : ℕ → Bool) (p0 p1 p2 p3 p4 : DiskSector) (rest : List DiskSector) (bytes : List ℕ) (path : List (List ℕ))
-    → IsStaged before staged machine volume span config device time chosen p0 p1 p2 p3 p4 rest bytes path
+    (chosen : ℕ → Bool) (places : MapPlaces) (bytes : List ℕ) (path : List (List ℕ))
+    → IsStaged before staged machine volume span config device time chosen places bytes path
     → Lays (with_sector staged span.disk span.start bytes) machine volume span (planned before machine volume config time) path
     (before span.disk span.start)
 
@@ -83,22 +83,22 @@ StagedLaysLaw =
 abbrev pub StagedTidiesLaw : Type 0
 StagedTidiesLaw =
     (before : Image) (machine : Machine) (volume : Volume) (span : Span) (config : Config) (device : Device) (time : ℕ)
-    (chosen : ℕ → Bool) (p0 p1 p2 p3 p4 : DiskSector) (rest : List DiskSector) (bytes : List ℕ) (path : List (List ℕ))
+    (chosen : ℕ → Bool) (places : MapPlaces) (bytes : List ℕ) (path : List (List ℕ))
     (staged committed tidied : Option Past)
-    → IsStaged before (now staged) machine volume span config device time chosen p0 p1 p2 p3 p4 rest bytes path
+    → IsStaged before (now staged) machine volume span config device time chosen places bytes path
     → now committed ≡ with_sector (now staged) span.disk span.start bytes
     → WritesOnly volume (λ zone. false) committed tidied
-    → LeavesOnly committed tidied (Means machine span p0 (meant config (names_in volume before) (devices_in before machine)))
+    → LeavesOnly committed tidied (Means machine span places.line (meant config (names_in volume before) (devices_in before machine)))
 
 -- each image that such a run leaves has Lays, where the map's places are still those of its file
 abbrev pub TidiedLaysLaw : Type 0
 TidiedLaysLaw =
     (before : Image) (machine : Machine) (volume : Volume) (span : Span) (config : Config) (device : Device) (time : ℕ)
-    (chosen : ℕ → Bool) (p0 p1 p2 p3 p4 : DiskSector) (rest : List DiskSector) (bytes : List ℕ) (path : List (List ℕ))
+    (chosen : ℕ → Bool) (places : MapPlaces) (bytes : List ℕ) (path : List (List ℕ))
     (staged committed tidied : Option Past)
-    → IsStaged before (now staged) machine volume span config device time chosen p0 p1 p2 p3 p4 rest bytes path
+    → IsStaged before (now staged) machine volume span config device time chosen places bytes path
     → now committed ≡ with_sector (now staged) span.disk span.start bytes
     → WritesOnly volume (λ zone. false) committed tidied
     → LeavesOnly committed tidied (λ c.
-    HoldsMap c machine volume (planned before machine volume config time) path (p0 ∷ (p1 ∷ (p2 ∷ (p3 ∷ (p4 ∷ rest)))))
+    HoldsMap c machine volume (planned before machine volume config time) path (all_places places)
     → Lays c machine volume span (planned before machine volume config time) path (before span.disk span.start))

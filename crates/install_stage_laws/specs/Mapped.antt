@@ -1,15 +1,16 @@
 -- The files that a configuration's plan maps, in a later image (rules of this project's own).
-use Rattle.std.specs.Prelude.{◌≡◌, ◌≢◌, ℕ, IfSome, List, ◌∷◌, All, Option, None, Some}
+use Rattle.std.specs.Prelude.{◌≡◌, ◌≢◌, ℕ, IfSome, List, All, Option, None, Some}
 use Rattle.std.specs.List.{AllByRecursion}
 use Rattle.lilo_model.specs.Clear.{IsClearPlace}
 use Rattle.lilo_model.specs.Conf.{Config, ConfSection}
 use Rattle.lilo_model.specs.Devices.{Device}
-use Rattle.lilo_model.specs.Disks.{Image, Machine, Span, DiskSector}
+use Rattle.lilo_model.specs.Disks.{Image, Machine, Span}
 use Rattle.lilo_model.specs.MinixNames.{PointsTo, Refers, reached, IsSound}
 use Rattle.lilo_model.specs.MinixParts.{Volume, Pointer, parts_of}
 use Rattle.lilo_model.specs.Planned.{file_inode, planned}
 use Rattle.minix_change_laws.specs.Beside.{NamedIn}
 use Rattle.map_laws.specs.MapLays.{HoldsMap}
+use Rattle.map_laws.specs.Lies.{MapPlaces, all_places}
 use Rattle.install_laws.specs.Writes.{IsApartSector}
 use Rattle.install_stage_laws.specs.StaysLaws.{planned_places}
 use Rattle.install_stage_laws.specs.ClearMap.{KeepsFiles, KeepsFilesBut}
@@ -74,8 +75,8 @@ MappedJoinedLaw =
 abbrev pub StagedClearLaw : Type 0
 StagedClearLaw =
     (before c : Image) (machine : Machine) (volume : Volume) (span : Span) (config : Config) (device : Device) (time : ℕ)
-    (p0 p1 p2 p3 p4 : DiskSector) (rest : List DiskSector) (path : List (List ℕ))
+    (places : MapPlaces) (path : List (List ℕ))
     → IsSound volume before → AreDevicesApart before machine volume config device → IsApartSector volume span.disk span.start
     → KeepsMapped volume config before c
-    → HoldsMap c machine volume (planned before machine volume config time) path (p0 ∷ (p1 ∷ (p2 ∷ (p3 ∷ (p4 ∷ rest)))))
-    → All (IsClearPlace volume c) (planned_places before machine volume span config time p0 p1 p2 p3 p4 rest)
+    → HoldsMap c machine volume (planned before machine volume config time) path (all_places places)
+    → All (IsClearPlace volume c) (planned_places before machine volume span config time places)

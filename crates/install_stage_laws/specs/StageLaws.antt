@@ -1,6 +1,6 @@
 -- What is staged of an installation means the new configuration once the boot sector is written, and what it leaves of the
 -- present map (rules of this project's own).
-use Rattle.std.specs.Prelude.{◌≡◌, ◌≢◌, ◌⊎◌, ℕ, Bool, true, List, ◌∷◌, Option, None}
+use Rattle.std.specs.Prelude.{◌≡◌, ◌≢◌, ◌⊎◌, ℕ, Bool, true, List, Option, None}
 use Rattle.disk_trait.specs.Past.{Past, with_sector}
 use Rattle.disk_trait.specs.Moments.{IsTold, now, MayLeave, LeavesOnly}
 use Rattle.lilo_model.specs.Clear.{Clear}
@@ -19,6 +19,7 @@ use Rattle.minix_change_laws.specs.Beside.{IsDataZone}
 use Rattle.minix_change_laws.specs.Sees.{SeenAsIn}
 use Rattle.minix_change_laws.specs.Tree.{KeepsNamed, HasTreeWith}
 use Rattle.map_laws.specs.Accepted.{IsAccepted, IsWritten}
+use Rattle.map_laws.specs.Lies.{MapPlaces, all_places}
 use Rattle.install_laws.specs.Boots.{SparesMapped, HasBootOf}
 use Rattle.install_laws.specs.Headline.{Means}
 use Rattle.install_laws.specs.Writes.{IsWritable, IsApartSector, WritesOnly, AreAvoided}
@@ -63,25 +64,25 @@ StagesLaw =
 abbrev pub StagedWrittenLaw : Type 0
 StagedWrittenLaw =
     (before staged : Image) (machine : Machine) (volume : Volume) (span : Span) (config : Config) (device : Device) (time : ℕ)
-    (chosen : ℕ → Bool) (p0 p1 p2 p3 p4 : DiskSector) (rest : List DiskSector) (bytes : List ℕ)
+    (chosen : ℕ → Bool) (places : MapPlaces) (bytes : List ℕ)
     → IsSound volume before → AreDevicesApart before machine volume config device → IsApartSector volume span.disk span.start
-    → IsAccepted before machine volume span config time (p0 ∷ (p1 ∷ (p2 ∷ (p3 ∷ (p4 ∷ rest)))))
-    → IsStagedMap before staged machine volume config time chosen p0 p1 p2 p3 p4 rest
-    → IsNewBoot before machine volume span config time (p0 ∷ (p1 ∷ (p2 ∷ (p3 ∷ (p4 ∷ rest))))) bytes
-    → IsWritten before (with_sector staged span.disk span.start bytes) machine volume span config time Empty p0 p1 p2 p3 p4 rest
+    → IsAccepted before machine volume span config time (all_places places)
+    → IsStagedMap before staged machine volume config time chosen places
+    → IsNewBoot before machine volume span config time (all_places places) bytes
+    → IsWritten before (with_sector staged span.disk span.start bytes) machine volume span config time Empty places
     (before span.disk span.start)
-    × (p0 ≢ record { disk = span.disk; sector = span.start })
+    × (places.line ≢ record { disk = span.disk; sector = span.start })
 
 -- and so that image means what the configuration and its files do
 abbrev pub StagedMeansLaw : Type 0
 StagedMeansLaw =
     (before staged : Image) (machine : Machine) (volume : Volume) (span : Span) (config : Config) (device : Device) (time : ℕ)
-    (chosen : ℕ → Bool) (p0 p1 p2 p3 p4 : DiskSector) (rest : List DiskSector) (bytes : List ℕ)
+    (chosen : ℕ → Bool) (places : MapPlaces) (bytes : List ℕ)
     → IsSound volume before → AreDevicesApart before machine volume config device → IsApartSector volume span.disk span.start
-    → IsAccepted before machine volume span config time (p0 ∷ (p1 ∷ (p2 ∷ (p3 ∷ (p4 ∷ rest)))))
-    → IsStagedMap before staged machine volume config time chosen p0 p1 p2 p3 p4 rest
-    → IsNewBoot before machine volume span config time (p0 ∷ (p1 ∷ (p2 ∷ (p3 ∷ (p4 ∷ rest))))) bytes
-    → Means machine span p0 (meant config (names_in volume before) (devices_in before machine))
+    → IsAccepted before machine volume span config time (all_places places)
+    → IsStagedMap before staged machine volume config time chosen places
+    → IsNewBoot before machine volume span config time (all_places places) bytes
+    → Means machine span places.line (meant config (names_in volume before) (devices_in before machine))
     (with_sector staged span.disk span.start bytes)
 
 -- ---- the Holder

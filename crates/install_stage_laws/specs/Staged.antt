@@ -1,6 +1,6 @@
 -- What an installation stages before its commit: the files of a new map, in zones that were free (rules of this project's
 -- own).
-use Rattle.std.specs.Prelude.{◌≡◌, ℕ, ◌+◌, Bool, true, false, List, ◌∷◌, length}
+use Rattle.std.specs.Prelude.{◌≡◌, ℕ, ◌+◌, Bool, true, false, List, length}
 use Rattle.std.specs.List.{AllByRecursion}
 use Rattle.lilo_model.specs.Clear.{IsOfZone}
 use Rattle.lilo_model.specs.Conf.{Config}
@@ -11,7 +11,7 @@ use Rattle.lilo_model.specs.Plan.{plan_sectors, plan_boot_sector}
 use Rattle.lilo_model.specs.Planned.{planned}
 use Rattle.minix_change_laws.specs.Beside.{IsDataZone}
 use Rattle.map_laws.specs.Accepted.{IsInside}
-use Rattle.map_laws.specs.Lies.{IsNone}
+use Rattle.map_laws.specs.Lies.{MapPlaces, after_line, all_places, IsNone}
 use Rattle.install_laws.specs.Writes.{IsWritable}
 
 -- an image has the bytes of another one, but in what a writer of files may write for some chosen zones
@@ -35,14 +35,14 @@ pub record IsChosenPlace (volume : Volume) (chosen : ℕ → Bool) (place : Disk
 -- The files of a map were staged: all but what a writer of files may write is as it was, the chosen zones were free, and the
 -- map's sectors lie in them, each at its place; that of the default line is none of the others.
 pub record IsStagedMap (before staged : Image) (machine : Machine) (volume : Volume) (config : Config) (time : ℕ)
-    (chosen : ℕ → Bool) (p0 p1 p2 p3 p4 : DiskSector) (rest : List DiskSector) : Type 0 where
+    (chosen : ℕ → Bool) (places : MapPlaces) : Type 0 where
   pub keeps : KeepsRest volume before chosen staged
   pub free : AreFree volume before chosen
   pub whole : (place : DiskSector) → IsInside machine place → length (bytes_at staged place) ≡ 512
-  pub own : AllByRecursion (IsChosenPlace volume chosen) (p0 ∷ (p1 ∷ (p2 ∷ (p3 ∷ (p4 ∷ rest)))))
-  pub apart : IsNone p0 (p1 ∷ (p2 ∷ (p3 ∷ (p4 ∷ rest))))
-  pub lies : AreAt staged (p0 ∷ (p1 ∷ (p2 ∷ (p3 ∷ (p4 ∷ rest)))))
-      (plan_sectors (planned before machine volume config time) machine (p0 ∷ (p1 ∷ (p2 ∷ (p3 ∷ (p4 ∷ rest))))))
+  pub own : AllByRecursion (IsChosenPlace volume chosen) (all_places places)
+  pub apart : IsNone places.line (after_line places)
+  pub lies : AreAt staged (all_places places)
+      (plan_sectors (planned before machine volume config time) machine (all_places places))
 
 -- the new boot sector: that of the plan, over the one that is there
 pub record IsNewBoot (before : Image) (machine : Machine) (volume : Volume) (span : Span) (config : Config) (time : ℕ)

@@ -20,9 +20,9 @@ returns-clause-sector c machine fits =
     ∙ ap (λ code. merged_sector boot code c.args.present.now) c.code_sector-code.ensures
 
 pub returns-clause-boots : goal.returns-clause-boots
-returns-clause-boots c machine fits before image volume span line p0 p1 p2 p3 p4 rest keys memory are sound accepted there written =
+returns-clause-boots c machine fits before image volume span line map_places keys memory are sound accepted there written =
     let plan = c.args.self.now in
     let config = config_view plan.config in
-    accepted_law before image machine volume span config plan.time line p0 p1 p2 p3 p4 rest c.args.present.now keys memory sound
+    accepted_law before image machine volume span config plan.time line map_places c.args.present.now keys memory sound
     (subst (IsAccepted before machine volume span config plan.time) are accepted)
     (written (there ∙ returns-clause-sector c machine fits))

@@ -301,15 +301,19 @@ def lies_proof(case, image):
     return 'record {\n%s}' % ''.join('  %s = %s;\n' % field for field in fields)
 
 
+def map_places(places):
+    place = ['record { disk = %d; sector = %d }' % tuple(one) for one in places]
+    named = ['%s = %s' % one for one in zip(('line', 'one', 'two', 'three', 'zero_place'), place)]
+    return '(record { %s })' % '; '.join(named + ['rest = ' + listed(['(%s)' % one for one in place[5:]])])
+
+
 def lies(case, name):
     """The theorem that one case's map lies, and its proof; the line of what is unfolded comes between."""
     fields, what, image = scenario(case), case['plan'], 'image_' + case['name']
     disks_there = '(disks_of %s)' % fields['disk']
-    place = ['(record { disk = %d; sector = %d })' % tuple(one) for one in what['places']]
-    statement = 'PlannedLies %s %s %s %s %s %s %d (devices_in %s %s) Empty %s %s (disks_of %s %d %d)' % (
+    statement = 'PlannedLies %s %s %s %s %s %s %d (devices_in %s %s) Empty %s (disks_of %s %d %d)' % (
         disks_there, image, fields['machine'], fields['volume'], model_cases.span(what['span']), fields['conf'],
-        what['time'], disks_there, fields['machine'], ' '.join(place[:5]), listed(place[5:]), fields['disk'],
-        what['span'][0], what['span'][1])
+        what['time'], disks_there, fields['machine'], map_places(what['places']), fields['disk'], *what['span'][:2])
     changes = case['lies'].get('file', {}).get('changes', [])
     return ['', '-- the disks with what was planned', 'abbrev %s : Image' % image,
             '%s = %s' % (image, installed(case, changes)), '', '-- ' + case['shows'], 'pub %s : %s' % (name, statement),

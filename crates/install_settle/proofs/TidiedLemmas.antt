@@ -1,5 +1,5 @@
 -- What tidying leaves of a new map.
-use Rattle.std.proofs.Common.{◌≡◌, ◌⊎◌, ℕ, Bool, false, List, ◌∷◌, Some, None, sym, ◌∙◌, ap, subst, inl, inr}
+use Rattle.std.proofs.Common.{◌≡◌, ◌⊎◌, ℕ, Bool, false, List, Some, None, sym, ◌∙◌, ap, subst, inl, inr}
 use Rattle.disk_trait.specs.Past as past
 use Rattle.disk_trait.specs.Moments.{now}
 use Rattle.disk_trait.proofs.MomentLemmas.{leaves_weaker}
@@ -14,6 +14,7 @@ use Rattle.lilo_model.specs.Planned.{planned}
 use Rattle.lilo_model.specs.Settled.{Holds, Held, is_foreign, says_foreign}
 use Rattle.map_laws.specs.MapLays.{HoldsMap}
 use Rattle.map_laws.proofs.Holder.{lays_held_law}
+use Rattle.map_laws.specs.Lies.{MapPlaces, all_places}
 use Rattle.minix_remove.specs.Moves.{IsMoving}
 use Rattle.minix_change_laws.specs.Sees.{SeenAsIn}
 use Rattle.minix_change_laws.specs.Tree.{TreeAs}
@@ -28,11 +29,11 @@ use Rattle.install_settle.specs.Tidied.{TidiedMapLaw, TidiedHoldsLaw}
 use Rattle.install_settle.proofs.TidyLemmas.{still-leads}
 
 module _ (before staged : Image) (machine : Machine) (volume : Volume) (span : Span) (config : Config) (device : Device) (time : ℕ)
-    (chosen : ℕ → Bool) (p0 p1 p2 p3 p4 : DiskSector) (rest : List DiskSector) (bytes : List ℕ) (path : List (List ℕ))
-    (map : IsStaged before staged machine volume span config device time chosen p0 p1 p2 p3 p4 rest bytes path)
+    (chosen : ℕ → Bool) (places : MapPlaces) (bytes : List ℕ) (path : List (List ℕ))
+    (map : IsStaged before staged machine volume span config device time chosen places bytes path)
     (there : reached volume.layout (parts_of volume staged) (with_tilde path) ≡ Some map.holds.holder) where
   abbrev Places : List DiskSector
-  Places = p0 ∷ (p1 ∷ (p2 ∷ (p3 ∷ (p4 ∷ rest))))
+  Places = all_places places
 
   abbrev Planned : Plan
   Planned = planned before machine volume config time
@@ -43,7 +44,7 @@ module _ (before staged : Image) (machine : Machine) (volume : Volume) (span : S
   seen : SeenAsIn volume staged New
   seen =
       commit_seen_law volume staged span bytes map.files.sound map.outside
-      (committing.size-is before staged machine volume span config device time chosen p0 p1 p2 p3 p4 rest bytes path map)
+      (committing.size-is before staged machine volume span config device time chosen places bytes path map)
 
   tree : TreeAs volume.layout (parts_of volume staged) (parts_of volume New)
   tree = sees_tree_law volume.layout (parts_of volume staged) (parts_of volume New) (opened volume staged map.files.sound).parts seen.sees
@@ -67,16 +68,16 @@ module _ (before staged : Image) (machine : Machine) (volume : Volume) (span : S
       by (inr same) = inr (same ∙ there-new)
 
 pub tidied_map_law : TidiedMapLaw
-tidied_map_law before machine volume span config device time chosen p0 p1 p2 p3 p4 rest bytes path staged committed tidied map there is writes leaves =
+tidied_map_law before machine volume span config device time chosen places bytes path staged committed tidied map there is writes leaves =
     leaves_weaker committed tidied _ _
     (leaves_both committed tidied _ _
-    (staged_tidies_law before machine volume span config device time chosen p0 p1 p2 p3 p4 rest bytes path staged committed tidied map is writes)
+    (staged_tidies_law before machine volume span config device time chosen places bytes path staged committed tidied map is writes)
     (leaves_both committed tidied _ _
-    (tidied_lays_law before machine volume span config device time chosen p0 p1 p2 p3 p4 rest bytes path staged committed tidied map is writes)
+    (tidied_lays_law before machine volume span config device time chosen places bytes path staged committed tidied map is writes)
     leaves))
     (λ c all.
     let moving = subst (λ (image : Image). IsMoving volume image (with_tilde path) path c) is all.1.1.leads in
-    let lays = all.1.0 (holds-in before (now staged) machine volume span config device time chosen p0 p1 p2 p3 p4 rest bytes path map there c moving) in
+    let lays = all.1.0 (holds-in before (now staged) machine volume span config device time chosen places bytes path map there c moving) in
     record {
       means = all.0;
       lays = lays;

@@ -16,6 +16,7 @@ use Rattle.install_laws.specs.Headline.{Means}
 use Rattle.install_laws.specs.Writes.{WritesOnly}
 use Rattle.install_stage_laws.specs.Committed.{IsStaged}
 use Rattle.install_settle.specs.Tidies.{IsTidying}
+use Rattle.map_laws.specs.Lies.{MapPlaces}
 
 -- an image means a configuration, has Lays of what was planned of it, and is Held
 pub record IsTidiedMap (before : Image) (machine : Machine) (volume : Volume) (span : Span) (config : Config) (time : ℕ) (line_place : DiskSector)
@@ -29,14 +30,14 @@ pub record IsTidiedMap (before : Image) (machine : Machine) (volume : Volume) (s
 abbrev pub TidiedMapLaw : Type 0
 TidiedMapLaw =
     (before : Image) (machine : Machine) (volume : Volume) (span : Span) (config : Config) (device : Device) (time : ℕ)
-    (chosen : ℕ → Bool) (p0 p1 p2 p3 p4 : DiskSector) (rest : List DiskSector) (bytes : List ℕ) (path : List (List ℕ))
+    (chosen : ℕ → Bool) (places : MapPlaces) (bytes : List ℕ) (path : List (List ℕ))
     (staged committed tidied : Option Past)
-    → (map : IsStaged before (now staged) machine volume span config device time chosen p0 p1 p2 p3 p4 rest bytes path)
+    → (map : IsStaged before (now staged) machine volume span config device time chosen places bytes path)
     → reached volume.layout (parts_of volume (now staged)) (with_tilde path) ≡ Some map.holds.holder
     → now committed ≡ with_sector (now staged) span.disk span.start bytes
     → WritesOnly volume (λ zone. false) committed tidied
     → LeavesOnly committed tidied (IsTidying volume (now committed) path)
-    → LeavesOnly committed tidied (IsTidiedMap before machine volume span config time p0 path)
+    → LeavesOnly committed tidied (IsTidiedMap before machine volume span config time places.line path)
 
 -- in such an image, where nothing is at `map~`, the file at `map` holds the boot sector's table
 abbrev pub TidiedHoldsLaw : Type 0

@@ -1,5 +1,5 @@
 -- All is staged once both files are there.
-use Rattle.std.proofs.Common.{◌≡◌, ℕ, Bool, List, ◌∷◌, Option, None, Some, Ok, sym, ap, ◌∙◌, subst}
+use Rattle.std.proofs.Common.{◌≡◌, ℕ, Bool, List, Option, None, Some, Ok, sym, ap, ◌∙◌, subst}
 use Rattle.std.specs.List.{AllByRecursion}
 use Rattle.std.proofs.lemmas.Bool.{or_left}
 use Rattle.disk_trait.specs.declared.disks.Disks.{Ghosts}
@@ -22,6 +22,7 @@ use Rattle.lilo_model.specs.MinixParts as volumes
 use Rattle.lilo_model.specs.Plan.{Plan, plan_sectors}
 use Rattle.lilo_model.specs.Planned.{planned}
 use Rattle.map_laws.specs.MapLays.{HoldsMap}
+use Rattle.map_laws.specs.Lies.{MapPlaces, all_places}
 use Rattle.map_sectors.specs.Map.{plan_view}
 use Rattle.map_sectors.specs.declared.map.MapPlan.{MapPlan}
 use Rattle.minix_zones.specs.Volume.{volume_view, past_of}
@@ -39,13 +40,13 @@ kept-mapped volume config old c (Some path) sound apart files = but_keep_mapped_
 
 module _ {D : Type 0} {disks : Ghosts D} (start new : Volume D disks) (plan : MapPlan) (room : Room)
     (machine : Machine) (span : Span) (config : Config) (device : Device) (time : ℕ)
-    (p0 p1 p2 p3 p4 : model.DiskSector) (rest : List model.DiskSector) (bytes present : List ℕ)
+    (map_places : MapPlaces) (bytes present : List ℕ)
     (forced : Bool) (backup : Option (List (List ℕ))) (path : List (List ℕ))
     (told : IsTold (past_of start))
-    (are : places_view room ≡ p0 ∷ (p1 ∷ (p2 ∷ (p3 ∷ (p4 ∷ rest)))))
-    (was : IsAcceptedPlan (now (past_of start)) machine (volume_view start) span config device time (room_zones room) plan (p0 ∷ (p1 ∷ (p2 ∷ (p3 ∷ (p4 ∷ rest))))))
+    (are : places_view room ≡ all_places map_places)
+    (was : IsAcceptedPlan (now (past_of start)) machine (volume_view start) span config device time (room_zones room) plan (all_places map_places))
     (apart : AreNotReplaced (now (past_of start)) (volume_view start) config backup)
-    (boot : IsNewBoot (now (past_of start)) machine (volume_view start) span config time (p0 ∷ (p1 ∷ (p2 ∷ (p3 ∷ (p4 ∷ rest))))) bytes)
+    (boot : IsNewBoot (now (past_of start)) machine (volume_view start) span config time (all_places map_places) bytes)
     (stages : StagesRoom start new machine forced backup present path plan room (Ok tt)) where
   abbrev View : volumes.Volume
   View = volume_view start
@@ -57,12 +58,12 @@ module _ {D : Type 0} {disks : Ghosts D} (start new : Volume D disks) (plan : Ma
   Staged = now (past_of new)
 
   abbrev Lie : List model.DiskSector
-  Lie = p0 ∷ (p1 ∷ (p2 ∷ (p3 ∷ (p4 ∷ rest))))
+  Lie = all_places map_places
 
   keeps : KeepsRest View Before (room_zones room) Staged
   keeps = (keeps_rest_law View (room_zones room) (past_of start) (past_of new) stages.only).1 (stages.goes_on.told told)
 
-  staged-map : IsStagedMap Before Staged machine View config time (room_zones room) p0 p1 p2 p3 p4 rest
+  staged-map : IsStagedMap Before Staged machine View config time (room_zones room) map_places
   staged-map = record {
     keeps = keeps;
     free = was.free;
@@ -82,7 +83,7 @@ module _ {D : Type 0} {disks : Ghosts D} (start new : Volume D disks) (plan : Ma
   holds : Holds (planned Before machine View config time) Lie
   holds = subst (λ (p : Plan). Holds p Lie) was.plan_is (subst (λ (l : List model.DiskSector). Holds (plan_view plan) l) are ((stages.done told).holds, (stages.done told).holder))
 
-  staged : IsStaged Before Staged machine View span config device time (room_zones room) p0 p1 p2 p3 p4 rest bytes path
+  staged : IsStaged Before Staged machine View span config device time (room_zones room) map_places bytes path
   staged = record {
     sound = was.sound;
     apart = was.apart;
@@ -94,10 +95,10 @@ module _ {D : Type 0} {disks : Ghosts D} (start new : Volume D disks) (plan : Ma
     holds = holds.0;
   }
 
-  pub staged-room : IsStagedRoom Before Staged machine View span config device time (room_zones room) p0 p1 p2 p3 p4 rest bytes path
+  pub staged-room : IsStagedRoom Before Staged machine View span config device time (room_zones room) map_places bytes path
   unfolding staged
   staged-room = record { is = staged; leads = (stages.done told).leads ∙ ap Some (sym holds.1) }
 
 pub room_staged_law : {D : Type 0} {disks : Ghosts D} (start new : Volume D disks) (plan : MapPlan) (room : Room) → RoomStagedLaw start new plan room
-room_staged_law start new plan room machine span config device time p0 p1 p2 p3 p4 rest bytes present forced backup path told are was apart boot stages =
-    staged-room start new plan room machine span config device time p0 p1 p2 p3 p4 rest bytes present forced backup path told are was apart boot stages
+room_staged_law start new plan room machine span config device time map_places bytes present forced backup path told are was apart boot stages =
+    staged-room start new plan room machine span config device time map_places bytes present forced backup path told are was apart boot stages

@@ -20,6 +20,7 @@ use Rattle.lilo_model.specs.MinixNames.{IsSound}
 use Rattle.lilo_model.specs.MinixParts as volumes
 use Rattle.lilo_model.specs.Plan.{Plan, plan_sectors}
 use Rattle.map_laws.specs.MapLays.{HoldsMap}
+use Rattle.map_laws.specs.Lies.{MapPlaces, all_places}
 use Rattle.map_sectors.specs.Map.{plan_view}
 use Rattle.map_sectors.specs.declared.map.MapPlan.{MapPlan}
 use Rattle.minix_create.specs.declared.chosen.Chosen.{Chosen}
@@ -72,10 +73,10 @@ more-chosen volume one zones more (place ∷ places) own =
 
 module _ {D : Type 0} {disks : Ghosts D} (start new : Volume D disks) (chosen : Chosen) (plan : MapPlan) (places : List DiskSector)
     (begun : Option Past) (machine : Machine) (span : Span) (config : Config) (device : Device) (time : ℕ) (zones : ℕ → Bool)
-    (p0 p1 p2 p3 p4 : model.DiskSector) (rest : List model.DiskSector) (bytes : List ℕ) (path : List (List ℕ))
-    (are : map place_view places ≡ p0 ∷ (p1 ∷ (p2 ∷ (p3 ∷ (p4 ∷ rest)))))
-    (was : WasPlanned begun start new machine span config device time zones chosen plan (p0 ∷ (p1 ∷ (p2 ∷ (p3 ∷ (p4 ∷ rest))))))
-    (boot : IsNewBoot (now begun) machine (volume_view start) span config time (p0 ∷ (p1 ∷ (p2 ∷ (p3 ∷ (p4 ∷ rest))))) bytes)
+    (map_places : MapPlaces) (bytes : List ℕ) (path : List (List ℕ))
+    (are : map place_view places ≡ all_places map_places)
+    (was : WasPlanned begun start new machine span config device time zones chosen plan (all_places map_places))
+    (boot : IsNewBoot (now begun) machine (volume_view start) span config time (all_places map_places) bytes)
     (makes : MakesMap start new machine path chosen plan places (Ok tt)) where
   abbrev View : volumes.Volume
   View = volume_view start
@@ -87,12 +88,12 @@ module _ {D : Type 0} {disks : Ghosts D} (start new : Volume D disks) (chosen : 
   Staged = now (past_of new)
 
   abbrev Lie : List model.DiskSector
-  Lie = p0 ∷ (p1 ∷ (p2 ∷ (p3 ∷ (p4 ∷ rest))))
+  Lie = all_places map_places
 
   keeps : KeepsRest View Before zones Staged
   keeps = (keeps_rest_law View zones begun (past_of new) was.writes).1 (makes.creates.leads.goes_on.told was.told)
 
-  staged-map : IsStagedMap Before Staged machine View config time zones p0 p1 p2 p3 p4 rest
+  staged-map : IsStagedMap Before Staged machine View config time zones map_places
   staged-map = record {
     keeps = keeps;
     free = was.planned.free;
@@ -104,7 +105,7 @@ module _ {D : Type 0} {disks : Ghosts D} (start new : Volume D disks) (chosen : 
         (subst (λ (l : List model.DiskSector). AreAt Staged l (plan_sectors (plan_view plan) machine l)) are (makes.done was.told).lies);
   }
 
-  pub staged : IsStaged Before Staged machine View span config device time zones p0 p1 p2 p3 p4 rest bytes path
+  pub staged : IsStaged Before Staged machine View span config device time zones map_places bytes path
   staged = record {
     sound = was.planned.sound;
     apart = was.planned.apart;
@@ -119,5 +120,5 @@ module _ {D : Type 0} {disks : Ghosts D} (start new : Volume D disks) (chosen : 
   }
 
 pub staged_law : {D : Type 0} {disks : Ghosts D} (start new : Volume D disks) (chosen : Chosen) (plan : MapPlan) (places : List DiskSector) → StagedLaw start new chosen plan places
-staged_law start new chosen plan places begun machine span config device time zones p0 p1 p2 p3 p4 rest bytes path are was boot makes =
-    staged start new chosen plan places begun machine span config device time zones p0 p1 p2 p3 p4 rest bytes path are was boot makes
+staged_law start new chosen plan places begun machine span config device time zones map_places bytes path are was boot makes =
+    staged start new chosen plan places begun machine span config device time zones map_places bytes path are was boot makes

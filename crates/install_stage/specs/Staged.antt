@@ -1,5 +1,5 @@
 -- What is staged where files were made of what was planned (a rule of this project's own).
-use Rattle.std.specs.Prelude.{◌≡◌, ◌≢◌, ℕ, Bool, true, List, ◌∷◌, length, map, Option, None, Some, Ok}
+use Rattle.std.specs.Prelude.{◌≡◌, ◌≢◌, ℕ, Bool, true, List, length, map, Option, None, Some, Ok}
 use Rattle.disk_trait.specs.declared.disks.Disks.{Ghosts}
 use Rattle.disk_trait.specs.Moments.{IsTold, now}
 use Rattle.disk_trait.specs.Past.{Past}
@@ -21,6 +21,7 @@ use Rattle.lilo_model.specs.MinixParts.{parts_of}
 use Rattle.lilo_model.specs.NamePlaces.{with_tilde}
 use Rattle.lilo_model.specs.Planned.{planned}
 use Rattle.map_laws.specs.Accepted.{IsInside, IsAccepted}
+use Rattle.map_laws.specs.Lies.{MapPlaces, all_places}
 use Rattle.map_sectors.specs.Map.{plan_view}
 use Rattle.map_sectors.specs.declared.map.MapPlan.{MapPlan}
 use Rattle.minix_create.specs.declared.chosen.Chosen.{Chosen}
@@ -60,12 +61,12 @@ pub record WasPlanned {D : Type 0} {disks : Ghosts D} (begun : Option Past) (sta
 abbrev pub StagedLaw : {D : Type 0} {disks : Ghosts D} → Volume D disks → Volume D disks → Chosen → MapPlan → List DiskSector → Type 0
 StagedLaw start new chosen plan places =
     (begun : Option Past) (machine : Machine) (span : Span) (config : Config) (device : Device) (time : ℕ) (zones : ℕ → Bool)
-    (p0 p1 p2 p3 p4 : model.DiskSector) (rest : List model.DiskSector) (bytes : List ℕ) (path : List (List ℕ))
-    → map place_view places ≡ p0 ∷ (p1 ∷ (p2 ∷ (p3 ∷ (p4 ∷ rest))))
-    → WasPlanned begun start new machine span config device time zones chosen plan (p0 ∷ (p1 ∷ (p2 ∷ (p3 ∷ (p4 ∷ rest)))))
-    → IsNewBoot (now begun) machine (volume_view start) span config time (p0 ∷ (p1 ∷ (p2 ∷ (p3 ∷ (p4 ∷ rest))))) bytes
+    (map_places : MapPlaces) (bytes : List ℕ) (path : List (List ℕ))
+    → map place_view places ≡ all_places map_places
+    → WasPlanned begun start new machine span config device time zones chosen plan (all_places map_places)
+    → IsNewBoot (now begun) machine (volume_view start) span config time (all_places map_places) bytes
     → MakesMap start new machine path chosen plan places (Ok tt)
-    → IsStaged (now begun) (now (past_of new)) machine (volume_view start) span config device time zones p0 p1 p2 p3 p4 rest bytes path
+    → IsStaged (now begun) (now (past_of new)) machine (volume_view start) span config device time zones map_places bytes path
 
 -- ---- files that were staged
 
@@ -77,23 +78,21 @@ AreNotReplaced image volume config (Some path) =
 
 -- all is staged, and the map's file is at the path of `map` with `~`
 pub record IsStagedRoom (before staged : Image) (machine : Machine) (volume : volumes.Volume) (span : Span) (config : Config) (device : Device)
-    (time : ℕ) (zones : ℕ → Bool) (p0 p1 p2 p3 p4 : model.DiskSector) (rest : List model.DiskSector) (bytes : List ℕ)
-    (path : List (List ℕ)) : Type 0 where
-  pub is : IsStaged before staged machine volume span config device time zones p0 p1 p2 p3 p4 rest bytes path
+    (time : ℕ) (zones : ℕ → Bool) (map_places : MapPlaces) (bytes : List ℕ) (path : List (List ℕ)) : Type 0 where
+  pub is : IsStaged before staged machine volume span config device time zones map_places bytes path
   pub leads : reached volume.layout (parts_of volume staged) (with_tilde path) ≡ Some is.holds.holder
 
 -- so it is once both files are there, of a plan that was accepted before them
 abbrev pub RoomStagedLaw : {D : Type 0} {disks : Ghosts D} → Volume D disks → Volume D disks → MapPlan → Room → Type 0
 RoomStagedLaw start new plan room =
     (machine : Machine) (span : Span) (config : Config) (device : Device) (time : ℕ)
-    (p0 p1 p2 p3 p4 : model.DiskSector) (rest : List model.DiskSector) (bytes present : List ℕ)
+    (map_places : MapPlaces) (bytes present : List ℕ)
     (forced : Bool) (backup : Option (List (List ℕ))) (path : List (List ℕ))
     → IsTold (past_of start)
-    → places_view room ≡ p0 ∷ (p1 ∷ (p2 ∷ (p3 ∷ (p4 ∷ rest))))
-    → IsAcceptedPlan (now (past_of start)) machine (volume_view start) span config device time (room_zones room) plan
-    (p0 ∷ (p1 ∷ (p2 ∷ (p3 ∷ (p4 ∷ rest)))))
+    → places_view room ≡ all_places map_places
+    → IsAcceptedPlan (now (past_of start)) machine (volume_view start) span config device time (room_zones room) plan (all_places map_places)
     → AreNotReplaced (now (past_of start)) (volume_view start) config backup
-    → IsNewBoot (now (past_of start)) machine (volume_view start) span config time (p0 ∷ (p1 ∷ (p2 ∷ (p3 ∷ (p4 ∷ rest))))) bytes
+    → IsNewBoot (now (past_of start)) machine (volume_view start) span config time (all_places map_places) bytes
     → StagesRoom start new machine forced backup present path plan room (Ok tt)
-    → IsStagedRoom (now (past_of start)) (now (past_of new)) machine (volume_view start) span config device time (room_zones room)
-    p0 p1 p2 p3 p4 rest bytes path
+    → IsStagedRoom (now (past_of start)) (now (past_of new)) machine (volume_view start) span config device time (room_zones room) map_places
+    bytes path

@@ -1,0 +1,4 @@
+pub mod Looked
+pub mod Mapped
+pub mod Committed
+pub mod Runs

@@ -6,6 +6,7 @@ use Rattle.disk_trait.specs.Moments.{IsTold, now, LeavesOnly}
 use Rattle.disk_trait.specs.Past.{Past, with_sector}
 use Rattle.lilo_model.specs.Disks.{Image, Machine, Span}
 use Rattle.lilo_model.specs.MinixParts as model
+use Rattle.map_laws.specs.Lies.{MapPlaces}
 use Rattle.lilo_conf.specs.View.{config_view}
 use Rattle.lilo_conf.specs.declared.config.Config as configs
 use Rattle.mbr_table.specs.View.{device_view}
@@ -25,7 +26,6 @@ use Rattle.install_order.specs.declared.halt.Halt.{Halt}
 use Rattle.install_order.specs.declared.planned.Planned.{Planned}
 use Rattle.install_order.specs.declared.staged.Staged.{Staged}
 use Rattle.install_order.specs.declared.surveyed.Surveyed.{Surveyed}
-use Rattle.install_room.specs.Room.{places_view}
 use Rattle.install_stage.specs.Stages.{room_zones}
 use Rattle.install_stage_laws.proofs.Committed.{staged_tidies_law}
 use Rattle.install_settle.specs.Tidies.{Tidies}
@@ -33,7 +33,7 @@ use Rattle.install_join_laws.specs.JoinLaws.{InstallationCommitEndsLaw, Installa
 use Rattle.install_join_laws.specs.Steps.{HasPlanned, HasStaged, IsBegunWith, LiesOnDisks, machine_on}
 use Rattle.install_join_laws.proofs.Begun.{plan-view-same}
 use Rattle.install_join_laws.proofs.Prepared.{prepared-staged}
-use Rattle.install_join_laws.proofs.Staged.{FivePlaces, first-of, five, means, names, staged-room, told-staged}
+use Rattle.install_join_laws.proofs.Staged.{first-of, five, means, names, staged-room, told-staged}
 
 module _ {D : Type 0} {disks : Ghosts D} (entry : Volume D disks) (config : configs.Config) (boot : spans.Span) (time : ℕ) (surveyed : Surveyed D disks) (planned : Planned D disks)
     (staged : Staged D disks) (is : IsBegunWith entry config boot time surveyed) (has : HasPlanned surveyed planned) (lies : LiesOnDisks entry surveyed) (did : HasStaged planned staged) where
@@ -49,8 +49,8 @@ module _ {D : Type 0} {disks : Ghosts D} (entry : Volume D disks) (config : conf
   abbrev There : Image
   There = now (past_of staged.volume)
 
-  abbrev places : FivePlaces (places_view planned.room)
-  places = five entry config boot time surveyed planned staged is has lies did.stages
+  abbrev places : MapPlaces
+  places = (five entry config boot time surveyed planned staged is has lies did.stages).at
 
   prepares : Prepares M View S (past_of entry) (past_of surveyed.volume) (past_of staged.volume)
   prepares = prepared-staged entry config boot time surveyed planned is has lies.there staged.volume (Ok tt) did.stages.stages
@@ -65,9 +65,9 @@ module _ {D : Type 0} {disks : Ghosts D} (entry : Volume D disks) (config : conf
 
   -- where it was refused
   module _ (halt : Halt D disks) (halts : HaltsCommit staged halt) where
-    pub ends : BootsAsEither M View S places.p0 (meant_from entry surveyed) (past_of entry) (past_of halt.volume)
+    pub ends : BootsAsEither M View S places.line (meant_from entry surveyed) (past_of entry) (past_of halt.volume)
     ends =
-        commit_ends_law M View S places.p0 (meant_from entry surveyed) staged.sector (past_of entry) (past_of surveyed.volume) (past_of staged.volume) (past_of halt.volume) prepares
+        commit_ends_law M View S places.line (meant_from entry surveyed) staged.sector (past_of entry) (past_of surveyed.volume) (past_of staged.volume) (past_of halt.volume) prepares
         (means entry config boot time surveyed planned staged is has lies did.stages) (either-way (past_of halt.volume) (halts.commits.any_moment did.quiet))
 
   -- where it was made
@@ -88,7 +88,7 @@ module _ {D : Type 0} {disks : Ghosts D} (entry : Volume D disks) (config : conf
     tidy-writes : WritesOnly View (λ zone. false) (past_of committed.volume) (past_of new)
     tidy-writes = subst (λ (v : model.Volume). WritesOnly v (λ zone. false) (past_of committed.volume) (past_of new)) view-committed tidies.only
 
-    installs : Installs M View S places.p0 (meant_from entry surveyed) staged.sector (past_of entry) (past_of surveyed.volume) (past_of staged.volume) (past_of committed.volume) (past_of new)
+    installs : Installs M View S places.line (meant_from entry surveyed) staged.sector (past_of entry) (past_of surveyed.volume) (past_of staged.volume) (past_of committed.volume) (past_of new)
     installs =
         let room = staged-room entry config boot time surveyed planned staged is has lies did.stages in
         record {
@@ -101,12 +101,12 @@ module _ {D : Type 0} {disks : Ghosts D} (entry : Volume D disks) (config : conf
           commit = either-way (past_of committed.volume) (commits.commits.any_moment did.quiet);
           committed_is = committed-is;
           tidy = staged_tidies_law (now (past_of surveyed.volume)) M View S (config_view surveyed.config) (device_view surveyed.device) surveyed.time (room_zones planned.room)
-              places.p0 places.p1 places.p2 places.p3 places.p4 places.rest staged.sector (names entry config boot time surveyed planned staged is has lies did.stages).map (past_of staged.volume) (past_of committed.volume) (past_of new) room.is committed-is tidy-writes;
+              places staged.sector (names entry config boot time surveyed planned staged is has lies did.stages).map (past_of staged.volume) (past_of committed.volume) (past_of new) room.is committed-is tidy-writes;
         }
 
-    pub headline : Headline M View S places.p0 (meant_from entry surveyed) (past_of entry) (past_of staged.volume) (past_of committed.volume) (past_of new)
+    pub headline : Headline M View S places.line (meant_from entry surveyed) (past_of entry) (past_of staged.volume) (past_of committed.volume) (past_of new)
     headline =
-        headline_law M View S places.p0 (meant_from entry surveyed) staged.sector (past_of entry) (past_of surveyed.volume) (past_of staged.volume) (past_of committed.volume) (past_of new) installs
+        headline_law M View S places.line (meant_from entry surveyed) staged.sector (past_of entry) (past_of surveyed.volume) (past_of staged.volume) (past_of committed.volume) (past_of new) installs
 
 pub installation_commit_ends_law : {D : Type 0} (disks : Ghosts D) → InstallationCommitEndsLaw disks
 installation_commit_ends_law disks entry config boot time surveyed planned staged halt is has lies did halts =

@@ -23,6 +23,7 @@ use Rattle.lilo_model.specs.Settled.{Held, OwnNames}
 use Rattle.lilo_conf.specs.View.{config_view}
 use Rattle.lilo_conf.specs.declared.config.Config as configs
 use Rattle.map_laws.proofs.Holder.{lays_held_law}
+use Rattle.map_laws.specs.Lies.{MapPlaces}
 use Rattle.mbr_table.specs.View.{device_view}
 use Rattle.minix_change_laws.specs.Beside.{SoundAsIn}
 use Rattle.minix_create.specs.declared.chosen.Chosen.{Chosen}
@@ -51,7 +52,6 @@ use Rattle.install_order.proofs.CommittedLemmas.{may_tidy}
 use Rattle.install_order.proofs.ReadyLemmas.{stageable}
 use Rattle.install_order.proofs.StagedLemmas.{may_tidy_then}
 use Rattle.install_room.specs.Making.{MayMakeBackup}
-use Rattle.install_room.specs.Room.{places_view}
 use Rattle.install_settle.specs.Settles.{HasNames, IsBeside, stale_of}
 use Rattle.install_stage.specs.Staged.{IsStagedRoom}
 use Rattle.install_stage.specs.Stages.{IsStagingRoom, room_zones, with_room}
@@ -68,7 +68,7 @@ use Rattle.install_join_laws.proofs.Kept as keeping
 use Rattle.install_join_laws.proofs.KeptNames.{finished-map, room-backup, room-copy, room-map, room-other, settled-beside, settled-tilde, with-other}
 use Rattle.install_join_laws.proofs.KeptOwn.{backup-beside, backup-differs, stale-is}
 use Rattle.install_join_laws.proofs.Staged as staging
-use Rattle.install_join_laws.proofs.Staged.{FivePlaces, five, staged-room, told-staged}
+use Rattle.install_join_laws.proofs.Staged.{five, staged-room, told-staged}
 
 module _ {D : Type 0} {disks : Ghosts D} (entry : Volume D disks) (config : configs.Config) (boot : spans.Span) (time : ℕ) (surveyed : Surveyed D disks) (planned : Planned D disks)
     (staged : Staged D disks) (is : IsBegunWith entry config boot time surveyed) (has : HasPlanned surveyed planned) (lies : LiesOnDisks entry surveyed) (did : HasStaged planned staged) (own-names : OwnNames)
@@ -151,13 +151,13 @@ module _ {D : Type 0} {disks : Ghosts D} (entry : Volume D disks) (config : conf
       forth (λ v i f b. HasNames v There (with_room f Made b Map Bytes (names_in v i)))
       ((keeping.calls entry config boot time surveyed is lies.there own-names own planned has staged.volume (Ok tt) from).done told-flushed).names
 
-  abbrev places : FivePlaces (places_view planned.room)
-  places = five entry config boot time surveyed planned staged is has lies did.stages
+  abbrev places : MapPlaces
+  places = (five entry config boot time surveyed planned staged is has lies did.stages).at
 
-  room : IsStagedRoom Is There M View S C Dev surveyed.time (room_zones planned.room) places.p0 places.p1 places.p2 places.p3 places.p4 places.rest staged.sector Map
+  room : IsStagedRoom Is There M View S C Dev surveyed.time (room_zones planned.room) places staged.sector Map
   room =
       subst (λ (n : OwnNames).
-      IsStagedRoom Is There M View S C Dev surveyed.time (room_zones planned.room) places.p0 places.p1 places.p2 places.p3 places.p4 places.rest staged.sector n.map)
+      IsStagedRoom Is There M View S C Dev surveyed.time (room_zones planned.room) places staged.sector n.map)
       (value-is (staging.names entry config boot time surveyed planned staged is has lies did.stages) own-names
       (sym (staging.names-are entry config boot time surveyed planned staged is has lies did.stages) ∙ own))
       (staged-room entry config boot time surveyed planned staged is has lies did.stages)
@@ -169,7 +169,7 @@ module _ {D : Type 0} {disks : Ghosts D} (entry : Volume D disks) (config : conf
   held-with : Held (with_sector There S.disk S.start staged.sector) M View S Map
   held-with =
       lays_held_law (with_sector There S.disk S.start staged.sector) M View S (plans.planned Is M View C surveyed.time) Map (Is S.disk S.start)
-      (staged_lays_law Is There M View S C Dev surveyed.time (room_zones planned.room) places.p0 places.p1 places.p2 places.p3 places.p4 places.rest staged.sector Map room.is)
+      (staged_lays_law Is There M View S C Dev surveyed.time (room_zones planned.room) places staged.sector Map room.is)
 
   boot-same : staged.boot ≡ surveyed.boot
   boot-same = did.stages.boot_is ∙ has.held.boot_is
@@ -348,7 +348,7 @@ module _ {D : Type 0} {disks : Ghosts D} (entry : Volume D disks) (config : conf
     may-committed =
         subst (λ (pair : NamePair). MayTidy committed.volume Map pair) (sym (commits.map_is ∙ did.stages.map_is))
         (may_tidy staged.volume committed.volume staged.boot staged.sector
-        (committing.size-is Is There M View S C Dev surveyed.time (room_zones planned.room) places.p0 places.p1 places.p2 places.p3 places.p4 places.rest staged.sector Map room.is)
+        (committing.size-is Is There M View S C Dev surveyed.time (room_zones planned.room) places staged.sector Map room.is)
         commits.commits told Map planned.own.map
         (subst₂ (λ (v : model.Volume) (b : spans.Span). IsApartSector v b.disk b.start) (sym view-staged) (sym boot-same) outside) may-staged)
 
@@ -421,9 +421,9 @@ module _ {D : Type 0} {disks : Ghosts D} (entry : Volume D disks) (config : conf
       tidy-run : LeavesOnly (past_of committed.volume) (past_of new) (IsTidying View Com Map)
       tidy-run = subst (λ (v : model.Volume). LeavesOnly (past_of committed.volume) (past_of new) (IsTidying v Com Map)) view-committed tidies.any_moment
 
-      pub map-run : LeavesOnly (past_of committed.volume) (past_of new) (IsTidiedMap Is M View S C surveyed.time places.p0 Map)
+      pub map-run : LeavesOnly (past_of committed.volume) (past_of new) (IsTidiedMap Is M View S C surveyed.time places.line Map)
       map-run =
-          tidied_map_law Is M View S C Dev surveyed.time (room_zones planned.room) places.p0 places.p1 places.p2 places.p3 places.p4 places.rest staged.sector Map
+          tidied_map_law Is M View S C Dev surveyed.time (room_zones planned.room) places staged.sector Map
           (past_of staged.volume) (past_of committed.volume) (past_of new) room.is room.leads committed-is
           (subst (λ (v : model.Volume). WritesOnly v (λ zone. false) (past_of committed.volume) (past_of new)) view-committed tidies.only) tidy-run
 

@@ -1,5 +1,5 @@
 -- Once its files are staged, an installation means its configuration with the boot sector written.
-use Rattle.std.proofs.Common.{◌≡◌, ◌≤◌, ℕ, Bool, true, false, is_some, List, [], ◌∷◌, length, Option, None, Ok, refl, sym, ◌∙◌, ap, subst, subst₂, arith}
+use Rattle.std.proofs.Common.{◌≡◌, ◌≤◌, ℕ, Bool, true, false, is_some, List, ◌∷◌, length, Option, None, Ok, refl, sym, ◌∙◌, ap, subst, subst₂, arith}
 use Rattle.std.specs.Prelude.{IfSome}
 use Rattle.std.specs.Option.{option_map}
 use Rattle.std.proofs.lemmas.List.{length-map}
@@ -21,6 +21,7 @@ use Rattle.lilo_model.specs.Settled.{is_foreign}
 use Rattle.lilo_conf.specs.View.{config_view}
 use Rattle.lilo_conf.specs.declared.config.Config as configs
 use Rattle.map_laws.specs.Accepted.{IsAccepted, IsInside}
+use Rattle.map_laws.specs.Lies.{MapPlaces, after_line, all_places}
 use Rattle.map_sectors.specs.Map.{plan_view}
 use Rattle.mbr_table.specs.View.{device_view}
 use Rattle.mbr_table.specs.declared.device.Device as devices
@@ -55,23 +56,16 @@ use Rattle.install_join_laws.proofs.Own.{made-free, not-replaced, own-still}
 
 -- ---- the map's places
 
--- places of which there are five at least
-pub record FivePlaces (places : List DiskSector) : Type 0 where
-  pub p0 : DiskSector
-  pub p1 : DiskSector
-  pub p2 : DiskSector
-  pub p3 : DiskSector
-  pub p4 : DiskSector
-  pub rest : List DiskSector
-  pub are : places ≡ p0 ∷ (p1 ∷ (p2 ∷ (p3 ∷ (p4 ∷ rest))))
+-- places that are those of a map
+pub record AreMapPlaces (places : List DiskSector) : Type 0 where
+  pub at : MapPlaces
+  pub are : places ≡ all_places at
 
-five-places : (places : List DiskSector) → 5 ≤ length places → FivePlaces places
-five-places [] long = absurd (omega (arith, long))
-five-places (p0 ∷ []) long = absurd (omega (arith, long))
-five-places (p0 ∷ (p1 ∷ [])) long = absurd (omega (arith, long))
-five-places (p0 ∷ (p1 ∷ (p2 ∷ []))) long = absurd (omega (arith, long))
-five-places (p0 ∷ (p1 ∷ (p2 ∷ (p3 ∷ [])))) long = absurd (omega (arith, long))
-five-places (p0 ∷ (p1 ∷ (p2 ∷ (p3 ∷ (p4 ∷ rest))))) long = record { p0 = p0; p1 = p1; p2 = p2; p3 = p3; p4 = p4; rest = rest; are = refl }
+-- so are all of which there are enough
+five-places : (places : List DiskSector) → 5 ≤ length places → AreMapPlaces places
+five-places (line ∷ (one ∷ (two ∷ (three ∷ (zero_place ∷ rest))))) long =
+    record { at = record { line = line; one = one; two = two; three = three; zero_place = zero_place; rest = rest }; are = refl }
+five-places _ long = absurd (omega (arith, long))
 
 -- a map has that many sectors
 five-sectors : (plan : Plan) (machine : Machine) → 5 ≤ map_size plan machine
@@ -174,7 +168,7 @@ module _ {D : Type 0} {disks : Ghosts D} (entry : Volume D disks) (config : conf
   present : planned.present ≡ Is S.disk S.start
   present = forth (λ v b c t. planned.present ≡ Is b.disk b.start) may.present
 
-  pub five : FivePlaces Places
+  pub five : AreMapPlaces Places
   five =
       let some = five-sectors (plan_view planned.plan) M in
       let all = length-map planned.room.places.items place_view in
@@ -182,7 +176,7 @@ module _ {D : Type 0} {disks : Ghosts D} (entry : Volume D disks) (config : conf
       five-places Places (omega (arith, some, all, count))
 
   abbrev Five : List DiskSector
-  Five = five.p0 ∷ (five.p1 ∷ (five.p2 ∷ (five.p3 ∷ (five.p4 ∷ five.rest))))
+  Five = all_places five.at
 
   accepted-plan : IsAcceptedPlan Is M View S C Dev surveyed.time (room_zones planned.room) planned.plan Five
   accepted-plan = record {
@@ -248,23 +242,23 @@ module _ {D : Type 0} {disks : Ghosts D} (entry : Volume D disks) (config : conf
   to-flushed P p = subst₂ (λ (v : model.Volume) (i : Image). P v i) (sym view-flushed) (sym now-flushed) p
 
   -- once they are staged, the new map is there, under its name with `~`
-  pub staged-room : IsStagedRoom Is (now (past_of staged.volume)) M View S C Dev surveyed.time (room_zones planned.room) five.p0 five.p1 five.p2 five.p3 five.p4 five.rest staged.sector names.map
+  pub staged-room : IsStagedRoom Is (now (past_of staged.volume)) M View S C Dev surveyed.time (room_zones planned.room) five.at staged.sector names.map
   staged-room =
       subst₂ (λ (v : model.Volume) (i : Image).
-      IsStagedRoom i (now (past_of staged.volume)) M v S C Dev surveyed.time (room_zones planned.room) five.p0 five.p1 five.p2 five.p3 five.p4 five.rest staged.sector names.map) view-flushed now-flushed
-      (room_staged_law from.flushed staged.volume planned.plan planned.room M S C Dev surveyed.time five.p0 five.p1 five.p2 five.p3 five.p4 five.rest staged.sector planned.present (is_forced planned) backup names.map
+      IsStagedRoom i (now (past_of staged.volume)) M v S C Dev surveyed.time (room_zones planned.room) five.at staged.sector names.map) view-flushed now-flushed
+      (room_staged_law from.flushed staged.volume planned.plan planned.room M S C Dev surveyed.time five.at staged.sector planned.present (is_forced planned) backup names.map
       (flushed-told planned.volume staged.volume (is_forced planned) planned.present planned.plan planned.room (Ok tt) from told-plan quiet-plan) five.are
       (to-flushed (λ v i. IsAcceptedPlan i M v S C Dev surveyed.time (room_zones planned.room) planned.plan Five) accepted-plan)
       (to-flushed (λ v i. AreNotReplaced i v C backup) none-replaced)
       (to-flushed (λ v i. IsNewBoot i M v S C surveyed.time Five staged.sector) new-boot) calls)
 
-  pub means : Means M S five.p0 (meant_from entry surveyed) (with_sector (now (past_of staged.volume)) S.disk S.start staged.sector)
+  pub means : Means M S five.at.line (meant_from entry surveyed) (with_sector (now (past_of staged.volume)) S.disk S.start staged.sector)
   means =
       let r = staged-room.is in
-      staged_means_law Is (now (past_of staged.volume)) M View S C Dev surveyed.time (room_zones planned.room) five.p0 five.p1 five.p2 five.p3 five.p4 five.rest staged.sector r.sound r.apart r.outside r.accepted r.map r.boot
+      staged_means_law Is (now (past_of staged.volume)) M View S C Dev surveyed.time (room_zones planned.room) five.at staged.sector r.sound r.apart r.outside r.accepted r.map r.boot
 
-  pub first-of : (P : DiskSector → Type 0) → P five.p0 → OfFirst Places P
-  first-of P p = record { place = five.p0; rest = five.p1 ∷ (five.p2 ∷ (five.p3 ∷ (five.p4 ∷ five.rest))); are = five.are; is = p }
+  pub first-of : (P : DiskSector → Type 0) → P five.at.line → OfFirst Places P
+  first-of P p = record { place = five.at.line; rest = after_line five.at; are = five.are; is = p }
 
 pub installation_means_law : {D : Type 0} (disks : Ghosts D) → InstallationMeansLaw disks
 installation_means_law disks entry config boot time surveyed planned staged is has lies stages =

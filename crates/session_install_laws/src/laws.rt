@@ -22,8 +22,8 @@ pub fn committed_map_is_a_new_body()
     ensures { CommittedMeansLaw }
 {}
 
-/// A run that writes only what a writer of files may, and gains no zone with a Mapped sector, keeps what a session keeps,
-/// with body and line, at every moment.
+/// A run that writes only what a writer of files may, and gains no zone with a Mapped sector, keeps what a session
+/// keeps, with body and line, at every moment.
 pub fn runs_beside_a_map_keep_what_a_session_does()
     ensures { FileRunLaw }
 {}

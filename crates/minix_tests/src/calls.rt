@@ -370,6 +370,22 @@ const CALLS: &[Call] = &[
             (6, 0, b"\x3F"),
         ],
     },
+    // The same where `c` is another name of `b`: the inode before it in the sector stays.
+    Call {
+        is_v1: false,
+        changes: &[(8, 66, b"\x01"), (8, 130, b"\x02"), (10, 192, b"\x03")],
+        fails: NEVER,
+        from: b"c",
+        to: b"",
+        refused: None,
+        events: 4,
+        after: &[
+            (10, 192, b"\0\0"),
+            (8, 64, b"\xA4\x81\x01\0\0\0\0\0\x00\x04"),
+            (8, 128, b"\xA4\x81\x01\0\0\0\0\0\xE8\x03"),
+            (8, 192, b"\xFF\xA1\x01"),
+        ],
+    },
     // The name alone.
     Call {
         is_v1: true,

@@ -115,11 +115,14 @@ pub const PLAIN: Boot = Boot {
     left: b"LINE",
 };
 
-/// The first of some boots that comes to something else.
-pub fn first_wrong(alloc: Global, boots: &[Boot]) -> Result<Option<&'static str>, AllocError> {
-    for boot in boots {
-        if !comes_true(alloc, boot)? {
-            return Ok(Some(boot.what));
+/// The first of the boots of some tables that comes to something else. What a proof of a function costs rises more than
+/// with the square of the references in its constants, so a table has few rows, and a function of its own.
+pub fn first_wrong(alloc: Global, tables: &[&[Boot]]) -> Result<Option<&'static str>, AllocError> {
+    for boots in tables {
+        for boot in *boots {
+            if !comes_true(alloc, boot)? {
+                return Ok(Some(boot.what));
+            }
         }
     }
     Ok(None)

@@ -5,7 +5,7 @@ use disk_trait::{Failing, Phase};
 use loader_core::Outcome;
 use std::test::Fail;
 
-const ROWS: &[Boot] = &[
+const OF_THE_MAP: &[Boot] = &[
     Boot {
         what: "the boot sector",
         failing: &[Failing {
@@ -60,6 +60,13 @@ const ROWS: &[Boot] = &[
         shown: b"LILO\nError 80\n",
         ..LOST
     },
+];
+
+fn of_the_map() -> &'static [Boot] {
+    OF_THE_MAP
+}
+
+const OF_THE_KERNEL: &[Boot] = &[
     Boot {
         what: "the section",
         failing: &[Failing {
@@ -102,6 +109,13 @@ const ROWS: &[Boot] = &[
         left: b"",
         ..PLAIN
     },
+];
+
+fn of_the_kernel() -> &'static [Boot] {
+    OF_THE_KERNEL
+}
+
+const OF_KEYS: &[Boot] = &[
     // Keys and the message before them: its section, and its bytes.
     Boot {
         what: "the first key",
@@ -137,6 +151,13 @@ const ROWS: &[Boot] = &[
         shown: b"LILO\nError 80\n",
         ..LOST
     },
+];
+
+fn of_keys() -> &'static [Boot] {
+    OF_KEYS
+}
+
+const OF_TEXTS: &[Boot] = &[
     // After a text that a sink refuses nothing is shown, and the boot goes on.
     Boot {
         what: "the first text",
@@ -177,6 +198,10 @@ const ROWS: &[Boot] = &[
     },
 ];
 
+fn of_texts() -> &'static [Boot] {
+    OF_TEXTS
+}
+
 const LOST: Boot = Boot {
     end: Some(Outcome::Device(Phase::Before)),
     shown: b"LILO\nLoading linux\nError 80\n",
@@ -206,6 +231,7 @@ const MESSAGE: &[Edit] = &[
 
 #[test]
 fn each_call_fails(rt: HostRuntime) -> Result<(), Fail> {
-    assert_eq!(rt; first_wrong(rt.alloc(), ROWS)?, None);
+    let tables = [of_the_map(), of_the_kernel(), of_keys(), of_texts()];
+    assert_eq!(rt; first_wrong(rt.alloc(), &tables)?, None);
     Ok(())
 }

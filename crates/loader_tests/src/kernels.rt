@@ -7,7 +7,7 @@ use std::test::Fail;
 const SMALL: (u16, u8) = (3, 14);
 
 // The slots of a section.
-const ROWS: &[Boot] = &[
+const SLOTS: &[Boot] = &[
     PLAIN,
     Boot {
         what: "slots by cylinder, head and sector",
@@ -51,6 +51,13 @@ const ROWS: &[Boot] = &[
         also: &[(0x10_0000, 5, b"\0")],
         ..PLAIN
     },
+];
+
+fn slots() -> &'static [Boot] {
+    SLOTS
+}
+
+const CYLINDERS: &[Boot] = &[
     // The kernel's third sector is the first of a cylinder.
     Boot {
         what: "a slot for each sector on a disk of small cylinders",
@@ -87,6 +94,13 @@ const ROWS: &[Boot] = &[
         )],
         ..PLAIN
     },
+];
+
+fn cylinders() -> &'static [Boot] {
+    CYLINDERS
+}
+
+const LONGER: &[Boot] = &[
     // 256 sectors, by a slot of 2 and two of 127, and by five section sectors.
     Boot {
         what: "slots of 127 sectors",
@@ -144,6 +158,13 @@ const ROWS: &[Boot] = &[
         also: &[(0x10_0005, 512, b"\0")],
         ..PLAIN
     },
+];
+
+fn longer() -> &'static [Boot] {
+    LONGER
+}
+
+const INITRDS: &[Boot] = &[
     // An initrd of 700 bytes lies as high as it can.
     Boot {
         what: "an initrd in 16 MiB",
@@ -214,6 +235,13 @@ const ROWS: &[Boot] = &[
         ],
         ..PLAIN
     },
+];
+
+fn initrds() -> &'static [Boot] {
+    INITRDS
+}
+
+const VERSIONS: &[Boot] = &[
     // The protected-mode part lies low, and the line is given by its offset.
     Boot {
         what: "a kernel without a version",
@@ -226,6 +254,10 @@ const ROWS: &[Boot] = &[
         ..PLAIN
     },
 ];
+
+fn versions() -> &'static [Boot] {
+    VERSIONS
+}
 
 const INITRD: &[(usize, usize, &[u8])] = &[
     (95, 16, b"\x40"),
@@ -252,6 +284,7 @@ const MORE: Region = Region {
 
 #[test]
 fn kernels_are_loaded(rt: HostRuntime) -> Result<(), Fail> {
-    assert_eq!(rt; first_wrong(rt.alloc(), ROWS)?, None);
+    let tables = [slots(), cylinders(), longer(), initrds(), versions()];
+    assert_eq!(rt; first_wrong(rt.alloc(), &tables)?, None);
     Ok(())
 }

@@ -6,7 +6,7 @@ use std::test::Fail;
 
 const IDLE: Option<Outcome> = Some(Outcome::Refused(Reason::Idle));
 
-const ROWS: &[Boot] = &[
+const ENDS: &[Boot] = &[
     Boot {
         what: "keys that end",
         end: IDLE,
@@ -35,6 +35,13 @@ const ROWS: &[Boot] = &[
         shown: b"LILO\nHello.\nboot: \nLoading linux\n",
         ..ASKING
     },
+];
+
+fn ends() -> &'static [Boot] {
+    ENDS
+}
+
+const DELAYS: &[Boot] = &[
     Boot {
         what: "no prompt",
         edits: &[(0, 0x0C, b"\0")],
@@ -67,6 +74,13 @@ const ROWS: &[Boot] = &[
         held: Held::Unsaid,
         ..ASKING
     },
+];
+
+fn delays() -> &'static [Boot] {
+    DELAYS
+}
+
+const NAMES: &[Boot] = &[
     Boot {
         what: "a name",
         keys: b"linux\n",
@@ -109,6 +123,13 @@ const ROWS: &[Boot] = &[
         held: Held::Unsaid,
         ..ASKING
     },
+];
+
+fn names() -> &'static [Boot] {
+    NAMES
+}
+
+const PASSWORDS: &[Boot] = &[
     Boot {
         what: "a password",
         keys: b"linux single\ntux\n",
@@ -149,6 +170,10 @@ const ROWS: &[Boot] = &[
     },
 ];
 
+fn passwords() -> &'static [Boot] {
+    PASSWORDS
+}
+
 const ASKING: Boot = Boot {
     base: MENU,
     ..PLAIN
@@ -180,6 +205,7 @@ const MENU: &[Edit] = &[
 
 #[test]
 fn keys_are_answered(rt: HostRuntime) -> Result<(), Fail> {
-    assert_eq!(rt; first_wrong(rt.alloc(), ROWS)?, None);
+    let tables = [ends(), delays(), names(), passwords()];
+    assert_eq!(rt; first_wrong(rt.alloc(), &tables)?, None);
     Ok(())
 }

@@ -6,7 +6,7 @@ use loader_core::{Outcome, Reason};
 use setup_header::SetupFault;
 use std::test::Fail;
 
-const ROWS: &[Boot] = &[
+const SERVED: &[Boot] = &[
     Boot {
         what: "a line for one boot",
         edits: ONCE,
@@ -24,6 +24,13 @@ const ROWS: &[Boot] = &[
         left: b"LINE\x02\0\x0C\0linux single",
         ..SINGLE
     },
+];
+
+fn served() -> &'static [Boot] {
+    SERVED
+}
+
+const FOLLOWED: &[Boot] = &[
     // What comes is the line without `lock`; else the fallback; else a line that is kept.
     Boot {
         what: "the word lock",
@@ -55,6 +62,13 @@ const ROWS: &[Boot] = &[
         left: b"LINE\x02\0\x05\0linux",
         ..SINGLE
     },
+];
+
+fn followed() -> &'static [Boot] {
+    FOLLOWED
+}
+
+const LOCKED: &[Boot] = &[
     Boot {
         what: "lock before a fallback",
         base: FALLBACK,
@@ -87,6 +101,13 @@ const ROWS: &[Boot] = &[
         also: &[(0x9_9800, 1, b"BOOT_IMAGE=linux ro root=301 single\0")],
         ..PLAIN
     },
+];
+
+fn locked() -> &'static [Boot] {
+    LOCKED
+}
+
+const BEFORE_THE_LOAD: &[Boot] = &[
     // The kernel is read with the new line in it.
     Boot {
         what: "a line in a sector of the kernel",
@@ -127,6 +148,13 @@ const ROWS: &[Boot] = &[
         shown: b"LILO\nError 80\n",
         ..LOST
     },
+];
+
+fn before_the_load() -> &'static [Boot] {
+    BEFORE_THE_LOAD
+}
+
+const AFTER_THE_WRITE: &[Boot] = &[
     Boot {
         what: "the flush is lost",
         failing: &[Failing {
@@ -164,6 +192,10 @@ const ROWS: &[Boot] = &[
     },
 ];
 
+fn after_the_write() -> &'static [Boot] {
+    AFTER_THE_WRITE
+}
+
 const SINGLE: Boot = Boot {
     line: 41,
     also: &[(0x9_9800, 1, b"auto BOOT_IMAGE=linux ro root=301 single\0")],
@@ -193,6 +225,13 @@ const FALLBACK: &[Edit] = &[
 
 #[test]
 fn default_lines_serve(rt: HostRuntime) -> Result<(), Fail> {
-    assert_eq!(rt; first_wrong(rt.alloc(), ROWS)?, None);
+    let tables = [
+        served(),
+        followed(),
+        locked(),
+        before_the_load(),
+        after_the_write(),
+    ];
+    assert_eq!(rt; first_wrong(rt.alloc(), &tables)?, None);
     Ok(())
 }

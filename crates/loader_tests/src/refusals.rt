@@ -5,7 +5,7 @@ use loader_core::{Outcome, Reason};
 use setup_header::SetupFault;
 use std::test::Fail;
 
-const BOOT_SECTORS: &[Boot] = &[
+const NUMBERS: &[Boot] = &[
     // Fields of the boot sector.
     Boot {
         what: "20 names",
@@ -32,6 +32,13 @@ const BOOT_SECTORS: &[Boot] = &[
         edits: &[(0, 0x60, b"\x01\0")],
         ..MAP
     },
+];
+
+fn numbers() -> &'static [Boot] {
+    NUMBERS
+}
+
+const SLOTS: &[Boot] = &[
     Boot {
         what: "no zero before the code",
         edits: &[(0, 0x7E, b"\x01\0")],
@@ -53,6 +60,10 @@ const BOOT_SECTORS: &[Boot] = &[
         ..MAP
     },
 ];
+
+fn slots() -> &'static [Boot] {
+    SLOTS
+}
 
 const ENTRIES: &[Boot] = &[
     // Entries of the table.
@@ -86,6 +97,13 @@ const ENTRIES: &[Boot] = &[
         edits: &[(95, 92, b"\x03\x80\x02\0\x66\0")],
         ..ENTRY_1
     },
+];
+
+fn entries() -> &'static [Boot] {
+    ENTRIES
+}
+
+const TEXTS: &[Boot] = &[
     // Texts.
     Boot {
         what: "a password of 32 bytes",
@@ -106,6 +124,10 @@ const ENTRIES: &[Boot] = &[
         ..MAP
     },
 ];
+
+fn texts() -> &'static [Boot] {
+    TEXTS
+}
 
 const LINES: &[Boot] = &[
     // The default line: its mark, its state and its length.
@@ -139,6 +161,13 @@ const LINES: &[Boot] = &[
         left: b"LINE\x03\0\x0C\0linux single",
         ..LINE
     },
+];
+
+fn lines() -> &'static [Boot] {
+    LINES
+}
+
+const MISSING: &[Boot] = &[
     // Sectors that aren't there.
     Boot {
         what: "a sector of the table",
@@ -185,6 +214,10 @@ const LINES: &[Boot] = &[
     },
 ];
 
+fn missing() -> &'static [Boot] {
+    MISSING
+}
+
 const SECTIONS: &[Boot] = &[
     // Sections.
     Boot {
@@ -217,6 +250,13 @@ const SECTIONS: &[Boot] = &[
         end: Some(Outcome::Refused(Reason::BadSlot(3))),
         ..FILE
     },
+];
+
+fn sections() -> &'static [Boot] {
+    SECTIONS
+}
+
+const CHAINS: &[Boot] = &[
     // It is refused so though no section sector may follow.
     Boot {
         what: "a link of two sectors",
@@ -241,6 +281,10 @@ const SECTIONS: &[Boot] = &[
         ..FILE
     },
 ];
+
+fn chains() -> &'static [Boot] {
+    CHAINS
+}
 
 const KERNELS: &[Boot] = &[
     // Kernels.
@@ -288,6 +332,10 @@ const KERNELS: &[Boot] = &[
         ..FILE
     },
 ];
+
+fn kernels() -> &'static [Boot] {
+    KERNELS
+}
 
 const MAP: Boot = Boot {
     end: Some(Outcome::Refused(Reason::BadTable(255))),
@@ -350,31 +398,18 @@ const GUARDED: &[Edit] = &[
 ];
 
 #[test]
-fn boot_sectors_are_refused(rt: HostRuntime) -> Result<(), Fail> {
-    assert_eq!(rt; first_wrong(rt.alloc(), BOOT_SECTORS)?, None);
-    Ok(())
-}
-
-#[test]
-fn entries_and_texts_are_refused(rt: HostRuntime) -> Result<(), Fail> {
-    assert_eq!(rt; first_wrong(rt.alloc(), ENTRIES)?, None);
-    Ok(())
-}
-
-#[test]
-fn default_lines_and_missing_sectors_are_refused(rt: HostRuntime) -> Result<(), Fail> {
-    assert_eq!(rt; first_wrong(rt.alloc(), LINES)?, None);
-    Ok(())
-}
-
-#[test]
-fn sections_are_refused(rt: HostRuntime) -> Result<(), Fail> {
-    assert_eq!(rt; first_wrong(rt.alloc(), SECTIONS)?, None);
-    Ok(())
-}
-
-#[test]
-fn kernels_are_refused(rt: HostRuntime) -> Result<(), Fail> {
-    assert_eq!(rt; first_wrong(rt.alloc(), KERNELS)?, None);
+fn boots_are_refused(rt: HostRuntime) -> Result<(), Fail> {
+    let tables = [
+        numbers(),
+        slots(),
+        entries(),
+        texts(),
+        lines(),
+        missing(),
+        sections(),
+        chains(),
+        kernels(),
+    ];
+    assert_eq!(rt; first_wrong(rt.alloc(), &tables)?, None);
     Ok(())
 }

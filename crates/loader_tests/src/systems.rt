@@ -21,7 +21,7 @@ const NOT_BOOTABLE: Boot = Boot {
     ..HANDED
 };
 
-const ROWS: &[Boot] = &[
+const ENTRIES: &[Boot] = &[
     Boot {
         what: "an entry of another system",
         full: &[(82, 0x66), (83, 0x77)],
@@ -38,6 +38,13 @@ const ROWS: &[Boot] = &[
         also: &[(0x7BE, 64, b"\x77"), (0x7C00, 512, b"\x66")],
         ..HANDED
     },
+];
+
+fn entries() -> &'static [Boot] {
+    ENTRIES
+}
+
+const DEVICES: &[Boot] = &[
     // First sectors that aren't of this format.
     Boot {
         what: "a blank disk",
@@ -63,6 +70,13 @@ const ROWS: &[Boot] = &[
         start: 64,
         ..HANDED
     },
+];
+
+fn devices() -> &'static [Boot] {
+    DEVICES
+}
+
+const FORMATS: &[Boot] = &[
     Boot {
         what: "a first byte of others",
         edits: &[(0, 0, b"\0\0")],
@@ -84,8 +98,13 @@ const ROWS: &[Boot] = &[
     },
 ];
 
+fn formats() -> &'static [Boot] {
+    FORMATS
+}
+
 #[test]
 fn other_systems_are_handed_over(rt: HostRuntime) -> Result<(), Fail> {
-    assert_eq!(rt; first_wrong(rt.alloc(), ROWS)?, None);
+    let tables = [entries(), devices(), formats()];
+    assert_eq!(rt; first_wrong(rt.alloc(), &tables)?, None);
     Ok(())
 }

@@ -1,7 +1,6 @@
 // The header of a kernel: its fields, where the kernel lies in memory, and the fields that a loader replaces.
 use sector_parts::{Sector, put_part};
 use setup_header::{Header, Layout, Region, SetupFault, patch, plan_memory};
-use std::test::Fail;
 
 // Bytes of the first two sectors, from an offset on.
 type Edit = (usize, &'static [u8]);
@@ -79,7 +78,7 @@ struct Read {
     header: Result<Header, SetupFault>,
 }
 
-const READ: &[Read] = &[
+const LENGTHS: &[Read] = &[
     // Lengths and setup sectors.
     Read {
         kernel: MODERN,
@@ -159,6 +158,13 @@ const READ: &[Read] = &[
             ..MODERN_HEADER
         }),
     },
+];
+
+fn lengths() -> &'static [Read] {
+    LENGTHS
+}
+
+const VERSIONS: &[Read] = &[
     // Fields from their versions on.
     Read {
         kernel: MODERN,
@@ -252,17 +258,24 @@ const READ: &[Read] = &[
     },
 ];
 
+fn versions() -> &'static [Read] {
+    VERSIONS
+}
+
 #[test]
-fn headers_are_read(rt: HostRuntime) -> Result<(), Fail> {
-    for row in READ {
+fn headers_are_read(rt: HostRuntime) {
+    assert_eq!(rt; first_misread(lengths()), None);
+    assert_eq!(rt; first_misread(versions()), None);
+}
+
+fn first_misread(rows: &[Read]) -> Option<usize> {
+    for (at, row) in rows.iter().enumerate() {
         let (first, second) = sectors_of(row.kernel, row.edits);
-        assert!(rt;
-            Header::read(&first, &second, row.length) == row.header,
-            "{:?}",
-            row.edits
-        );
+        if Header::read(&first, &second, row.length) != row.header {
+            return Some(at);
+        }
     }
-    Ok(())
+    None
 }
 
 // The first two sectors of a kernel with some bytes replaced.
@@ -312,7 +325,7 @@ const PLAIN: Placed = Placed {
     places: Ok((0x10_0000, None)),
 };
 
-const PLACED: &[Placed] = &[
+const FITS: &[Placed] = &[
     PLAIN,
     Placed {
         memory: 1_048_581,
@@ -372,6 +385,13 @@ const PLACED: &[Placed] = &[
         places: Ok((0x10_0000, Some(0x00F0_4000))),
         ..PLAIN
     },
+];
+
+fn fits() -> &'static [Placed] {
+    FITS
+}
+
+const REFUSED: &[Placed] = &[
     // What doesn't fit.
     Placed {
         memory: 1_048_576,
@@ -449,18 +469,23 @@ const PLACED: &[Placed] = &[
     },
 ];
 
+fn refused() -> &'static [Placed] {
+    REFUSED
+}
+
 #[test]
-fn layouts_are_planned(rt: HostRuntime) -> Result<(), Fail> {
-    for row in PLACED {
-        assert!(rt;
-            planned(row) == layout_of(row),
-            "{} {:?} {}",
-            row.rest,
-            row.initrd,
-            row.memory
-        );
+fn layouts_are_planned(rt: HostRuntime) {
+    assert_eq!(rt; first_misplaced(fits()), None);
+    assert_eq!(rt; first_misplaced(refused()), None);
+}
+
+fn first_misplaced(rows: &[Placed]) -> Option<usize> {
+    for (at, row) in rows.iter().enumerate() {
+        if planned(row) != layout_of(row) {
+            return Some(at);
+        }
     }
-    Ok(())
+    None
 }
 
 fn planned(row: &Placed) -> Result<Layout, SetupFault> {
@@ -593,11 +618,10 @@ const PATCHED: &[Patched] = &[
 ];
 
 #[test]
-fn fields_are_replaced(rt: HostRuntime) -> Result<(), Fail> {
-    for row in PATCHED {
-        assert!(rt; is_patched(row), "{:?}", row.mark);
+fn fields_are_replaced(rt: HostRuntime) {
+    for (at, row) in PATCHED.iter().enumerate() {
+        assert!(rt; is_patched(row), "{at}");
     }
-    Ok(())
 }
 
 fn is_patched(row: &Patched) -> bool {

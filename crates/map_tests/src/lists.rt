@@ -97,31 +97,45 @@ const LISTS: &[List] = &[
 
 #[test]
 fn lists_have_slots(rt: HostRuntime) -> Result<(), Fail> {
-    for row in LISTS {
-        assert!(rt; has_slots(rt.alloc(), row)?, "{:?}", row.numbers);
+    for (at, row) in LISTS.iter().enumerate() {
+        assert!(rt; has_slots(rt.alloc(), row)?, "{at}");
     }
     Ok(())
 }
 
 fn has_slots(alloc: Global, row: &List) -> Result<bool, AllocError> {
     let places = places_of(alloc, row.numbers)?;
-    let made = section_of(alloc, &places, row);
-    let checked = check_places(&places, row.mode, GEOMETRY);
-    let in_map = check_map_places(row.mode, GEOMETRY, &places);
     Ok(match row.slots {
-        Ok(bytes) => {
-            let len = bytes.len();
-            checked.is_ok()
-                && in_map.is_ok()
-                && matches!(made, Ok(sector)
-                    if len <= 512 && &sector[..len] == bytes && sector[len..].iter().all(|byte| *byte == 0))
-        }
-        Err(fault) => {
-            checked == Err(fault)
-                && matches!(in_map, Err(PlanFault::Address(Opt::Map, found)) if found == fault)
-                && made.err() == Some(CompactFault::Address(fault))
-        }
+        Ok(bytes) => are_made(alloc, &places, row, bytes),
+        Err(fault) => are_refused(alloc, &places, row, fault),
     })
+}
+
+fn are_made(alloc: Global, places: &[DiskSector], row: &List, bytes: &[u8]) -> bool
+    requires { All (λ place. place.disk ≤ 3) places.now }
+{
+    let is_made = match section_of(alloc, places, row) {
+        Ok(sector) => begins(&sector, bytes),
+        Err(_) => false,
+    };
+    is_made
+        && check_places(places, row.mode, GEOMETRY).is_ok()
+        && check_map_places(row.mode, GEOMETRY, places).is_ok()
+}
+
+fn are_refused(alloc: Global, places: &[DiskSector], row: &List, fault: AddressFault) -> bool
+    requires { All (λ place. place.disk ≤ 3) places.now }
+{
+    let in_map = check_map_places(row.mode, GEOMETRY, places);
+    matches!(in_map, Err(PlanFault::Address(Opt::Map, found)) if found == fault)
+        && check_places(places, row.mode, GEOMETRY) == Err(fault)
+        && section_of(alloc, places, row).err() == Some(CompactFault::Address(fault))
+}
+
+// Whether a sector has these bytes, and zeros after them.
+fn begins(sector: &Sector, bytes: &[u8]) -> bool {
+    let len = bytes.len();
+    len <= 512 && &sector[..len] == bytes && sector[len..].iter().all(|byte| *byte == 0)
 }
 
 fn places_of(alloc: Global, numbers: &[u64]) -> Result<Vec<DiskSector>, AllocError>
@@ -227,7 +241,7 @@ const STRETCHES: &[Stretch] = &[
 fn stretches_have_sections(rt: HostRuntime) -> Result<(), Fail> {
     for row in STRETCHES {
         let runs = in_a_row(rt.alloc(), row.start, row.count)?;
-        assert!(rt; has_section(&runs, row), "{} {}", row.start, row.count);
+        assert!(rt; has_section(&runs, row), "{}", row.start);
     }
     Ok(())
 }
@@ -263,8 +277,7 @@ fn has_section(runs: &RunList, row: &Stretch) -> bool
     let zero = DiskSector { disk: 0, sector: 7 };
     let mut sector: Sector = [9; 512];
     write_section_at(naming, runs, zero, row.index, None, &mut sector);
-    let len = row.bytes.len();
-    len <= 512 && &sector[..len] == row.bytes && sector[len..].iter().all(|byte| *byte == 0)
+    begins(&sector, row.bytes)
 }
 
 // 65,535 section sectors of 63 slots have 4,128,705.
@@ -523,10 +536,10 @@ fn is_asked(reader: &mut SectionReader, sector: &Sector) -> bool {
 
 #[test]
 fn cursors_and_readers_answer_past_their_end(rt: HostRuntime) {
-    for row in ASKED {
-        assert!(rt; is_answered(rt.alloc(), row), "{:?}", row.starts);
+    for (at, row) in ASKED.iter().enumerate() {
+        assert!(rt; is_answered(rt.alloc(), row), "{at}");
     }
-    for row in READ {
-        assert!(rt; is_read(row), "{} {}", row.sectors, row.chain);
+    for (at, row) in READ.iter().enumerate() {
+        assert!(rt; is_read(row), "{at}");
     }
 }

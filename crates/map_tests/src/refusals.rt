@@ -31,30 +31,51 @@ enum Told {
 }
 
 fn is_told(fault: &PlanFault, told: Told) -> bool {
-    match (fault, told) {
-        (PlanFault::Missing(path), Told::Missing(name)) => path.bytes() == name,
-        (PlanFault::Table(TableFault::NoDisk(disk)), Told::NoDisk(number)) => *disk == number,
-        (PlanFault::NoImagesLeft, Told::NoImagesLeft) => true,
-        (PlanFault::GeometryDiffers(option, have), Told::Geometry(named, count)) => {
-            *option == named && *have == count
+    match told {
+        Told::Nothing => false,
+        Told::NoImagesLeft => matches!(fault, PlanFault::NoImagesLeft),
+        Told::Missing(name) => matches!(fault, PlanFault::Missing(path) if path.bytes() == name),
+        Told::OtherIsBoot(name) => {
+            matches!(fault, PlanFault::OtherIsBoot(path) if path.bytes() == name)
         }
-        (PlanFault::MessageTooLong(size), Told::TooLong(count)) => *size == count,
-        (PlanFault::Header(path, SetupFault::TooShort), Told::Short(name)) => path.bytes() == name,
-        (PlanFault::OtherIsBoot(path), Told::OtherIsBoot(name)) => path.bytes() == name,
-        (PlanFault::NoSignature(path), Told::NoSignature(name)) => path.bytes() == name,
-        (PlanFault::Address(option, AddressFault::Cylinder(at)), Told::Address(named, number)) => {
-            *option == named && *at == number
+        Told::NoSignature(name) => {
+            matches!(fault, PlanFault::NoSignature(path) if path.bytes() == name)
         }
-        (PlanFault::TooManySlots(option, count), Told::Slots(named, number)) => {
-            *option == named && *count == number
+        Told::TooLong(count) => matches!(fault, PlanFault::MessageTooLong(size) if *size == count),
+        _ => is_told_within(fault, told),
+    }
+}
+
+// The same of what has a fault within it, or an option.
+fn is_told_within(fault: &PlanFault, told: Told) -> bool {
+    match told {
+        Told::NoDisk(disk) => {
+            matches!(fault, PlanFault::Table(within) if *within == TableFault::NoDisk(disk))
         }
-        (PlanFault::Tree(path, TreeFault::NotFile), Told::NotFile(name)) => path.bytes() == name,
-        (
-            PlanFault::Tree(path, TreeFault::Zone(ZoneFault::ZoneOutside(zone))),
-            Told::NoZone(name, number),
-        ) => path.bytes() == name && *zone == number,
+        Told::Geometry(named, count) => {
+            matches!(fault, PlanFault::GeometryDiffers(option, have) if *option == named && *have == count)
+        }
+        Told::Slots(named, count) => {
+            matches!(fault, PlanFault::TooManySlots(option, have) if *option == named && *have == count)
+        }
+        Told::Address(named, at) => {
+            matches!(fault, PlanFault::Address(option, within)
+                if *option == named && *within == AddressFault::Cylinder(at))
+        }
+        Told::Short(name) => {
+            matches!(fault, PlanFault::Header(path, within)
+                if path.bytes() == name && *within == SetupFault::TooShort)
+        }
+        Told::NotFile(name) => is_told_of_path(fault, name, TreeFault::NotFile),
+        Told::NoZone(name, zone) => {
+            is_told_of_path(fault, name, TreeFault::Zone(ZoneFault::ZoneOutside(zone)))
+        }
         _ => false,
     }
+}
+
+fn is_told_of_path(fault: &PlanFault, name: &[u8], told: TreeFault) -> bool {
+    matches!(fault, PlanFault::Tree(path, within) if path.bytes() == name && *within == told)
 }
 
 // Whether this is told of a configuration.
@@ -173,11 +194,10 @@ const ALONE: &[(On, &[u8], Told)] = &[
 ];
 
 #[test]
-fn each_fault_is_told(rt: HostRuntime) -> Result<(), Fail> {
-    for (on, text, told) in ALONE {
-        assert!(rt; tells(rt.alloc(), *on, text, *told), "{text:?}");
+fn each_fault_is_told(rt: HostRuntime) {
+    for (at, (on, text, told)) in ALONE.iter().enumerate() {
+        assert!(rt; tells(rt.alloc(), *on, text, *told), "{at}");
     }
-    Ok(())
 }
 
 // A fault in one place of a configuration.
@@ -251,13 +271,8 @@ const SOUND: &[&[u8]] = &[
 #[test]
 fn of_two_faults_the_first_is_told(rt: HostRuntime) -> Result<(), Fail> {
     for (index, first) in IN_ORDER.iter().enumerate() {
-        for second in &IN_ORDER[index..] {
-            assert!(rt;
-                comes_first(rt.alloc(), first, second)?,
-                "{:?} {:?}",
-                first.1,
-                second.1
-            );
+        for (more, second) in IN_ORDER[index..].iter().enumerate() {
+            assert!(rt; comes_first(rt.alloc(), first, second)?, "{index} {more}");
         }
     }
     Ok(())

@@ -4,6 +4,7 @@ use crate::disk::{NEVER, Piece, attach, disk_with, has};
 use minix_choice::{Taken, Wish, WriteFault};
 use minix_create::{choose, create};
 use std::alloc::Global;
+use std::mem::drop;
 use test_disks::Untold;
 
 // Three blocks with a hole in the middle: zones 7 and 8 of the short volume, whose root gets a third place.
@@ -77,7 +78,9 @@ fn make(alloc: Global, disks: &mut Untold) -> Result<(), WriteFault> {
         return Err(WriteFault::NoInode);
     }
     let mut taken = Taken::new(alloc, &volume)?;
-    let chosen = choose(alloc, &mut volume, &WISH, &mut taken)?;
+    let chosen = choose(alloc, &mut volume, &WISH, &mut taken);
+    drop(taken);
+    let chosen = chosen?;
     if chosen.blocks().len() > 3 {
         return Err(WriteFault::Exists);
     }

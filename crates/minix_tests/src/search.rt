@@ -140,24 +140,26 @@ fn disks_of(alloc: Global, sizes: &[u32]) -> Result<MemDisks, AllocError> {
     MemDisks::new(alloc, &disks[..sizes.len().min(2)], 9, &[])
 }
 
-fn found(
+// At most two disks of so many sectors, the last with these pieces, of which the call with this number fails.
+fn disks_with(
     alloc: Global,
     sizes: &[u32],
     pieces: &[Piece],
-    named: Option<(u8, u8)>,
     call: u64,
-) -> Option<Found> {
-    let mut disks = disks_of(alloc, sizes).ok()?;
+) -> Result<Untold, AllocError> {
+    let mut disks = disks_of(alloc, sizes)?;
     put(&mut disks, (sizes.len() > 1) as u8, pieces);
     let failing = [Failing { call, made: false }];
-    let mut disks = Untold {
-        disks: made_again(alloc, &disks, 0, &failing).ok()?,
-    };
+    let disks = made_again(alloc, &disks, 0, &failing)?;
+    Ok(Untold { disks })
+}
+
+fn found_on(disks: &mut Untold, named: Option<(u8, u8)>) -> Option<Found> {
     let named = match named {
         Some((disk, partition)) => Some(Device { disk, partition }),
         None => None,
     };
-    match find_volume(&mut disks, named) {
+    match find_volume(disks, named) {
         Ok(Located { device, span }) if device.disk == span.disk => {
             Some(Ok((device.disk, device.partition, span.start, span.count)))
         }
@@ -166,18 +168,28 @@ fn found(
     }
 }
 
+fn is_found(alloc: Global, row: &Search, call: u64) -> bool {
+    match disks_with(alloc, row.sizes, row.pieces, call) {
+        Ok(mut disks) => found_on(&mut disks, row.named) == Some(row.found),
+        Err(_) => false,
+    }
+}
+
+// Each of the first three calls may fail.
+const FAILED: Search = Search {
+    sizes: &[4096],
+    pieces: &[ENTRY, END],
+    named: None,
+    found: Err(VolumeFault::Place(TableFault::Device)),
+};
+
 #[test]
 fn a_volume_is_searched(rt: HostRuntime) {
-    for row in SEARCHES {
-        let found = found(rt.alloc(), row.sizes, row.pieces, row.named, NEVER);
-        assert!(rt; found == Some(row.found), "{:?}", row.found);
+    for (at, row) in SEARCHES.iter().enumerate() {
+        assert!(rt; is_found(rt.alloc(), row, NEVER), "{at}");
     }
-    let failed = Err(VolumeFault::Place(TableFault::Device));
     for call in 0..3 {
-        assert!(rt;
-            found(rt.alloc(), &[4096], &[ENTRY, END], None, call) == Some(failed),
-            "{call}"
-        );
+        assert!(rt; is_found(rt.alloc(), &FAILED, call), "{call}");
     }
 }
 
@@ -235,19 +247,31 @@ fn owner(found: &Findings, zone: u32) -> u32 {
 
 // The owners of zones 6, 9, 10, 11 and 14, and how many names the inodes 4, 5 and 8 have.
 fn owners(alloc: Global, changes: &[Piece], call: u64) -> Option<[u32; 8]> {
-    let mut disks = disk_with(alloc, 264, BOOT, changes, call).ok()?;
-    let mut volume = attach(&mut disks)?;
-    let found = survey(alloc, &mut volume).ok()?;
-    Some([
-        owner(&found, 6),
-        owner(&found, 9),
-        owner(&found, 10),
-        owner(&found, 11),
-        owner(&found, 14),
+    match disk_with(alloc, 264, BOOT, changes, call) {
+        Ok(mut disks) => owners_on(alloc, &mut disks),
+        Err(_) => None,
+    }
+}
+
+fn owners_on(alloc: Global, disks: &mut Untold) -> Option<[u32; 8]> {
+    let mut volume = attach(disks)?;
+    match survey(alloc, &mut volume) {
+        Ok(found) => Some(owners_in(&found)),
+        Err(_) => None,
+    }
+}
+
+fn owners_in(found: &Findings) -> [u32; 8] {
+    [
+        owner(found, 6),
+        owner(found, 9),
+        owner(found, 10),
+        owner(found, 11),
+        owner(found, 14),
         found.names(4),
         found.names(5),
         found.names(8),
-    ])
+    ]
 }
 
 #[test]

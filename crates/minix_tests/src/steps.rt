@@ -110,16 +110,20 @@ fn is_found(alloc: Global, row: &Free) -> bool {
 }
 
 fn is_found_beside(alloc: Global, row: &Free, avoid: &NumberSet) -> bool {
-    let Ok(mut disks) = disk_with(alloc, row.sectors, row.pieces, &[], NEVER) else {
-        return false;
-    };
-    let Some(mut volume) = attach(&mut disks) else {
-        return false;
-    };
-    if volume.layout().zones > avoid.below() {
-        return false;
+    match disk_with(alloc, row.sectors, row.pieces, &[], NEVER) {
+        Ok(mut disks) => is_found_on(alloc, &mut disks, row, avoid),
+        Err(_) => false,
     }
-    is_list(find_free(alloc, &mut volume, row.need, avoid), row)
+}
+
+fn is_found_on(alloc: Global, disks: &mut Untold, row: &Free, avoid: &NumberSet) -> bool {
+    match attach(disks) {
+        Some(mut volume) => {
+            volume.layout().zones <= avoid.below()
+                && is_list(find_free(alloc, &mut volume, row.need, avoid), row)
+        }
+        None => false,
+    }
 }
 
 fn is_list(found: Result<NumberList, BitFault>, row: &Free) -> bool {
@@ -135,11 +139,28 @@ fn inode(
     avoid: &[u32],
     call: u64,
 ) -> Option<Result<Option<u32>, BitFault>> {
-    let avoid = set_with(alloc, 17, avoid).ok()?;
-    let mut disks = disk_with(alloc, 88, pieces, &[], call).ok()?;
-    let mut volume = attach(&mut disks)?;
+    match set_with(alloc, 17, avoid) {
+        Ok(avoid) => inode_beside(alloc, pieces, &avoid, call),
+        Err(_) => None,
+    }
+}
+
+fn inode_beside(
+    alloc: Global,
+    pieces: &[Piece],
+    avoid: &NumberSet,
+    call: u64,
+) -> Option<Result<Option<u32>, BitFault>> {
+    match disk_with(alloc, 88, pieces, &[], call) {
+        Ok(mut disks) => inode_on(&mut disks, avoid),
+        Err(_) => None,
+    }
+}
+
+fn inode_on(disks: &mut Untold, avoid: &NumberSet) -> Option<Result<Option<u32>, BitFault>> {
+    let mut volume = attach(disks)?;
     if volume.layout().inodes < avoid.below() {
-        return Some(find_inode(&mut volume, &avoid));
+        return Some(find_inode(&mut volume, avoid));
     }
     None
 }
@@ -154,22 +175,23 @@ const INODES: &[FreeInode] = &[
     (&[SMALL], &[], Some(1)),
 ];
 
+fn is_inode(alloc: Global, row: &FreeInode) -> bool {
+    inode(alloc, row.0, row.1, NEVER) == Some(Ok(row.2))
+}
+
 #[test]
 fn lowest_free_zones_and_inodes(rt: HostRuntime) {
-    for row in FREE {
-        assert!(rt; is_found(rt.alloc(), row), "{:?}", row.zones);
+    for (at, row) in FREE.iter().enumerate() {
+        assert!(rt; is_found(rt.alloc(), row), "{at}");
     }
-    for (pieces, avoid, found) in INODES {
-        assert!(rt;
-            inode(rt.alloc(), pieces, avoid, NEVER) == Some(Ok(*found)),
-            "{avoid:?}"
-        );
+    for (at, row) in INODES.iter().enumerate() {
+        assert!(rt; is_inode(rt.alloc(), row), "{at}");
     }
     assert!(rt; inode(rt.alloc(), &[SMALL], &[], 1) == Some(Err(BitFault::Device)));
 }
 
 // What is done to zone 7 and inode 3, to more zones, and to the file 2.
-#[derive(Clone, Copy, Debug)]
+#[derive(Clone, Copy)]
 enum Step {
     PutZoneMark,
     PutInodeMark,
@@ -404,7 +426,7 @@ fn take_all(disks: &mut Untold, steps: &[Step]) -> Option<ZoneFault> {
 
 #[test]
 fn steps_write_their_own(rt: HostRuntime) {
-    for row in STEPS {
-        assert!(rt; are_taken(rt.alloc(), row), "{:?}", row.steps);
+    for (at, row) in STEPS.iter().enumerate() {
+        assert!(rt; are_taken(rt.alloc(), row), "{at}");
     }
 }

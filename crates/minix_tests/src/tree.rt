@@ -4,6 +4,7 @@ use minix_layout::FsKind;
 use minix_tree::{DirEntry, TreeFault, entries_in, lookup, lookup_name, read_file};
 use minix_zones::ZoneFault;
 use std::alloc::Global;
+use test_disks::Untold;
 
 // Version 2 with names of 14 bytes: 32 inodes of 64 bytes in blocks 4 and 5, 40 zones, the first data zone 6.
 const TREE: &[Piece] = &[
@@ -139,8 +140,14 @@ const PATHS: &[Path] = &[
 ];
 
 fn number(alloc: Global, path: &[u8], followed: bool, call: u64) -> Option<Result<u32, TreeFault>> {
-    let mut disks = disk_with(alloc, 88, TREE, &[], call).ok()?;
-    let mut volume = attach(&mut disks)?;
+    match disk_with(alloc, 88, TREE, &[], call) {
+        Ok(mut disks) => number_on(&mut disks, path, followed),
+        Err(_) => None,
+    }
+}
+
+fn number_on(disks: &mut Untold, path: &[u8], followed: bool) -> Option<Result<u32, TreeFault>> {
+    let mut volume = attach(disks)?;
     let found = if followed {
         lookup(&mut volume, path)
     } else {
@@ -171,8 +178,8 @@ fn is_told(alloc: Global, call: u64) -> Option<bool> {
 
 #[test]
 fn paths_lead_somewhere_or_nowhere(rt: HostRuntime) {
-    for row in PATHS {
-        assert!(rt; leads(rt.alloc(), row), "{:?}", row.path);
+    for (at, row) in PATHS.iter().enumerate() {
+        assert!(rt; leads(rt.alloc(), row), "{at}");
     }
     // The superblock is read first, then the root's inode, the two halves of its block, and the inode of `boot`.
     for call in 1..6 {
@@ -180,14 +187,16 @@ fn paths_lead_somewhere_or_nowhere(rt: HostRuntime) {
     }
 }
 
-// Free entries are passed, and a name that fills its field has no zero after it.
-#[test]
-fn names_lent_from_a_block(rt: HostRuntime) {
+fn block_of_names() -> [u8; 1024] {
     let mut block = [0; 1024];
     block[32] = 2;
     block[34..48].copy_from_slice(b"fourteen-bytes");
     block[992..997].copy_from_slice(b"\x01\x01end");
-    let mut entries = entries_in(&block, FsKind::V1Short);
+    block
+}
+
+fn are_lent(block: &[u8; 1024]) -> bool {
+    let mut entries = entries_in(block, FsKind::V1Short);
     let first = DirEntry {
         inode: 2,
         name: b"fourteen-bytes",
@@ -198,18 +207,40 @@ fn names_lent_from_a_block(rt: HostRuntime) {
         name: b"end",
         at: 992,
     };
-    assert!(rt; entries.next() == Some(first));
-    assert!(rt; entries.next() == Some(last));
-    assert!(rt; entries.next() == None);
+    entries.next() == Some(first) && entries.next() == Some(last) && entries.next() == None
+}
+
+// Free entries are passed, and a name that fills its field has no zero after it.
+#[test]
+fn names_lent_from_a_block(rt: HostRuntime) {
+    assert!(rt; are_lent(&block_of_names()));
 }
 
 // The length of a file, its first bytes and its last ones.
 fn length(alloc: Global, path: &[u8], first: &[u8], last: &[u8]) -> Option<usize> {
-    let mut disks = disk_with(alloc, 88, TREE, &[], NEVER).ok()?;
-    let mut volume = attach(&mut disks)?;
-    let text = read_file(alloc, &mut volume, path).ok()?;
-    if text.bytes().starts_with(first) && text.bytes().ends_with(last) {
-        Some(text.bytes().len())
+    match disk_with(alloc, 88, TREE, &[], NEVER) {
+        Ok(mut disks) => length_on(alloc, &mut disks, path, first, last),
+        Err(_) => None,
+    }
+}
+
+fn length_on(
+    alloc: Global,
+    disks: &mut Untold,
+    path: &[u8],
+    first: &[u8],
+    last: &[u8],
+) -> Option<usize> {
+    let mut volume = attach(disks)?;
+    match read_file(alloc, &mut volume, path) {
+        Ok(text) => length_between(text.bytes(), first, last),
+        Err(_) => None,
+    }
+}
+
+fn length_between(bytes: &[u8], first: &[u8], last: &[u8]) -> Option<usize> {
+    if bytes.starts_with(first) && bytes.ends_with(last) {
+        Some(bytes.len())
     } else {
         None
     }

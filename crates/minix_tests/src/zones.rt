@@ -1,5 +1,7 @@
 // Zones at each level of indirect zones, and how often a sector is read.
+ghost use Rattle.std.specs.Prelude.{◌≢◌};
 ghost use Rattle.minix_zones.specs.Held.{AreHeld};
+ghost use Rattle.lilo_model.specs.MinixLayout.{super_sector};
 
 use crate::disk::{NEVER, Piece, attach, disk_with};
 use minix_layout::{FsKind, Inode};
@@ -186,32 +188,39 @@ const AT: &[At] = &[
 
 fn is_found(alloc: Global, row: &At) -> bool {
     let pieces = if row.is_v1 { V1 } else { V2 };
-    let Ok(mut disks) = disk_with(alloc, 88, pieces, &[], NEVER) else {
-        return false;
-    };
-    let Some(mut volume) = attach(&mut disks) else {
-        return false;
-    };
-    row.index < reach(volume.layout().kind)
-        && zone_at(&mut volume, &row.inode, row.index) == row.found
+    match disk_with(alloc, 88, pieces, &[], NEVER) {
+        Ok(mut disks) => is_found_on(&mut disks, row),
+        Err(_) => false,
+    }
+}
+
+fn is_found_on(disks: &mut Untold, row: &At) -> bool {
+    match attach(disks) {
+        Some(mut volume) => {
+            row.index < reach(volume.layout().kind)
+                && zone_at(&mut volume, &row.inode, row.index) == row.found
+        }
+        None => false,
+    }
 }
 
 #[test]
 fn zones_at_each_level(rt: HostRuntime) {
-    for row in AT {
-        assert!(rt;
-            is_found(rt.alloc(), row),
-            "{} of {:?}",
-            row.index,
-            row.inode.zones
-        );
+    for (at, row) in AT.iter().enumerate() {
+        assert!(rt; is_found(rt.alloc(), row), "{at}");
     }
 }
 
 // The first and the last byte of each half of a block.
 fn ends(alloc: Global, index: u32) -> Option<[u8; 4]> {
-    let mut disks = disk_with(alloc, 88, V2, &[], NEVER).ok()?;
-    let mut volume = attach(&mut disks)?;
+    match disk_with(alloc, 88, V2, &[], NEVER) {
+        Ok(mut disks) => ends_on(&mut disks, index),
+        Err(_) => None,
+    }
+}
+
+fn ends_on(disks: &mut Untold, index: u32) -> Option<[u8; 4]> {
+    let mut volume = attach(disks)?;
     let mut bytes = [7; 1024];
     if index < reach(volume.layout().kind)
         && read_at(&mut volume, &INODE, index, &mut bytes).is_ok()
@@ -258,9 +267,15 @@ fn walked(volume: &mut Volume<'_, Untold>, held: &mut HeldZones) -> (usize, bool
 }
 
 // A walk on a disk of which one call fails.
-fn walk_on(alloc: Global, call: u64) -> Option<(usize, bool)> {
-    let mut disks = disk_with(alloc, 88, V2, &[], call).ok()?;
-    let mut volume = attach(&mut disks)?;
+fn walk(alloc: Global, call: u64) -> Option<(usize, bool)> {
+    match disk_with(alloc, 88, V2, &[], call) {
+        Ok(mut disks) => walk_on(&mut disks),
+        Err(_) => None,
+    }
+}
+
+fn walk_on(disks: &mut Untold) -> Option<(usize, bool)> {
+    let mut volume = attach(disks)?;
     let mut held = HeldZones::of(&volume);
     Some(walked(&mut volume, &mut held))
 }
@@ -269,38 +284,61 @@ fn walk_on(alloc: Global, call: u64) -> Option<(usize, bool)> {
 #[test]
 fn each_indirect_zone_is_read_once(rt: HostRuntime) {
     for (call, met) in [(3, (6, false)), (12, (11, false)), (13, (12, true))] {
-        assert!(rt; walk_on(rt.alloc(), call) == Some(met), "{call}");
+        assert!(rt; walk(rt.alloc(), call) == Some(met), "{call}");
     }
+}
+
+// The first byte of a sector, where it can be read.
+fn first_byte(volume: &mut Volume<'_, Untold>, number: u64) -> Option<u8> {
+    let mut sector: Sector = [1; 512];
+    if number < volume.span().count && volume.read_sector(number, &mut sector).is_ok() {
+        Some(sector[0])
+    } else {
+        None
+    }
+}
+
+fn write(volume: &mut Volume<'_, Untold>, number: u64, bytes: &Sector) -> bool
+    requires { number ≢ super_sector }
+{
+    number < volume.span().count && volume.write_sector(number, bytes).is_ok()
 }
 
 // Call 1 reads the sector, call 2 writes it, and call 3 reads it again.
-fn held_reads(volume: &mut Volume<'_, Untold>) -> Result<[u8; 4], ZoneFault> {
-    let mut sector: Sector = [1; 512];
-    let mut seen = [9; 4];
+fn held_reads(volume: &mut Volume<'_, Untold>) -> [Option<u8>; 6] {
     volume.hold_sectors();
-    if volume.span().count == 80 {
-        volume.read_sector(79, &mut sector)?;
-        seen[0] = sector[0];
-        volume.read_sector(79, &mut sector)?;
-        volume.write_sector(79, &[5; 512])?;
-        volume.read_sector(79, &mut sector)?;
-        seen[1] = sector[0];
-        volume.hold_sectors();
-        volume.read_sector(79, &mut sector)?;
-        volume.read_sector(79, &mut sector)?;
-        seen[2] = sector[0];
-        seen[3] = volume.read_sector(78, &mut sector).is_ok() as u8;
-    }
-    Ok(seen)
+    let first = first_byte(volume, 79);
+    let again = first_byte(volume, 79);
+    let _is_written = write(volume, 79, &[5; 512]);
+    let written = first_byte(volume, 79);
+    volume.hold_sectors();
+    [
+        first,
+        again,
+        written,
+        first_byte(volume, 79),
+        first_byte(volume, 79),
+        first_byte(volume, 78),
+    ]
 }
 
-fn held_reads_on(alloc: Global, call: u64) -> Option<Result<[u8; 4], ZoneFault>> {
-    let mut disks = disk_with(alloc, 88, V2, &[], call).ok()?;
-    let mut volume = attach(&mut disks)?;
-    Some(held_reads(&mut volume))
+fn held_reads_on(disks: &mut Untold) -> [Option<u8>; 6] {
+    match attach(disks) {
+        Some(mut volume) => held_reads(&mut volume),
+        None => [None; 6],
+    }
+}
+
+fn are_held(alloc: Global, call: u64) -> bool {
+    match disk_with(alloc, 88, V2, &[], call) {
+        Ok(mut disks) => {
+            held_reads_on(&mut disks) == [Some(0), Some(0), Some(5), Some(5), Some(5), None]
+        }
+        Err(_) => false,
+    }
 }
 
 #[test]
 fn held_sectors_are_read_once(rt: HostRuntime) {
-    assert!(rt; held_reads_on(rt.alloc(), 5) == Some(Ok([0, 5, 5, 0])));
+    assert!(rt; are_held(rt.alloc(), 5));
 }

@@ -37,6 +37,10 @@ fn numbers_are_decimal_or_hexadecimal(rt: HostRuntime) {
     for (text, number) in NUMBERS {
         assert!(rt; number_between(1, 65534, text) == *number);
     }
+}
+
+#[test]
+fn modes_are_words_or_numbers(rt: HostRuntime) {
     for (text, mode) in MODES {
         assert!(rt; video_mode(text) == *mode);
     }

@@ -17,7 +17,8 @@ fn written_sector() -> Sector {
 // Whether a sector that was written is read as it should be: a name ends before a zero byte, or with its field.
 fn is_read(sector: &Sector) -> bool {
     let fields = FieldRef { bytes: sector };
-    part(sector, 0, 23) == b"\x04\x03\x02\x01\xFFlinux\0\0\0\xFF\0\0\xFF\x09\x09\xFF\x08\x07\xFF".as_slice()
+    part(sector, 0, 23)
+        == b"\x04\x03\x02\x01\xFFlinux\0\0\0\xFF\0\0\xFF\x09\x09\xFF\x08\x07\xFF".as_slice()
         && part(sector, 507, 5) == b"\xFF\xFF\xFF\x55\xAA".as_slice()
         && [u16_at(sector, 1), fields.u16_at(1)] == [0x0203; 2]
         && [u32_at(sector, 508), fields.u32_at(1)] == [0xAA55_FFFF, 0xFF01_0203]

@@ -113,6 +113,10 @@ fn texts_are_cut_into_tokens(rt: HostRuntime) {
     for (text, tokens, fault) in TEXTS {
         assert!(rt; has(text, tokens, *fault));
     }
+}
+
+#[test]
+fn tokens_have_their_meaning(rt: HostRuntime) {
     for (kind, bytes, meant) in MEANT {
         assert!(rt; means(rt.alloc(), *kind, bytes, meant));
     }

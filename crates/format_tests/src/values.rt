@@ -48,13 +48,21 @@ const LAST_PARTS: &[(&[u8], &[u8])] = &[
 ];
 
 #[test]
-fn texts_are_values_of_their_kinds(rt: HostRuntime) {
+fn roots_are_numbers_or_devices(rt: HostRuntime) {
     for (text, number) in ROOTS {
         assert!(rt; root_at(text) == *number);
     }
+}
+
+#[test]
+fn texts_are_values_of_their_kinds(rt: HostRuntime) {
     for (takes, text, is_one) in VALUES {
         assert!(rt; is_value(*takes, 1, text) == *is_one);
     }
+}
+
+#[test]
+fn paths_have_last_parts(rt: HostRuntime) {
     for (path, last) in LAST_PARTS {
         assert!(rt; last_part(path) == *last);
     }

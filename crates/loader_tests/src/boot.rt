@@ -5,6 +5,8 @@ use disk_trait::{Disks, Failing, Geometry, MemDisk, MemDisks, Span};
 use loader_core::{Outcome, Shown, boot};
 use setup_header::{Layout, Region};
 use std::alloc::{AllocError, Global};
+use std::process::Abort;
+use std::test::Fail;
 use stream_trait::{MemSink, MemSource};
 
 /// Bytes of memory: their address, how often they stand there in a row, and the bytes.
@@ -115,9 +117,15 @@ pub const PLAIN: Boot = Boot {
     left: b"LINE",
 };
 
-/// The first of the boots of some tables that comes to something else. What a proof of a function costs rises more than
-/// with the square of the references in its constants, so a table has few rows, and a function of its own.
-pub fn first_wrong(alloc: Global, tables: &[&[Boot]]) -> Result<Option<&'static str>, AllocError> {
+/// That all boots of some tables come to what they say, or else which is the first that doesn't.
+pub fn come_true(rt: &impl Abort, alloc: Global, tables: &[&[Boot]]) -> Result<(), Fail> {
+    assert_eq!(rt; first_wrong(alloc, tables)?, None);
+    Ok(())
+}
+
+// The first of the boots of some tables that comes to something else. What a proof of a function costs rises more than
+// with the square of the references in its constants, so a table has few rows, and a function of its own.
+fn first_wrong(alloc: Global, tables: &[&[Boot]]) -> Result<Option<&'static str>, AllocError> {
     for boots in tables {
         for boot in *boots {
             if !comes_true(alloc, boot)? {
@@ -133,15 +141,21 @@ fn comes_true(alloc: Global, boot: &Boot) -> Result<bool, AllocError> {
     let mut keys = MemSource::new(alloc, boot.keys, boot.failing_keys)?;
     let mut sink = MemSink::new(alloc, 256, boot.failing_texts)?;
     let mut ram = Ram::new(alloc, boot.memory.clamp(1_048_576, 16_777_216))?;
-    let is_filled = look(&mut ram, boot, true);
-    let ends = ends_so(boot, &mut disks, &mut keys, &mut ram, &mut sink);
-    Ok(
-        is_filled
-            && ends
-            && sink.bytes() == boot.shown
-            && leaves_line(&mut disks, boot.left)
-            && look(&mut ram, boot, false),
-    )
+    let is_so = comes_so(boot, &mut disks, &mut keys, &mut ram, &mut sink);
+    Ok(is_so && sink.bytes() == boot.shown)
+}
+
+fn comes_so(
+    boot: &Boot,
+    disks: &mut MemDisks,
+    keys: &mut MemSource,
+    ram: &mut Ram,
+    sink: &mut MemSink,
+) -> bool {
+    look(ram, boot, true)
+        && ends_so(boot, disks, keys, ram, sink)
+        && leaves_line(disks, boot.left)
+        && look(ram, boot, false)
 }
 
 fn disks_of(alloc: Global, boot: &Boot) -> Result<MemDisks, AllocError> {

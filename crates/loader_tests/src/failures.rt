@@ -1,5 +1,5 @@
 // Each call that fails in turn: reads of a disk, keys and texts.
-use crate::boot::{Boot, Held, LOADING, PLAIN, first_wrong};
+use crate::boot::{Boot, Held, LOADING, PLAIN, come_true};
 use crate::installation::Edit;
 use disk_trait::{Failing, Phase};
 use loader_core::Outcome;
@@ -231,7 +231,9 @@ const MESSAGE: &[Edit] = &[
 
 #[test]
 fn each_call_fails(rt: HostRuntime) -> Result<(), Fail> {
-    let tables = [of_the_map(), of_the_kernel(), of_keys(), of_texts()];
-    assert_eq!(rt; first_wrong(rt.alloc(), &tables)?, None);
-    Ok(())
+    come_true(
+        &rt,
+        rt.alloc(),
+        &[of_the_map(), of_the_kernel(), of_keys(), of_texts()],
+    )
 }

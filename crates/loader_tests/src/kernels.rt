@@ -1,5 +1,5 @@
 // Kernels that are loaded, with all the bytes of memory then.
-use crate::boot::{Boot, Held, PLAIN, first_wrong};
+use crate::boot::{Boot, Held, PLAIN, come_true};
 use setup_header::Region;
 use std::test::Fail;
 
@@ -284,7 +284,9 @@ const MORE: Region = Region {
 
 #[test]
 fn kernels_are_loaded(rt: HostRuntime) -> Result<(), Fail> {
-    let tables = [slots(), cylinders(), longer(), initrds(), versions()];
-    assert_eq!(rt; first_wrong(rt.alloc(), &tables)?, None);
-    Ok(())
+    come_true(
+        &rt,
+        rt.alloc(),
+        &[slots(), cylinders(), longer(), initrds(), versions()],
+    )
 }

@@ -1,5 +1,5 @@
 // What a prompt shows and answers to keys. A tick, a tenth of a second, is the byte 0x16.
-use crate::boot::{Boot, Held, PLAIN, first_wrong};
+use crate::boot::{Boot, Held, PLAIN, come_true};
 use crate::installation::Edit;
 use loader_core::{Outcome, Reason};
 use std::test::Fail;
@@ -205,7 +205,5 @@ const MENU: &[Edit] = &[
 
 #[test]
 fn keys_are_answered(rt: HostRuntime) -> Result<(), Fail> {
-    let tables = [ends(), delays(), names(), passwords()];
-    assert_eq!(rt; first_wrong(rt.alloc(), &tables)?, None);
-    Ok(())
+    come_true(&rt, rt.alloc(), &[ends(), delays(), names(), passwords()])
 }

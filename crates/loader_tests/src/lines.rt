@@ -1,5 +1,5 @@
 // The default line: what a boot does with it, and what it leaves in its sector.
-use crate::boot::{Boot, Held, PLAIN, first_wrong};
+use crate::boot::{Boot, Held, PLAIN, come_true};
 use crate::installation::Edit;
 use disk_trait::{Failing, Phase};
 use loader_core::{Outcome, Reason};
@@ -225,13 +225,15 @@ const FALLBACK: &[Edit] = &[
 
 #[test]
 fn default_lines_serve(rt: HostRuntime) -> Result<(), Fail> {
-    let tables = [
-        served(),
-        followed(),
-        locked(),
-        before_the_load(),
-        after_the_write(),
-    ];
-    assert_eq!(rt; first_wrong(rt.alloc(), &tables)?, None);
-    Ok(())
+    come_true(
+        &rt,
+        rt.alloc(),
+        &[
+            served(),
+            followed(),
+            locked(),
+            before_the_load(),
+            after_the_write(),
+        ],
+    )
 }

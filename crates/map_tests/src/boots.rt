@@ -162,8 +162,8 @@ fn comes_true(alloc: Global, row: &Boot) -> Result<bool, AllocError> {
     let mut sink = MemSink::new(alloc, 256, &[])?;
     let mut ram = Ram::new(alloc, 2_097_152)?;
     let is_ready = install(alloc, row, &mut disks) && fill(&mut ram, row);
-    let ends = comes_so(row, &mut disks, &mut keys, &mut ram, &mut sink);
-    Ok(is_ready && ends)
+    let is_so = is_ready && comes_so(row, &mut disks, &mut keys, &mut ram, &mut sink);
+    Ok(is_so && sink.bytes() == row.shown)
 }
 
 fn comes_so(
@@ -174,7 +174,6 @@ fn comes_so(
     sink: &mut MemSink,
 ) -> bool {
     booted(disks, keys, ram, sink) == Some(end_of(row))
-        && sink.bytes() == row.shown
         && leaves_line(disks, row.left)
         && holds(ram, row)
 }

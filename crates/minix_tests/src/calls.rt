@@ -672,8 +672,8 @@ fn is_called(alloc: Global, row: &Call) -> bool {
         && has(&mut disks, row.after)
 }
 
-// The table and the row of the first call that comes to something else. What a proof of a function costs rises more than
-// with the square of the references in its constants, so a table has few rows, and a function of its own.
+// The table and the row of the first call that comes to something else. What a proof of a function costs rises more
+// than with the square of the references in its constants, so a table has few rows, and a function of its own.
 fn first_wrong(alloc: Global, tables: &[&[Call]]) -> Option<(usize, usize)> {
     for (table, rows) in tables.iter().enumerate() {
         for (at, row) in rows.iter().enumerate() {

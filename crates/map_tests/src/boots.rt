@@ -162,20 +162,14 @@ fn comes_true(alloc: Global, row: &Boot) -> Result<bool, AllocError> {
     let mut sink = MemSink::new(alloc, 256, &[])?;
     let mut ram = Ram::new(alloc, 2_097_152)?;
     let is_ready = install(alloc, row, &mut disks) && fill(&mut ram, row);
-    let is_so = is_ready && comes_so(row, &mut disks, &mut keys, &mut ram, &mut sink);
-    Ok(is_so && sink.bytes() == row.shown)
-}
-
-fn comes_so(
-    row: &Boot,
-    disks: &mut MemDisks,
-    keys: &mut MemSource,
-    ram: &mut Ram,
-    sink: &mut MemSink,
-) -> bool {
-    booted(disks, keys, ram, sink) == Some(end_of(row))
-        && leaves_line(disks, row.left)
-        && holds(ram, row)
+    let outcome = booted(&mut disks, &mut keys, &mut ram, &mut sink);
+    Ok(
+        is_ready
+            && outcome == Some(end_of(row))
+            && sink.bytes() == row.shown
+            && leaves_line(&mut disks, row.left)
+            && holds(&mut ram, row),
+    )
 }
 
 // Writes the map and its boot sector, where it is planned.

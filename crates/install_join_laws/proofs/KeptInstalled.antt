@@ -1,7 +1,8 @@
 -- What an installation keeps of names once its files are staged, and what is there once it is done.
-use Rattle.std.proofs.Common.{◌≡◌, ◌≢◌, ◌⊎◌, ℕ, Bool, true, false, if◌then◌else◌, inl, inr, is_some, List, Option, None, Some, Result, Ok, Err, refl, sym, ◌∙◌, ap, subst, subst₂}
+use Rattle.std.proofs.Common.{◌≡◌, ◌≢◌, ◌≤◌, ◌⊎◌, ⊎_elim, ℕ, Bool, true, false, if◌then◌else◌, inl, inr, is_some, List, Option, None, Some, Result, Ok, Err, refl, sym, ◌∙◌, ap, subst, subst₂}
 use Rattle.std.specs.Prelude.{IfSome}
 use Rattle.std.specs.Option.{option_map}
+use Rattle.std.proofs.lemmas.Bool.{eqb-true, false_from_ne_true, or_cases}
 use Rattle.disk_trait.specs.declared.disks.Disks.{Ghosts}
 use Rattle.disk_trait.specs.declared.disks.DiskFault.{DiskFault}
 use Rattle.disk_trait.specs.declared.disks.DiskFault.TheVariants.{Failed}
@@ -14,9 +15,9 @@ use Rattle.lilo_model.specs.Conf.{Config}
 use Rattle.lilo_model.specs.Devices.{Device}
 use Rattle.lilo_model.specs.Disks.{Image, Machine, Span}
 use Rattle.lilo_model.specs.Mapped.{mapped_sectors}
-use Rattle.lilo_model.specs.MinixNames.{File, Thing, names, names_in, reached, thing, IsSound}
+use Rattle.lilo_model.specs.MinixNames.{File, Sound, Thing, names, names_in, reached, thing, IsSound}
 use Rattle.lilo_model.specs.MinixParts as model
-use Rattle.lilo_model.specs.MinixParts.{Parts, parts_of}
+use Rattle.lilo_model.specs.MinixParts.{Parts, is_file, parts_of}
 use Rattle.lilo_model.specs.NamePlaces.{with_tilde}
 use Rattle.lilo_model.specs.Planned as plans
 use Rattle.lilo_model.specs.Settled.{Held, OwnNames}
@@ -26,7 +27,15 @@ use Rattle.map_laws.proofs.Holder.{lays_held_law}
 use Rattle.map_laws.specs.Lies.{MapPlaces}
 use Rattle.mbr_table.specs.View.{device_view}
 use Rattle.minix_change_laws.specs.Beside.{SoundAsIn}
+use Rattle.minix_change_laws.specs.Sees.{SeenAsIn}
+use Rattle.minix_change_laws.specs.Tree.{KeepsNamed, TreeAs}
+use Rattle.minix_change_laws.proofs.Seen.{opened}
+use Rattle.minix_change_laws.proofs.Tree.{sees_tree_law}
+use Rattle.minix_create.specs.Chosen.{IsFreeNow}
 use Rattle.minix_create.specs.declared.chosen.Chosen.{Chosen}
+use Rattle.minix_layout.specs.View.{super_view}
+use Rattle.minix_remove.specs.Renamed.{RenamesFiles}
+use Rattle.minix_steps.specs.Written.{parts_now}
 use Rattle.minix_names.proofs.PathLemmas.{name-here}
 use Rattle.minix_choice.specs.declared.write_fault.WriteFault.{WriteFault}
 use Rattle.minix_zones.specs.View.{span_view}
@@ -35,7 +44,10 @@ use Rattle.minix_zones.specs.declared.volume.Volume.{Volume}
 use Rattle.sector_address.specs.Machine.{machine_of}
 use Rattle.install_apart.specs.declared.name.NamePair.{NamePair}
 use Rattle.install_join_laws.proofs.Walks.{value-is}
-use Rattle.install_stage_laws.specs.BeginLaws.{IsNoneOfMap}
+use Rattle.install_stage_laws.specs.BeginLaws.{GainsNothing, IsNoneOfMap}
+use Rattle.install_stage_laws.specs.Marked.{FreesAt, IsFreed, KeepsMarked, KeepsMarkedBut}
+use Rattle.install_stage_laws.specs.Staged.{AreFree}
+use Rattle.install_stage_laws.proofs.Marked.{but_join, but_none, freed_still, marked_join}
 use Rattle.install_stage_laws.proofs.Spared.{leaves_both}
 use Rattle.install_order.specs.Commits.{Commits}
 use Rattle.install_laws.specs.Boots.{IsWithOrWithout}
@@ -51,21 +63,23 @@ use Rattle.install_order.specs.declared.surveyed.Surveyed.{Surveyed}
 use Rattle.install_order.proofs.CommittedLemmas.{may_tidy}
 use Rattle.install_order.proofs.ReadyLemmas.{stageable}
 use Rattle.install_order.proofs.StagedLemmas.{may_tidy_then}
-use Rattle.install_room.specs.Making.{MayMakeBackup}
+use Rattle.install_room.specs.Making.{MayMakeBackup, MayMakeRoom}
 use Rattle.install_settle.specs.Settles.{HasNames, IsBeside, stale_of}
 use Rattle.install_stage.specs.Staged.{IsStagedRoom}
-use Rattle.install_stage.specs.Stages.{IsStagingRoom, room_zones, with_room}
+use Rattle.install_stage.proofs.Marked.{replaced_freed}
+use Rattle.install_stage.specs.Stages.{FreesBackup, HasStagedRoom, IsNoneOfBackup, IsStagingRoom, KeepsButBackup, LeadsBackup, backup_inodes, room_inodes, room_zones, with_room}
+use Rattle.install_stage.specs.Within.{is_inode_of}
 use Rattle.install_stage_laws.proofs.Committed as committing
-use Rattle.install_stage_laws.proofs.Committed.{staged_lays_law}
+use Rattle.install_stage_laws.proofs.Committed.{commit_marked, commit_seen_law, staged_lays_law}
 use Rattle.install_settle.specs.Tidied.{IsTidiedMap}
 use Rattle.install_settle.specs.Tidies.{AreTidying, IsTidied, IsTidying, MayTidy, Tidies}
 use Rattle.install_settle.proofs.TidiedLemmas.{tidied_map_law}
-use Rattle.install_join_laws.specs.Kept.{HasBackup, HasOldMap, IsAbsent, IsAsBefore, IsFile, IsInstalled, Keeps, backup_then}
+use Rattle.install_join_laws.specs.Kept.{HasBackup, HasOldMap, IsAbsent, IsAsBefore, IsFile, IsInstalled, IsOwnInode, Keeps, MarksOwn, backup_then}
 use Rattle.install_join_laws.specs.KeptLaws.{CommitKeepsLaw, CommitMapLaw, CommittedBackupLaw, InstallationKeepsLaw, InstalledLaw, map_of}
 use Rattle.install_join_laws.specs.Steps.{HasPlanned, HasStaged, IsBegunWith, LiesOnDisks, begun_from, machine_on}
-use Rattle.install_join_laws.proofs.Begun.{boot-apart, plan-machine-same, plan-view-same}
+use Rattle.install_join_laws.proofs.Begun.{begun, boot-apart, plan-machine-same, plan-view-same}
 use Rattle.install_join_laws.proofs.Kept as keeping
-use Rattle.install_join_laws.proofs.KeptNames.{finished-map, room-backup, room-copy, room-map, room-other, settled-beside, settled-tilde, with-other}
+use Rattle.install_join_laws.proofs.KeptNames.{IsNoBackup, finished-map, room-backup, room-copy, room-map, room-other, settled-beside, settled-tilde, with-other}
 use Rattle.install_join_laws.proofs.KeptOwn.{backup-beside, backup-differs, stale-is}
 use Rattle.install_join_laws.proofs.Staged as staging
 use Rattle.install_join_laws.proofs.Staged.{five, staged-room, told-staged}
@@ -151,6 +165,69 @@ module _ {D : Type 0} {disks : Ghosts D} (entry : Volume D disks) (config : conf
       forth (λ v i f b. HasNames v There (with_room f Made b Map Bytes (names_in v i)))
       ((keeping.calls entry config boot time surveyed is lies.there own-names own planned has staged.volume (Ok tt) from).done told-flushed).names
 
+  -- what is marked of it, and where its names lead
+  abbrev Inodes : ℕ → Bool
+  Inodes = room_inodes planned.room
+
+  abbrev Zones : ℕ → Bool
+  Zones = room_zones planned.room
+
+  staged-room-has : HasStagedRoom from.flushed staged.volume M (is_forced planned) Made planned.present Map planned.plan planned.room
+  staged-room-has = (keeping.calls entry config boot time surveyed is lies.there own-names own planned has staged.volume (Ok tt) from).done told-flushed
+
+  staged-marks : KeepsMarkedBut View.layout Inodes Zones (parts_of View Is) (parts_of View There)
+  staged-marks = forth (λ v i f b. KeepsMarkedBut v.layout Inodes Zones (parts_of v i) (parts_of v There)) staged-room-has.marks
+
+  staged-leads : reached View.layout (parts_of View There) (with_tilde Map) ≡ Some planned.room.map.choice.inode
+  staged-leads = forth (λ v i f b. reached v.layout (parts_of v There) (with_tilde Map) ≡ Some planned.room.map.choice.inode) staged-room-has.leads
+
+  staged-backup : LeadsBackup View There Made planned.room.backup
+  staged-backup = forth (λ v i f b. LeadsBackup v There Made planned.room.backup) staged-room-has.backup_leads
+
+  -- what was named before it stays
+  staged-keeps : KeepsNamed View.layout (parts_of View Is) (parts_of View There)
+  staged-keeps = by Made staged-left.files
+    where
+      by : (made : Option (List (List ℕ))) → KeepsButBackup View made Is There → KeepsNamed View.layout (parts_of View Is) (parts_of View There)
+      by None files = files.keeps
+      by (Some path) files = files.keeps
+
+  -- the map's own name leads where it led
+  staged-map-leads : reached View.layout (parts_of View There) Map ≡ reached View.layout (parts_of View Is) Map
+  staged-map-leads =
+      staged-left.paths Map (keeping.own-differs entry config boot time surveyed is lies.there own-names own)
+      (by Forced Made (keeping.map-no-backup entry config boot time surveyed is lies.there own-names own planned has))
+    where
+      by : (forced : Bool) (made : Option (List (List ℕ))) → IsNoBackup forced made Map → IsNoneOfBackup forced made Map
+      by forced None none = tt
+      by true (Some path) none = (none.1 refl, none.0)
+      by false (Some path) none = (none.0, none.0)
+
+  -- no inode that was chosen was marked
+  free-inode : (chosen : Chosen) → IsFreeNow planned.volume chosen → (parts_of View Is).has_inode chosen.choice.inode ≡ false
+  free-inode chosen free =
+      subst₂ (λ (v : model.Volume) (p : Option Past). (parts_of v (now p)).has_inode chosen.choice.inode ≡ false) (plan-view-same entry config boot time surveyed is planned has)
+      (keeping.past-same entry config boot time surveyed is lies.there own-names own planned has) free.inode
+
+  unmarked : (number : ℕ) → Inodes number ≡ true → (parts_of View Is).has_inode number ≡ false
+  unmarked number its = ⊎_elim
+      (λ (map : is_inode_of planned.room.map number ≡ true). free-one planned.room.map makes.map.free map)
+      (λ (other : backup_inodes planned.room.backup number ≡ true).
+      by planned.room.backup (made_backup (super_view planned.volume.layout) (parts_now planned.volume) (is_forced planned) own-names.backup) makes.backup other)
+      (or_cases (is_inode_of planned.room.map number) (backup_inodes planned.room.backup number) its)
+    where
+      makes : MayMakeRoom planned.volume own-names (is_forced planned) planned.room
+      makes = (keeping.may entry config boot time surveyed is lies.there own-names own planned has).makes
+
+      free-one : (chosen : Chosen) → IsFreeNow planned.volume chosen → is_inode_of chosen number ≡ true → (parts_of View Is).has_inode number ≡ false
+      free-one chosen free same = subst (λ (n : ℕ). (parts_of View Is).has_inode n ≡ false) (sym (eqb-true number chosen.choice.inode same)) (free-inode chosen free)
+
+      by : (made : Option Chosen) (path : Option (List (List ℕ))) → MayMakeBackup planned.volume path made → backup_inodes made number ≡ true
+          → (parts_of View Is).has_inode number ≡ false
+      by None path may other = absurd (cc)
+      by (Some chosen) None may other = absurd may
+      by (Some chosen) (Some path) may other = free-one chosen may.free other
+
   abbrev places : MapPlaces
   places = (five entry config boot time surveyed planned staged is has lies did.stages).at
 
@@ -161,6 +238,10 @@ module _ {D : Type 0} {disks : Ghosts D} (entry : Volume D disks) (config : conf
       (value-is (staging.names entry config boot time surveyed planned staged is has lies did.stages) own-names
       (sym (staging.names-are entry config boot time surveyed planned staged is has lies did.stages) ∙ own))
       (staged-room entry config boot time surveyed planned staged is has lies did.stages)
+
+  -- what the backup replaced is freed
+  staged-frees : FreesBackup View Is Made There
+  staged-frees = forth (λ v i f b. AreFree v i Zones → FreesBackup v i Made There) staged-room-has.frees room.is.map.free
 
   outside : IsApartSector View S.disk S.start
   outside = boot-apart entry config boot time surveyed is lies.there
@@ -319,6 +400,20 @@ module _ {D : Type 0} {disks : Ghosts D} (entry : Volume D disks) (config : conf
     committed-is : Com ≡ with_sector There S.disk S.start staged.sector
     committed-is = subst (λ (b : spans.Span). Com ≡ with_sector There b.disk b.start staged.sector) boot-same (commits.commits.written told)
 
+    seen-com : SeenAsIn View There Com
+    seen-com =
+        subst (SeenAsIn View There) (sym committed-is)
+        (commit_seen_law View There S staged.sector staged-left.sound outside
+        (committing.size-is Is There M View S C Dev surveyed.time (room_zones planned.room) places staged.sector Map room.is))
+
+    tree-com : TreeAs View.layout (parts_of View There) (parts_of View Com)
+    tree-com = sees_tree_law View.layout (parts_of View There) (parts_of View Com) (opened View There staged-left.sound).parts seen-com.sees
+
+    commit-marks : KeepsMarked View.layout (parts_of View There) (parts_of View Com)
+    commit-marks =
+        subst (λ (c : Image). KeepsMarked View.layout (parts_of View There) (parts_of View c)) (sym committed-is)
+        (commit_marked View There S staged.sector staged-left.sound outside)
+
     view-committed : volume_view committed.volume ≡ View
     view-committed =
         let one : volume_view committed.volume ≡ volume_view staged.volume = rw (commits.commits.kept.same_span, commits.commits.kept.same_layout) refl in
@@ -442,8 +537,141 @@ module _ {D : Type 0} {disks : Ghosts D} (entry : Volume D disks) (config : conf
       done : IsTidied View Com Map (now (past_of new))
       done = subst (λ (v : model.Volume). IsTidied v Com Map (now (past_of new))) view-committed ((does Map (λ t. may-committed)).done told-committed)
 
-      installed : IsInstalled Was From own-names Bytes (now (past_of new))
+      abbrev End : Image
+      End = now (past_of new)
+
+      tidied : Tidies committed.volume new Map committed.map.tilde.directory (Ok tt)
+      tidied = does Map (λ t. may-committed)
+
+      tidied-gains : GainsNothing View Com End
+      tidied-gains = subst (λ (v : model.Volume). GainsNothing v Com End) view-committed (tidied.gains told-committed)
+
+      -- ---- what is marked since the entry
+
+      marked-since : KeepsMarkedBut View.layout Inodes Zones (parts_of View Was) (parts_of View End)
+      marked-since =
+          but_join View.layout Inodes Zones (parts_of View Was) (parts_of View Is) (parts_of View End)
+          (but_none View.layout Inodes Zones (parts_of View Was) (parts_of View Is) (begun entry config boot time surveyed is).gains.marked)
+          (but_join View.layout Inodes Zones (parts_of View Is) (parts_of View There) (parts_of View End) staged-marks
+          (but_none View.layout Inodes Zones (parts_of View There) (parts_of View End)
+          (marked_join View.layout (parts_of View There) (parts_of View Com) (parts_of View End) commit-marks tidied-gains.marked)))
+
+      map-leads : reached View.layout (parts_of View End) Map ≡ Some planned.room.map.choice.inode
+      map-leads = done.leads.tree.here ∙ (tree-com.leads (with_tilde Map) ∙ staged-leads)
+
+      -- what was made is the map's and the backup's
+      is-own : (number : ℕ) → Inodes number ≡ true → IsOwnInode View own-names End number
+      is-own number its = ⊎_elim
+          (λ (map : is_inode_of planned.room.map number ≡ true). inl (map-leads ∙ ap Some (sym (eqb-true number planned.room.map.choice.inode map))))
+          (λ (other : backup_inodes planned.room.backup number ≡ true).
+          inr (by planned.room.backup own-names.backup refl staged-backup (keeping.apart entry config boot time surveyed is lies.there own-names own) other))
+          (or_cases (is_inode_of planned.room.map number) (backup_inodes planned.room.backup number) its)
+        where
+          by : (made : Option Chosen) (backup : Option (List (List ℕ))) → own-names.backup ≡ backup → LeadsBackup View There (path_made made backup) made
+              → IfSome backup (λ path. IsNoneOfMap Map path × IsNoneOfMap Map (with_tilde path)) → backup_inodes made number ≡ true
+              → (path : List (List ℕ)) × (own-names.backup ≡ Some path) × (reached View.layout (parts_of View End) path ≡ Some number)
+          by None backup same leads apart other = absurd (cc)
+          by (Some chosen) None same leads apart other = absurd leads
+          by (Some chosen) (Some path) same leads apart other =
+              let at : reached View.layout (parts_of View End) path ≡ reached View.layout (parts_of View There) path =
+              done.leads.tree.others path apart.0.0 apart.0.1 ∙ tree-com.leads path in
+              (path, same, at ∙ (leads ∙ ap Some (sym (eqb-true number chosen.choice.inode other))))
+
+      marks-own : MarksOwn View Was own-names End
+      marks-own = record {
+        marks = λ number is-inode set. ⊎_elim
+            (λ before. inl before)
+            (λ its. inr (is-own number its))
+            (or_cases ((parts_of View Was).has_inode number) (Inodes number) (marked-since.marks number is-inode set));
+        owners = λ number is-inode set other. marked-since.owners number is-inode set (none number other);
+        files = λ number is-inode set other plain. marked-since.files number is-inode set (none number other) plain;
+      }
+        where
+          none : (number : ℕ) → (IsOwnInode View own-names End number → ⊥) → Inodes number ≡ false
+          none number other = false_from_ne_true (Inodes number) (λ its. other (is-own number its))
+
+      -- ---- what was replaced is freed
+
+      abbrev sound-is : Sound View.layout (parts_of View Is)
+      sound-is = (opened View Is (begun entry config boot time surveyed is).sound).parts
+
+      marked-com : KeepsMarkedBut View.layout Inodes Zones (parts_of View Is) (parts_of View Com)
+      marked-com =
+          but_join View.layout Inodes Zones (parts_of View Is) (parts_of View There) (parts_of View Com) staged-marks
+          (but_none View.layout Inodes Zones (parts_of View There) (parts_of View Com) commit-marks)
+
+      view-new : volume_view new ≡ View
+      view-new =
+          let one : volume_view new ≡ volume_view committed.volume = rw (tidied.kept.same_span, tidied.kept.same_layout) refl in
+          one ∙ view-committed
+
+      renames : RenamesFiles View.layout (parts_of View Com) (parts_of View End) committed.map.tilde.directory (reached View.layout (parts_of View Com) Map)
+      renames =
+          subst₂ (λ (v w : model.Volume). RenamesFiles v.layout (parts_of v Com) (parts_of w End) committed.map.tilde.directory (reached v.layout (parts_of v Com) Map)) view-committed view-new
+          (tidied.files told-committed)
+
+      file-com : IfSome (reached View.layout (parts_of View Com) Map) (λ former. is_file ((parts_of View Com).node former) ≡ true)
+      file-com = subst (λ (v : model.Volume). IfSome (reached v.layout (parts_of v Com) Map) (λ former. is_file ((parts_of v Com).node former) ≡ true)) view-committed may-committed.maps.former
+
+      freed-map : (former : ℕ) → reached View.layout (parts_of View Is) Map ≡ Some former → ((parts_of View Is).node former).links ≤ 1
+          → IsFreed View.layout (parts_of View Is) former (parts_of View End)
+      freed-map former at few =
+          let there : reached View.layout (parts_of View There) Map ≡ Some former = staged-map-leads ∙ at in
+          let leads-com : reached View.layout (parts_of View Com) Map ≡ Some former = tree-com.leads Map ∙ there in
+          let F : Option ℕ → Type 0 = λ o. IfSome o (λ number. is_file ((parts_of View Com).node number) ≡ true) in
+          replaced_freed View.layout (parts_of View Is) (parts_of View Com) (parts_of View End) Inodes Zones committed.map.tilde.directory former Map
+          sound-is (opened View Com same-com.sound).parts at leads-com marked-com unmarked
+          (λ pointer zone to.
+          tree-com.keeps.stays former pointer zone
+          (record {
+            named = record { path = Map; leads = there };
+            to = staged-keeps.stays former pointer zone (record { named = record { path = Map; leads = at }; to = to }) (record { path = Map; leads = there });
+          })
+          (record { path = Map; leads = leads-com }))
+          (subst F leads-com file-com) renames few
+
+      frees-map : FreesAt View.layout (parts_of View Is) Map (parts_of View End)
+      frees-map = by (reached View.layout (parts_of View Is) Map) refl
+        where
+          by : (found : Option ℕ) → reached View.layout (parts_of View Is) Map ≡ found
+              → IfSome found (λ former. ((parts_of View Is).node former).links ≤ 1 → IsFreed View.layout (parts_of View Is) former (parts_of View End))
+          by None at = tt
+          by (Some former) at = λ few. freed-map former at few
+
+      -- the backup's is free since it was staged
+      freed-backup : (path : List (List ℕ)) → FreesAt View.layout (parts_of View Is) path (parts_of View There) → FreesAt View.layout (parts_of View Is) path (parts_of View End)
+      freed-backup path frees = by (reached View.layout (parts_of View Is) path) refl frees
+        where
+          still : (former : ℕ) → reached View.layout (parts_of View Is) path ≡ Some former → IsFreed View.layout (parts_of View Is) former (parts_of View There)
+              → IsFreed View.layout (parts_of View Is) former (parts_of View End)
+          still former at freed =
+              freed_still View.layout (λ number. false) (λ zone. false) (parts_of View Is) (parts_of View There) (parts_of View End) former
+              (sound-is.in_range former (record { path = path; leads = at })) refl
+              (λ pointer zone to. (sound-is.zone_range former pointer zone (record { named = record { path = path; leads = at }; to = to }), refl))
+              freed
+              (but_none View.layout (λ number. false) (λ zone. false) (parts_of View There) (parts_of View End)
+              (marked_join View.layout (parts_of View There) (parts_of View Com) (parts_of View End) commit-marks tidied-gains.marked))
+
+          by : (found : Option ℕ) → reached View.layout (parts_of View Is) path ≡ found
+              → IfSome found (λ former. ((parts_of View Is).node former).links ≤ 1 → IsFreed View.layout (parts_of View Is) former (parts_of View There))
+              → IfSome found (λ former. ((parts_of View Is).node former).links ≤ 1 → IsFreed View.layout (parts_of View Is) former (parts_of View End))
+          by None at frees = tt
+          by (Some former) at frees = λ few. still former at (frees few)
+
+      frees-backup : Forced ≡ true → IfSome own-names.backup (λ path. FreesAt View.layout (parts_of View Is) path (parts_of View End))
+      frees-backup on =
+          by planned.room.backup own-names.backup (subst (λ (f : Bool). MayBeMade f own-names.backup planned.room.backup) on made-now) staged-frees
+        where
+          by : (made : Option Chosen) (backup : Option (List (List ℕ))) → MayBeMade true backup made → FreesBackup View Is (path_made made backup) There
+              → IfSome backup (λ path. FreesAt View.layout (parts_of View Is) path (parts_of View End))
+          by made None may frees = tt
+          by None (Some path) may frees = absurd may
+          by (Some chosen) (Some path) may frees = freed-backup path frees
+
+      installed : IsInstalled Was Is From own-names Bytes (now (past_of new))
       installed = record {
+        marks = marks-own;
+        frees = record { map = frees-map; backup = frees-backup };
         map = done.has Map ∙ (finished-map Map None (names_in View Com) differs tt ∙ (com-has (with_tilde Map) ∙ room-map Forced Made Present Map Bytes (names_in View Is)));
         tilde = done.has (with_tilde Map) ∙ settled-tilde true Map None (names_in View Com);
         copy = by Stale refl;
@@ -474,5 +702,5 @@ committed_backup_law disks entry new config boot time surveyed planned staged co
 
 pub installed_law : {D : Type 0} (disks : Ghosts D) → InstalledLaw disks
 installed_law disks entry new config boot time surveyed planned staged committed names is has lies own did commits tidies quiet c left =
-    subst (IsInstalled (now (past_of entry)) (begun_from entry surveyed) names (map_of entry planned)) (sym (quiet c left))
+    subst (IsInstalled (now (past_of entry)) (now (past_of surveyed.volume)) (begun_from entry surveyed) names (map_of entry planned)) (sym (quiet c left))
     (installed entry config boot time surveyed planned staged is has lies did names own committed commits new tidies)

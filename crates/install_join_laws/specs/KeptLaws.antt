@@ -126,7 +126,7 @@ CommittedBackupLaw {D} disks =
     → LeavesOnly (past_of committed.volume) (past_of new) (HasBackup (now (past_of entry)) (begun_from entry surveyed) names)
 
 -- in each image that a stop leaves once it is done, the new map is there, whole, and so is the backup, and nothing is at their names
--- with `~`
+-- with `~`; beside the two no inode is marked that wasn't, or changed, and what they replaced is freed
 abbrev pub InstalledLaw : {D : Type 0} → Ghosts D → Type 0
 InstalledLaw {D} disks =
     (entry new : Volume D disks) (config : Config) (boot : Span) (time : ℕ) (surveyed : Surveyed D disks) (planned : Planned D disks)
@@ -134,4 +134,4 @@ InstalledLaw {D} disks =
     → IsBegunWith entry config boot time surveyed → HasPlanned surveyed planned → LiesOnDisks entry surveyed
     → AreNamesOf entry surveyed names → HasStaged planned staged → IsCommitted staged committed → TidiesFrom committed new (Ok tt)
     → IsQuiet (past_of new) → (c : Image) → MayLeave (past_of new) c
-    → IsInstalled (now (past_of entry)) (begun_from entry surveyed) names (map_of entry planned) c
+    → IsInstalled (now (past_of entry)) (now (past_of surveyed.volume)) (begun_from entry surveyed) names (map_of entry planned) c

@@ -19,6 +19,7 @@ use Rattle.lilo_model.specs.Settled.{is_foreign, own_names}
 use Rattle.map_plan.specs.Skipped as skips
 use Rattle.install_apart.specs.Apart.{device_checks}
 use Rattle.install_laws.specs.InstallVerdict.{Answer, Begun, InstallRefusal, NotSound, NotApart, BadName, NoLink, NoPlan, NoRoom, install_room, is_clear, may_settle}
+use Rattle.install_order.specs.Begins.{IsBegun}
 use Rattle.install_order.specs.Checks.{IsExamined, begin_checks}
 use Rattle.install_order.specs.Faults.{Refuses}
 use Rattle.install_order.specs.Plans.{map_checks, plan_checks, wish_of}
@@ -26,7 +27,7 @@ use Rattle.install_order.specs.declared.examination.Examined.{Examined}
 use Rattle.install_order.specs.declared.fault.InstallFault.{InstallFault}
 use Rattle.install_room.specs.Room.{room_for}
 use Rattle.install_run.proofs.PreviewLemmas.{first_refuses, later_refuses, same_skipped, same_clear}
-use Rattle.install_run.specs.Answers.{settled_answer, settled_report}
+use Rattle.install_run.specs.Answers.{IsSettledFrom, settled_answer, settled_report}
 
 -- where a chain of checks passes, its first ones don't refuse
 first_pass : {R : Type 0} (met : Result (List Met) R) (apart : Result (Unit {0}) R) (names : Result model.OwnNames R) (may : model.OwnNames → Result (Unit {0}) R)
@@ -91,6 +92,18 @@ module _ (image : Image) (machine : Machine) (settled : Image) (begun : Begun) (
       (with_fault BadName (own_names (names_in begun.volume image) begun.config begun.boot (is_foreign (image begun.span.disk begun.span.start))))
       (λ names. require (may_settle image machine begun.volume (visits begun.volume.layout (parts_of begun.volume image)) begun.span names.map) NoLink) Rest answer
       (sym all-is ∙ is)
+
+  -- so names were settled
+  pub passes_settled : (answer : Answer) → settled_answer image machine settled begun time ≡ Ok answer → IsSettledFrom image machine begun settled
+      → (found : Examined) × IsBegun image machine begun found settled
+  passes_settled answer is from = by (begin_checks image machine begun.volume begun.config begun.boot begun.span) refl
+    where
+      by : (checks : Result model.OwnNames InstallRefusal) → begin_checks image machine begun.volume begun.config begun.boot begun.span ≡ checks
+          → (found : Examined) × IsBegun image machine begun found settled
+      by (Ok names) passes = from names passes
+      by (Err refusal) refuses =
+          let refused : IsErr (begin_checks image machine begun.volume begun.config begun.boot begun.span) = rw refuses refl in
+          absurd (passes_begun answer is refused)
 
   -- what refuses to begin refuses it
   pub begin_refused : (fault : InstallFault) → Refuses fault (begin_checks image machine begun.volume begun.config begun.boot begun.span)

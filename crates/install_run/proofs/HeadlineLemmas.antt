@@ -1,31 +1,22 @@
 -- The headline is what an installation leaves, but for what boots alone.
-use Rattle.std.proofs.Common.{◌≡◌, ◌⊎◌, ℕ, Option, Result, Ok, Err, IsErr, inl, inr, refl}
+use Rattle.std.proofs.Common.{◌≡◌, ◌⊎◌, ℕ, Option, inl, inr}
 use Rattle.disk_trait.specs.Past.{Past}
 use Rattle.disk_trait.specs.Moments.{now, LeavesOnly}
 use Rattle.lilo_model.specs.Clear.{Clear}
 use Rattle.lilo_model.specs.Disks.{Image, Machine}
-use Rattle.lilo_model.specs.Settled as model
-use Rattle.install_laws.specs.InstallVerdict.{Begun, InstallRefusal}
-use Rattle.install_order.specs.Checks.{begin_checks}
+use Rattle.install_laws.specs.InstallVerdict.{Begun}
 use Rattle.install_run.specs.Answers.{IsSettledFrom}
 use Rattle.install_run.specs.Headline.{BootsAsOneOf, HeadlineBy, IsSettledImage}
 use Rattle.install_run.specs.Installs.{Leaves, Passes}
 use Rattle.install_run.specs.Keeps.{IsDone}
-use Rattle.install_run.proofs.AnswerLemmas.{passes_begun}
+use Rattle.install_run.proofs.AnswerLemmas.{passes_settled}
 
 -- what passes all checks is settled as the model says
 settled_image : (image : Image) (machine : Machine) (begun : Begun) (settled : Image) (time : ℕ) → IsSettledFrom image machine begun settled
     → Passes image machine settled begun time → IsSettledImage image machine begun settled
 settled_image image machine begun settled time from (answer, passes) =
-    by (begin_checks image machine begun.volume begun.config begun.boot begun.span) refl
-  where
-    by : (checks : Result model.OwnNames InstallRefusal) → begin_checks image machine begun.volume begun.config begun.boot begun.span ≡ checks
-        → IsSettledImage image machine begun settled
-    by (Ok names) is =
-        let began = (from names is).1 in record { own = began.names; are = began.are; names = began.settled; outside = began.outside }
-    by (Err refusal) is =
-        let refused : IsErr (begin_checks image machine begun.volume begun.config begun.boot begun.span) = rw is refl in
-        absurd (passes_begun image machine settled begun time answer passes refused)
+    let began = (passes_settled image machine settled begun time answer passes from).1 in
+    record { own = began.names; are = began.are; names = began.settled; outside = began.outside }
 
 pub headline_by : (machine : Machine) (begun : Begun) (settled : Image) (time : ℕ) (entry ended : Option Past) (status : ℕ)
     → Leaves machine begun settled time entry ended status → HeadlineBy machine begun entry ended status

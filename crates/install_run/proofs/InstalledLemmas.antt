@@ -1,5 +1,5 @@
 -- What an installation answers and leaves, from how far it came.
-use Rattle.std.proofs.Common.{◌≡◌, ◌⊎◌, ◌++◌, ◌∙◌, ℕ, ◌==◌, List, [], ◌∷◌, Bool, true, not, Option, Some, None, Result, Ok, Err, codes, refl, sym, ap, subst, inl, inr, arith, append-nil}
+use Rattle.std.proofs.Common.{◌≡◌, ◌⊎◌, ◌++◌, ◌∙◌, ℕ, ◌==◌, List, [], ◌∷◌, Bool, true, not, Option, Some, None, Result, Ok, Err, codes, refl, sym, ap, subst, subst₂, inl, inr, arith, append-nil}
 use Rattle.std.proofs.lemmas.Bool.{false≢true}
 use Rattle.std.specs.Prelude.{◌≢◌, IfSome, IsErr, IsTrue, is_some}
 use Rattle.std.specs.List.{concat, list_any}
@@ -59,6 +59,7 @@ use Rattle.install_order.specs.declared.planned.Planned.{Planned}
 use Rattle.install_order.specs.declared.staged.Staged.{Staged}
 use Rattle.install_order.specs.declared.surveyed.Surveyed.{Surveyed}
 use Rattle.install_settle.specs.Tidies.{Tidies}
+use Rattle.install_stage_laws.specs.BeginLaws.{GainsNothing}
 use Rattle.minix_choice.specs.declared.write_fault.WriteFault.{WriteFault}
 use Rattle.install_begin.specs.Begin as begins
 use Rattle.install_run.specs.Previews.{AnswersVerdict, answer_to, zone_verdict}
@@ -83,8 +84,8 @@ use Rattle.map_sectors.specs.Map.{plan_view}
 use Rattle.install_run.specs.Keeps.{HasInstalled, IsBefore, IsDone, KeepsMost, KeepsOldMap, KeepsWith, WritesInside, WritesNoApart, new_map}
 use Rattle.install_run.specs.Installs.{HoldsSettled, IsInstalled, Installs, StaysUnstaged, InstallsBegun, LaysAsPlanned, Leaves, NoVolume, Passes, VolumeLost, meant_by}
 use Rattle.install_run.specs.Staged.{EndsCommitted, EndsInCommit, IsFlushed, IsStaged, IsUnflushed, SparesClear}
-use Rattle.install_run.proofs.AnswerLemmas.{passes_begun}
-use Rattle.install_run.specs.Steps.{Finishes, FinishedEarly, FinishedWhole, HaltedCommit, HaltedStaging, HaltedTidying, IsHalted, IsPrepared, IsReadyToStage, StaysBegun}
+use Rattle.install_run.proofs.AnswerLemmas.{passes_begun, passes_settled}
+use Rattle.install_run.specs.Steps.{Finishes, FinishedEarly, FinishedWhole, GainsUnlessLost, HaltedCommit, HaltedStaging, HaltedTidying, IsHalted, IsPrepared, IsReadyToStage, StaysBegun}
 use Rattle.install_run.proofs.CarriedLemmas.{tidies_some}
 use Rattle.install_run.proofs.OutsideLemmas.{apart_join, finished_inside, was_apart}
 use Rattle.install_run.proofs.SpareLemmas.{spares_since}
@@ -151,10 +152,10 @@ pub refused_leaves : (machine : Machine) (begun : Begun) (settled : Image) (time
     → KeepsMost machine begun names entry ended ⊎ KeepsWith machine begun names (new_map machine begun settled time places) entry ended)
     → ((names : settles.OwnNames) → AreOwn (now entry) begun names → status ≢ 8 → KeepsMost machine begun names entry ended)
     → SparesClear machine begun entry ended → ((names : settles.OwnNames) → AreOwn (now entry) begun names → KeepsOldMap machine begun names entry ended)
-    → (status ≢ 8 → HoldsSettled settled ended)
+    → (status ≢ 8 → HoldsSettled settled ended) → (status ≢ 8 → GainsNothing begun.volume (now entry) settled)
     → StaysUnstaged machine begun entry ended ⊎ (IsSettledFrom (now entry) machine begun settled × Passes (now entry) machine settled begun time)
     → Leaves machine begun settled time entry ended status
-refused_leaves machine begun settled time places entry ended status early stays keeps unstaged spares map holds stages = record {
+refused_leaves machine begun settled time places entry ended status early stays keeps unstaged spares map holds gains stages = record {
   keeps = λ names own. record {
     places = places;
     before = λ is. keeps names own;
@@ -166,6 +167,7 @@ refused_leaves machine begun settled time places entry ended status early stays 
   };
   settles = λ at. absurd (none at);
   passes = λ at. absurd (none at);
+  gains = gains;
   before = λ is. stays;
   at_commit = λ nine. absurd (early.not_committing nine);
   done = λ done. absurd (early.not_done done);
@@ -448,13 +450,16 @@ module _ {D : Type 0} {disks : Ghosts D} (entry : Volume D disks) (config : conf
             (committed_lays_law disks entry new config boot time S planned staged committed names result is prepared.has lies own stages commits tidies) c left)
 
       has-installed : (new : Volume D disks) (committed : Committed D disks) → IsCommitted staged committed → TidiesFrom committed new (Ok tt) → IsQuiet (past_of new)
-          → (names : settles.OwnNames) → AreOwn (now (past_of entry)) From names → HasInstalled From names Map (past_of entry) (past_of new)
+          → (names : settles.OwnNames) → AreOwn (now (past_of entry)) From names → HasInstalled From Settled-image names Map (past_of entry) (past_of new)
       has-installed new committed commits tidies still names own =
-          subst (λ (bytes : List ℕ). HasInstalled From names bytes (past_of entry) (past_of new)) map-is
+          subst₂ (λ (settled : Image) (bytes : List ℕ). HasInstalled From settled names bytes (past_of entry) (past_of new)) (sym same-settled) map-is
           (installed_law disks entry new config boot time S planned staged committed names is prepared.has lies own stages commits tidies still)
 
     module _ (tie : IsSettledFrom (now (past_of entry)) (machine_on entry) From Settled-image)
         (passed : Passes (now (past_of entry)) (machine_on entry) Settled-image From time) where
+      settled-gains : GainsNothing From.volume (now (past_of entry)) Settled-image
+      settled-gains = (passes_settled (now (past_of entry)) (machine_on entry) Settled-image From time passed.0 passed.1 tie).1.gains
+
       halted-leaves : (status : ℕ) (halt : Halt D disks) → IsHalted planned halt → status ≡ fault_status halt.fault halt.phase → halt.fault ≡ faults.Device
           → Leaves (machine_on entry) From Settled-image time (past_of entry) (past_of halt.volume) status
       halted-leaves status halt (HaltedStaging phase halts) status-is lost =
@@ -463,7 +468,7 @@ module _ {D : Type 0} {disks : Ghosts D} (entry : Volume D disks) (config : conf
           (subst IsBefore (sym eight) (before_by 8 refl))
           (staging_stops_law disks entry config boot time S planned halt is prepared.has there halts)
           (λ names own. inr (kept-by names (past_of halt.volume) (staging_keeps_law disks entry config boot time S planned halt names is prepared.has there own halts)))
-          (λ names own other. absurd (other eight)) (halted-spares halt halts) (λ names own. halted-map halt halts names own) (λ other. absurd (other eight)) (inr (tie, passed))
+          (λ names own other. absurd (other eight)) (halted-spares halt halts) (λ names own. halted-map halt halts names own) (λ other. absurd (other eight)) (λ other. settled-gains) (inr (tie, passed))
       halted-leaves status halt (HaltedCommit phase staged stages halts) status-is lost =
           let nine : status ≡ 9 = status-is ∙ (ap (λ fault. fault_status fault halt.phase) lost ∙ ap device_status phase) in
           record {
@@ -478,6 +483,7 @@ module _ {D : Type 0} {disks : Ghosts D} (entry : Volume D disks) (config : conf
             };
             settles = λ at. tie;
             passes = λ at. passed;
+            gains = λ other. settled-gains;
             before = λ early. absurd (early.not_committing nine);
             at_commit = λ at. committing staged stages halt halts;
             done = λ done. absurd (none nine done);
@@ -507,6 +513,7 @@ module _ {D : Type 0} {disks : Ghosts D} (entry : Volume D disks) (config : conf
             };
             settles = λ at. tie;
             passes = λ at. passed;
+            gains = λ other. settled-gains;
             before = λ early. absurd (early.not_done (inr ten));
             at_commit = λ nine. absurd (omega (arith, ten, nine));
             done = λ done. installing staged stages halt.volume committed (Err halts.fault) commits (tidies_some committed may halt.volume (Err halts.fault) halts.tidies);
@@ -535,6 +542,7 @@ module _ {D : Type 0} {disks : Ghosts D} (entry : Volume D disks) (config : conf
             };
             settles = λ at. tie;
             passes = λ at. passed;
+            gains = λ other. settled-gains;
             before = λ early. absurd (early.not_done (inl zero));
             at_commit = λ nine. absurd (omega (arith, zero, nine));
             done = λ done. installing carried.staged carried.stages tidied.volume carried.committed (Ok tt) carried.commits
@@ -632,8 +640,9 @@ module _ {D : Type 0} {disks : Ghosts D} (entry : Volume D disks) (config : conf
       → IfSome config.boot (λ device. OnDisks disks entry.disks.now (λ image machine. StaysRefused image machine (begun_of entry config device boot) (past_of entry) (past_of halt.volume)))
       → WroteNothing (past_of halt.volume) → IfSome config.boot (λ device. StaysBegun entry (begun_of entry config device boot) halt.volume)
       → (IsQuiet (past_of entry) → halt.fault ≢ faults.Device → IsQuiet (past_of halt.volume))
+      → GainsUnlessLost entry halt
       → status ≡ fault_status halt.fault Before → Shows old (codes "lilo: " ++ fault_text halt.fault Before) new → IfSome config.boot Whole
-  refused_installs halt end cause gives unbegun unsettled stays still status-is shown =
+  refused_installs halt end cause gives unbegun unsettled stays still gains status-is shown =
       let same : disks.past ended ≡ past_of halt.volume = ap disks.past end in
       let some = some_is config.boot named in
       let device = some.0 in
@@ -641,6 +650,7 @@ module _ {D : Type 0} {disks : Ghosts D} (entry : Volume D disks) (config : conf
       let machine = machine_of disks entry.disks.now in
       let early = refusal_before halt.fault status status-is in
       let left = of_some config.boot device (λ d. StaysBegun entry (begun_of entry config d boot) halt.volume) some.1 stays in
+      let unlost : status ≢ 8 → halt.fault ≢ faults.Device = λ other lost. other (status-is ∙ ap (λ fault. fault_status fault Before) lost) in
       for_device config.boot device Whole some.1
       (told_from (past_of entry) (λ image. Installs image machine begun time (past_of entry) (disks.past ended) status old new)
       (λ told.
@@ -668,7 +678,7 @@ module _ {D : Type 0} {disks : Ghosts D} (entry : Volume D disks) (config : conf
             (refused_leaves machine begun (now (past_of halt.volume)) time [] (past_of entry) (past_of halt.volume) status early
             (left.boots quiet there) (λ names own. inl (left.keeps quiet there names own)) (λ names own other. left.keeps quiet there names own) (left.spares quiet there)
             (λ names own. leaves_weaker (past_of entry) (past_of halt.volume) _ _ (left.keeps quiet there names own) (λ c kept. kept.own names.map))
-            (λ other. record { now_is = refl; quiet = still quiet (λ lost. other (status-is ∙ ap (λ fault. fault_status fault Before) lost)) }) (inl (left.keeps quiet there)));
+            (λ other. record { now_is = refl; quiet = still quiet (unlost other) }) (λ other. gains told (unlost other)) (inl (left.keeps quiet there)));
       }))
 
 -- ---- where no volume lies

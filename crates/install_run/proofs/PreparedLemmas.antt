@@ -26,6 +26,7 @@ use Rattle.minix_zones.specs.declared.volume.Volume.{Volume}
 use Rattle.minix_zones.proofs.SameLemmas.{same_view}
 use Rattle.minix_zones.proofs.WriteLemmas.{goes_on_unchanged, keeps_join, keeps_same}
 use Rattle.sector_address.specs.Machine.{machine_of, OnDisks}
+use Rattle.install_stage_laws.specs.BeginLaws.{GainsNothing}
 use Rattle.install_stage_laws.proofs.Apart.{apart_boot_law}
 use Rattle.install_laws.specs.InstallVerdict.{Begun}
 use Rattle.install_laws.specs.Stopped.{StaysAsBefore}
@@ -159,6 +160,11 @@ module _ {D : Type 0} {disks : Ghosts D} (entry : Volume D disks) (config : conf
 
     pub tie : IsSettledFrom Was M Beg Is
     tie names passes = (s.found, at (λ device. Settled entry (begun_of entry config device boot) s) begins.settled told)
+
+    pub settled_gains : (ended : Volume D disks) → SameVolume s.volume ended → GainsNothing (volume_view entry) Was (now (past_of ended))
+    settled_gains ended same =
+        subst (λ (p : Option Past). GainsNothing (volume_view entry) Was (now p)) (sym same.same_disks.same_past)
+        (at (λ device. Settled entry (begun_of entry config device boot) s) begins.settled told).gains
 
     pub told_after : IsTold (past_of s.volume)
     told_after = begun_leaves.goes_on.told told

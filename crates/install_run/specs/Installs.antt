@@ -18,6 +18,7 @@ use Rattle.install_laws.specs.Headline.{Means}
 use Rattle.install_laws.specs.InstallVerdict.{Answer, Begun}
 use Rattle.install_laws.specs.Stopped.{BootsAsEither, StaysAsBefore}
 use Rattle.install_order.specs.Begins.{AreOwn, HasNothingLeft, LiesThere}
+use Rattle.install_stage_laws.specs.BeginLaws.{GainsNothing}
 pub use Rattle.install_order.specs.Checks.{StaysRefused}
 use Rattle.install_run.specs.Previews.{AnswersVerdict}
 use Rattle.install_run.specs.Answers.{AnswersInstall, IsSettledFrom, lost_line, settled_answer}
@@ -55,13 +56,15 @@ pub record HoldsSettled (settled : Image) (ended : Option Past) : Type 0 where
 -- What a stop leaves, by the status, with the place of the new map's default line: of a refusal, or of a disk that failed before the
 -- commit, what boots as before; of one that failed in it, the same of the two; and of what is done, the headline, and a map that lies as
 -- planned. What it keeps of names. Files are staged, and a commit begins, only where all checks passed; after a refusal that no failed disk
--- caused the disks hold what settling left; and once all is done, all is durable.
+-- caused the disks hold what settling left; and once all is done, all is durable. Settling sets no bitmap bit, and changes no inode whose bit
+-- it leaves set but for its links.
 pub record Leaves (machine : Machine) (begun : Begun) (settled : Image) (time : ℕ) (entry ended : Option Past) (status : ℕ) : Type 0 where
   pub keeps : (names : settles.OwnNames) → AreOwn (now entry) begun names → KeepsNames machine begun settled time names entry ended status
   pub lays : IsDone status → (names : settles.OwnNames) → AreOwn (now entry) begun names → (c : Image) → MayLeave ended c
       → LaysAsPlanned machine begun settled time names entry c
   pub settles : (status ≡ 9) ⊎ IsDone status → IsSettledFrom (now entry) machine begun settled
   pub passes : (status ≡ 9) ⊎ IsDone status → Passes (now entry) machine settled begun time
+  pub gains : status ≢ 8 → GainsNothing begun.volume (now entry) settled
   pub before : IsBefore status → StaysAsBefore machine begun.volume begun.span entry ended
   pub at_commit : status ≡ 9
       → (place : DiskSector) × BootsAsEither machine begun.volume begun.span place (meant_by machine begun settled) entry ended

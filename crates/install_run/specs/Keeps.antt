@@ -71,9 +71,10 @@ KeepsWith machine begun names map entry ended = LeavesOnly entry ended (Keeps (n
 abbrev pub KeepsOldMap : Machine → Begun → model.OwnNames → Option Past → Option Past → Type 0
 KeepsOldMap machine begun names entry ended = LeavesOnly entry ended (HasOldMap (now entry) machine begun names)
 
--- the new map is there alone, with these bytes, and the backup, in each image that a stop leaves at the end
-abbrev pub HasInstalled : Begun → model.OwnNames → List ℕ → Option Past → Option Past → Type 0
-HasInstalled begun names map entry ended = (c : Image) → MayLeave ended c → IsInstalled (now entry) begun names map c
+-- the new map is there alone, with these bytes, and the backup, in each image that a stop leaves at the end; beside these no inode is
+-- marked that wasn't, or changed, and what they replaced is freed
+abbrev pub HasInstalled : Begun → Image → model.OwnNames → List ℕ → Option Past → Option Past → Type 0
+HasInstalled begun settled names map entry ended = (c : Image) → MayLeave ended c → IsInstalled (now entry) settled begun names map c
 
 -- the bytes of the new map, whole: the sectors of what is planned on the settled image, where they lie at these places
 abbrev pub new_map : Machine → Begun → Image → ℕ → List DiskSector → List ℕ
@@ -90,4 +91,4 @@ pub record KeepsNames
   pub map : IsBefore status ⊎ (status ≡ 9) → KeepsOldMap machine begun names entry ended
   pub later : (status ≡ 9) ⊎ IsDone status → KeepsWith machine begun names (new_map machine begun settled time places) entry ended
   pub backup : IsDone status → (c : Image) → MayLeave ended c → HasBackup (now entry) begun names c
-  pub installed : status ≡ 0 → HasInstalled begun names (new_map machine begun settled time places) entry ended
+  pub installed : status ≡ 0 → HasInstalled begun settled names (new_map machine begun settled time places) entry ended

@@ -1,5 +1,5 @@
 -- What the steps of an installation ensured together (by install_order's and install_join_laws' definitions).
-use Rattle.std.specs.Prelude.{◌≡◌, ◌++◌, ℕ, true, [], codes, Result, Ok, Err}
+use Rattle.std.specs.Prelude.{◌≡◌, ◌≢◌, ◌++◌, ℕ, true, [], codes, Result, Ok, Err}
 use Rattle.disk_trait.specs.declared.disks.Disks.{Ghosts}
 use Rattle.disk_trait.specs.declared.disks.Phase.TheVariants.{Before, Commit, After}
 use Rattle.disk_trait.specs.declared.disks.Span.{Span}
@@ -10,6 +10,7 @@ use Rattle.minix_zones.specs.declared.volume.Volume.{Volume}
 use Rattle.lilo_model.specs.Settled as settles
 use Rattle.stream_trait.specs.Shows.{SinkState, Shows}
 use Rattle.install_run.specs.Texts.{fault_status, fault_text}
+use Rattle.install_stage_laws.specs.BeginLaws.{GainsNothing}
 use Rattle.install_laws.specs.InstallVerdict.{Begun}
 use Rattle.install_laws.specs.Stopped.{StaysAsBefore}
 use Rattle.install_laws.specs.Writes.{IsApartSector}
@@ -54,6 +55,11 @@ pub record StaysBegun {D : Type 0} {disks : Ghosts D} (entry : Volume D disks) (
   pub keeps : IsQuiet (past_of entry) → LiesThere (now (past_of entry)) (machine_on entry) begun → (names : settles.OwnNames)
       → AreOwn (now (past_of entry)) begun names → KeepsMost (machine_on entry) begun names (past_of entry) (past_of ended)
   pub outside : IsTold (past_of entry) → WritesNoApart begun.volume (past_of entry) (past_of ended)
+
+-- where no disk failed, settling has gained nothing by its end
+abbrev pub GainsUnlessLost : {D : Type 0} {disks : Ghosts D} → Volume D disks → Halt D disks → Type 0
+GainsUnlessLost entry halt =
+    IsTold (past_of entry) → halt.fault ≢ Device → GainsNothing (volume_view entry) (now (past_of entry)) (now (past_of halt.volume))
 
 -- ---- carrying it out
 

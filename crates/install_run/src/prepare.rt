@@ -13,7 +13,7 @@ ghost use Rattle.install_order.specs.Faults.{HasInstallCause};
 ghost use Rattle.install_order.specs.View.{begun_of};
 ghost use Rattle.install_run.specs.Previews.{volume_left};
 ghost use Rattle.install_run.specs.Answers.{GivesInstall};
-ghost use Rattle.install_run.specs.Steps.{IsPrepared, IsReadyToStage, StaysBegun};
+ghost use Rattle.install_run.specs.Steps.{GainsUnlessLost, IsPrepared, IsReadyToStage, StaysBegun};
 
 use disk_trait::{Disks, Phase, Span};
 use install_order::{Halt, InstallFault, Planned, Surveyed};
@@ -49,6 +49,7 @@ pub(crate) fn prepare<'d, D: Disks>(
         (volume_left result)) }
     ensures quiet { IsQuiet (past_of volume.entry) → IfErr result (λ halt. halt.fault ≢ InstallFault.Device
         → IsQuiet (past_of halt.volume)) }
+    ensures gains { IfErr result (GainsUnlessLost volume.entry) }
     ensures cause { IfErr result (λ halt. HasInstallCause (faults_of volume.entry) (faults_of halt.volume) halt.fault) }
     ensures phase { IfErr result (λ halt. halt.phase ≡ Phase.Before) }
     ensures goes_on { GoesOn D.Disks volume.entry.disks.now (volume_left result).disks.now }

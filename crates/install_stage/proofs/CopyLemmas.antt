@@ -1,5 +1,6 @@
 -- The file of a backup is made: what a stop leaves, what is written, and what is left free.
-use Rattle.std.proofs.Common.{◌≡◌, ◌⊎◌, ℕ, Bool, false, List, ◌∷◌, length, None, Some, Result, Ok, Err, OnOk, ◌∙◌, ap, subst, inl, inr}
+use Rattle.std.proofs.Common.{◌≡◌, ◌≤◌, ◌⊎◌, ℕ, Bool, false, List, ◌∷◌, length, Option, None, Some, Result, Ok, Err, OnOk, sym, ◌∙◌, ap, subst, inl, inr}
+use Rattle.std.specs.Prelude.{IfSome}
 use Rattle.disk_trait.specs.declared.disks.Disks.{Ghosts}
 use Rattle.disk_trait.specs.Moments.{IsTold, now, IsQuiet, LeavesOnly}
 use Rattle.disk_trait.proofs.MomentLemmas.{leaves_weaker, told_or_not}
@@ -21,7 +22,8 @@ use Rattle.minix_zones.specs.declared.volume.Volume.{Volume}
 use Rattle.install_stage_laws.proofs.Spared.{leaves_both}
 use Rattle.install_laws.specs.InstallVerdict.{file_mode}
 use Rattle.install_laws.specs.Writes.{IsWritable, WritesOnly}
-use Rattle.install_stage.specs.Within.{is_chosen, IsFreeFile, WritesWithin, WritesJoin}
+use Rattle.install_stage.specs.Within.{is_chosen, is_inode_of, IsFreeFile, WritesWithin, WritesJoin}
+use Rattle.install_stage_laws.specs.Marked.{IsFreed, KeepsMarkedBut}
 use Rattle.install_stage.proofs.After.{writes_join}
 use Rattle.install_stage.proofs.Kept.{apart_law}
 use Rattle.install_stage.proofs.Within.{zones_data, writes_within}
@@ -32,7 +34,8 @@ use Rattle.install_settle.proofs.RenameLemmas.{leaves-untold}
 use Rattle.install_stage_laws.proofs.Sectors.{keeps_rest_law}
 use Rattle.install_stage.specs.Halves.{backup_blocks}
 use Rattle.install_stage.specs.BackupStaged.{made_at, with_backup, KeepsApart, IsStaging}
-use Rattle.install_stage.specs.BackupStages.{MayStageFile, LeavesRoom, StagesFile}
+use Rattle.install_stage.specs.BackupStages.{MayStageFile, LeavesRoom, MarksFile, StagesFile}
+use Rattle.install_stage.proofs.Marked.{made_marks}
 use Rattle.install_stage.proofs.FileLemmas.{no-directory, file-is}
 use Rattle.install_stage.proofs.BackupImageLemmas.{making-staging, made-names}
 
@@ -87,6 +90,11 @@ module _ {D : Type 0} {disks : Ghosts D} (start mid : Volume D disks) (chosen : 
     pub was-made : Creates start mid (path_above At) chosen Given (Ok tt) → WasMade start mid chosen
     was-made creates = record { outer = path_above At; given = Given; told = told; might = make.name; creates = creates }
 
+    -- what is marked once it is made
+    pub marked : Creates start mid (path_above At) chosen Given (Ok tt)
+        → KeepsMarkedBut View.layout (is_inode_of chosen) (is_chosen chosen) (parts_of View Was) (parts_of View (now (past_of mid)))
+    marked creates = made_marks View.layout (parts_of View Was) (parts_of View (now (past_of mid))) chosen (creates.marks told) (creates.nodes told) make.name.is
+
     module _ (result : Result (Unit {0}) WriteFault) (creates : Creates start mid (path_above At) chosen Given result) where
       pub wrote : WritesWithin start mid chosen
       wrote = writes_within start mid chosen free-file (record { told = told; outer = path_above At; given = Given; result = result; creates = creates })
@@ -125,9 +133,9 @@ module _ {D : Type 0} {disks : Ghosts D} (start mid : Volume D disks) (chosen : 
 
     -- what is staged of it
     pub stages-by : (IsTold (past_of start) → OnOk result (HasNames View (now (past_of mid)) (with_backup forced path present (names_in View Was))))
-        → (IsTold (past_of start) → OnOk result (WritesJoin start mid chosen)) → (IsTold (past_of start) → OnOk result (LeavesRoom start mid path chosen))
-        → StagesFile start mid path forced present chosen result
-    stages-by done joins room = record {
+        → (IsTold (past_of start) → OnOk result (WritesJoin start mid chosen)) → (IsTold (past_of start) → OnOk result (MarksFile View path chosen Was (now (past_of mid))))
+        → (IsTold (past_of start) → OnOk result (LeavesRoom start mid path chosen)) → StagesFile start mid path forced present chosen result
+    stages-by done joins marks room = record {
       any_moment = making-any;
       left = λ told. left-told told result creates;
       done = done;
@@ -135,6 +143,7 @@ module _ {D : Type 0} {disks : Ghosts D} (start mid : Volume D disks) (chosen : 
       only = making-only;
       apart = λ told. (wrote told result creates).apart;
       joins = joins;
+      marks = marks;
       room = room;
       device = creates.device;
       goes_on = creates.leads.goes_on;
@@ -143,7 +152,7 @@ module _ {D : Type 0} {disks : Ghosts D} (start mid : Volume D disks) (chosen : 
 
   -- it was refused
   pub stages-halted : (fault : WriteFault) → CreatesOn start mid chosen Given (Err fault) → StagesFile start mid path forced present chosen (Err fault)
-  stages-halted fault makes = stages-by (Err fault) (creates-at (Err fault) makes) (λ told. tt) (λ told. tt) (λ told. tt)
+  stages-halted fault makes = stages-by (Err fault) (creates-at (Err fault) makes) (λ told. tt) (λ told. tt) (λ told. tt) (λ told. tt)
 
 -- ---- where it has its own name at once
 
@@ -161,6 +170,15 @@ module _ {D : Type 0} {disks : Ghosts D} (start new : Volume D disks) (chosen : 
       (λ told. made-names (volume_view start) (now (past_of start)) false path present (sound-was start new chosen false path present is quiet may told) (absent-was start new chosen false path present is quiet may told)
       (now (past_of new)) (Some chosen.choice.inode) ((leads-at start new chosen false path present is quiet may told (Ok tt) creates).done told))
       (λ told. writes_join start new chosen (free-file start new chosen false path present is quiet may told) (was told))
+      (λ told. record {
+        leads = ((leads-at start new chosen false path present is quiet may told (Ok tt) creates).done told).tree.here;
+        only = marked start new chosen false path present is quiet may told creates;
+        frees =
+            let V = volume_view start in
+            let old = parts_of V (now (past_of start)) in
+            subst (λ (o : Option ℕ). IfSome o (λ former. (old.node former).links ≤ 1 → IsFreed V.layout old former (parts_of V (now (past_of new)))))
+            (sym (absent-was start new chosen false path present is quiet may told)) tt;
+      })
       (λ told other suits apart.
       let left = left_free start new chosen other suits apart (was told) in
       record { suits = left.suits; free = left.free; name = λ outer may names. left.name outer may names.made })

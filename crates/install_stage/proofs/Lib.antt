@@ -1,3 +1,4 @@
+pub mod Marked
 pub mod HalfLemmas
 pub mod FileLemmas
 pub mod BackupImageLemmas

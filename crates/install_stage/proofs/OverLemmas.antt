@@ -1,6 +1,7 @@
 -- A backup that was made takes the place of the one that is there.
-use Rattle.std.proofs.Common.{◌≡◌, ◌≢◌, ◌≤◌, ◌<◌, ◌/◌, ◌==◌, ◌&&◌, ◌||◌, ◌⊎◌, ℕ, suc, Bool, true, false, not, if◌then◌else◌, List, [], ◌∷◌, ◌++◌, codes, length, get_or, Option, None, Some, Result, Ok, Err, OnOk, refl, sym, ◌∙◌, ap, subst, inl, inr, arith, length-append}
+use Rattle.std.proofs.Common.{◌≡◌, ◌≢◌, ◌≤◌, ◌<◌, ◌/◌, ◌==◌, ◌&&◌, ◌||◌, ◌⊎◌, ℕ, suc, Bool, true, false, not, if◌then◌else◌, List, [], ◌∷◌, ◌++◌, codes, length, get_or, Option, None, Some, Result, Ok, Err, OnOk, refl, sym, ◌∙◌, ap, subst, subst₂, inl, inr, arith, length-append}
 use Rattle.std.specs.Prelude.{IfSome}
+use Rattle.std.proofs.lemmas.Bool.{eqb-true}
 use Rattle.disk_trait.specs.declared.disks.Disks.{Ghosts}
 use Rattle.disk_trait.specs.Past.{Past}
 use Rattle.disk_trait.specs.Moments.{IsTold, now, IsQuiet, LeavesOnly}
@@ -22,10 +23,11 @@ use Rattle.minix_create.specs.States.{CreatesOn}
 use Rattle.minix_create.specs.declared.chosen.Chosen.{Chosen}
 use Rattle.minix_create.proofs.SeveralLemmas.{left_free}
 use Rattle.minix_remove.specs.Moves.{IsMoving}
-use Rattle.minix_remove.specs.Renamed.{Renames, links_refusal}
+use Rattle.minix_remove.specs.Renamed.{Renames, RenamesFiles, links_refusal}
 use Rattle.minix_remove.specs.Target.{IsDirectoryNow}
 use Rattle.minix_remove.proofs.Free.{stays_free}
 use Rattle.minix_change_laws.specs.Tree.{HasTreeWith, HasTreeMoved}
+use Rattle.minix_change_laws.proofs.Seen.{opened}
 use Rattle.minix_choice.specs.declared.write_fault.WriteFault.{WriteFault}
 use Rattle.minix_choice.specs.declared.write_fault.WriteFault.TheVariants.{Links, Device}
 use Rattle.minix_zones.specs.Volume.{volume_view, past_of}
@@ -36,7 +38,10 @@ use Rattle.install_stage_laws.specs.BeginLaws.{GainsNothing}
 use Rattle.install_laws.specs.InstallVerdict.{last_name}
 use Rattle.install_laws.specs.Writes.{IsOfDirectory, MayBeWritten, IsWritable, IsApartSector, WritesOnly}
 use Rattle.install_laws.proofs.Writes.{writes_only_law}
-use Rattle.install_stage.specs.Within.{is_chosen, and_zones, IsKept, WritesJoin}
+use Rattle.install_stage.specs.Within.{is_chosen, is_inode_of, and_zones, IsKept, WritesJoin}
+use Rattle.install_stage_laws.specs.Marked.{FreesAt, IsFreed}
+use Rattle.install_stage_laws.proofs.Marked.{but_join, but_none}
+use Rattle.install_stage.proofs.Marked.{replaced_freed}
 use Rattle.install_stage.proofs.After.{was_writable, writes_join, gains_join_law}
 use Rattle.install_stage.proofs.Kept.{apart_law}
 use Rattle.install_stage.proofs.Within.{zones_data}
@@ -45,12 +50,12 @@ use Rattle.install_settle.specs.Settles.{HasNames}
 use Rattle.install_settle.specs.Steps.{Does}
 use Rattle.install_settle.proofs.LeadLemmas.{held-is}
 use Rattle.install_settle.proofs.PathLemmas.{tilde-differs}
-use Rattle.install_settle.proofs.RenameLemmas.{IsMovable, does-rename, leaves-untold}
+use Rattle.install_settle.proofs.RenameLemmas.{IsMovable, does-rename, files-renamed, leaves-untold}
 use Rattle.install_stage_laws.proofs.Sectors.{keeps_rest_law}
 use Rattle.install_stage.specs.Halves.{backup_blocks}
 use Rattle.install_stage.specs.BackupStaged.{with_backup, KeepsApart, IsStaging}
-use Rattle.install_stage.specs.BackupStages.{MayReplace, MayStageFile, LeavesRoom, StagesFile}
-use Rattle.install_stage.proofs.CopyLemmas.{IsForFile, creates-at, sound-was, free-file, absent-was, was-made, wrote, leads-at, left-told, making-any}
+use Rattle.install_stage.specs.BackupStages.{MayReplace, MayStageFile, LeavesRoom, MarksFile, StagesFile}
+use Rattle.install_stage.proofs.CopyLemmas.{IsForFile, creates-at, sound-was, free-file, absent-was, was-made, wrote, leads-at, left-told, making-any, marked}
 use Rattle.install_stage.proofs.FileLemmas.{one-link}
 use Rattle.install_stage.proofs.BackupImageLemmas.{moving-staging, moved-names}
 
@@ -288,6 +293,62 @@ module _ {D : Type 0} {disks : Ghosts D} (start mid : Volume D disks) (chosen : 
           (gains_join_law View None-chosen zones (past_of mid) (past_of new) later told-new (subst (λ (v : model.Volume). GainsNothing v Then (now (past_of new))) view gains) wrote-none
           (subst (λ (v : model.Volume). WritesOnly v zones (past_of new) later) view-new next))))
 
+      -- what was at the path is freed
+      module _ (former : ℕ) (at : reached View.layout (parts_of View Was) path ≡ Some former)
+          (files : RenamesFiles View.layout (parts_of View Then) (parts_of View (now (past_of new))) chosen.directory (reached View.layout (parts_of View Then) path))
+          (few : ((parts_of View Was).node former).links ≤ 1) where
+        at-then : reached View.layout (parts_of View Then) path ≡ Some former
+        at-then = path-leads ∙ at
+
+        file-then : is_file ((parts_of View Then).node former) ≡ true
+        file-then =
+            let F : Option ℕ → Type 0 = λ o. IfSome o (λ number. is_file ((parts_of View Then).node number) ≡ true) in
+            subst F at-then former-file
+
+        unmarked : (number : ℕ) → is_inode_of chosen number ≡ true → (parts_of View Was).has_inode number ≡ false
+        unmarked number its = subst (λ (n : ℕ). (parts_of View Was).has_inode n ≡ false) (sym (eqb-true number chosen.choice.inode its)) make.free.inode
+
+        freed-over : IsFreed View.layout (parts_of View Was) former (parts_of View (now (past_of new)))
+        freed-over =
+            replaced_freed View.layout (parts_of View Was) (parts_of View Then) (parts_of View (now (past_of new))) (is_inode_of chosen) (is_chosen chosen) chosen.directory former path
+            (opened View Was sound).parts (opened View Then made.sound).parts at at-then (marked start mid chosen true path present is quiet may told creates) unmarked
+            (λ pointer zone to. made.tree.keeps.stays former pointer zone (record { named = record { path = path; leads = at }; to = to }) (record { path = path; leads = at-then }))
+            file-then files few
+
+      frees-over : RenamesFiles View.layout (parts_of View Then) (parts_of View (now (past_of new))) chosen.directory (reached View.layout (parts_of View Then) path)
+          → FreesAt View.layout (parts_of View Was) path (parts_of View (now (past_of new)))
+      frees-over files = by (reached View.layout (parts_of View Was) path) refl
+        where
+          by : (found : Option ℕ) → reached View.layout (parts_of View Was) path ≡ found
+              → IfSome found (λ former. ((parts_of View Was).node former).links ≤ 1 → IsFreed View.layout (parts_of View Was) former (parts_of View (now (past_of new))))
+          by None at = tt
+          by (Some former) at = λ few. freed-over former at files few
+
+      files-over : OnOk result (RenamesFiles View.layout (parts_of View Then) (parts_of View (now (past_of new))) chosen.directory (reached View.layout (parts_of View Then) path))
+      files-over =
+          let D : model.Volume → Type 0 = λ v. IsSound v Then in
+          let R : model.Volume → Type 0 = λ v. IsMovable v.layout (parts_of v Then) path chosen.directory chosen.name (last_name path) in
+          subst₂ (λ (v w : model.Volume). OnOk result (RenamesFiles v.layout (parts_of v Then) (parts_of w (now (past_of new))) chosen.directory (reached v.layout (parts_of v Then) path)))
+          view view-new
+          (files-renamed mid new chosen.directory chosen.name (last_name path) result (λ t. subst D (sym view) made.sound) renames-last path told-mid (subst R (sym view) movable))
+
+      marks-by : (r : Result (Unit {0}) WriteFault) → OnOk r (GainsNothing (volume_view mid) Then (now (past_of new))) → OnOk r (HasTreeMoved View Then (now (past_of new)) Tilde path)
+          → OnOk r (RenamesFiles View.layout (parts_of View Then) (parts_of View (now (past_of new))) chosen.directory (reached View.layout (parts_of View Then) path))
+          → OnOk r (MarksFile View path chosen Was (now (past_of new)))
+      marks-by (Err fault) gains moved files = tt
+      marks-by (Ok done) gains moved files = record {
+        frees = frees-over files;
+        leads = moved.tree.here ∙ made.tree.here;
+        only =
+            let same = subst (λ (v : model.Volume). GainsNothing v Then (now (past_of new))) view gains in
+            but_join View.layout (is_inode_of chosen) (is_chosen chosen) (parts_of View Was) (parts_of View Then) (parts_of View (now (past_of new)))
+            (marked start mid chosen true path present is quiet may told creates)
+            (but_none View.layout (is_inode_of chosen) (is_chosen chosen) (parts_of View Then) (parts_of View (now (past_of new))) same.marked);
+      }
+
+      marks-over : OnOk result (MarksFile View path chosen Was (now (past_of new)))
+      marks-over = marks-by result (does.gains told-mid) (does.done told-mid) files-over
+
       joins-over : OnOk result (WritesJoin start new chosen)
       joins-over = on_ok result _ _ (does.gains told-mid) joins-with
 
@@ -335,6 +396,7 @@ module _ {D : Type 0} {disks : Ghosts D} (start mid : Volume D disks) (chosen : 
       only = over-only;
       apart = λ told. apart-over told new to (to-is told) result renames;
       joins = λ told. joins-over told new to (to-is told) result renames;
+      marks = λ told. marks-over told new to (to-is told) result renames;
       room = λ told. room-over told new to (to-is told) result renames;
       device = λ told. cause_after start mid new Device result creates.leads.goes_on.later ((does told new to (to-is told) result renames).device (told-mid told));
       goes_on = whole-goes;

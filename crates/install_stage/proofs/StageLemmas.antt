@@ -1,7 +1,8 @@
 -- The backup is staged, then the map is made.
-use Rattle.std.proofs.Common.{◌≡◌, ◌≤◌, ◌⊎◌, ◌||◌, ℕ, Bool, true, false, List, [], ◌∷◌, Option, None, Some, Result, Ok, Err, OnOk, refl, sym, ◌∙◌, ap, subst, inl, inr, arith}
+use Rattle.std.proofs.Common.{◌≡◌, ◌≢◌, ◌≤◌, ◌⊎◌, ◌||◌, ℕ, Bool, true, false, List, [], ◌∷◌, Option, None, Some, Result, Ok, Err, OnOk, refl, sym, ◌∙◌, ap, subst, inl, inr, arith}
+use Rattle.std.proofs.lemmas.Bool.{eqb-true, false_from_ne_true, or_left, or_right}
 use mathlib.Core.Path.{fun_ext}
-use Rattle.std.specs.Prelude.{IfOk, IfErr}
+use Rattle.std.specs.Prelude.{IfOk, IfErr, IfSome}
 use Rattle.disk_trait.specs.declared.disks.Disks.{Ghosts}
 use Rattle.disk_trait.specs.Calls.{GoesOn}
 use Rattle.disk_trait.specs.Moments.{IsTold, IsQuiet, now, LeavesOnly}
@@ -15,7 +16,10 @@ use Rattle.install_stage.specs.BackupStages.{IsStillFree, MayStage, StagesBackup
 use Rattle.install_stage_laws.proofs.Spared.{leaves_both}
 use Rattle.install_laws.specs.InstallVerdict.{file_mode}
 use Rattle.install_laws.specs.Writes.{IsApartSector, WritesOnly}
-use Rattle.install_stage.specs.Within.{and_zones, is_chosen}
+use Rattle.install_stage.specs.Within.{and_zones, is_chosen, is_inode_of}
+use Rattle.install_stage_laws.specs.Marked.{IsFreed, KeepsMarkedBut}
+use Rattle.install_stage_laws.specs.Staged.{AreFree}
+use Rattle.install_stage_laws.proofs.Marked.{but_join, but_more, but_none, freed_still, marked_none}
 use Rattle.install_stage.proofs.After.{gains_join_law}
 use Rattle.install_room.specs.Room.{places_view}
 use Rattle.install_room.specs.declared.room.Room.{Room}
@@ -25,13 +29,15 @@ use Rattle.install_settle.proofs.NamesLemmas.{with-as}
 use Rattle.install_settle.proofs.RenameLemmas.{leaves-untold}
 use Rattle.lilo_model.specs.Disks.{Image, Machine}
 use Rattle.lilo_model.specs.MinixFindNames.{path_above}
-use Rattle.lilo_model.specs.MinixNames.{Thing, File, names_in, reached}
+use Rattle.lilo_model.specs.MinixNames.{Thing, File, Named, PointsTo, Sound, names_in, reached}
 use Rattle.lilo_model.specs.MinixParts as volumes
-use Rattle.lilo_model.specs.MinixParts.{parts_of}
+use Rattle.lilo_model.specs.MinixParts.{Pointer, parts_of}
 use Rattle.lilo_model.specs.NamePlaces.{with_name, with_tilde}
 use Rattle.map_laws.specs.MapLays.{HoldsMap}
 use Rattle.map_sectors.specs.Map.{plan_view}
 use Rattle.map_sectors.specs.declared.map.MapPlan.{MapPlan}
+use Rattle.minix_change_laws.specs.Beside.{IsDataZone}
+use Rattle.minix_change_laws.proofs.Seen.{opened}
 use Rattle.minix_create.specs.Chosen.{Suits, IsFreeNow, IsNewInode, thing_with}
 use Rattle.minix_create.specs.declared.chosen.Chosen.{Chosen}
 use Rattle.minix_steps.proofs.StepLemmas.{same_view}
@@ -45,8 +51,9 @@ use Rattle.minix_zones.proofs.WriteLemmas.{keeps_same, keeps_join, cause_after, 
 use Rattle.slot_lists.specs.declared.slots.DiskSector.{DiskSector}
 use Rattle.install_stage.specs.Blocks.{block_of_sectors, sectors_of_map}
 use Rattle.install_stage.specs.MapFile.{map_bytes, IsMapRoom, HasMapOrNot, LieInChosen, MakesMap}
-use Rattle.install_stage.specs.Stages.{backup_zones, with_backup_made, IsStagingRoom, HasStagedRoom, MayStageBackup, MayStageBeside, MayStageRoom, MayStageSomeRoom, StagesRoom}
+use Rattle.install_stage.specs.Stages.{backup_inodes, backup_zones, room_inodes, room_zones, with_backup_made, IsStagingRoom, HasStagedRoom, FreesBackup, LeadsBackup, MayStageBackup, MayStageBeside, MayStageRoom, MayStageSomeRoom, StagesRoom}
 use Rattle.install_stage.proofs.ImageLemmas.{map-alone, backup-staging, map-staging}
+use Rattle.install_stage.proofs.Marked.{made_marks}
 use Rattle.install_stage.proofs.RoomLemmas as rooms
 
 -- ---- what the backup needs
@@ -141,6 +148,11 @@ module _ {D : Type 0} {disks : Ghosts D} (start : Volume D disks) (machine : Mac
     pub goes_on : GoesOn disks start.disks.now mid.disks.now
     pub room_is : IsMapRoom mid machine path room.map plan room.places.items
     pub names : HasNames View (now (past_of mid)) (with_backup_made forced backup present (names_in View Old))
+    pub leads : (c : Image) → ((name : List (List ℕ)) → name ≢ with_tilde path → reached View.layout (parts_of View c) name ≡ reached View.layout (parts_of View (now (past_of mid))) name)
+        → LeadsBackup View c backup made
+    pub free : IsFreeNow start room.map
+    pub frees : FreesBackup View Old backup (now (past_of mid))
+    pub marks : KeepsMarkedBut View.layout (backup_inodes made) (backup_zones made) (parts_of View Old) (parts_of View (now (past_of mid)))
     pub image : (c : Image) → HasMapOrNot View (now (past_of mid)) path Bytes c → SeenOrWith View (now (past_of mid)) At (Some room.map.choice.inode) What c → Staging c
     pub run : (new : Option Past) → LeavesOnly (past_of mid) new Staging → LeavesOnly (past_of start) new Staging
     pub only : (new : Option Past) → WritesOnly View (is_chosen room.map) (past_of mid) new → WritesOnly View (and_zones (backup_zones made) (is_chosen room.map)) (past_of start) new
@@ -158,6 +170,11 @@ module _ {D : Type 0} {disks : Ghosts D} (start : Volume D disks) (machine : Mac
     goes_on = (keeps-all start).1;
     room_is = is;
     names = λ name. refl;
+    leads = λ c others. tt;
+    free = is.may.free;
+    frees = tt;
+    marks = but_none (volume_view start).layout (backup_inodes None) (backup_zones None) (parts_of (volume_view start) (now (past_of start))) (parts_of (volume_view start) (now (past_of start)))
+        (marked_none (volume_view start).layout (parts_of (volume_view start) (now (past_of start))));
     image = map-alone (volume_view start) (now (past_of start)) forced present path (map_bytes machine plan room.places.items) is.may.free.sound
         (room.map.name ∷ path_above (with_tilde path)) is.may.ends room.map.choice.inode (Some (thing_with room.map (block_of_sectors (sectors_of_map machine plan room.places.items))));
     run = λ new leaves. leaves;
@@ -190,6 +207,10 @@ module _ {D : Type 0} {disks : Ghosts D} (start : Volume D disks) (machine : Mac
         goes_on = staged.goes_on;
         room_is = room-still;
         names = staged.done told;
+        leads = λ c others. others at may.tilde ∙ (staged.marks told).leads;
+        free = is.may.free;
+        frees = (staged.marks told).frees;
+        marks = (staged.marks told).only;
         image = map-staging (volume_view start) (now (past_of start)) forced present path (map_bytes machine plan room.places.items) is.may.free.sound
             (room.map.name ∷ path_above (with_tilde path)) is.may.ends room.map.choice.inode (Some (thing_with room.map (block_of_sectors (sectors_of_map machine plan room.places.items))))
             at may.plain may.tilde (now (past_of mid)) (staged.left told) (staged.done told) is.may.free.inode;
@@ -263,6 +284,53 @@ module _ {D : Type 0} {disks : Ghosts D} (start mid new : Volume D disks) (machi
   as-seen : (P : volumes.Volume → Type 0) → P (volume_view mid) → P Seen
   as-seen P = subst P view
 
+  abbrev Was : Image
+  Was = now (past_of start)
+
+  map-marks : MakesMap mid new machine path room.map plan room.places.items (Ok tt) → KeepsMarkedBut Seen.layout (is_inode_of room.map) (is_chosen room.map) (parts_of Seen Then) (parts_of Seen New)
+  map-marks makes =
+      as-seen (λ v. KeepsMarkedBut v.layout (is_inode_of room.map) (is_chosen room.map) (parts_of v Then) (parts_of v New))
+      (made_marks (volume_view mid).layout (parts_of (volume_view mid) Then) (parts_of (volume_view mid) New) room.map (makes.creates.marks told-mid) (makes.creates.nodes told-mid) middle.room_is.may.name.is)
+
+  -- what the backup replaced is free still
+  module _ (free : AreFree Seen Was (room_zones room)) (keeps : KeepsMarkedBut Seen.layout (is_inode_of room.map) (is_chosen room.map) (parts_of Seen Then) (parts_of Seen New)) where
+    sound-was : Sound Seen.layout (parts_of Seen Was)
+    sound-was = (opened Seen Was middle.free.sound).parts
+
+    module _ (at : List (List ℕ)) (former : ℕ) (leads : reached Seen.layout (parts_of Seen Was) at ≡ Some former) (freed : IsFreed Seen.layout (parts_of Seen Was) former (parts_of Seen Then)) where
+      named-was : Named Seen.layout (parts_of Seen Was) former
+      named-was = record { path = at; leads = leads }
+
+      not-map : is_inode_of room.map former ≡ false
+      not-map = false_from_ne_true (is_inode_of room.map former) (λ its.
+          let unmarked = subst (λ (n : ℕ). (parts_of Seen Was).has_inode n ≡ false) (sym (eqb-true former room.map.choice.inode its)) middle.free.inode in
+          let no : true ≡ false = sym (sound-was.marked former named-was) ∙ unmarked in
+          cc)
+
+      not-chosen : (pointer : Pointer) (zone : ℕ) → PointsTo Seen.layout (parts_of Seen Was) former pointer zone → IsDataZone Seen.layout zone × (is_chosen room.map zone ≡ false)
+      not-chosen pointer zone to = (
+        sound-was.zone_range former pointer zone (record { named = named-was; to = to }),
+        false_from_ne_true (is_chosen room.map zone) (λ its.
+            let unmarked = (free zone (or_left (is_chosen room.map zone) (backup_zones room.backup zone) its)).1 in
+            let no : true ≡ false = sym (sound-was.zone_marked former pointer zone (record { named = named-was; to = to })) ∙ unmarked in
+            cc),
+      )
+
+      freed-new : IsFreed Seen.layout (parts_of Seen Was) former (parts_of Seen New)
+      freed-new =
+          freed_still Seen.layout (is_inode_of room.map) (is_chosen room.map) (parts_of Seen Was) (parts_of Seen Then) (parts_of Seen New) former
+          (sound-was.in_range former named-was) not-map not-chosen freed keeps
+
+    frees-new : (backup : Option (List (List ℕ))) → FreesBackup Seen Was backup Then → FreesBackup Seen Was backup New
+    frees-new None frees = tt
+    frees-new (Some at) frees = by (reached Seen.layout (parts_of Seen Was) at) refl frees
+      where
+        by : (found : Option ℕ) → reached Seen.layout (parts_of Seen Was) at ≡ found
+            → IfSome found (λ former. ((parts_of Seen Was).node former).links ≤ 1 → IsFreed Seen.layout (parts_of Seen Was) former (parts_of Seen Then))
+            → IfSome found (λ former. ((parts_of Seen Was).node former).links ≤ 1 → IsFreed Seen.layout (parts_of Seen Was) former (parts_of Seen New))
+        by None leads frees = tt
+        by (Some former) leads frees = λ few. freed-new at former leads (frees few)
+
   there : (result : Result (Unit {0}) WriteFault) → MakesMap mid new machine path room.map plan room.places.items result → OnOk result (HasStagedRoom start new machine forced backup present path plan room)
   there (Err fault) makes = tt
   there (Ok done) makes =
@@ -276,6 +344,14 @@ module _ {D : Type 0} {disks : Ghosts D} (start mid new : Volume D disks) (machi
         holds = holds.0;
         holder = holds.1;
         lies = has.lies;
+        backup_leads = middle.leads New (as-seen (λ v. (name : List (List ℕ)) → name ≢ with_tilde path → reached v.layout (parts_of v New) name ≡ reached v.layout (parts_of v Then) name) has.tree.tree.others);
+        marks = but_join Seen.layout (room_inodes room) (room_zones room) (parts_of Seen (now (past_of start))) (parts_of Seen Then) (parts_of Seen New)
+            (but_more Seen.layout (backup_inodes room.backup) (backup_zones room.backup) (room_inodes room) (room_zones room) (parts_of Seen (now (past_of start))) (parts_of Seen Then)
+            (λ number its. or_right (is_inode_of room.map number) (backup_inodes room.backup number) its) (λ zone its. or_right (is_chosen room.map zone) (backup_zones room.backup zone) its) middle.marks)
+            (but_more Seen.layout (is_inode_of room.map) (is_chosen room.map) (room_inodes room) (room_zones room) (parts_of Seen Then) (parts_of Seen New)
+            (λ number its. or_left (is_inode_of room.map number) (backup_inodes room.backup number) its) (λ zone its. or_left (is_chosen room.map zone) (backup_zones room.backup zone) its)
+            (map-marks makes));
+        frees = λ free. frees-new free (map-marks makes) backup middle.frees;
       }
 
   module _ (lies : LieInChosen start room.map (places_view room)) (result : Result (Unit {0}) WriteFault) (makes : MakesMap mid new machine path room.map plan room.places.items result) where

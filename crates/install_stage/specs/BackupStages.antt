@@ -5,10 +5,11 @@ use Rattle.disk_trait.specs.declared.disks.Disks.{Ghosts}
 use Rattle.disk_trait.specs.Calls.{GoesOn}
 use Rattle.disk_trait.specs.Moments.{IsTold, now, LeavesOnly}
 use Rattle.disk_trait.specs.NotWritten.{NotWritten}
-use Rattle.lilo_model.specs.Disks.{DiskSector}
+use Rattle.lilo_model.specs.Disks.{DiskSector, Image}
 use Rattle.lilo_model.specs.MinixEntries.{is_dots}
 use Rattle.lilo_model.specs.MinixNames.{names_in, reached}
-use Rattle.lilo_model.specs.MinixParts.{is_file}
+use Rattle.lilo_model.specs.MinixParts as model
+use Rattle.lilo_model.specs.MinixParts.{is_file, parts_of}
 use Rattle.minix_create.specs.Chosen.{Suits, IsFreeNow, MayLinkNow}
 use Rattle.minix_create.specs.Several.{AreApartOn}
 use Rattle.minix_create.specs.declared.chosen.Chosen.{Chosen}
@@ -21,7 +22,8 @@ use Rattle.minix_zones.specs.declared.volume.Volume.{Volume}
 use Rattle.install_apart.specs.declared.name.NamePair.{NamePair}
 use Rattle.install_laws.specs.InstallVerdict.{last_name}
 use Rattle.install_laws.specs.Writes.{IsApartSector, WritesOnly}
-use Rattle.install_stage.specs.Within.{is_chosen, IsKept, WritesJoin}
+use Rattle.install_stage.specs.Within.{is_chosen, is_inode_of, IsKept, WritesJoin}
+use Rattle.install_stage_laws.specs.Marked.{FreesAt, KeepsMarkedBut}
 use Rattle.install_room.specs.Making.{MayMake}
 use Rattle.install_room.specs.Names.{backup_of}
 use Rattle.install_room.specs.Room.{IsForBackup}
@@ -72,10 +74,18 @@ abbrev pub LeavesRoom : {D : Type 0} {disks : Ghosts D} → Volume D disks → V
 LeavesRoom start new path chosen =
     (other : Chosen) → Suits start.layout start.span other → AreApartOn start chosen other → IsStillFree start new path chosen other
 
+-- ---- what is marked
+
+-- a path leads to the inode that was chosen; beside it and its zones nothing is marked that wasn't, and what the path led to is freed
+pub record MarksFile (volume : model.Volume) (path : List (List ℕ)) (chosen : Chosen) (old new : Image) : Type 0 where
+  pub leads : reached volume.layout (parts_of volume new) path ≡ Some chosen.choice.inode
+  pub only : KeepsMarkedBut volume.layout (is_inode_of chosen) (is_chosen chosen) (parts_of volume old) (parts_of volume new)
+  pub frees : FreesAt volume.layout (parts_of volume old) path (parts_of volume new)
+
 -- ---- the call
 
 -- A backup was staged, or that was refused as the disk failed: what a stop leaves, at any moment from a quiet one on, and what the
--- disks hold; what is written, in terms of what a writer of files may; and what is left free.
+-- disks hold; what is written, in terms of what a writer of files may; what is marked; and what is left free.
 pub record StagesFile {D : Type 0} {disks : Ghosts D} (start new : Volume D disks) (path : List (List ℕ)) (forced : Bool) (present : List ℕ) (chosen : Chosen)
     (result : Result (Unit {0}) WriteFault) : Type 0 where
   pub any_moment : LeavesOnly (past_of start) (past_of new) (IsStaging (volume_view start) (now (past_of start)) forced path present)
@@ -88,7 +98,8 @@ pub record StagesFile {D : Type 0} {disks : Ghosts D} (start new : Volume D disk
   pub only : WritesOnly (volume_view start) (is_chosen chosen) (past_of start) (past_of new)
   pub apart : IsTold (past_of start) → (d s : ℕ) → IsApartSector (volume_view start) d s → NotWritten (past_of start) (past_of new) d s
   pub joins : IsTold (past_of start) → OnOk result (WritesJoin start new chosen)
-  -- what is left free
+  -- what is marked, and what is left free
+  pub marks : IsTold (past_of start) → OnOk result (MarksFile (volume_view start) path chosen (now (past_of start)) (now (past_of new)))
   pub room : IsTold (past_of start) → OnOk result (LeavesRoom start new path chosen)
   -- when it is refused, and what stays
   pub device : IsTold (past_of start) → HasDeviceCause start new Device result

@@ -25,11 +25,13 @@ use Rattle.minix_zones.specs.declared.volume.Volume as volumes
 use Rattle.install_stage.specs.BackupStaged.{made_at, with_backup, AreStaging, KeepsApart}
 use Rattle.install_stage.specs.BackupStages.{HasOtherName, MayStageFile}
 use Rattle.install_laws.specs.Writes.{IsApartSector, WritesOnly}
-use Rattle.install_stage.specs.Within.{and_zones, is_chosen}
+use Rattle.install_stage.specs.Within.{and_zones, is_chosen, is_inode_of}
 use Rattle.install_room.specs.Room.{places_view}
 use Rattle.install_room.specs.declared.room.Room.{Room}
 use Rattle.install_settle.specs.Settles.{HasNames}
 use Rattle.install_stage_laws.specs.ClearMap.{KeepsFiles, KeepsFilesBut}
+use Rattle.install_stage_laws.specs.Marked.{FreesAt, KeepsMarkedBut}
+use Rattle.install_stage_laws.specs.Staged.{AreFree}
 use Rattle.install_stage.specs.Blocks.{sectors_of_map}
 use Rattle.install_stage.specs.MapFile.{map_bytes, IsMapRoom, LieInChosen}
 
@@ -42,6 +44,14 @@ backup_zones (Some chosen) zone = is_chosen chosen zone
 
 abbrev pub room_zones : Room → ℕ → Bool
 room_zones room = and_zones (backup_zones room.backup) (is_chosen room.map)
+
+-- the inodes of its files
+abbrev pub backup_inodes : Option Chosen → ℕ → Bool
+backup_inodes None number = false
+backup_inodes (Some chosen) number = is_inode_of chosen number
+
+abbrev pub room_inodes : Room → ℕ → Bool
+room_inodes room = and_zones (backup_inodes room.backup) (is_inode_of room.map)
 
 -- ---- what it needs
 
@@ -126,8 +136,21 @@ pub record IsStagingRoom (volume : Volume) (old : Image) (forced : Bool) (backup
 
 -- ---- once they are there
 
+-- the name of a backup that is made leads to the inode that was chosen for it
+abbrev pub LeadsBackup : Volume → Image → Option (List (List ℕ)) → Option Chosen → Type 0
+LeadsBackup volume c None None = Unit {0}
+LeadsBackup volume c None (Some chosen) = ⊥
+LeadsBackup volume c (Some path) None = Unit {0}
+LeadsBackup volume c (Some path) (Some chosen) = reached volume.layout (parts_of volume c) path ≡ Some chosen.choice.inode
+
+-- what the backup's name led to is freed, where one is made
+abbrev pub FreesBackup : Volume → Image → Option (List (List ℕ)) → Image → Type 0
+FreesBackup volume old None c = Unit {0}
+FreesBackup volume old (Some path) c = FreesAt volume.layout (parts_of volume old) path (parts_of volume c)
+
 -- Both files are there. The name with `~` leads to the inode that was chosen for the map, as it was made, and the planned map is in
--- it, each of whose sectors lies at its place.
+-- it, each of whose sectors lies at its place; that of a backup leads to its inode. Beside these and their zones nothing is marked
+-- that wasn't, and what the backup replaced is freed, as no zone was chosen that was marked.
 pub record HasStagedRoom {D : Type 0} {disks : Ghosts D} (start new : volumes.Volume D disks) (machine : Machine) (forced : Bool)
     (backup : Option (List (List ℕ))) (present : List ℕ) (path : List (List ℕ)) (plan : MapPlan) (room : Room) : Type 0 where
   pub names : HasNames (volume_view start) (now (past_of new))
@@ -138,6 +161,11 @@ pub record HasStagedRoom {D : Type 0} {disks : Ghosts D} (start new : volumes.Vo
   pub holds : HoldsMap (now (past_of new)) machine (volume_view start) (plan_view plan) path (places_view room)
   pub holder : holds.holder ≡ room.map.choice.inode
   pub lies : AreAt (now (past_of new)) (places_view room) (sectors_of_map machine plan room.places.items)
+  pub backup_leads : LeadsBackup (volume_view start) (now (past_of new)) backup room.backup
+  pub frees : AreFree (volume_view start) (now (past_of start)) (room_zones room)
+      → FreesBackup (volume_view start) (now (past_of start)) backup (now (past_of new))
+  pub marks : KeepsMarkedBut (volume_view start).layout (room_inodes room) (room_zones room)
+      (parts_of (volume_view start) (now (past_of start))) (parts_of (volume_view start) (now (past_of new)))
 
 -- ---- the call
 

@@ -1,5 +1,5 @@
 -- What a regular file that is made writes, in terms of what a writer of files may (a rule of this project's own).
-use Rattle.std.specs.Prelude.{◌≡◌, ℕ, Bool, true, false, ◌||◌, List, Option, Result}
+use Rattle.std.specs.Prelude.{◌≡◌, ℕ, Bool, true, false, ◌==◌, ◌||◌, List, Option, Result}
 use Rattle.disk_trait.specs.declared.disks.Disks.{Ghosts}
 use Rattle.disk_trait.specs.Moments.{IsTold, now, IsQuiet}
 use Rattle.disk_trait.specs.NotWritten.{NotWritten}
@@ -31,7 +31,11 @@ use Rattle.write_model.specs.Wish.{Taken}
 abbrev pub is_chosen : Chosen → ℕ → Bool
 is_chosen chosen zone = has_number chosen.choice.zones zone || has_number chosen.choice.growth zone
 
--- some zones, and others too
+-- whether an inode is the one that was chosen for a file
+abbrev pub is_inode_of : Chosen → ℕ → Bool
+is_inode_of chosen number = number == chosen.choice.inode
+
+-- some zones, or inodes, and others too
 abbrev pub and_zones : (ℕ → Bool) → (ℕ → Bool) → ℕ → Bool
 and_zones others chosen zone = chosen zone || others zone
 

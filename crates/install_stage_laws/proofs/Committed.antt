@@ -18,11 +18,11 @@ use Rattle.lilo_model.specs.MinixNames.{names_in, reached, IsSound}
 use Rattle.lilo_model.specs.MinixParts.{Volume, sector_of, bit, inode_mark_sector, zone_bit, zone_mark_sector, parts_of}
 use Rattle.lilo_model.specs.NamePlaces.{with_tilde}
 use Rattle.lilo_model.specs.Planned.{devices_in, planned}
-use Rattle.minix_change_laws.specs.Beside.{IsOfBitmaps, Regions}
+use Rattle.minix_change_laws.specs.Beside.{IsInode, IsDataZone, IsOfBitmaps, Regions}
 use Rattle.minix_change_laws.specs.Keeps.{Keeps}
 use Rattle.minix_change_laws.proofs.Harmless.{region_law}
 use Rattle.minix_change_laws.proofs.Laid.{place-from}
-use Rattle.minix_change_laws.proofs.Kept.{kept_is_seen_law}
+use Rattle.minix_change_laws.proofs.Kept.{kept_is_seen_law, same-is-but-links}
 use Rattle.minix_change_laws.proofs.Seen.{opened, seen_parts_law}
 use Rattle.minix_change_laws.proofs.Tree.{sees_tree_law}
 use Rattle.minix_change_laws.specs.Sees.{SeenAsIn}
@@ -33,6 +33,7 @@ use Rattle.map_laws.proofs.Planned.{map-lies}
 use Rattle.map_laws.specs.Accepted.{IsWritten}
 use Rattle.map_laws.specs.MapLays.{HoldsMap}
 use Rattle.map_laws.specs.PlannedLies.{PlannedLies, targets_for}
+use Rattle.install_laws.specs.Writes.{IsApartSector}
 use Rattle.map_laws.specs.Lies.{MapPlaces, all_places}
 use Rattle.install_stage_laws.specs.StaysLaws.{planned_places}
 use Rattle.install_stage_laws.proofs.Stays.{clear_stays_law, tidy_law}
@@ -41,6 +42,8 @@ use Rattle.install_stage_laws.specs.Committed.{SectorsSeenLaw, CommitSeenLaw, Co
 use Rattle.install_stage_laws.proofs.BootBytes.{boot-long}
 use Rattle.install_stage_laws.proofs.Clear.{seen_keeps_law, staged_clear_law}
 use Rattle.install_stage_laws.proofs.Mapped.{mapped_joined_law}
+use Rattle.install_stage_laws.specs.Marked.{KeepsMarked}
+use Rattle.install_stage_laws.proofs.Marked.{same_links}
 use Rattle.install_stage_laws.proofs.Files.{place_of}
 use Rattle.install_stage_laws.proofs.HoldsMap.{holds_map_stays_law}
 use Rattle.install_stage_laws.proofs.Sectors.{apart-other, from-two, lies, some-first}
@@ -56,23 +59,40 @@ module _ (volume : Volume) (old c : Image) (sound : IsSound volume old)
   bitmap : (n : ℕ) → IsOfBitmaps volume.layout n → sector_of volume c n ≡ sector_of volume old n
   bitmap n is = stays n (let low = is.0 in omega (arith, low)) (regions.bitmaps n is)
 
+  node-same : (number : ℕ) → IsInode volume.layout number → (parts_of volume c).node number ≡ (parts_of volume old).node number
+  unfolding parts_of
+  node-same number is =
+      let place = inode_place volume.layout number in
+      let from = place-from volume.layout (lies volume old sound) number in
+      ap (λ s. inode_of volume.layout.kind (part_of s place.at (inode_size volume.layout.kind))) (stays place.sector (omega (arith, from)) (regions.places number is))
+
+  mark-same : (number : ℕ) → IsInode volume.layout number → (parts_of volume c).has_inode number ≡ (parts_of volume old).has_inode number
+  unfolding parts_of
+  mark-same number is = ap (λ s. bit s (number % 4096)) (bitmap (inode_mark_sector number) (regions.marks number is))
+
+  zone-mark-same : (zone : ℕ) → IsDataZone volume.layout zone → (parts_of volume c).has_zone zone ≡ (parts_of volume old).has_zone zone
+  unfolding parts_of
+  zone-mark-same zone is = ap (λ s. bit s (zone_bit volume.layout zone % 4096)) (bitmap (zone_mark_sector volume.layout zone) (regions.zone_marks zone is))
+
+  keeps-marked : KeepsMarked volume.layout (parts_of volume old) (parts_of volume c)
+  keeps-marked = record {
+    marks = λ number is set. sym (mark-same number is) ∙ set;
+    zone_marks = λ zone is set. sym (zone-mark-same zone is) ∙ set;
+    nodes = λ number is set. same-is-but-links ((parts_of volume old).node number) ((parts_of volume c).node number) (node-same number is);
+    links = λ number is set. same_links ((parts_of volume old).node number) ((parts_of volume c).node number) (node-same number is);
+  }
+
   keeps-all : Keeps volume.layout (parts_of volume old) (parts_of volume c)
   unfolding parts_of
   keeps-all = record {
-    nodes = λ number named.
-        let place = inode_place volume.layout number in
-        let from = place-from volume.layout (lies volume old sound) number in
-        ap (λ s. inode_of volume.layout.kind (part_of s place.at (inode_size volume.layout.kind)))
-        (stays place.sector (omega (arith, from)) (regions.places number ((opened volume old sound).parts.in_range number named)));
-    marks = λ number named. ap (λ s. bit s (number % 4096)) (bitmap (inode_mark_sector number) (regions.marks number ((opened volume old sound).parts.in_range number named)));
+    nodes = λ number named. node-same number ((opened volume old sound).parts.in_range number named);
+    marks = λ number named. mark-same number ((opened volume old sound).parts.in_range number named);
     zones = λ number at zone refers.
         let range = (opened volume old sound).parts.zone_range number at zone refers in
         let past : 2 ≤ zone_sector zone = from-two volume old sound zone (zone_sector zone) (inl refl) range.0 in
         ap (λ s. s ++ sector_of volume c (zone_sector zone + 1)) (stays (zone_sector zone) past (regions.zones zone (zone_sector zone) range (inl refl)))
         ∙ ap (λ s. sector_of volume old (zone_sector zone) ++ s) (stays (zone_sector zone + 1) (omega (arith, past)) (regions.zones zone (zone_sector zone + 1) range (inr refl)));
-    zone_marks = λ number at zone refers.
-        ap (λ s. bit s (zone_bit volume.layout zone % 4096))
-        (bitmap (zone_mark_sector volume.layout zone) (regions.zone_marks zone ((opened volume old sound).parts.zone_range number at zone refers)));
+    zone_marks = λ number at zone refers. zone-mark-same zone ((opened volume old sound).parts.zone_range number at zone refers);
   }
 
 pub sectors_seen_law : SectorsSeenLaw
@@ -81,6 +101,13 @@ sectors_seen_law volume old c sound whole stays =
     let first = (lies volume old sound).first in
     seen_parts_law volume old c sound (record { super = stays super_sector (omega arith) (omega (arith, least, first)); whole = whole })
     (kept_is_seen_law volume.layout (parts_of volume old) (parts_of volume c) (opened volume old sound).parts (keeps-all volume old c sound stays))
+
+-- the sector of a boot device that lies outside of them marks nothing
+pub commit_marked : (volume : Volume) (staged : Image) (span : Span) (bytes : List ℕ) → IsSound volume staged → IsApartSector volume span.disk span.start
+    → KeepsMarked volume.layout (parts_of volume staged) (parts_of volume (past.with_sector staged span.disk span.start bytes))
+commit_marked volume staged span bytes sound apart =
+    keeps-marked volume staged (past.with_sector staged span.disk span.start bytes) sound
+    (λ sector from below. else-same staged span bytes (place_of volume sector) (apart-other volume span.disk span.start sector (place_of volume sector) apart refl from below))
 
 pub commit_seen_law : CommitSeenLaw
 commit_seen_law volume staged span bytes sound apart long =

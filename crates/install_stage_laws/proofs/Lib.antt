@@ -1,3 +1,4 @@
+pub mod Marked
 pub mod Stays
 pub mod Apart
 pub mod Spared

@@ -18,6 +18,7 @@ use Rattle.lilo_model.specs.Settled.{OwnNames, is_foreign, own_names}
 use Rattle.boot_laws.specs.SameOn.{SameOn}
 use Rattle.install_laws.specs.Boots.{SparesMapped, HasBootOf}
 use Rattle.install_laws.specs.Writes.{IsWritable, IsApartSector, WritesOnly}
+use Rattle.install_stage_laws.specs.Marked.{KeepsMarked}
 
 -- ---- what is apart
 
@@ -62,13 +63,15 @@ SparedLaw =
 
 -- ---- Clear again
 
--- each named inode of an image is named in another one, refers only to what it referred to there, and is of the same kind
+-- each named inode of an image is named in another one, refers only to what it referred to there, and is of the same kind; and
+-- what is marked was so there
 pub record GainsNothing (volume : Volume) (old new : Image) : Type 0 where
   pub named : (number : ℕ) → Named volume.layout (parts_of volume new) number → Named volume.layout (parts_of volume old) number
   pub refers : (number : ℕ) (at : Pointer) (zone : ℕ) → Refers volume.layout (parts_of volume new) number at zone
       → Refers volume.layout (parts_of volume old) number at zone
   pub kinds : (number : ℕ) → Named volume.layout (parts_of volume new) number
       → is_directory ((parts_of volume new).node number) ≡ is_directory ((parts_of volume old).node number)
+  pub marked : KeepsMarked volume.layout (parts_of volume old) (parts_of volume new)
 
 -- so a map whose sectors are as they were is Clear again
 abbrev pub ClearAgainLaw : Type 0

@@ -6,3 +6,4 @@ pub mod Committed
 pub mod Devices
 pub mod StageLaws
 pub mod Staged
+pub mod Marked

@@ -36,6 +36,8 @@ use Rattle.conf_file.specs.declared.file_fault.FileFault.TheVariants as files
 use Rattle.conf_settings.specs.View.{fault_view}
 use Rattle.mbr_table.specs.declared.table_fault.TableFault as declared
 use Rattle.mbr_table.specs.declared.table_fault.TableFault.TheVariants as tables
+use Rattle.install_settle.proofs.GainLemmas.{gains_none}
+use Rattle.install_stage_laws.specs.BeginLaws.{GainsNothing}
 use Rattle.install_run.specs.Texts.{device_status}
 use Rattle.install_begin.specs.Begin as begins
 use Rattle.install_begin.specs.Begin.{answer_on, begun_at, begun_on, begun_with, named_conf, placed_by}
@@ -304,6 +306,8 @@ module _ {D : Type 0} (g : Ghosts D) (old new : D) where
           done = λ is. absurd (not_done own early is);
           lays = λ is. absurd (not_done own early is);
           quiet = λ zero. absurd (not_done own early (inl zero));
+          gains = λ other.
+              subst (λ (image : Image). GainsNothing begun.volume (now (g.past old)) image) (sym is-early.settled) (gains_none begun.volume (now (g.past old)));
           holds = λ is other. record { now_is = ap now same ∙ sym is-early.settled; quiet = subst (λ (p : Option Past). IsQuiet p) (sym same) quiet };
           stages = λ is. inl (λ names own. keeps_same found.machine begun names same quiet);
         };

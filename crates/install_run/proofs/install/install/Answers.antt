@@ -32,7 +32,7 @@ returns-in-Ok-clause-phase g c =
 pub returns-in-Err-clause-installs : goal.returns-in-Err-clause-installs
 returns-in-Err-clause-installs g c =
     refused_installs c.args.volume c.args.config c.args.boot c.args.now c.requires.device c.say_halt.result.0 c.say_halt.result.1.now _ _ c.in-Err.halt
-    c.say_halt.ensures.disks c.in-Err.ensures.cause c.in-Err.ensures.gives c.in-Err.ensures.unbegun c.in-Err.ensures.nothing c.in-Err.ensures.stays c.in-Err.ensures.quiet
+    c.say_halt.ensures.disks c.in-Err.ensures.cause c.in-Err.ensures.gives c.in-Err.ensures.unbegun c.in-Err.ensures.nothing c.in-Err.ensures.stays c.in-Err.ensures.quiet c.in-Err.ensures.gains
     (rw c.in-Err.ensures.phase at c.say_halt.ensures.status) (rw c.in-Err.ensures.phase at c.say_halt.ensures.shown)
 
 pub returns-in-Err-clause-phase : goal.returns-in-Err-clause-phase

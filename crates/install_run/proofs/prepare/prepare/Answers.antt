@@ -1,15 +1,17 @@
 -- What is begun and planned is answered so.
 use Rattle.std.proofs.Common.{◌≡◌, ◌∙◌, Option, Ok, Err, rules, subst, sym}
 use Rattle.std.proofs.lemmas.Option.{IfSome_then}
-use Rattle.disk_trait.specs.Moments.{IsQuiet}
+use Rattle.disk_trait.specs.Moments.{IsQuiet, now}
 use Rattle.disk_trait.specs.Past.{Past}
 use Rattle.disk_trait.proofs.MomentLemmas.{told_now}
 use Rattle.disk_trait.proofs.ToldLemmas.{told_map}
-use Rattle.minix_zones.specs.Volume.{past_of, faults_of}
+use Rattle.minix_zones.specs.Volume.{volume_view, past_of, faults_of}
 use Rattle.sector_address.specs.Machine.{machine_of}
+use Rattle.install_settle.proofs.GainLemmas.{gains_none}
+use Rattle.install_stage_laws.specs.BeginLaws.{GainsNothing}
 use Rattle.install_order.specs.Answers.{Leaves}
 use Rattle.install_order.specs.View.{begun_of}
-use Rattle.install_run.proofs.PreparedLemmas.{Begins, are, begin_stays, begun_leaves, cause_from, gives_back, gives_planned, gives_refused, planned_goes_on, planned_kept, planned_reference, planned_stays, ready_to_stage, refused_begin, some_of, told_after}
+use Rattle.install_run.proofs.PreparedLemmas.{Begins, are, begin_stays, begun_leaves, cause_from, gives_back, gives_planned, gives_refused, planned_goes_on, planned_kept, planned_reference, planned_stays, ready_to_stage, refused_begin, settled_gains, some_of, told_after}
 use Rattle.install_run.proofs.prepare.prepare.Goals as goal
 
 is-surveyed : (g : Rattle.install_run.proofs.prepare.prepare.Given.Over) (c : goal.After-from_residual g) → c.from_residual.result ≡ Err c.in_err-surveyed.field-0.0
@@ -76,6 +78,26 @@ returns-in_err-planned-clause-quiet g c quiet =
     let halt = c.in_err-planned.field-0.0 in
     let is : c.from_residual-in_err-planned.result ≡ Err halt = is-planned g c in
     rw is (λ other. subst (λ (p : Option Past). IsQuiet p) (sym c.in_err-planned.ensures.same.same_disks.same_past) (c.in_ok-surveyed.ensures.quiet quiet))
+
+-- ---- nor did settling gain anything by then
+
+pub returns-in_err-surveyed-clause-gains : goal.returns-in_err-surveyed-clause-gains
+returns-in_err-surveyed-clause-gains g c =
+    let entry = c.args.volume in
+    rw (is-surveyed g c)
+    (λ told other.
+    subst (λ (p : Option Past). GainsNothing (volume_view entry) (now (past_of entry)) (now p)) (sym (c.in_err-surveyed.ensures.refused other))
+    (gains_none (volume_view entry) (now (past_of entry))))
+
+pub returns-in_err-planned-clause-gains : goal.returns-in_err-planned-clause-gains
+returns-in_err-planned-clause-gains g c =
+    let halt = c.in_err-planned.field-0.0 in
+    let is : c.from_residual-in_err-planned.result ≡ Err halt = is-planned g c in
+    let s = c.in_ok-surveyed.surveyed in
+    let did = c.in_ok-surveyed.ensures in
+    let begins : Begins c.args.volume c.args.config c.args.boot c.args.now s =
+    record { found = did.found; held = did.held; leaves = did.leaves; settled = did.settled; surveys = did.surveyed } in
+    rw is (λ told other. settled_gains c.args.volume c.args.config c.args.boot c.args.now s begins told halt.volume c.in_err-planned.ensures.same)
 
 -- ---- what is left, and the disks
 

@@ -13,9 +13,10 @@ SECTOR = 512
 BEGUN = re.compile(r'(\w+)\(\d+<([^>]*)>(.*)')
 CALL = re.compile(r'(\w+)\(\d+<([^>]*)>(.*)\)\s*= (-?\d+)')
 BYTES = re.compile(r', "((?:[^"\\]|\\.)*)"')
-# What fsck.minix says of a bit without a use, and around it.
+# What fsck.minix says of a bit without a use, and around all that it says.
 UNUSED = re.compile(rb'Inode \d+ marked (as )?(in use|used)|Inode \d+ not used, marked used in the bitmap|'
-                    rb'Zone \d+: marked in use, no file uses it|^fsck|^Forcing|^$|FILE SYSTEM HAS BEEN CHANGED|^-+$')
+                    rb'Zone \d+: marked in use, no file uses it')
+AROUND = re.compile(rb'^fsck|^Forcing|^$|FILE SYSTEM HAS BEEN CHANGED|^-+$')
 # .. and of an inode that got a link before it has a name for it.
 RAISED = re.compile(rb'Inode \d+ \(mode = (\d+)\), i_nlinks=(\d+), counted=(\d+)\.')
 # Up to 64 sectors are written at once.
@@ -106,14 +107,15 @@ def made(start, run):
     return bytes(image)
 
 
-def mistakes(fsck, test, volume, mode):
-    """What fsck.minix finds in a volume, but for bits without a use, and a link more of inodes of this mode, or of none."""
+def mistakes(fsck, test, volume, mode, unused=True):
+    """What fsck.minix finds in a volume, but for bits without a use where these may be, and a link more of inodes of this
+    mode, or of none."""
     said = subprocess.run([fsck, '-f', test.image('v.img', volume)], stdin=subprocess.DEVNULL, stdout=subprocess.PIPE,
                           stderr=subprocess.STDOUT, timeout=60).stdout
 
     def is_left(line):
         raised = RAISED.fullmatch(line)
-        return UNUSED.search(line) or raised and raised[1] == mode and int(raised[2]) == int(raised[3]) + 1
+        return unused and UNUSED.search(line) or AROUND.search(line) or raised and raised[1] == mode and int(raised[2]) == int(raised[3]) + 1
 
     return [line for line in said.split(b'\n') if not is_left(line)]
 

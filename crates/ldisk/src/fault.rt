@@ -31,6 +31,7 @@ fn tell_usage(rt: &HostRuntime, words: &Words) -> io::Result<()> {
         "make" => println!(rt; "ldisk: usage: make IMAGE SECTORS [START:COUNT:TYPE ..]"),
         "mkfs" => println!(rt; "ldisk: usage: mkfs IMAGE DEVICE KIND INODES"),
         "ln" => println!(rt; "ldisk: usage: ln IMAGE DEVICE PATH TARGET"),
+        "reclaim" => println!(rt; "ldisk: usage: reclaim IMAGE DEVICE"),
         "ls" | "get" | "put" | "rm" | "mkdir" => {
             let command = word_at(words, 0);
             println!(rt; "ldisk: usage: {command} IMAGE DEVICE PATH")
@@ -48,6 +49,7 @@ fn tell_missing(rt: &HostRuntime, words: &Words) -> io::Result<()> {
         "rm" => "not there, or not a file or a link",
         "put" | "ln" => "there already, or in no directory",
         "mkdir" => "there already, or in no directory, or too deep",
+        "reclaim" => return println!(rt; "ldisk: {device}: not there, or without a sound volume"),
         _ => return println!(rt; "ldisk: {device}: no such disk or partition"),
     };
     let path = word_at(words, 3);

@@ -27,6 +27,7 @@ Makes disk images, and reads and changes the Minix volumes in them. The image is
   ldisk rm IMAGE DEVICE PATH                        removes a file or a link
   ldisk mkdir IMAGE DEVICE PATH                     makes a directory
   ldisk ln IMAGE DEVICE PATH TARGET                 makes a symbolic link
+  ldisk reclaim IMAGE DEVICE                        frees what stops left marked and nothing uses
 
 A DEVICE is /dev/hda, or /dev/hda1 and so on for a partition. A PATH begins with a slash. A KIND is v1-14, v1-30,
 v2-14 or v2-30, a TYPE two hexadecimal digits, as 81 for Minix.

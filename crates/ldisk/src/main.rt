@@ -3,9 +3,10 @@
 //! `make IMAGE SECTORS [START:COUNT:TYPE ..]` makes an image with a partition table, and `mkfs IMAGE DEVICE KIND
 //! INODES` an empty volume in it. `ls IMAGE DEVICE PATH` lists a directory, `get IMAGE DEVICE PATH` prints a file, `put
 //! IMAGE DEVICE PATH` stores standard input as one, `rm IMAGE DEVICE PATH` removes one, `mkdir IMAGE DEVICE PATH` makes
-//! a directory, and `ln IMAGE DEVICE PATH TARGET` a symbolic link. The image is the disk hda. All text goes to standard
-//! output, and the exit status is that of the arguments, 14 for an image that can't be used, or 13 where memory doesn't
-//! suffice. Each status but 0 and 12 has a line that says what it means. `--help` and `--version` print a text.
+//! a directory, and `ln IMAGE DEVICE PATH TARGET` a symbolic link. `reclaim IMAGE DEVICE` frees what is marked without a
+//! use. The image is the disk hda. All text goes to standard output, and the exit status is that of the arguments, 14
+//! for an image that can't be used, or 13 where memory doesn't suffice. Each status but 0 and 12 has a line that says
+//! what it means. `--help` and `--version` print a text.
 #![tactic(auto)]
 
 mod fault;

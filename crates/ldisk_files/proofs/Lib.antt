@@ -18,3 +18,4 @@ pub mod InodeLemmas
 pub mod ContentLemmas
 pub mod StoredLemmas
 pub mod StoringLemmas
+pub mod FreedLemmas

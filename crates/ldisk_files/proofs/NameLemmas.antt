@@ -26,7 +26,8 @@ use Rattle.minix_tree.specs.View.{IsNode}
 use Rattle.minix_zones.specs.Volume.{volume_view, past_of, SameVolume}
 use Rattle.minix_zones.specs.declared.volume.Volume as held
 use Rattle.minix_zones.proofs.SameLemmas.{told_back}
-use Rattle.ldisk_files.specs.Answer.{Refuses, IsLaid, IsSurveyed, IsRemovable, GivesName, GivesChecked, GivesSurveyed, Answers, is_found_removable, tree_fault, survey_answer}
+use Rattle.ldisk_model.specs.Laid.{IsLaid}
+use Rattle.ldisk_files.specs.Answer.{Refuses, IsSurveyed, IsRemovable, GivesName, GivesChecked, GivesSurveyed, Answers, is_found_removable, tree_fault, survey_answer}
 use Rattle.ldisk_model.specs.FileVerdict.{FileRefusal, NotSound, NoPlace, NoFile, checked_status, sound_check, gone_check, is_removable_thing}
 use Rattle.ldisk_files.specs.declared.fault.FileFault.{FileFault}
 use Rattle.ldisk_files.specs.declared.fault.FileFault.TheVariants.{Refused}

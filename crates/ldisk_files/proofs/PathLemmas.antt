@@ -30,7 +30,8 @@ use Rattle.minix_zones.specs.declared.zone_fault.ZoneFault.TheVariants as zones
 use Rattle.minix_layout.specs.View.{super_view}
 use Rattle.minix_names.specs.declared.place.NamePlace.{NamePlace}
 use Rattle.minix_change_laws.specs.Tree.{HasNamesWith}
-use Rattle.ldisk_files.specs.Answer.{Answers, HasFileCause, IsLaid, IsRemovable, IsSomeRemovable, GivesRemovable, GivesChecked, IsUnwritten, IsUnwrittenAt, Refuses, is_refusal, zone_fault}
+use Rattle.ldisk_model.specs.Laid.{IsLaid}
+use Rattle.ldisk_files.specs.Answer.{Answers, HasFileCause, IsRemovable, IsSomeRemovable, GivesRemovable, GivesChecked, IsUnwritten, IsUnwrittenAt, Refuses, is_refusal, zone_fault}
 use Rattle.ldisk_model.specs.FileVerdict.{FileRefusal, NoVolume, volume_check, sound_check, gone_check, checked_status}
 use Rattle.ldisk_files.specs.Left.{HasNamesOf, HasNamesBetween, HasNamed, HasEither, HasSoundVolume, IsNamed, IsEither, ChangesName, LeavesOn, LeavesNames}
 use Rattle.ldisk_files.specs.declared.fault.FileFault.{FileFault}
@@ -264,7 +265,7 @@ pub check-is : {A : Type 0} (check : model.Volume → Image → Result A FileRef
 unfolding volume_check
 check-is check image span volume is = rw is refl
 
-volume-refuses : {B : Type 0} (fault : ZoneFault) (given : Result B model.ZoneFault) → volumes.Refuses fault given → Refuses (zone_fault fault) given
+pub volume-refuses : {B : Type 0} (fault : ZoneFault) (given : Result B model.ZoneFault) → volumes.Refuses fault given → Refuses (zone_fault fault) given
 volume-refuses (zones.Layout fault) given refuses = rw refuses refl
 volume-refuses (zones.ZoneOutside zone) given refuses = rw refuses refl
 volume-refuses zones.Device given refuses = tt

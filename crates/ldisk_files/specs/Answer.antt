@@ -1,12 +1,11 @@
 -- How what was done compares with what the definitions give.
-use Rattle.std.specs.Prelude.{◌≡◌, ◌≢◌, ◌<◌, ◌*◌, ℕ, Bool, true, false, List, length, IsErr, Option, Some, None, Result, Ok, Err}
+use Rattle.std.specs.Prelude.{◌≡◌, ◌≢◌, ℕ, Bool, true, false, List, IsErr, Option, Some, None, Result, Ok, Err}
 use Rattle.disk_trait.specs.Moments.{now}
 use Rattle.disk_trait.specs.Past.{Past, Told}
 use Rattle.lilo_model.specs.Disks.{Image, Span}
 use Rattle.lilo_model.specs.Faults.{Rose}
-use Rattle.lilo_model.specs.MinixLayout.{super_at, super_sector}
 use Rattle.lilo_model.specs.MinixNames.{names_in, IsSound}
-use Rattle.lilo_model.specs.MinixParts.{Volume, parts_of, sector_of}
+use Rattle.lilo_model.specs.MinixParts.{Volume, parts_of}
 use Rattle.lilo_model.specs.MinixSurvey.{survey}
 use Rattle.lilo_model.specs.NamePlaces.{name_path}
 use Rattle.minix_layout.specs.View.{inode_view}
@@ -104,11 +103,6 @@ Refuses Device check = Unit {0}
 Refuses Memory check = Unit {0}
 
 -- ---- on the way there
-
--- the volume's superblock is the one that was read, and each of its sectors is there
-pub record IsLaid (volume : Volume) (image : Image) : Type 0 where
-  pub super : super_at (sector_of volume image super_sector) volume.span.count ≡ Ok volume.layout
-  pub whole : (sector : ℕ) → sector < 2 * volume.layout.zones → length (sector_of volume image sector) ≡ 512
 
 -- a survey refused nothing, and so the volume is sound
 pub record IsSurveyed (volume : Volume) (image : Image) : Type 0 where

@@ -4,3 +4,4 @@ pub mod Made
 pub mod Marks
 pub mod Inode
 pub mod Stored
+pub mod Freed

@@ -5,8 +5,8 @@ ghost use Rattle.lilo_model.specs.MinixNames.{IsSound};
 ghost use Rattle.minix_tree.specs.View.{IsStat};
 ghost use Rattle.minix_zones.specs.Volume.{volume_view, past_of, faults_of, SameVolume};
 ghost use Rattle.lilo_model.specs.MinixEntries.{is_dots};
+ghost use Rattle.ldisk_model.specs.Laid.{IsLaid};
 ghost use Rattle.ldisk_files.specs.Answer.{
-  IsLaid,
   GivesSurveyed,
   GivesName,
   GivesChecked,

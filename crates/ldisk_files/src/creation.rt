@@ -15,7 +15,8 @@ ghost use Rattle.ldisk_model.specs.FileVerdict.{
 ghost use Rattle.minix_names.specs.Component.{HasNoZero};
 ghost use Rattle.minix_zones.specs.View.{span_view};
 ghost use Rattle.minix_zones.specs.Volume.{volume_view, past_of, faults_of};
-ghost use Rattle.ldisk_files.specs.Answer.{Answers, IsLaid, IsUnwritten, IsUnwrittenAt, HasFileCause};
+ghost use Rattle.ldisk_model.specs.Laid.{IsLaid};
+ghost use Rattle.ldisk_files.specs.Answer.{Answers, IsUnwritten, IsUnwrittenAt, HasFileCause};
 ghost use Rattle.ldisk_files.specs.Inode.{ChangesInode, ChangesInodeAt, ChangesInodeBy};
 ghost use Rattle.ldisk_files.specs.Left.{ChangesName, LeavesOn, LeavesNames};
 ghost use Rattle.ldisk_files.specs.Made.{IsReady, MayMake, MayMakeSome, making_view};

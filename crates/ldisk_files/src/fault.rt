@@ -7,7 +7,7 @@ use minix_survey::SurveyFault;
 use minix_tree::TreeFault;
 use minix_zones::ZoneFault;
 
-/// Why no name is changed.
+/// Why no name is changed, and nothing is freed.
 #[derive(Clone, Copy, Debug, PartialEq, Eq)]
 pub enum FileFault {
     /// A volume, its survey, a path or a kind is refused, or something is at a new name.

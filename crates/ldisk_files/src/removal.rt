@@ -5,10 +5,10 @@ ghost use Rattle.disk_trait.specs.Moments.{IsTold, now, IsQuiet, IsWhole};
 ghost use Rattle.minix_tree.specs.View.{IsStat};
 ghost use Rattle.minix_zones.specs.View.{span_view};
 ghost use Rattle.minix_zones.specs.Volume.{volume_view, past_of, faults_of};
+ghost use Rattle.ldisk_model.specs.Laid.{IsLaid};
 ghost use Rattle.ldisk_files.specs.Answer.{
   Answers,
   HasFileCause,
-  IsLaid,
   IsRemovable,
   IsSomeRemovable,
   IsUnwritten,

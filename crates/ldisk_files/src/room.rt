@@ -11,7 +11,8 @@ ghost use Rattle.minix_layout.specs.View.{kind_view};
 ghost use Rattle.minix_names.specs.Component.{HasNoZero, IsFileName};
 ghost use Rattle.minix_tree.specs.View.{IsStat, IsNode};
 ghost use Rattle.minix_zones.specs.Volume.{volume_view, past_of, faults_of, SameVolume};
-ghost use Rattle.ldisk_files.specs.Answer.{Answers, IsLaid, HasFileCause};
+ghost use Rattle.ldisk_model.specs.Laid.{IsLaid};
+ghost use Rattle.ldisk_files.specs.Answer.{Answers, HasFileCause};
 ghost use Rattle.ldisk_files.specs.Made.{
   Fits,
   GivesChoice,

@@ -8,7 +8,8 @@ ghost use Rattle.minix_create.specs.Chosen.{Suits};
 ghost use Rattle.minix_names.specs.Component.{HasNoZero, IsFileName};
 ghost use Rattle.minix_tree.specs.View.{IsStat, IsNode};
 ghost use Rattle.minix_zones.specs.Volume.{volume_view, past_of, faults_of, SameVolume};
-ghost use Rattle.ldisk_files.specs.Answer.{IsLaid, HasFileCause};
+ghost use Rattle.ldisk_model.specs.Laid.{IsLaid};
+ghost use Rattle.ldisk_files.specs.Answer.{HasFileCause};
 ghost use Rattle.ldisk_files.specs.Made.{IsNewPlace, IsSoundNow, MayMakeNamed, MayMakeAt};
 ghost use Rattle.ldisk_files.specs.Stored.{
   GivesFree,

@@ -1,7 +1,7 @@
 -- The arguments of a command line of `ldisk`, and what they ask for (this project's own grammar).
 --
 --     run  = "make" image sectors { part } | "mkfs" image device kind inodes | "ln" image device path target
---          | ("put" | "get" | "ls" | "rm" | "mkdir") image device path
+--          | ("put" | "get" | "ls" | "rm" | "mkdir") image device path | "reclaim" image device
 --     part = start ":" count ":" type
 --
 -- An image is any argument, and so is a target. A device is one that has a name. A path begins with `/` and has no zero
@@ -46,6 +46,8 @@ pub data Command : Type 0 where
   Mkdir : (device : Device) (path : List ℕ) → Command
   -- `ln`: it makes a symbolic link
   Ln : (device : Device) (path target : List ℕ) → Command
+  -- `reclaim`: it frees what is marked without a use
+  Reclaim : (device : Device) → Command
 
 -- what is asked for
 pub record Asked : Type 0 where
@@ -127,6 +129,9 @@ pub data IsAsked : List (List ℕ) → Asked → Type 0 where
       (word image name path : List ℕ) (device : Device) (command : Device → List ℕ → Command)
       → IsPathWord word command → device_at name ≡ Some device → IsTrue (is_volume_path path)
       → IsAsked (word ∷ image ∷ name ∷ path ∷ []) (asked_of image (command device path))
+  reclaim :
+      (image name : List ℕ) (device : Device) → device_at name ≡ Some device
+      → IsAsked (codes "reclaim" ∷ image ∷ name ∷ []) (asked_of image (Reclaim device))
 
 -- ---- what arguments ask for
 
@@ -201,6 +206,10 @@ make_at image [] = None
 make_at image (digits ∷ words) =
     if nat_le (length words) 4 then new_with image (decimal_at 1 4294967295 digits) (parts_at words) else None
 
+-- the command of a device alone that an argument names
+unfoldable pub device_command : List ℕ → Device → Option Command
+device_command word device = if bytes_eq word (codes "reclaim") then Some (Reclaim device) else None
+
 -- the command of a path on a device that an argument names
 unfoldable pub path_command : List ℕ → Device → List ℕ → Option Command
 path_command word device path =
@@ -229,6 +238,7 @@ pair_command word device first second =
 
 -- a command by the number of its arguments
 unfoldable pub command_at : List ℕ → List (List ℕ) → Option Command
+command_at word (name ∷ []) = option_and_then (λ device. device_command word device) (device_at name)
 command_at word (name ∷ (path ∷ [])) = option_and_then (λ device. on_path_at word device path) (device_at name)
 command_at word (name ∷ (first ∷ (second ∷ []))) =
     option_and_then (λ device. pair_command word device first second) (device_at name)

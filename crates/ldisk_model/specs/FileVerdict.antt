@@ -1,4 +1,4 @@
--- The checks of the commands that change the names of a volume, in order, of which the first refusal decides. They speak
+-- The checks of the commands that change a volume that is there, in order, of which the first refusal decides. They speak
 -- of what the disks hold, and read no device. (This project's own; the volume: Minix file system.) A path is a list of
 -- components, the last one first.
 use Rattle.std.specs.Prelude.{ℕ, zero, suc, ◌*◌, nat_le, Bool, true, false, ◌&&◌, if◌then◌else◌, is_none, List, [], ◌∷◌, ◌++◌, length, take, drop, replicate}
@@ -17,8 +17,9 @@ use Rattle.write_model.specs.Choice.{Choice, choose_blocks}
 use Rattle.write_model.specs.FileZones.{data_blocks}
 use Rattle.write_model.specs.Wish as wishes
 use Rattle.write_model.specs.Wish.{Taken}
+use Rattle.ldisk_model.specs.Waste.{Freed, freed_by}
 
--- why no name is changed
+-- why no name is changed, and nothing is freed
 pub data FileRefusal : Type 0 where
   -- disk 0, the device or room for a volume isn't there
   NoRoom : Refusal → FileRefusal
@@ -183,6 +184,22 @@ room_check making volume now new =
 -- all of these checks
 abbrev pub made_check : Making → List ℕ → Volume → Image → Result (List (List ℕ)) FileRefusal
 made_check making path volume now = new_check path volume now >>= λ new. room_check making volume now new
+
+-- ---- reclaim
+
+-- how much of a volume is freed, once a survey found it sound
+abbrev pub freed_check : Volume → Image → Result Freed FileRefusal
+freed_check volume now =
+    with_fault NotSound (survey volume.layout (parts_of volume now))
+    >>= λ met. Ok (freed_by volume.layout (parts_of volume now) met)
+
+-- the same of the volume in a span
+unfoldable pub freed_at : Image → Span → Result Freed FileRefusal
+freed_at now span = with_fault NoVolume (volume_at now span) >>= λ volume. freed_check volume now
+
+-- the same of a device
+unfoldable pub reclaim_check : Image → Machine → Device → Result Freed FileRefusal
+reclaim_check now machine device = with_fault NoRoom (room_of now machine device) >>= λ span. freed_at now span
 
 -- ---- names
 

@@ -1,4 +1,6 @@
 pub mod MinixFormat
+pub mod Waste
+pub mod Laid
 pub mod Arguments
 pub mod DiskTable
 pub mod FileVerdict

@@ -1,21 +1,24 @@
 -- What `ldisk` answers and prints, as if nothing failed, and what the disks hold then: for each command a list of checks
 -- in order, of which the first refusal decides. They speak of what the disks hold, and read no device. (This project's
 -- own; the volume: Minix file system.)
-use Rattle.std.specs.Prelude.{ℕ, ◌+◌, ◌==◌, nat_le, nat_lt, Bool, true, false, not, ◌&&◌, List, Option, None, Some, ok_or, Result, Ok, Err}
+use Rattle.std.specs.Prelude.{ℕ, ◌+◌, ◌*◌, ◌==◌, nat_le, nat_lt, Bool, true, false, not, ◌&&◌, List, ◌++◌, codes, decimal, Option, None, Some}
+use Rattle.std.specs.Prelude.{ok_or, Result, Ok, Err}
 use Rattle.lilo_model.specs.Checks.{◌>>=◌, require, with_fault}
 use Rattle.lilo_model.specs.Devices.{Device}
 use Rattle.lilo_model.specs.Disks.{Image, Machine, Span, DiskSector, with_sector}
 use Rattle.lilo_model.specs.Partitions.{TableFault, span_of}
 use Rattle.lilo_model.specs.MinixLayout.{Kind}
+use Rattle.lilo_model.specs.MinixParts.{Volume}
 use Rattle.lilo_model.specs.Verdict.{Verdict}
 use Rattle.lilo_model.specs.LdiskWords as reads
-use Rattle.lilo_model.specs.LdiskVerdict.{silent}
+use Rattle.lilo_model.specs.LdiskVerdict.{silent, volume_on}
 use Rattle.lilo_model.specs.LdiskVerdict as reads_verdict
-use Rattle.ldisk_model.specs.Arguments.{PartWish, Command, Make, Mkfs, Put, Get, Ls, Rm, Mkdir, Ln, Asked, asked_at}
+use Rattle.ldisk_model.specs.Arguments.{PartWish, Command, Make, Mkfs, Put, Get, Ls, Rm, Mkdir, Ln, Reclaim, Asked, asked_at}
 use Rattle.ldisk_model.specs.DiskTable.{are_placed, table_sector}
 use Rattle.ldisk_model.specs.MinixFormat.{format_layout, format_at}
-use Rattle.ldisk_model.specs.FileVerdict.{NameChange, NewDirectory, NewLink, NewFile, removal, addition, checked_status, device_check, gone_check, new_check}
-use Rattle.ldisk_model.specs.FileVerdict.{made_check}
+use Rattle.ldisk_model.specs.FileVerdict.{FileRefusal, NameChange, NewDirectory, NewLink, NewFile, removal, addition, checked_status, file_status, device_check}
+use Rattle.ldisk_model.specs.FileVerdict.{gone_check, new_check, made_check, reclaim_check}
+use Rattle.ldisk_model.specs.Waste.{Freed}
 
 -- why a table or a volume isn't made
 pub data Refusal : Type 0 where
@@ -66,6 +69,17 @@ mkfs_check now machine device kind inodes = do
   layout ← ok_or (format_layout kind span.count inodes) NoSpace
   Ok span
 
+-- ---- reclaim
+
+-- what is printed of what was freed
+abbrev pub freed_text : Freed → List ℕ
+freed_text freed = codes "zones " ++ decimal freed.zones ++ codes ", inodes " ++ decimal freed.inodes ++ codes "\n"
+
+-- what is answered and printed
+abbrev pub freed_verdict : Result Freed FileRefusal → Verdict
+freed_verdict (Ok freed) = record { status = 0; text = freed_text freed }
+freed_verdict (Err refusal) = silent (file_status refusal)
+
 -- ---- the whole
 
 -- a command on an image with so many sectors where it is new, where a source gives these bytes up to its end
@@ -85,6 +99,7 @@ command_verdict now machine given sectors (Mkdir device path) =
     silent (checked_status (device_check (made_check NewDirectory path) now machine device))
 command_verdict now machine given sectors (Ln device path target) =
     silent (checked_status (device_check (made_check (NewLink target) path) now machine device))
+command_verdict now machine given sectors (Reclaim device) = freed_verdict (reclaim_check now machine device)
 
 -- whether a command may be carried out, whatever the disks hold
 unfoldable pub is_carried_out : ℕ → Command → Bool
@@ -96,6 +111,7 @@ is_carried_out sectors (Ls device path) = true
 is_carried_out sectors (Rm device path) = true
 is_carried_out sectors (Mkdir device path) = true
 is_carried_out sectors (Ln device path target) = true
+is_carried_out sectors (Reclaim device) = true
 
 -- arguments that ask for something that may be carried out
 abbrev pub are_carried_out : Option Asked → Bool
@@ -153,7 +169,7 @@ abbrev pub asked_change : List ℕ → Option Asked → Option NameChange
 asked_change given (Some asked) = name_change given asked.command
 asked_change given None = None
 
--- what the disks hold after a command that answered 0 at a time, and that changes no name
+-- what the disks hold after a command that answered 0 at a time, and that changes no name and frees nothing
 unfoldable pub image_after : Image → Machine → ℕ → Command → Option Image
 image_after now machine time (Make parts) = Some (with_sector now table_place (table_sector parts))
 image_after now machine time (Mkfs device kind inodes) =
@@ -173,8 +189,21 @@ abbrev pub is_in_found : Result Span TableFault → ℕ → ℕ → Bool
 is_in_found (Ok span) disk sector = is_in span disk sector
 is_in_found (Err fault) disk sector = false
 
+-- the sectors of the two bitmaps of a volume
+abbrev pub bitmap_span : Volume → Span
+bitmap_span volume = record {
+  disk = volume.span.disk;
+  start = volume.span.start + 4;
+  count = 2 * (volume.layout.imap + volume.layout.zmap);
+}
+
+-- whether a sector is one of these, where there is a volume
+abbrev pub is_in_bitmaps : {F : Type 0} → Result Volume F → ℕ → ℕ → Bool
+is_in_bitmaps (Ok volume) disk sector = is_in (bitmap_span volume) disk sector
+is_in_bitmaps (Err fault) disk sector = false
+
 -- whether a command may write a sector: `make` that of the table, `mkfs`, `put`, `rm`, `mkdir` and `ln` those of the device,
--- and others none
+-- `reclaim` those of the volume's bitmaps, and others none
 unfoldable pub may_write : Image → Machine → Command → ℕ → ℕ → Bool
 may_write now machine (Make parts) disk sector = disk == 0 && sector == 0
 may_write now machine (Mkfs device kind inodes) disk sector = is_in_found (span_of now machine device) disk sector
@@ -182,6 +211,7 @@ may_write now machine (Put device path) disk sector = is_in_found (span_of now m
 may_write now machine (Rm device path) disk sector = is_in_found (span_of now machine device) disk sector
 may_write now machine (Mkdir device path) disk sector = is_in_found (span_of now machine device) disk sector
 may_write now machine (Ln device path target) disk sector = is_in_found (span_of now machine device) disk sector
+may_write now machine (Reclaim device) disk sector = is_in_bitmaps (volume_on now machine device) disk sector
 may_write now machine command disk sector = false
 
 -- the same of arguments
@@ -197,6 +227,7 @@ only_reads (Put device path) = false
 only_reads (Rm device path) = false
 only_reads (Mkdir device path) = false
 only_reads (Ln device path target) = false
+only_reads (Reclaim device) = false
 only_reads command = true
 
 -- the same of arguments

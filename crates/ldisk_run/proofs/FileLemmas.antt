@@ -1,5 +1,5 @@
 -- The commands that change a name: their statuses, and what they leave.
-use Rattle.std.proofs.Common.{◌≡◌, ◌≢◌, ◌≤◌, ◌+◌, ◌∙◌, ◌==◌, ◌&&◌, nat_le, nat_lt, inl, inr, ℕ, Bool, true, false, List, Option, Some, Result, Ok, Err, IsErr, refl, sym, ap, subst, arith}
+use Rattle.std.proofs.Common.{◌≡◌, ◌≢◌, ◌≤◌, ◌∙◌, ◌==◌, nat_le, inl, inr, ℕ, Bool, true, false, List, Option, Some, None, Result, Ok, Err, IsErr, refl, sym, ap, subst, arith}
 use Rattle.std.specs.Prelude.{IsTrue, OnOk, IfErr}
 use Rattle.disk_trait.specs.declared.disks.Disks.{Ghosts}
 use Rattle.disk_trait.specs.declared.disks.Span as declared
@@ -23,15 +23,15 @@ use Rattle.mbr_table.proofs.ToldLemmas.{told_before}
 use Rattle.sector_address.specs.Machine.{OnDisks, machine_of}
 use Rattle.ldisk_model.specs.Arguments.{Command, Put, Rm, Mkdir, Ln}
 use Rattle.ldisk_model.specs.FileVerdict.{FileRefusal, NoRoom, NameChange, NewDirectory, NewLink, NewFile, volume_check, device_check, gone_check, made_check, removal, addition, checked_status}
-use Rattle.ldisk_model.specs.Verdict.{command_verdict, image_after, is_in, is_in_found, may_write, name_change, only_reads}
+use Rattle.ldisk_model.specs.Verdict.{command_verdict, is_in_found, may_write, name_change, only_reads}
 use Rattle.lilo_model.specs.MinixParts.{Volume}
 use Rattle.lilo_model.specs.Verdict.{Verdict}
 use Rattle.ldisk_files.specs.Answer.{Answers, HasFileCause, IsUnwrittenAt, is_refusal as is_file_refusal}
 use Rattle.ldisk_files.specs.Left.{HasSoundVolume, IsNamed, IsEither, LeavesNames}
 use Rattle.ldisk_files.specs.declared.fault.FileFault.{FileFault}
 use Rattle.ldisk_files.specs.declared.fault.FileFault.TheVariants as faults
-use Rattle.std.proofs.lemmas.Bool.{eq-eqb, leb-false, ltb-false}
-use Rattle.ldisk_run.specs.Left.{AnswersAs, HasSoundOn, HasInodeOf, HasVolumeOf, IsAfter, IsAfterChange, IsChanged, IsChanging, LeavesBy, LeavesChanging, is_refusal, makes_image}
+use Rattle.ldisk_files.proofs.FreedLemmas.{is-outside}
+use Rattle.ldisk_run.specs.Left.{AnswersAs, HasSoundOn, HasInodeOf, HasVolumeOf, IsAfter, IsChanged, IsChanging, LeavesBy, LeavesChanging, LeavesFreeing, freed_device, is_refusal, makes_image}
 use Rattle.ldisk_run.specs.Made.{file_status}
 use Rattle.ldisk_run.specs.Run.{Halts, HasCause, is_command_status, status_of}
 use Rattle.ldisk_run.specs.declared.halt.Halt.{Halt}
@@ -40,7 +40,7 @@ use Rattle.ldisk_run.proofs.MadeLemmas.{told_from}
 
 -- ---- statuses
 
-pub file_known : (result : Result (Unit {0}) FileFault) → IsTrue (is_command_status (file_status result))
+pub file_known : {T : Type 0} (result : Result T FileFault) → IsTrue (is_command_status (file_status result))
 file_known (Ok done) = refl
 file_known (Err faults.Refused) = refl
 file_known (Err faults.BadLength) = refl
@@ -48,7 +48,7 @@ file_known (Err faults.NoSpace) = refl
 file_known (Err faults.Device) = refl
 file_known (Err faults.Memory) = refl
 
-pub file_usage : (result : Result (Unit {0}) FileFault) → file_status result ≢ 1
+pub file_usage : {T : Type 0} (result : Result T FileFault) → file_status result ≢ 1
 file_usage (Ok done) is = cc
 file_usage (Err faults.Refused) is = cc
 file_usage (Err faults.BadLength) is = cc
@@ -70,6 +70,8 @@ pub record IsFileCommand (given : List ℕ) (command : Command) (change : NameCh
   pub no_image : makes_image command ≡ false
   pub may : (image : Image) (machine : Machine) (d s : ℕ) → may_write image machine command d s ≡ is_in_found (span_of image machine change.device) d s
   pub no_volume : (old image : Image) (machine : Machine) → HasVolumeOf old machine command image
+  pub after : (old image : Image) (machine : Machine) (time : ℕ) → IsChanged old machine time change image → IsAfter old machine time given command image
+  pub no_waste : freed_device command ≡ None
 
 pub removes : (given : List ℕ) (device : devices.Device) (path : List ℕ) → IsFileCommand given (Rm device path) (removal device path) (gone_check path)
 unfolding command_verdict only_reads may_write
@@ -80,6 +82,8 @@ removes given device path = record {
   no_image = refl;
   may = λ image machine d s. refl;
   no_volume = λ old image machine. tt;
+  after = λ old image machine time changed. changed;
+  no_waste = refl;
 }
 
 pub makes_directory : (given : List ℕ) (device : devices.Device) (path : List ℕ) → IsFileCommand given (Mkdir device path) (addition device path NewDirectory) (made_check NewDirectory path)
@@ -91,6 +95,8 @@ makes_directory given device path = record {
   no_image = refl;
   may = λ image machine d s. refl;
   no_volume = λ old image machine. tt;
+  after = λ old image machine time changed. changed;
+  no_waste = refl;
 }
 
 pub makes_link : (given : List ℕ) (device : devices.Device) (path target : List ℕ) → IsFileCommand given (Ln device path target) (addition device path (NewLink target)) (made_check (NewLink target) path)
@@ -102,6 +108,8 @@ makes_link given device path target = record {
   no_image = refl;
   may = λ image machine d s. refl;
   no_volume = λ old image machine. tt;
+  after = λ old image machine time changed. changed;
+  no_waste = refl;
 }
 
 pub makes_file : (given : List ℕ) (device : devices.Device) (path : List ℕ) → IsFileCommand given (Put device path) (addition device path (NewFile given)) (made_check (NewFile given) path)
@@ -113,6 +121,8 @@ makes_file given device path = record {
   no_image = refl;
   may = λ image machine d s. refl;
   no_volume = λ old image machine. tt;
+  after = λ old image machine time changed. changed;
+  no_waste = refl;
 }
 
 module _ (image : Image) (machine : Machine) (device : devices.Device) where
@@ -161,17 +171,6 @@ module _ (given : List ℕ) (command : Command) (change : NameChange) (check : V
   file_answer span room result answers = subst (λ (v : Verdict). AnswersAs v (file_status result)) (sym (is.verdict image machine sectors))
       (checked-answer image machine change.device span room check result answers)
 
--- a sector that isn't one of a device's lies outside them
-is-outside : (span : declared.Span) (d s : ℕ) → is_in (span_view span) d s ≡ false → IsOutside span.disk span.start span.count d s
-is-outside span d s out = by (span.disk == d) (nat_le span.start s) (nat_lt s (span.start + span.count)) refl refl refl out
-  where
-    by : (a b c : Bool) → (span.disk == d) ≡ a → nat_le span.start s ≡ b → nat_lt s (span.start + span.count) ≡ c
-        → ((span.disk == d) && nat_le span.start s && nat_lt s (span.start + span.count)) ≡ false → IsOutside span.disk span.start span.count d s
-    by false b c e f g out = inl (λ same. let t = eq-eqb span.disk d (sym same) in cc)
-    by true false c e f g out = inr (inl (leb-false span.start s f))
-    by true true false e f g out = inr (inr (ltb-false s (span.start + span.count) g))
-    by true true true e f g out = absurd (let no = rw (e, f, g) at out in cc)
-
 -- ---- nothing was done
 
 module _ (given : List ℕ) (command : Command) (change : NameChange) (check : Volume → Image → Result (List (List ℕ)) FileRefusal) (is-one : IsFileCommand given command change check) where
@@ -181,8 +180,8 @@ module _ (given : List ℕ) (command : Command) (change : NameChange) (check : V
         → LeavesChanging disks old new image machine (name_change given command)
     changes-as image machine leaves = subst (λ (c : Option NameChange). LeavesChanging disks old new image machine c) (sym is-one.names) leaves
 
-    after-as : (image left : Image) (machine : Machine) (time : ℕ) → IsChanged image machine time change left → IsAfter image machine time given command left
-    after-as image left machine time changed = subst (λ (c : Option NameChange). IsAfterChange image machine time c (image_after image machine time command) left) (sym is-one.names) changed
+    frees-none : (image : Image) (machine : Machine) → LeavesFreeing disks old new image machine (freed_device command)
+    frees-none image machine = subst (λ (d : Option devices.Device). LeavesFreeing disks old new image machine d) (sym is-one.no_waste) tt
 
   module _ {D : Type 0} (disks : Ghosts D) (old new : D) (same : SameOf disks old new) (later : disks.faults old ≤ disks.faults new) (status : ℕ) (some : status ≢ 0) where
     nothing_done : (time sectors : ℕ) → (status ≡ 8 → Rose (disks.faults old) (disks.faults new)) → LeavesBy disks old new time given sectors command status
@@ -198,6 +197,7 @@ module _ (given : List ℕ) (command : Command) (change : NameChange) (check : V
             room = sound.room;
             either = record { volume = sound.volume.volume; is = sound.volume.is; has = inl record { sound = sound.volume.sound; same = λ p. refl } };
           })))));
+      freeing = λ quiet. told_all (disks.past old) _ (λ image. frees-none disks old new image (machine_of disks old));
       partly = λ makes. absurd (let no : true ≡ false = sym makes ∙ is-one.no_image in cc);
       quiet = λ is writes. absurd (some is);
       refused = λ is. same.same_past;
@@ -215,11 +215,11 @@ module _ (given : List ℕ) (command : Command) (change : NameChange) (check : V
 
 -- ---- a name was changed
 
-module _ (result : Result (Unit {0}) FileFault) where
-  zero-of : {P : Type 0} → OnOk result P → file_status result ≡ 0 → P
+module _ {T : Type 0} (result : Result T FileFault) where
+  pub zero-of : {P : Type 0} → OnOk result P → file_status result ≡ 0 → P
   zero-of {P} ok is = by result ok is
     where
-      by : (r : Result (Unit {0}) FileFault) → OnOk r P → file_status r ≡ 0 → P
+      by : (r : Result T FileFault) → OnOk r P → file_status r ≡ 0 → P
       by (Ok done) ok is = ok
       by (Err faults.Refused) ok is = absurd cc
       by (Err faults.BadLength) ok is = absurd cc
@@ -227,10 +227,10 @@ module _ (result : Result (Unit {0}) FileFault) where
       by (Err faults.Device) ok is = absurd cc
       by (Err faults.Memory) ok is = absurd cc
 
-  refused-of : {P : Type 0} → IfErr result (λ fault. is_file_refusal fault ≡ true → P) → is_refusal (file_status result) ≡ true → P
+  pub refused-of : {P : Type 0} → IfErr result (λ fault. is_file_refusal fault ≡ true → P) → is_refusal (file_status result) ≡ true → P
   refused-of {P} refused is = by result refused is
     where
-      by : (r : Result (Unit {0}) FileFault) → IfErr r (λ fault. is_file_refusal fault ≡ true → P) → is_refusal (file_status r) ≡ true → P
+      by : (r : Result T FileFault) → IfErr r (λ fault. is_file_refusal fault ≡ true → P) → is_refusal (file_status r) ≡ true → P
       by (Ok done) refused is = absurd cc
       by (Err faults.Refused) refused is = refused refl
       by (Err faults.BadLength) refused is = refused refl
@@ -238,10 +238,10 @@ module _ (result : Result (Unit {0}) FileFault) where
       by (Err faults.Device) refused is = absurd cc
       by (Err faults.Memory) refused is = refused refl
 
-  rose-of : (before mid after : ℕ) → before ≤ mid → IfErr result (HasFileCause mid after) → file_status result ≡ 8 → Rose before after
+  pub rose-of : (before mid after : ℕ) → before ≤ mid → IfErr result (HasFileCause mid after) → file_status result ≡ 8 → Rose before after
   rose-of before mid after later cause is = by result cause is
     where
-      by : (r : Result (Unit {0}) FileFault) → IfErr r (HasFileCause mid after) → file_status r ≡ 8 → Rose before after
+      by : (r : Result T FileFault) → IfErr r (HasFileCause mid after) → file_status r ≡ 8 → Rose before after
       by (Ok done) cause is = absurd cc
       by (Err faults.Refused) cause is = absurd cc
       by (Err faults.BadLength) cause is = absurd cc
@@ -310,9 +310,10 @@ module _ (given : List ℕ) (command : Command) (change : NameChange) (check : V
 
   pub file_leaves : (sectors : ℕ) → LeavesBy disks old new time given sectors command (file_status result)
   file_leaves sectors = record {
-    done = told_from (disks.past old) _ (λ told is. after-as given command change check is-one disks old new I (now (disks.past new)) M time (named told is));
+    done = told_from (disks.past old) _ (λ told is. is-one.after I (now (disks.past new)) M time (named told is));
     empty = told_all (disks.past old) _ (λ image is whole. is-one.no_volume image (now (disks.past new)) M);
     any_moment = λ quiet. told_from (disks.past old) _ (λ told. changes-as given command change check is-one disks old new I M (moment told quiet));
+    freeing = λ quiet. told_all (disks.past old) _ (λ image. frees-none given command change check is-one disks old new image M);
     partly = λ makes. absurd (let no : true ≡ false = sym makes ∙ is-one.no_image in cc);
     quiet = λ is writes. zero-of result leaves.quiet is;
     refused = λ is. refused-of result leaves.refused is ∙ same.same_past;
@@ -325,4 +326,4 @@ module _ (given : List ℕ) (command : Command) (change : NameChange) (check : V
     where
       outside-span : (image : Image) (machine : Machine) (d s : ℕ) → span_of image machine change.device ≡ Ok (span_view span) → is_in_found (span_of image machine change.device) d s ≡ false
           → IsOutside span.disk span.start span.count d s
-      outside-span image machine d s is out = is-outside span d s (rw is at out)
+      outside-span image machine d s is out = is-outside (span_view span) d s (rw is at out)

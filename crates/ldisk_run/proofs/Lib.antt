@@ -10,3 +10,4 @@ pub mod StepLemmas
 pub mod FileLemmas
 pub mod WordLemmas
 pub mod PutLemmas
+pub mod FreedLemmas

@@ -19,7 +19,7 @@ use Rattle.lilo_model.specs.MinixLayout.{Kind}
 use Rattle.lilo_model.specs.Partitions.{span_of}
 use Rattle.lilo_model.specs.Faults.{Rose}
 use Rattle.sector_address.specs.Machine.{OnDisks, machine_of}
-use Rattle.ldisk_model.specs.Arguments.{PartWish, Command, Make, Mkfs, Put, Get, Ls, Rm, Mkdir, Ln, Asked}
+use Rattle.ldisk_model.specs.Arguments.{PartWish, Command, Make, Mkfs, Put, Get, Ls, Rm, Mkdir, Ln, Reclaim, Asked}
 use Rattle.ldisk_model.specs.DiskTable.{table_sector, are_placed}
 use Rattle.ldisk_model.specs.Verdict.{Refusal, make_check, mkfs_check, command_verdict, asked_verdict, name_change, asked_change, status_of, formatted_on, is_in_found, image_after, asked_after, may_write, asked_may_write, only_reads, asked_only_read}
 use Rattle.lilo_model.specs.LdiskVerdict.{silent}
@@ -30,7 +30,7 @@ use Rattle.lilo_model.specs.Verdict.{Verdict}
 use Rattle.minix_format.specs.Left.{IsPartlyMade, LeftOrPartlyMade}
 use Rattle.stream_trait.specs.Shows.{answer_of}
 use Rattle.stream_trait.proofs.ShowsLemmas.{answered as answered_sink}
-use Rattle.ldisk_run.specs.Left.{IsAfter, LeavesChanging, IsDone, is_refusal, AnswersAs, HasVolumeOf, LeavesBy, LeavesAsked, IsAskedDone, HasAskedVolume, makes_image, asked_makes_image, held_now}
+use Rattle.ldisk_run.specs.Left.{IsAfter, LeavesChanging, LeavesFreeing, freed_device, asked_freed_device, IsDone, is_refusal, AnswersAs, HasVolumeOf, LeavesBy, LeavesAsked, IsAskedDone, HasAskedVolume, makes_image, asked_makes_image, held_now}
 use Rattle.ldisk_run.specs.Pieces.{Held}
 use Rattle.ldisk_run.specs.Run.{DoesAs, is_command_status, is_any_status, is_status}
 use Rattle.ldisk_run.proofs.AddsLemmas.{adds_nothing, adds_same}
@@ -139,6 +139,7 @@ module _ {D : Type 0} (disks : Ghosts D) (old new : D) (result : Result (Unit {0
     done = told_from (disks.past old) _ (λ told is. ap Some (sym (done_by result (made told) is)));
     empty = told_all (disks.past old) _ (λ image is whole. tt);
     any_moment = λ quiet. told_all (disks.past old) _ (λ image. tt);
+    freeing = λ quiet. told_all (disks.past old) _ (λ image. tt);
     partly = λ makes quiet. told_from (disks.past old) _ (λ told.
         leaves_weaker (disks.past old) (disks.past new) (LeftOrWritten (disks.past old) 0 0 (table_sector parts))
         (IsPartlyMade (Some (past.with_sector (now (disks.past old)) 0 0 (table_sector parts))) (now (disks.past old))) moment
@@ -166,6 +167,7 @@ module _ {D : Type 0} (disks : Ghosts D) (old new : D) (result : Result (Unit {0
     done = by_status (disks.past old) _ (λ is. done_by result made is);
     empty = by_status (disks.past old) _ (λ is. done_by result empty is);
     any_moment = λ quiet. told_all (disks.past old) _ (λ image. tt);
+    freeing = λ quiet. told_all (disks.past old) _ (λ image. tt);
     partly = λ makes quiet. told_from (disks.past old) _ (λ told.
         let I = now (disks.past old) in
         let place = span_of I (machine_of disks old) device in
@@ -204,6 +206,7 @@ module _ {D : Type 0} (disks : Ghosts D) (old new : D) (same : SameOf disks old 
   kept image left machine time given (Rm device path) is same = absurd cc
   kept image left machine time given (Mkdir device path) is same = absurd cc
   kept image left machine time given (Ln device path target) is same = absurd cc
+  kept image left machine time given (Reclaim device) is same = absurd cc
 
   no_volume : (image left : Image) (machine : Machine) (command : Command) → only_reads command ≡ true → HasVolumeOf image machine command left
   unfolding only_reads
@@ -215,6 +218,7 @@ module _ {D : Type 0} (disks : Ghosts D) (old new : D) (same : SameOf disks old 
   no_volume image left machine (Rm device path) is = absurd cc
   no_volume image left machine (Mkdir device path) is = absurd cc
   no_volume image left machine (Ln device path target) is = absurd cc
+  no_volume image left machine (Reclaim device) is = absurd cc
 
   no_change : (image : Image) (machine : Machine) (given : List ℕ) (command : Command) → only_reads command ≡ true → LeavesChanging disks old new image machine (name_change given command)
   unfolding only_reads
@@ -226,6 +230,19 @@ module _ {D : Type 0} (disks : Ghosts D) (old new : D) (same : SameOf disks old 
   no_change image machine given (Rm device path) is = absurd cc
   no_change image machine given (Mkdir device path) is = absurd cc
   no_change image machine given (Ln device path target) is = absurd cc
+  no_change image machine given (Reclaim device) is = absurd cc
+
+  frees_nothing : (image : Image) (machine : Machine) (command : Command) → only_reads command ≡ true → LeavesFreeing disks old new image machine (freed_device command)
+  unfolding only_reads
+  frees_nothing image machine (Make parts) is = absurd cc
+  frees_nothing image machine (Mkfs device kind inodes) is = absurd cc
+  frees_nothing image machine (Put device path) is = absurd cc
+  frees_nothing image machine (Get device path) is = tt
+  frees_nothing image machine (Ls device path) is = tt
+  frees_nothing image machine (Rm device path) is = absurd cc
+  frees_nothing image machine (Mkdir device path) is = absurd cc
+  frees_nothing image machine (Ln device path target) is = absurd cc
+  frees_nothing image machine (Reclaim device) is = absurd cc
 
   not_made : (command : Command) → only_reads command ≡ true → makes_image command ≡ true → ⊥
   unfolding only_reads
@@ -237,12 +254,14 @@ module _ {D : Type 0} (disks : Ghosts D) (old new : D) (same : SameOf disks old 
   not_made (Rm device path) is makes = cc
   not_made (Mkdir device path) is makes = cc
   not_made (Ln device path target) is makes = cc
+  not_made (Reclaim device) is makes = cc
 
   pub reading_leaves : (time : ℕ) (given : List ℕ) (sectors : ℕ) (command : Command) (status : ℕ) → only_reads command ≡ true
       → (status ≡ 8 → Rose (disks.faults old) (disks.faults new)) → LeavesBy disks old new time given sectors command status
   reading_leaves time given sectors command status reads rose = record {
     done = told_from (disks.past old) _ (λ told is. kept (now (disks.past old)) (now (disks.past new)) (machine_of disks old) time given command reads now_same);
     any_moment = λ quiet. told_all (disks.past old) _ (λ image. no_change image (machine_of disks old) given command reads);
+    freeing = λ quiet. told_all (disks.past old) _ (λ image. frees_nothing image (machine_of disks old) command reads);
     partly = λ makes. absurd (not_made command reads makes);
     empty = told_all (disks.past old) _ (λ image is whole. no_volume image (now (disks.past new)) (machine_of disks old) command reads);
     quiet = λ is writes. absurd (let no = rw reads at writes in cc);
@@ -324,6 +343,11 @@ module _ {D : Type 0} (disks : Ghosts D) (old new : D) (time : ℕ) (given : Lis
       → OnDisks disks old (λ image machine. LeavesChanging disks old new image machine (asked_change given asked))
   asked_moment None left quiet = told_all (disks.past old) _ (λ image. tt)
   asked_moment (Some asked) left quiet = left.any_moment quiet
+
+  pub asked_freeing : (asked : Option Asked) → LeavesAsked disks old new time given asked status → IsQuiet (disks.past old)
+      → OnDisks disks old (λ image machine. LeavesFreeing disks old new image machine (asked_freed_device asked))
+  asked_freeing None left quiet = told_all (disks.past old) _ (λ image. tt)
+  asked_freeing (Some asked) left quiet = left.freeing quiet
 
   pub asked_partly : (asked : Option Asked) → LeavesAsked disks old new time given asked status
       → asked_makes_image asked ≡ true → IsQuiet (disks.past old)

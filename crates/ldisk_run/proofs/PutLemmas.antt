@@ -106,6 +106,7 @@ module _ {D : Type 0} (disks : Ghosts D) (old new : D) (time : ℕ) (given : Lis
     done = told_all (disks.past old) _ (λ image none. absurd cc);
     empty = told_all (disks.past old) _ (λ image none whole. absurd cc);
     any_moment = is.any_moment;
+    freeing = is.freeing;
     partly = is.partly;
     quiet = λ none writes. absurd cc;
     refused = λ why. is.refused refl;

@@ -40,6 +40,7 @@ plain : (words : List (List ℕ)) (asked : Asked) → IsAsked words asked → Ha
 plain words asked (model.make image digits sectors rest parts number few are) = tt
 plain words asked (model.mkfs image name digits device kind inodes named number) = tt
 plain words asked (model.ln image name path target device named good) = path-plain path good
+plain words asked (model.reclaim image name device named) = tt
 plain words asked (model.on_path word image name path device command is named good) = by-word word command is device path (path-plain path good)
 
 -- what arguments ask for has such a path

@@ -13,9 +13,10 @@ use Rattle.lilo_model.specs.MinixNames.{Thing, File, Link, Directory, Other}
 use Rattle.lilo_model.specs.Partitions.{span_of}
 use Rattle.lilo_model.specs.Verdict.{Verdict}
 use Rattle.sector_address.specs.Machine.{OnDisks}
-use Rattle.ldisk_model.specs.Arguments.{Command, Make, Mkfs, Asked}
+use Rattle.ldisk_model.specs.Arguments.{Command, Make, Mkfs, Reclaim, Asked}
 use Rattle.ldisk_model.specs.FileVerdict.{NameChange, NewDirectory, NewLink, NewFile}
 use Rattle.ldisk_model.specs.Verdict.{command_verdict, image_after, may_write, name_change, only_reads}
+use Rattle.ldisk_files.specs.Freed.{IsFreeing, IsFreed}
 use Rattle.ldisk_files.specs.Inode.{HasChangedIn}
 use Rattle.ldisk_files.specs.Left.{HasSoundVolume, IsNamed, IsEither}
 use Rattle.ldisk_make.specs.Answer.{HasEmptyVolume}
@@ -77,6 +78,18 @@ pub record HasSoundOn (image : Image) (machine : Machine) (device : Device) : Ty
   pub room : room_of image machine device ≡ Ok span
   pub volume : HasSoundVolume span image
 
+-- all waste of the volume of a device is freed
+pub record IsFreedOn (old : Image) (machine : Machine) (device : Device) (image : Image) : Type 0 where
+  pub span : Span
+  pub room : room_of old machine device ≡ Ok span
+  pub has : IsFreed span old image
+
+-- none or some of it is, and no more
+pub record IsFreeingOn (old : Image) (machine : Machine) (device : Device) (image : Image) : Type 0 where
+  pub span : Span
+  pub room : room_of old machine device ≡ Ok span
+  pub has : IsFreeing span old image
+
 -- an image is what the disks hold after the change of a name at a time, or, where none changes, exactly what is defined
 abbrev pub IsAfterChange : Image → Machine → ℕ → Option NameChange → Option Image → Image → Type 0
 IsAfterChange old machine time (Some change) defined image = IsChanged old machine time change image
@@ -84,6 +97,7 @@ IsAfterChange old machine time None defined image = defined ≡ Some image
 
 -- an image is what the disks hold after a command that was carried out at a time, where a source gives these bytes
 abbrev pub IsAfter : Image → Machine → ℕ → List ℕ → Command → Image → Type 0
+IsAfter old machine time given (Reclaim device) image = IsFreedOn old machine device image
 IsAfter old machine time given command image =
     IsAfterChange old machine time (name_change given command) (image_after old machine time command) image
 
@@ -97,6 +111,23 @@ abbrev pub LeavesChanging : {D : Type 0} → Ghosts D → D → D → Image → 
 LeavesChanging disks old new image machine (Some change) =
     HasSoundOn image machine change.device → LeavesOnly (disks.past old) (disks.past new) (IsChanging image machine change)
 LeavesChanging disks old new image machine None = Unit {0}
+
+-- the device whose waste a command frees
+abbrev pub freed_device : Command → Option Device
+freed_device (Reclaim device) = Some device
+freed_device command = None
+
+-- the same of arguments
+abbrev pub asked_freed_device : Option Asked → Option Device
+asked_freed_device (Some asked) = freed_device asked.command
+asked_freed_device None = None
+
+-- while waste is freed, a stop at any moment leaves the Names, and each bit as it was or clear where it was that of waste,
+-- where the volume was sound
+abbrev pub LeavesFreeing : {D : Type 0} → Ghosts D → D → D → Image → Machine → Option Device → Type 0
+LeavesFreeing disks old new image machine (Some device) =
+    HasSoundOn image machine device → LeavesOnly (disks.past old) (disks.past new) (IsFreeingOn image machine device)
+LeavesFreeing disks old new image machine None = Unit {0}
 
 -- whether a command makes an image: a partition table, or an empty volume
 abbrev pub makes_image : Command → Bool
@@ -117,6 +148,7 @@ pub record LeavesBy {D : Type 0} (disks : Ghosts D) (old new : D) (time : ℕ) (
   pub empty : OnDisks disks old (λ image machine. status ≡ 0 → IsWholeImage (disks.size_of old) image
       → HasVolumeOf image machine command (now (disks.past new)))
   pub any_moment : IsQuiet (disks.past old) → OnDisks disks old (λ image machine. LeavesChanging disks old new image machine (name_change given command))
+  pub freeing : IsQuiet (disks.past old) → OnDisks disks old (λ image machine. LeavesFreeing disks old new image machine (freed_device command))
   -- while an image is made, a stop leaves in each sector what it held or what is defined for it
   pub partly : makes_image command ≡ true → IsQuiet (disks.past old) → OnDisks disks old (λ image machine.
       LeavesOnly (disks.past old) (disks.past new) (IsPartlyMade (image_after image machine time command) image))

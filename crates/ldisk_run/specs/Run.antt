@@ -5,7 +5,7 @@ use Rattle.lilo_model.specs.Faults.{Rose}
 use Rattle.stream_trait.specs.Sink.{TakesFront}
 use Rattle.stream_trait.specs.Shows.{Prints}
 use Rattle.lilo_model.specs.Verdict.{Verdict}
-use Rattle.ldisk_model.specs.Arguments.{Command, Put, Rm, Mkdir, Ln, Asked}
+use Rattle.ldisk_model.specs.Arguments.{Command, Put, Rm, Mkdir, Ln, Reclaim, Asked}
 use Rattle.minix_names.specs.Component.{HasNoZero}
 use Rattle.mbr_table.specs.declared.table_fault.TableFault.{TableFault}
 use Rattle.mbr_table.specs.declared.table_fault.TableFault.TheVariants as tables
@@ -78,6 +78,7 @@ takes_memory (Put device path) = true
 takes_memory (Rm device path) = true
 takes_memory (Mkdir device path) = true
 takes_memory (Ln device path target) = true
+takes_memory (Reclaim device) = true
 takes_memory command = false
 
 -- the same of arguments

@@ -1,12 +1,13 @@
 //! What the program `ldisk` does with its arguments, over disks and a sink of text that the caller gives: it makes a
-//! partition table and empty Minix volumes, lists directories, stores, prints and removes files, and makes directories
-//! and symbolic links.
+//! partition table and empty Minix volumes, lists directories, stores, prints and removes files, makes directories and
+//! symbolic links, and frees what is marked without a use.
 //!
 //! [`ldisk`] is the top call; ldisk_words says what arguments ask for.
 #![tactic(auto)]
 
 mod command;
 mod files;
+mod freeing;
 mod get;
 mod halt;
 mod laws;

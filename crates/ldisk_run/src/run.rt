@@ -32,6 +32,8 @@ ghost use Rattle.ldisk_run.specs.Left.{
   LeavesBy,
   LeavesAsked,
   LeavesChanging,
+  LeavesFreeing,
+  asked_freed_device,
   IsAskedDone,
   HasAskedVolume,
   asked_makes_image,
@@ -53,6 +55,7 @@ ghost use Rattle.ldisk_run.specs.View.{reading_view};
 
 use crate::command::carry_out;
 use crate::files::{ln, mkdir, rm};
+use crate::freeing::reclaim;
 use crate::halt::status_of;
 use crate::made::{make, mkfs};
 use crate::pieces::Pieces;
@@ -73,7 +76,8 @@ use stream_trait::{Shown, Sink, Source, Words, answer};
 /// zero bytes. `rm IMAGE DEVICE PATH` removes a regular file or a symbolic link: all checks come before anything is
 /// written, a survey of the volume among them; and whatever a stop leaves is sound, with the names before or after. So
 /// it is of `put`, of `mkdir IMAGE DEVICE PATH`, which makes a directory, and of `ln IMAGE DEVICE PATH TARGET`, which
-/// makes a symbolic link.
+/// makes a symbolic link. `reclaim IMAGE DEVICE` frees the zones and inodes that are marked and that nothing with a name
+/// uses, as a stop leaves them, and prints how many: `zones N, inodes M`.
 ///
 /// | status | comes |
 /// |---|---|
@@ -91,8 +95,8 @@ use stream_trait::{Shown, Sink, Source, Words, answer};
 /// entries before it. Once the sink failed nothing more is put, and the command goes on. `make` and `mkfs` write only
 /// once all their checks passed, and whenever they are stopped each sector is as before or as it is to be: that of
 /// `mkfs` may be no sound volume. The source is asked by `put` alone, once a survey and the checks of its path have
-/// passed: to its end, or one byte past the most. `put`, `rm`, `mkdir` and `ln` alone take memory, for the survey, for
-/// what is chosen and for the source's bytes.
+/// passed: to its end, or one byte past the most. `put`, `rm`, `mkdir`, `ln` and `reclaim` alone take memory, for the
+/// survey, for what is chosen and for the source's bytes.
 #[tactic(auto, unfolding(ldisk_model::specs::Verdict::ldisk_verdict))]
 pub fn ldisk<D: Disks, I: Source, O: Sink>(
     alloc: Global,
@@ -137,6 +141,11 @@ pub fn ldisk<D: Disks, I: Source, O: Sink>(
     ensures any_moment { IsQuiet (D.past disks.old) → OnDisks D.Disks disks.old (λ now machine.
         OnGiven (I.left source.old) (λ given.
         LeavesChanging D.Disks disks.old disks.new now machine (asked_change given (asked_at words.now)))) }
+
+    // From a quiet moment and a sound volume on, whatever a stop of `reclaim` leaves is sound, with the same Names, and has
+    // each bit of the bitmaps as before, or clear where it was that of waste.
+    ensures freeing { IsQuiet (D.past disks.old) → OnDisks D.Disks disks.old (λ now machine.
+        LeavesFreeing D.Disks disks.old disks.new now machine (asked_freed_device (asked_at words.now))) }
 
     // From a quiet moment on, whatever a stop of `make` and `mkfs` leaves has in each sector what it held or what is
     // defined for it.
@@ -252,6 +261,7 @@ fn run_command<D: Disks, I: Source, O: Sink>(
             path,
             target,
         } => ln(alloc, disks, device, path, target, time),
+        Command::Reclaim { device } => reclaim(alloc, disks, device, out),
     }
 }
 

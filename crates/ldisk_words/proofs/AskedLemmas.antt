@@ -5,7 +5,7 @@ use Rattle.std.specs.Option.{option_and_then}
 use Rattle.std.proofs.lemmas.Bool.{le-leb, lt-leb}
 use Rattle.std.proofs.lemmas.Option.{same_Some}
 use Rattle.lilo_model.specs.Devices.{device_at}
-use Rattle.ldisk_model.specs.Arguments.{asked_of, decimal_at, parts_at, new_with, make_at, on_path_at, pair_command, command_at, asked_at}
+use Rattle.ldisk_model.specs.Arguments.{asked_of, decimal_at, parts_at, new_with, make_at, device_command, on_path_at, pair_command, command_at, asked_at}
 
 -- ---- the whole
 
@@ -67,6 +67,17 @@ make_all image (a ∷ (b ∷ (c ∷ words))) digits three seven is =
 
 -- ---- another command
 
+pub command_three : (word : List ℕ) (words : List (List ℕ)) (name : List ℕ) → length words ≡ 3 → slice_get words 2 ≡ Some name
+    → command_at word (drop 2 words) ≡ option_and_then (λ device. device_command word device) (device_at name)
+unfolding command_at
+command_three word [] name three one = absurd (omega (arith, three))
+command_three word (a ∷ []) name three one = absurd (omega (arith, three))
+command_three word (a ∷ (b ∷ [])) name three one = absurd (omega (arith, three))
+command_three word (a ∷ (b ∷ (c ∷ []))) name three one =
+    let x : c ≡ name = same_Some c name one in
+    rw x refl
+command_three word (a ∷ (b ∷ (c ∷ (d ∷ words)))) name three one = absurd (omega (arith, three))
+
 pub command_four : (word : List ℕ) (words : List (List ℕ)) (name path : List ℕ) → length words ≡ 4 → slice_get words 2 ≡ Some name → slice_get words 3 ≡ Some path
     → command_at word (drop 2 words) ≡ option_and_then (λ device. on_path_at word device path) (device_at name)
 unfolding command_at
@@ -96,12 +107,12 @@ command_five word (a ∷ (b ∷ (c ∷ (d ∷ (e ∷ []))))) name first second f
     rw (x, y, z) refl
 command_five word (a ∷ (b ∷ (c ∷ (d ∷ (e ∷ (f ∷ words)))))) name first second five one two three = absurd (omega (arith, five))
 
-pub command_other : (word : List ℕ) (words : List (List ℕ)) → 2 ≤ length words → length words ≢ 4 → length words ≢ 5 → command_at word (drop 2 words) ≡ None
+pub command_other : (word : List ℕ) (words : List (List ℕ)) → 2 ≤ length words → length words ≢ 3 → length words ≢ 4 → length words ≢ 5 → command_at word (drop 2 words) ≡ None
 unfolding command_at
-command_other word [] some four five = absurd (omega (arith, some))
-command_other word (a ∷ []) some four five = absurd (omega (arith, some))
-command_other word (a ∷ (b ∷ [])) some four five = refl
-command_other word (a ∷ (b ∷ (c ∷ []))) some four five = refl
-command_other word (a ∷ (b ∷ (c ∷ (d ∷ [])))) some four five = absurd (four refl)
-command_other word (a ∷ (b ∷ (c ∷ (d ∷ (e ∷ []))))) some four five = absurd (five refl)
-command_other word (a ∷ (b ∷ (c ∷ (d ∷ (e ∷ (f ∷ words)))))) some four five = refl
+command_other word [] some three four five = absurd (omega (arith, some))
+command_other word (a ∷ []) some three four five = absurd (omega (arith, some))
+command_other word (a ∷ (b ∷ [])) some three four five = refl
+command_other word (a ∷ (b ∷ (c ∷ []))) some three four five = absurd (three refl)
+command_other word (a ∷ (b ∷ (c ∷ (d ∷ [])))) some three four five = absurd (four refl)
+command_other word (a ∷ (b ∷ (c ∷ (d ∷ (e ∷ []))))) some three four five = absurd (five refl)
+command_other word (a ∷ (b ∷ (c ∷ (d ∷ (e ∷ (f ∷ words)))))) some three four five = refl

@@ -15,8 +15,8 @@ use Rattle.std.proofs.lemmas.Str.Parse.{digit_at}
 use Rattle.lilo_model.specs.Devices.{Device, device_at}
 use Rattle.lilo_model.specs.LdiskWords.{is_volume_path}
 use Rattle.lilo_model.specs.MinixLayout.{Kind, V1Short, V1Long, V2Short, V2Long}
-use Rattle.ldisk_model.specs.Arguments.{PartWish, Command, Mkfs, Ln, Put, Get, Ls, Rm, Mkdir, Asked, asked_of, asked_new, kind_name, IsDecimal, IsWritten, IsPart, AreParts, IsPathWord, IsAsked, AskedLaw}
-use Rattle.ldisk_model.specs.Arguments.{is_colon, Halves, halves_of, decimal_at, type_at, part_with, part_of, part_at, onto_parts, parts_at, kind_at, new_with, make_at, path_command, on_path_at, mkfs_with, pair_command, command_at, asked_at}
+use Rattle.ldisk_model.specs.Arguments.{PartWish, Command, Mkfs, Ln, Put, Get, Ls, Rm, Mkdir, Reclaim, Asked, asked_of, asked_new, kind_name, IsDecimal, IsWritten, IsPart, AreParts, IsPathWord, IsAsked, AskedLaw}
+use Rattle.ldisk_model.specs.Arguments.{is_colon, Halves, halves_of, decimal_at, type_at, part_with, part_of, part_at, onto_parts, parts_at, kind_at, new_with, make_at, device_command, path_command, on_path_at, mkfs_with, pair_command, command_at, asked_at}
 use Rattle.ldisk_model.specs.Arguments as grammar
 use Rattle.ldisk_words.proofs.NumberLemmas.{decimal_read, decimal_written, type_read, type_written}
 
@@ -187,6 +187,18 @@ kind_written V2Long = refl
 
 -- ---- from what is read to the grammar
 
+three_read : (word image name : List ℕ) (device : Device) (asked : Asked) → device_at name ≡ Some device
+    → option_and_then (λ command. Some (asked_of image command)) (device_command word device) ≡ Some asked
+    → IsAsked (word ∷ image ∷ name ∷ []) asked
+unfolding device_command
+three_read word image name device asked named is = by (bytes_eq word (codes "reclaim")) refl
+  where
+    by : (reclaim : Bool) → bytes_eq word (codes "reclaim") ≡ reclaim → IsAsked (word ∷ image ∷ name ∷ []) asked
+    by true e =
+        rw (same word (codes "reclaim") e, ← same_Some (asked_of image (Reclaim device)) asked (rw e at is))
+        (grammar.reclaim image name device named)
+    by false e = absurd (let none = rw e at is in cc)
+
 four_read : (word image name path : List ℕ) (device : Device) (asked : Asked) → device_at name ≡ Some device
     → option_and_then (λ command. Some (asked_of image command)) (on_path_at word device path) ≡ Some asked
     → IsAsked (word ∷ image ∷ name ∷ path ∷ []) asked
@@ -251,7 +263,13 @@ command_read : (word image : List ℕ) (words : List (List ℕ)) (asked : Asked)
     → option_and_then (λ command. Some (asked_of image command)) (command_at word words) ≡ Some asked → IsAsked (word ∷ image ∷ words) asked
 unfolding command_at
 command_read word image [] asked is = absurd cc
-command_read word image (a ∷ []) asked is = absurd cc
+command_read word image (name ∷ []) asked is = by (device_at name) refl is
+  where
+    by : (device : Option Device) → device_at name ≡ device
+        → option_and_then (λ command. Some (asked_of image command)) (option_and_then (λ device. device_command word device) device) ≡ Some asked
+        → IsAsked (word ∷ image ∷ name ∷ []) asked
+    by None e found = absurd cc
+    by (Some device) e found = three_read word image name device asked e found
 command_read word image (name ∷ (path ∷ [])) asked is = by (device_at name) refl is
   where
     by : (device : Option Device) → device_at name ≡ device
@@ -281,7 +299,7 @@ asked_read (word ∷ (image ∷ words)) asked is = by (bytes_eq word (codes "mak
 -- ---- from the grammar to what is read
 
 asked_written : (words : List (List ℕ)) (asked : Asked) → IsAsked words asked → asked_at words ≡ Some asked
-unfolding asked_at make_at command_at on_path_at pair_command
+unfolding asked_at make_at command_at device_command on_path_at pair_command
 asked_written words asked (grammar.make image digits sectors rest parts number few are) =
     rw (le-leb (length rest) 4 few, decimal_written 1 4294967295 digits sectors number, parts_written rest parts are) refl
 asked_written words asked (grammar.mkfs image name digits device kind inodes named number) =
@@ -290,6 +308,7 @@ asked_written words asked (grammar.ln image name path target device named good) 
 asked_written words asked (grammar.on_path word image name path device of is named good) =
     let read = path_written word path device of is in
     rw (read.1, named, good, read.0) refl
+asked_written words asked (grammar.reclaim image name device named) = rw named refl
 
 pub asked_law : AskedLaw
 asked_law words asked = (asked_read words asked, asked_written words asked)

@@ -7,7 +7,7 @@ use Rattle.minix_layout.specs.View.{kind_view}
 use Rattle.ldisk_words.specs.declared.part.PartWish.{PartWish}
 use Rattle.ldisk_words.specs.declared.asked.Asked.{Asked}
 use Rattle.ldisk_words.specs.declared.asked.Command.{Command}
-use Rattle.ldisk_words.specs.declared.asked.Command.TheVariants.{Make, Mkfs, Put, Get, Ls, Rm, Mkdir, Ln}
+use Rattle.ldisk_words.specs.declared.asked.Command.TheVariants.{Make, Mkfs, Put, Get, Ls, Rm, Mkdir, Ln, Reclaim}
 
 -- a partition that is asked for
 abbrev pub part_view : PartWish → model.PartWish
@@ -27,6 +27,7 @@ command_view (Ls device path) = model.Ls (device_view device) path.now
 command_view (Rm device path) = model.Rm (device_view device) path.now
 command_view (Mkdir device path) = model.Mkdir (device_view device) path.now
 command_view (Ln device path target) = model.Ln (device_view device) path.now target.now
+command_view (Reclaim device) = model.Reclaim (device_view device)
 
 -- what arguments ask for
 abbrev pub asked_view : Asked → model.Asked

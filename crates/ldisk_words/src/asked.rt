@@ -9,6 +9,7 @@ ghost use Rattle.ldisk_model.specs.Arguments.{
   make_at,
   new_with,
   command_at,
+  device_command,
   path_command,
   on_path_at,
   pair_command,
@@ -69,6 +70,10 @@ pub enum Command<'a> {
         path: &'a [u8],
         target: &'a [u8],
     },
+    /// `reclaim`: it frees what is marked without a use.
+    Reclaim {
+        device: Device,
+    },
 }
 
 /// What arguments ask for.
@@ -87,6 +92,7 @@ pub struct Asked<'a> {
 /// - `mkfs IMAGE DEVICE KIND INODES`, of a KIND of `v1-14`, `v1-30`, `v2-14` or `v2-30`
 /// - `put`, `get`, `ls`, `rm` or `mkdir`, then `IMAGE DEVICE PATH`
 /// - `ln IMAGE DEVICE PATH TARGET`
+/// - `reclaim IMAGE DEVICE`
 ///
 /// Any others ask for nothing. SECTORS is 1 to 4,294,967,295, INODES 1 to 65,535, START and COUNT up to 4,294,967,295,
 /// each in decimal digits; TYPE is two hexadecimal digits.
@@ -154,14 +160,35 @@ fn asked_with<'a>(image: &'a str, command: Option<Command<'a>>) -> Option<Asked<
 }
 
 /// The command of its name and of the arguments after the image.
-#[tactic(auto, using(crate::proofs::AskedLemmas::command_four, crate::proofs::AskedLemmas::command_five, crate::proofs::AskedLemmas::command_other))]
+#[tactic(auto, using(crate::proofs::AskedLemmas::command_three, crate::proofs::AskedLemmas::command_four, crate::proofs::AskedLemmas::command_five, crate::proofs::AskedLemmas::command_other))]
 fn command_in<'a>(word: &str, words: &'a Words) -> Option<Command<'a>>
     requires { 2 ≤ length words.now }
     ensures { option_map command_view result ≡ command_at word.now (drop 2 words.entry.now) }
 {
     match words.count() {
+        3 => alone_in(word, words.word(2)),
         4 => path_in(word, words.word(2), words.word(3)),
         5 => pair_in(word, words.word(2), words.word(3), words.word(4)),
+        _ => None,
+    }
+}
+
+/// The command of a device alone.
+fn alone_in<'a>(word: &str, name: &str) -> Option<Command<'a>>
+    ensures { option_map command_view result
+        ≡ option_and_then (λ device. device_command word.now device) (device_at name.now) }
+{
+    let device = device_in(name)?;
+    device_command(word, device)
+}
+
+/// The same on a device that is known.
+#[tactic(auto, unfolding(ldisk_model::specs::Arguments::device_command))]
+fn device_command<'a>(word: &str, device: Device) -> Option<Command<'a>>
+    ensures { option_map command_view result ≡ device_command word.now (device_view device) }
+{
+    match word {
+        "reclaim" => Some(Command::Reclaim { device }),
         _ => None,
     }
 }

@@ -1,5 +1,5 @@
 -- What is left after a survey, which changed nothing.
-use Rattle.std.proofs.Common.{◌≡◌, ◌≤◌, ℕ, true, List, Option, Result, Ok, Err, OnOk, IfErr, sym, subst, subst₂}
+use Rattle.std.proofs.Common.{◌≡◌, ◌≤◌, ℕ, true, List, Option, Result, Ok, Err, OnOk, IfErr, refl, sym, subst, subst₂}
 use Rattle.std.specs.Prelude.{IsErr}
 use Rattle.disk_trait.specs.declared.disks.Disks.{Ghosts}
 use Rattle.disk_trait.specs.Past.{Image, Past, Told}
@@ -16,7 +16,7 @@ use Rattle.lilo_model.specs.MinixParts as model
 use Rattle.lilo_model.specs.MinixParts.{Parts, parts_of}
 use Rattle.lilo_model.specs.MinixSurvey as refusals
 use Rattle.lilo_model.specs.MinixSurvey.{Met, survey}
-use Rattle.minix_reclaim.specs.Waste.{IsReclaiming, IsReclaimed}
+use Rattle.ldisk_model.specs.Waste.{IsReclaiming, IsReclaimed}
 use Rattle.minix_steps.proofs.StepLemmas.{same_view}
 use Rattle.minix_survey.specs.declared.survey_fault.SurveyFault.{SurveyFault}
 use Rattle.minix_survey.specs.declared.survey_fault.SurveyFault.TheVariants as surveys
@@ -31,7 +31,8 @@ use Rattle.minix_reclaim.specs.declared.fault.ReclaimFault.{ReclaimFault}
 use Rattle.minix_reclaim.specs.declared.fault.ReclaimFault.TheVariants.{Survey, Device, Memory}
 use Rattle.minix_reclaim.specs.declared.waste.Freed.{Freed}
 use Rattle.minix_reclaim.specs.Cleared.{IsOffBitmaps}
-use Rattle.minix_reclaim.specs.Reclaim.{reclaim_fault, is_refusal, HasReclaimCause, Answers, IsLaid, Reclaims}
+use Rattle.ldisk_model.specs.Laid.{IsLaid}
+use Rattle.minix_reclaim.specs.Reclaim.{reclaim_fault, is_refusal, HasReclaimCause, Answers, Reclaims}
 use Rattle.minix_reclaim.proofs.ClearedLemmas.{cleared_none, reclaiming_law}
 
 module _ {D : Type 0} {disks : Ghosts D} (old mid : Volume D disks) (same : SameVolume old mid) (later : faults_of old ≤ faults_of mid) where
@@ -77,23 +78,27 @@ module _ {D : Type 0} {disks : Ghosts D} (old mid : Volume D disks) (same : Same
 
   -- ---- it refused
 
+  -- a survey that refused is an error
+  is-err : (found : Result (List Met) refusals.SurveyFault) (why : refusals.SurveyFault) → found ≡ Err why → IsErr found
+  is-err found why is = rw is refl
+
   answer-by : (fault : SurveyFault) (volume : model.Volume) (image : Image) (found : Result (List Met) refusals.SurveyFault) → Refuses fault found → Answers (Err (reclaim_fault fault)) volume image found
-  answer-by (surveys.Crossed zone inode other) volume image found refuses = refuses
-  answer-by (surveys.Unmarked zone) volume image found refuses = refuses
-  answer-by (surveys.UnmarkedInode inode) volume image found refuses = refuses
-  answer-by (surveys.BadLink directory place) volume image found refuses = refuses
-  answer-by (surveys.FewLinks inode) volume image found refuses = refuses
-  answer-by surveys.TooDeep volume image found refuses = refuses
-  answer-by (surveys.Tree (trees.NotFound position)) volume image found refuses = refuses
-  answer-by (surveys.Tree (trees.NotDirectory position)) volume image found refuses = refuses
-  answer-by (surveys.Tree trees.NotFile) volume image found refuses = refuses
-  answer-by (surveys.Tree trees.TooManyLinks) volume image found refuses = refuses
-  answer-by (surveys.Tree (trees.BadEntry directory)) volume image found refuses = refuses
-  answer-by (surveys.Tree trees.PathTooLong) volume image found refuses = refuses
-  answer-by (surveys.Tree (trees.Zone (zones.Layout fault))) volume image found refuses = refuses
-  answer-by (surveys.Tree (trees.Zone (zones.ZoneOutside zone))) volume image found refuses = refuses
+  answer-by (surveys.Crossed zone inode other) volume image found refuses = (refuses, is-err found _ refuses)
+  answer-by (surveys.Unmarked zone) volume image found refuses = (refuses, is-err found _ refuses)
+  answer-by (surveys.UnmarkedInode inode) volume image found refuses = (refuses, is-err found _ refuses)
+  answer-by (surveys.BadLink directory place) volume image found refuses = (refuses, is-err found _ refuses)
+  answer-by (surveys.FewLinks inode) volume image found refuses = (refuses, is-err found _ refuses)
+  answer-by surveys.TooDeep volume image found refuses = (refuses, is-err found _ refuses)
+  answer-by (surveys.Tree (trees.NotFound position)) volume image found refuses = absurd refuses
+  answer-by (surveys.Tree (trees.NotDirectory position)) volume image found refuses = (refuses, is-err found _ refuses.1)
+  answer-by (surveys.Tree trees.NotFile) volume image found refuses = absurd refuses
+  answer-by (surveys.Tree trees.TooManyLinks) volume image found refuses = absurd refuses
+  answer-by (surveys.Tree (trees.BadEntry directory)) volume image found refuses = absurd refuses
+  answer-by (surveys.Tree trees.PathTooLong) volume image found refuses = absurd refuses
+  answer-by (surveys.Tree (trees.Zone (zones.Layout fault))) volume image found refuses = (refuses, is-err found _ refuses)
+  answer-by (surveys.Tree (trees.Zone (zones.ZoneOutside zone))) volume image found refuses = (refuses, is-err found _ refuses)
   answer-by (surveys.Tree (trees.Zone zones.Device)) volume image found refuses = tt
-  answer-by (surveys.Tree trees.Memory) volume image found refuses = refuses
+  answer-by (surveys.Tree trees.Memory) volume image found refuses = absurd refuses
   answer-by surveys.Memory volume image found refuses = tt
 
   cause-by : (fault : SurveyFault) → HasSurveyCause (faults_of old) (faults_of mid) fault → HasReclaimCause (faults_of old) (faults_of mid) (reclaim_fault fault)

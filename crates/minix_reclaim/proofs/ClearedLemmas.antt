@@ -8,7 +8,7 @@ use Rattle.lilo_model.specs.Disks.{Image}
 use Rattle.lilo_model.specs.MinixLayout.{table_start}
 use Rattle.lilo_model.specs.MinixNames.{HasSound, IsSound}
 use Rattle.lilo_model.specs.MinixParts.{Volume, Pointer, sector_of, bit, inode_mark_sector, zone_bit, zone_mark_sector, parts_of}
-use Rattle.minix_reclaim.specs.Waste.{IsWasteZone, IsWasteInode, HasZoneBit, HasInodeBit, IsKeptOrFreed}
+use Rattle.ldisk_model.specs.Waste.{IsWasteZone, IsWasteInode, HasZoneBit, HasInodeBit, IsKeptOrFreed}
 use Rattle.minix_change_laws.specs.Beside.{NamedIn, RefersIn, IsOfZone, Harmless, IsOfBitmaps, Beside, SoundAsIn}
 use Rattle.minix_change_laws.proofs.Beside.{lies, same-beside, beside_law}
 use Rattle.minix_change_laws.proofs.Laid.{Laid, mark-below, zone_mark-from, place-from}

@@ -14,7 +14,7 @@ use Rattle.lilo_model.specs.MinixParts as model
 use Rattle.lilo_model.specs.MinixParts.{Parts, sector_of, bit, parts_of}
 use Rattle.lilo_model.specs.MinixSurvey as refusals
 use Rattle.lilo_model.specs.MinixSurvey.{Met, survey, survey_walk, surveyable}
-use Rattle.minix_reclaim.specs.Waste.{IsWasteZone, IsWasteInode, AreWaste, waste_zones, waste_inodes, IsReclaiming, IsReclaimed}
+use Rattle.ldisk_model.specs.Waste.{IsWasteZone, IsWasteInode, AreWaste, waste_zones, waste_inodes, IsReclaiming, IsReclaimed}
 use Rattle.minix_sound_laws.proofs.Law.{has-numbers, image_law}
 use Rattle.minix_steps.proofs.RangeLemmas.{same_free}
 use Rattle.minix_steps.proofs.RegionLemmas.{laid_super}
@@ -30,7 +30,8 @@ use Rattle.minix_reclaim.specs.declared.waste.Freed.{Freed}
 use Rattle.minix_reclaim.specs.Bitmap.{zone_bitmap, inode_bitmap, is_used, IsNumberOf, sector_with, bit_with, marked, is_unused_on}
 use Rattle.minix_reclaim.specs.Cleared.{HasCleared}
 use Rattle.minix_reclaim.specs.Frees.{IsWasteUnused, ClearsWaste, bits_in, sectors_of}
-use Rattle.minix_reclaim.specs.Reclaim.{Answers, IsLaid, Reclaims, FreesAll, ReclaimsBy}
+use Rattle.ldisk_model.specs.Laid.{IsLaid}
+use Rattle.minix_reclaim.specs.Reclaim.{Answers, Reclaims, FreesAll, ReclaimsBy}
 use Rattle.minix_reclaim.proofs.ClearedLemmas.{cleared_none, reclaiming_law}
 use Rattle.minix_reclaim.proofs.UseLemmas.{zone_mark, inode_mark, zones_waste, inodes_waste, waste_zone_unused, waste_inode_unused, zones_counted, inodes_counted}
 use Rattle.minix_reclaim.proofs.WasteLemmas.{waste_law}

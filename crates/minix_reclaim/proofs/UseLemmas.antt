@@ -7,7 +7,7 @@ use Rattle.lilo_model.specs.MinixLayout.{IsSuper}
 use Rattle.lilo_model.specs.MinixParts.{Parts, Volume, sector_of, bit, parts_of, zone_bit, zone_mark_sector}
 use Rattle.lilo_model.specs.MinixSurvey as model
 use Rattle.lilo_model.specs.MinixSurvey.{Met}
-use Rattle.minix_reclaim.specs.Waste.{IsWasteZone, IsWasteInode, is_met, is_waste_zone, is_waste_inode, waste_zones, waste_inodes, AreWaste}
+use Rattle.ldisk_model.specs.Waste.{IsWasteZone, IsWasteInode, is_met, is_waste_zone, is_waste_inode, waste_zones, waste_inodes, AreWaste}
 use Rattle.minix_steps.specs.Free.{free_from}
 use Rattle.minix_steps.proofs.RangeLemmas.{same_free}
 use Rattle.minix_steps.proofs.RegionLemmas.{laid_super}

@@ -9,7 +9,7 @@ use Rattle.lilo_model.specs.MinixSurvey.{Met, owner, names_of}
 use Rattle.minix_survey_laws.specs.Count.{HasNames}
 use Rattle.minix_sound_laws.specs.Laws.{SaysVolume}
 use Rattle.minix_sound_laws.proofs.Findings.{met_law}
-use Rattle.minix_reclaim.specs.Waste.{IsWasteZone, IsWasteInode, is_met, is_waste_zone, is_waste_inode, AreWaste}
+use Rattle.ldisk_model.specs.Waste.{IsWasteZone, IsWasteInode, is_met, is_waste_zone, is_waste_inode, AreWaste}
 use Rattle.minix_reclaim.specs.Laws.{WasteLaw}
 
 none-from : (found : Option ℕ) → is_none found ≡ true → found ≡ None

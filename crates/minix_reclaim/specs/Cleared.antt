@@ -4,7 +4,7 @@ use Rattle.std.specs.Prelude.{◌≡◌, ◌<◌, ◌⊎◌, ℕ, ◌+◌, ◌*�
 use Rattle.disk_trait.specs.Range.{IsOutside}
 use Rattle.lilo_model.specs.Disks.{Image}
 use Rattle.lilo_model.specs.MinixParts.{Volume, sector_of, bit, parts_of, inode_mark_sector, zone_bit, zone_mark_sector}
-use Rattle.minix_reclaim.specs.Waste.{IsWasteZone, IsWasteInode, IsKeptOrFreed}
+use Rattle.ldisk_model.specs.Waste.{IsWasteZone, IsWasteInode, IsKeptOrFreed}
 use Rattle.minix_change_laws.specs.Beside.{IsOfBitmaps}
 
 -- a bit of a sector is that of a zone that is waste in an image

@@ -7,7 +7,7 @@ use Rattle.lilo_model.specs.MinixLayout.{Super}
 use Rattle.lilo_model.specs.MinixNames.{IsSound}
 use Rattle.lilo_model.specs.MinixParts.{Parts, Volume}
 use Rattle.lilo_model.specs.MinixSurvey.{Met, survey}
-use Rattle.minix_reclaim.specs.Waste.{AreWaste, IsReclaiming}
+use Rattle.ldisk_model.specs.Waste.{AreWaste, IsReclaiming}
 use Rattle.minix_sound_laws.specs.Laws.{HasNumbers}
 use Rattle.minix_reclaim.specs.Cleared.{IsOffBitmaps, HasCleared}
 

@@ -1,4 +1,3 @@
-pub mod Waste
 pub mod Cleared
 pub mod Laws
 pub mod Bitmap

@@ -1,5 +1,5 @@
 -- What freeing waste answers, and what it leaves of a volume.
-use Rattle.std.specs.Prelude.{◌≡◌, ◌<◌, ℕ, ◌*◌, Bool, true, false, List, length, Result, Ok, Err, OnOk, IfOk, IfErr, IsErr}
+use Rattle.std.specs.Prelude.{◌≡◌, ℕ, Bool, true, false, List, Result, Ok, Err, OnOk, IfOk, IfErr, IsErr}
 use Rattle.disk_trait.specs.declared.disks.Disks.{Ghosts}
 use Rattle.disk_trait.specs.Calls.{GoesOn}
 use Rattle.disk_trait.specs.Moments.{IsTold, now, IsQuiet, LeavesOnly}
@@ -7,14 +7,14 @@ use Rattle.disk_trait.specs.NotWritten.{NotWritten}
 use Rattle.disk_trait.specs.Past.{Told}
 use Rattle.lilo_model.specs.Disks.{Image}
 use Rattle.lilo_model.specs.Faults.{Rose}
-use Rattle.lilo_model.specs.MinixLayout.{super_at, super_sector}
 use Rattle.lilo_model.specs.MinixNames.{IsSound}
 use Rattle.lilo_model.specs.MinixParts as model
-use Rattle.lilo_model.specs.MinixParts.{sector_of, parts_of}
+use Rattle.lilo_model.specs.MinixParts.{parts_of}
 use Rattle.lilo_model.specs.MinixSurvey.{Met, survey}
 use Rattle.lilo_model.specs.MinixSurvey as refusals
-use Rattle.minix_reclaim.specs.Waste as waste
-use Rattle.minix_reclaim.specs.Waste.{IsReclaiming, IsReclaimed, freed_by}
+use Rattle.ldisk_model.specs.Laid.{IsLaid}
+use Rattle.ldisk_model.specs.Waste as waste
+use Rattle.ldisk_model.specs.Waste.{IsReclaiming, IsReclaimed, freed_by}
 use Rattle.minix_survey.specs.declared.findings.Findings.{Findings}
 use Rattle.minix_survey.specs.declared.survey_fault.SurveyFault.{SurveyFault}
 use Rattle.minix_survey.specs.declared.survey_fault.SurveyFault.TheVariants as surveys
@@ -58,14 +58,9 @@ freed_view freed = record { zones = freed.zones; inodes = freed.inodes }
 abbrev pub Answers : Result Freed ReclaimFault → model.Volume → Image → Result (List Met) refusals.SurveyFault → Type 0
 Answers (Ok freed) volume image (Ok met) = freed_view freed ≡ freed_by volume.layout (parts_of volume image) met
 Answers (Ok freed) volume image (Err fault) = ⊥
-Answers (Err (Survey fault)) volume image found = Refuses fault found
+Answers (Err (Survey fault)) volume image found = Refuses fault found × IsErr found
 Answers (Err Device) volume image found = Unit {0}
 Answers (Err Memory) volume image found = Unit {0}
-
--- the volume's superblock is the one that was read, and each of its sectors is there
-pub record IsLaid (volume : model.Volume) (image : Image) : Type 0 where
-  pub super : super_at (sector_of volume image super_sector) volume.span.count ≡ Ok volume.layout
-  pub whole : (sector : ℕ) → sector < 2 * volume.layout.zones → length (sector_of volume image sector) ≡ 512
 
 -- What freeing waste leaves of a volume, by its answer.
 pub record Reclaims {D : Type 0} {disks : Ghosts D} (old new : Volume D disks) (result : Result Freed ReclaimFault) : Type 0 where

@@ -17,9 +17,9 @@ const TREE: &[Piece] = &[
     // first block is a hole.
     (8, 0, b"\xED\x41\0\0\0\0\0\0\x48"),
     (8, 24, b"\x06"),
-    (8, 64, b"\xED\x41\0\0\0\0\0\0\x50\x04"),
+    (8, 64, b"\xED\x41\0\0\0\0\0\0\x60\x04"),
     (8, 92, b"\x07"),
-    // The file 3 of 1027 bytes, the empty one 4, and the links 5 and 6.
+    // The file 3 of 1027 bytes, the empty one 4, and the links 5, 6 and 7, of which the last leads to itself.
     (8, 128, b"\xA4\x81\0\0\0\0\0\0\x03\x04"),
     (8, 152, b"\x08\0\0\0\x09"),
     (8, 192, b"\xA4\x81"),
@@ -27,6 +27,8 @@ const TREE: &[Piece] = &[
     (8, 280, b"\x0A"),
     (8, 320, b"\xFF\xA1\0\0\0\0\0\0\x04"),
     (8, 344, b"\x0B"),
+    (8, 384, b"\xFF\xA1\0\0\0\0\0\0\x02"),
+    (8, 408, b"\x0C"),
     (12, 0, b"\x01\0."),
     (12, 16, b"\x01\0.."),
     (12, 32, b"\x02\0boot"),
@@ -38,10 +40,12 @@ const TREE: &[Piece] = &[
     (14, 32, b"\x04\0empty"),
     (14, 48, b"\x21\0ghost"),
     (14, 64, b"\x05\0up"),
+    (14, 80, b"\x07\0me"),
     (16, 0, b"abc"),
     (18, 0, b"defghi"),
     (20, 0, b"../boot/file"),
     (22, 0, b"boot"),
+    (24, 0, b"me"),
 ];
 
 // A path, whether a link in its last component is followed, and the inode that is found.
@@ -96,6 +100,16 @@ const PATHS: &[Path] = &[
         path: b"/boot/up",
         followed: false,
         found: Ok(5),
+    },
+    Path {
+        path: b"/boot/me",
+        followed: true,
+        found: Err(TreeFault::TooManyLinks),
+    },
+    Path {
+        path: b"/boot/me",
+        followed: false,
+        found: Ok(7),
     },
     Path {
         path: &[b'/'; 1024],

@@ -11,7 +11,7 @@ use Rattle.ldisk_run.specs.Pieces.{sink_of, held_by}
 use Rattle.ldisk_run.specs.Run.{DoesAs, Answers, Tells}
 use Rattle.stream_trait.specs.Sink.{Takes}
 use Rattle.ldisk_run.proofs.CommandLemmas.{held_of, answers, tells, takes_whole}
-use Rattle.ldisk_run.proofs.MadeLemmas.{asked_moment, asked_partly, asked_done, asked_volume, asked_quiet, asked_refused, asked_unwritten, asked_outside, asked_same, asked_goes_on, asked_device, source_status, known_status}
+use Rattle.ldisk_run.proofs.MadeLemmas.{asked_moment, asked_freeing, asked_partly, asked_done, asked_volume, asked_quiet, asked_refused, asked_unwritten, asked_outside, asked_same, asked_goes_on, asked_device, source_status, known_status}
 use Rattle.disk_trait.proofs.ToldLemmas.{told_map}
 use Rattle.ldisk_run.proofs.PutLemmas.{told_given, given_out}
 use Rattle.sector_address.specs.Machine.{machine_of}
@@ -100,6 +100,17 @@ returns-clause-any_moment g c = λ quiet.
     (λ given. Told (g.D.Disks.past disks) (λ now. LeavesChanging g.D.Disks disks c.run_words-status.new.disks now (machine_of g.D.Disks disks) (asked_change given asked))) left
     (λ given leaves. asked_moment g.D.Disks disks c.run_words-status.new.disks c.args.time given c.run_words-status.result c.failed-sink_failed.result c.run_words-status.ensures.known asked leaves quiet)
     c.run_words-status.ensures.leaves)
+
+pub returns-clause-freeing : goal.returns-clause-freeing
+returns-clause-freeing g c = λ quiet.
+    let disks = c.args.disks.now in
+    let left = g.I.Source.left c.args.source.now in
+    let asked = asked_at c.args.words.now in
+    let new = c.run_words-status.new.disks in
+    (given_out left
+    (given-map (λ given. LeavesAsked g.D.Disks disks new c.args.time given asked c.run_words-status.result) (λ given. _) left
+    (λ given leaves. asked_freeing g.D.Disks disks new c.args.time given c.run_words-status.result c.failed-sink_failed.result c.run_words-status.ensures.known asked leaves quiet)
+    c.run_words-status.ensures.leaves))
 
 pub returns-clause-partly : goal.returns-clause-partly
 returns-clause-partly g c = λ makes quiet.

@@ -183,6 +183,23 @@ returns-in-Ln-clause-leaves g c =
     (given-all (λ given. LeavesBy g.D.Disks c.args.disks.now c.ln.new.disks c.args.time given c.args.sectors (model.Ln (device_view c.in-Ln.device) c.in-Ln.path.now c.in-Ln.target.now) c.ln.result)
     (g.I.Source.left c.args.source.now) (λ given. c.ln.ensures.leaves given c.args.sectors))
 
+-- ---- reclaim
+
+pub returns-in-Reclaim-clause-does : goal.returns-in-Reclaim-clause-does
+returns-in-Reclaim-clause-does g c =
+    rw c.in-Reclaim.is
+    (told_every (g.D.Disks.past c.args.disks.now) (g.I.Source.left c.args.source.now) _ (λ given. c.reclaim.ensures.does given c.args.sectors))
+
+pub returns-in-Reclaim-clause-usage : goal.returns-in-Reclaim-clause-usage
+unfolding is_carried_out
+returns-in-Reclaim-clause-usage g c = rw c.in-Reclaim.is (λ one. absurd (c.reclaim.ensures.usage one), λ no. absurd cc)
+
+pub returns-in-Reclaim-clause-leaves : goal.returns-in-Reclaim-clause-leaves
+returns-in-Reclaim-clause-leaves g c =
+    rw c.in-Reclaim.is
+    (given-all (λ given. LeavesBy g.D.Disks c.args.disks.now c.reclaim.new.disks c.args.time given c.args.sectors (model.Reclaim (device_view c.in-Reclaim.device)) c.reclaim.result)
+    (g.I.Source.left c.args.source.now) (λ given. c.reclaim.ensures.leaves given c.args.time c.args.sectors))
+
 -- ---- put
 
 pub put-requires-clause-path : goal.put-requires-clause-path
@@ -279,3 +296,12 @@ returns-in-Ln-clause-source g c = λ is. absurd (not_source c.ln.result c.ln.ens
 
 pub returns-in-Ln-clause-unread : goal.returns-in-Ln-clause-unread
 returns-in-Ln-clause-unread g c = told_all (g.D.Disks.past c.args.disks.now) _ (λ now none. refl)
+
+pub returns-in-Reclaim-clause-known : goal.returns-in-Reclaim-clause-known
+returns-in-Reclaim-clause-known g c = known_any c.reclaim.result c.reclaim.ensures.known
+
+pub returns-in-Reclaim-clause-source : goal.returns-in-Reclaim-clause-source
+returns-in-Reclaim-clause-source g c = λ is. absurd (not_source c.reclaim.result c.reclaim.ensures.known is)
+
+pub returns-in-Reclaim-clause-unread : goal.returns-in-Reclaim-clause-unread
+returns-in-Reclaim-clause-unread g c = told_all (g.D.Disks.past c.args.disks.now) _ (λ now none. refl)
